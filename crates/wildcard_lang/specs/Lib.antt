@@ -1,0 +1,4 @@
+pub mod Text
+pub mod Matching
+pub mod Patterns
+pub mod Accepts

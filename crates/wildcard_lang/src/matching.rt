@@ -1,0 +1,48 @@
+//! Whether a pattern matches a text. The body keeps the places of the pattern and steps through the
+//! text once.
+ghost use Rattle.std.specs.Prelude.{◌≡◌, ◌≤◌, ◌↔◌, ℕ, List, IsTrue, length, chars};
+ghost use Rattle.wildcard_lang.specs.declared.piece.Piece.{Piece};
+ghost use Rattle.wildcard_lang.specs.Accepts.{accepts};
+ghost use Rattle.wildcard_lang.specs.Matching.{Matches};
+
+use crate::pattern::{MOST_PIECES, Pattern};
+use crate::piece::Piece;
+use crate::places::{start, step};
+use crate::text::Text;
+
+/// The test `accepts` of the definitions answers whether the pieces match the text.
+pub fn accepts_is_matches()
+    ensures { (ps : List Piece) (t : List ℕ) → IsTrue (accepts ps t) ↔ Matches ps t }
+{}
+
+/// Whether the pattern matches the text. It takes no memory.
+pub fn matches(pattern: &Pattern, text: &Text) -> bool
+    ensures { IsTrue result ↔ Matches pattern.now text.now }
+{
+    matches_pieces(pattern.as_slice(), text.as_slice())
+}
+
+fn matches_pieces(pieces: &[Piece], text: &[char]) -> bool
+    requires { length pieces.now ≤ MOST_PIECES }
+    ensures { IsTrue result ↔ Matches pieces.now text.now }
+{
+    let mut places = [false; MOST_PIECES + 1];
+    start(pieces, &mut places);
+    for c in text {
+        step(pieces, &mut places, *c);
+    }
+    places[pieces.len()]
+}
+
+/// Whether the pattern matches the characters of the string. It takes no memory.
+pub fn matches_str(pattern: &Pattern, text: &str) -> bool
+    ensures { IsTrue result ↔ Matches pattern.now (chars text.now) }
+{
+    let pieces = pattern.as_slice();
+    let mut places = [false; MOST_PIECES + 1];
+    start(pieces, &mut places);
+    for c in text.chars() {
+        step(pieces, &mut places, c);
+    }
+    places[pieces.len()]
+}

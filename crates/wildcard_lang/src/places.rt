@@ -1,0 +1,60 @@
+//! The places of a pattern after a text, as marks: one for each number of first pieces.
+ghost use Rattle.std.specs.Prelude.{◌≡◌, ◌+◌, ◌<◌, ◌≤◌, ℕ, [], false, length, slice_index_or};
+ghost use Rattle.wildcard_lang.specs.Accepts.{ArePlaces, mark_after, marks_of, marks_reached, reaches};
+
+use crate::pattern::Pattern;
+use crate::piece::Piece;
+
+// Marks the places after the empty text.
+pub(crate) fn start(pieces: &[Piece], places: &mut [bool])
+    requires { length pieces.now < length places.old }
+    ensures { ArePlaces pieces.now [] places.new }
+{
+    places[0] = true;
+    for (i, piece) in pieces.iter().enumerate() {
+        let mark = piece.is_many() & places[i];
+        places[i + 1] = mark;
+    }
+}
+
+// Whether the place behind the piece is one after c, where `before` and `old` say whether the places
+// before and behind it were ones, and `below` whether the place before it is one after c.
+fn mark_after(piece: Piece, c: char, before: bool, old: bool, below: bool) -> bool
+    ensures { result ≡ mark_after piece c before old below }
+{
+    if piece.is_many() {
+        piece.takes(c) && old || below
+    } else {
+        piece.takes(c) && before
+    }
+}
+
+// Marks the places after one more character.
+pub(crate) fn step(pieces: &[Piece], places: &mut [bool], c: char)
+    requires { length pieces.now < length places.old }
+    ensures { (j : ℕ) → j ≤ length pieces.now → slice_index_or places.new j false ≡ reaches pieces.now (λ i. slice_index_or places.old i false) c j }
+{
+    let mut before = places[0];
+    places[0] = false;
+    for (i, piece) in pieces.iter().enumerate() {
+        let old = places[i + 1];
+        places[i + 1] = mark_after(*piece, c, before, old, places[i]);
+        before = old;
+    }
+}
+
+/// Marks the places after the empty text. There is one mark more than the pattern has pieces.
+pub fn start_places(pattern: &Pattern, places: &mut [bool])
+    requires { length places.old ≡ length pattern.now + 1 }
+    ensures { places.new ≡ marks_of pattern.now [] }
+{
+    start(pattern.as_slice(), places);
+}
+
+/// Marks the places to which a character leads from the marked ones.
+pub fn step_places(pattern: &Pattern, places: &mut [bool], c: char)
+    requires { length places.old ≡ length pattern.now + 1 }
+    ensures { places.new ≡ marks_reached pattern.now places.old c }
+{
+    step(pattern.as_slice(), places, c);
+}
