@@ -203,7 +203,7 @@ start_answer ps qs marks e l are = marks_of-ArePlaces ps [] marks l (subst (λ (
 pub length-marks_reached : (ps : List Piece) (old : List Bool) (c : ℕ) → length (marks_reached ps old c) ≡ length ps + 1
 length-marks_reached ps old c = length-tests (reaches ps (λ i. get_or old i false) c) 0 (length ps + 1)
 
-get_or-marks_reached : (ps : List Piece) (old : List Bool) (c j : ℕ) → j ≤ length ps → get_or (marks_reached ps old c) j false ≡ reaches ps (λ i. get_or old i false) c j
+pub get_or-marks_reached : (ps : List Piece) (old : List Bool) (c j : ℕ) → j ≤ length ps → get_or (marks_reached ps old c) j false ≡ reaches ps (λ i. get_or old i false) c j
 get_or-marks_reached ps old c j h =
     let f : ℕ → Bool = reaches ps (λ i. get_or old i false) c in
     let e : 0 + j ≡ j = omega arith in get_or-tests f 0 (length ps + 1) j (omega arith) ∙ ap f e

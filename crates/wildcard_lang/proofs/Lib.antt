@@ -1,2 +1,13 @@
 pub mod Accept
 pub mod Texts
+pub mod ReadSymbols
+pub mod PatternRules
+pub mod Narrow
+pub mod Written
+pub mod Inversions
+pub mod Literals
+pub mod Forms
+pub mod Parts
+pub mod Fronts
+pub mod Escapes
+pub mod Stepping

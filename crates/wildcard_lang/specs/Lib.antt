@@ -2,3 +2,11 @@ pub mod Text
 pub mod Matching
 pub mod Patterns
 pub mod Accepts
+pub mod Symbols
+pub mod Reading
+pub mod SymbolFaults
+pub mod Arns
+pub mod Writing
+pub mod Meanings
+pub mod Escapes
+pub mod Places

@@ -1,5 +1,5 @@
-//! Whether a pattern matches a text. The body keeps the places of the pattern and steps through the
-//! text once.
+//! Whether a pattern matches a text. The pieces in front of the first for any number are compared one
+//! by one. From there on the body keeps the places of the pattern and steps through the text once.
 ghost use Rattle.std.specs.Prelude.{◌≡◌, ◌≤◌, ◌↔◌, ℕ, List, IsTrue, length, chars};
 ghost use Rattle.wildcard_lang.specs.declared.piece.Piece.{Piece};
 ghost use Rattle.wildcard_lang.specs.Accepts.{accepts};
@@ -22,10 +22,48 @@ pub fn matches(pattern: &Pattern, text: &Text) -> bool
     matches_pieces(pattern.as_slice(), text.as_slice())
 }
 
+// Compares the pieces in front of the first for any number one by one.
 fn matches_pieces(pieces: &[Piece], text: &[char]) -> bool
     requires { length pieces.now ≤ MOST_PIECES }
-    ensures { IsTrue result ↔ Matches pieces.now text.now }
+    ensures { result ≡ accepts pieces.now text.now }
 {
+    let mut rest = pieces;
+    let mut left = text;
+    'front: loop {
+        let [piece, more @ ..] = rest else {
+            return left.is_empty();
+        };
+        if piece.is_many() {
+            return matches_places(rest, left);
+        }
+        let [c, behind @ ..] = left else {
+            return false;
+        };
+        if !piece.takes(*c) {
+            return false;
+        }
+        rest = more;
+        left = behind;
+    }
+}
+
+// Whether the piece takes any number of any characters.
+fn is_star(piece: Piece) -> bool
+    ensures { IsTrue result ↔ (piece ≡ Piece.Many) }
+{
+    matches!(piece, Piece::Many)
+}
+
+// Keeps the places of the pieces, of which the first is for any number.
+fn matches_places(pieces: &[Piece], text: &[char]) -> bool
+    requires { length pieces.now ≤ MOST_PIECES }
+    ensures { result ≡ accepts pieces.now text.now }
+{
+    if let [piece] = pieces {
+        if is_star(*piece) {
+            return true;
+        }
+    }
     let mut places = [false; MOST_PIECES + 1];
     start(pieces, &mut places);
     for c in text {

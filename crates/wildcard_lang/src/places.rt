@@ -1,6 +1,7 @@
 //! The places of a pattern after a text, as marks: one for each number of first pieces.
 ghost use Rattle.std.specs.Prelude.{◌≡◌, ◌+◌, ◌<◌, ◌≤◌, ℕ, [], false, length, slice_index_or};
 ghost use Rattle.wildcard_lang.specs.Accepts.{ArePlaces, mark_after, marks_of, marks_reached, reaches};
+ghost use Rattle.wildcard_lang.specs.Places.{PlacesAreMatched, StepsAreLed, StepsFollowTexts, WidthsGrow};
 
 use crate::pattern::Pattern;
 use crate::piece::Piece;
@@ -42,6 +43,30 @@ pub(crate) fn step(pieces: &[Piece], places: &mut [bool], c: char)
         before = old;
     }
 }
+
+/// The places of a pattern after a text, as they are computed, are the numbers of first pieces that
+/// match the text.
+pub fn places_are_matched()
+    ensures { PlacesAreMatched }
+{}
+
+/// The step of a list of places by a character, as it is computed, has exactly the places that the
+/// character leads to.
+pub fn steps_are_led()
+    ensures { StepsAreLed }
+{}
+
+/// The step of the places of a text by a character gives the places of the text with the character
+/// after it.
+pub fn steps_follow_texts()
+    ensures { StepsFollowTexts }
+{}
+
+/// Texts that show some patterns wider than a number show so of any patterns that have those among
+/// them.
+pub fn widths_grow()
+    ensures { WidthsGrow }
+{}
 
 /// Marks the places after the empty text. There is one mark more than the pattern has pieces.
 pub fn start_places(pattern: &Pattern, places: &mut [bool])
