@@ -1,0 +1,6 @@
+pub mod Keys
+pub mod Principals
+pub mod Requests
+pub mod Tests
+pub mod Sets
+pub mod Soundness

@@ -1,0 +1,49 @@
+-- Which principals an entry names (IAM JSON policy reference, Principal).
+use Rattle.std.specs.Prelude.{◌≡◌, ⊤, ℕ, List, [], ◌∷◌, ◌++◌, Bool, false, ◌==◌, Option, Some, None, codes, if◌then◌else◌, option_and_then}
+use Rattle.std.specs.List.{list_any}
+use Rattle.policy_model.specs.declared.principal.PrincipalKind.TheVariants.{Aws}
+use Rattle.policy_model.specs.declared.principal.Entry.{Entry}
+use Rattle.policy_model.specs.declared.principal.Entry.TheVariants.{All, Kind, Account, Exact}
+use Rattle.policy_model.specs.declared.request.Request.{Request}
+
+-- whether a colon stands in the text
+abbrev pub has_colon : List ℕ → Bool
+has_colon t = list_any (λ c. c == 58) t
+
+-- the id is an ARN of the account: `arn:`, a partition, a service and a region without colons, the account, and anything
+pub record IsOfAccount (account id : List ℕ) : Type 0 where
+  pub partition : List ℕ
+  pub service : List ℕ
+  pub region : List ℕ
+  pub rest : List ℕ
+  pub plain_partition : has_colon partition ≡ false
+  pub plain_service : has_colon service ≡ false
+  pub plain_region : has_colon region ≡ false
+  pub is : id ≡ codes "arn:" ++ (partition ++ 58 ∷ (service ++ 58 ∷ (region ++ 58 ∷ (account ++ 58 ∷ rest))))
+
+-- the request's principal is one of the entry
+abbrev pub EntryHolds : Request → Entry → Type 0
+EntryHolds r All = ⊤
+EntryHolds r (Kind kind) = r.kind ≡ kind
+EntryHolds r (Account account) = (r.kind ≡ Aws) × IsOfAccount account r.id
+EntryHolds r (Exact kind id) = (r.kind ≡ kind) × (r.id ≡ id)
+
+-- what follows the first colon
+abbrev pub behind_colon : List ℕ → Option (List ℕ)
+behind_colon [] = None
+behind_colon (c ∷ t) = if c == 58 then Some t else behind_colon t
+
+-- what follows the prefix
+abbrev pub behind_prefix : List ℕ → List ℕ → Option (List ℕ)
+behind_prefix [] t = Some t
+behind_prefix (p ∷ ps) [] = None
+behind_prefix (p ∷ ps) (c ∷ t) = if c == p then behind_prefix ps t else None
+
+abbrev pub begins_colon : Option (List ℕ) → Bool
+begins_colon None = false
+begins_colon (Some []) = false
+begins_colon (Some (c ∷ t)) = c == 58
+
+-- a test that computes whether the id is an ARN of the account
+abbrev pub account_test : List ℕ → List ℕ → Bool
+account_test account id = begins_colon (option_and_then (behind_prefix account) (option_and_then behind_colon (option_and_then behind_colon (option_and_then behind_colon (behind_prefix (codes "arn:") id)))))

@@ -1,0 +1,53 @@
+-- Which sets are sound, which schemas fit a set, and which tests suit a schema: the bounds that this project sets to what policies say.
+use Rattle.std.specs.Prelude.{◌≡◌, ◌≤◌, ◌+◌, ⊤, ℕ, List, length, sum_by, Option, Some, None, All as Each}
+use Rattle.std.specs.Char.{IsAsciiDigit}
+use Rattle.policy_model.specs.declared.principal.Entry.{Entry}
+use Rattle.policy_model.specs.declared.principal.Entry.TheVariants.{All, Kind, Account, Exact}
+use Rattle.policy_model.specs.declared.matcher.Matcher.{Matcher}
+use Rattle.policy_model.specs.declared.schema.Schema.{Schema}
+use Rattle.policy_model.specs.declared.set.Statement.{Statement}
+use Rattle.policy_model.specs.declared.set.Document.{Document}
+use Rattle.policy_model.specs.declared.set.PolicySet.{PolicySet}
+use Rattle.policy_model.specs.declared.test.Test.{Test}
+use Rattle.policy_model.specs.declared.test.Test.TheVariants.{Principal, Action, Resource}
+
+-- twelve ASCII digits
+pub record IsAccount (account : List ℕ) : Type 0 where
+  pub digits : Each IsAsciiDigit account
+  pub count : length account ≡ 12
+
+-- an account is twelve digits, and an exact id has at most 2,048 characters
+abbrev pub EntryIsSound : Entry → Type 0
+EntryIsSound All = ⊤
+EntryIsSound (Kind kind) = ⊤
+EntryIsSound (Account account) = IsAccount account
+EntryIsSound (Exact kind id) = length id ≤ 2048
+
+abbrev pub PrincipalIsSound : Option (Matcher Entry) → Type 0
+PrincipalIsSound None = ⊤
+PrincipalIsSound (Some m) = Each EntryIsSound m.items
+
+abbrev pub StatementIsSound : Statement → Type 0
+StatementIsSound s = PrincipalIsSound s.principal
+
+-- statements are numbered by 32 bits
+pub record DocumentIsSound (d : Document) : Type 0 where
+  pub count : length d.statements ≤ 4294967295
+  pub each : Each StatementIsSound d.statements
+
+-- documents and guards are numbered by 32 bits
+pub record IsSound (set : PolicySet) : Type 0 where
+  pub documents : length set.grants + sum_by (λ g. length g) set.guards ≤ 4294967295
+  pub guards : length set.guards ≤ 4294967295
+  pub granting : Each DocumentIsSound set.grants
+  pub guarding : Each (λ g. Each DocumentIsSound g) set.guards
+
+-- the schema can answer for the set
+pub record SchemaFits (schema : Schema) (set : PolicySet) : Type 0 where
+  pub sound : IsSound set
+
+-- the schema can answer for the test
+abbrev pub TestSuits : Schema → Test → Type 0
+TestSuits schema (Principal entry) = EntryIsSound entry
+TestSuits schema (Action pattern) = ⊤
+TestSuits schema (Resource pattern) = ⊤

@@ -1,0 +1,73 @@
+//! The condition keys of a request.
+ghost use Rattle.std.specs.Prelude.{◌≡◌, ◌≢◌, [], length, slice_get, option_map, OnOk, OnErr};
+ghost use Rattle.std.specs.Option.{option_copied};
+ghost use Rattle.text_table.specs.Table.{item_at, with_item};
+ghost use Rattle.policy_model.specs.Keys.{IsFolded};
+
+use crate::value::ValueList;
+use plain_lists::NoMemory;
+use std::alloc::Global;
+use std::marker::Model;
+use text_table::Table;
+use wildcard_lang::Text;
+
+/// An ordered map from the names of condition keys, with their ASCII letters lowered, to their values,
+/// of which there is at least one.
+#[derive(Drop)]
+pub struct Context {
+    entries: Table<ValueList>,
+}
+
+impl Model for Context {
+    ghost use Rattle.std.specs.Prelude.{List};
+    ghost use Rattle.text_table.specs.Table.{Entries};
+    ghost use Rattle.policy_model.specs.declared.value.Value.{Value as KeyValue};
+
+    ghost Value = { Entries (List KeyValue) };
+
+    ghost view = { λ c. c.entries };
+}
+
+impl Context {
+    /// The context without keys. It takes no memory.
+    pub fn new(alloc: Global) -> Context
+        ensures { result ≡ [] }
+    {
+        Context {
+            entries: Table::new(alloc),
+        }
+    }
+
+    /// How many keys there are.
+    pub fn len(&self) -> usize
+        ensures { result ≡ length self.now }
+    {
+        self.entries.len()
+    }
+
+    /// The values of a key, or none where the key isn't there.
+    pub fn get(&self, key: &Text) -> Option<&ValueList>
+        ensures { option_map (λ v. v.now) result ≡ item_at key.now self.now }
+    {
+        self.entries.get(key)
+    }
+
+    /// The key at a place in the order of keys, counted from 0, with its values, or none where there is
+    /// no such place.
+    pub fn at(&self, i: usize) -> Option<(&Text, &ValueList)>
+        ensures { option_map (λ p. (p.0.now, p.1.now)) result ≡ slice_get self.now i }
+    {
+        self.entries.at(i)
+    }
+
+    /// Gives a key these values, in place of those that it had. Where there is no memory the context
+    /// stays as it was, and key and values are dropped.
+    pub fn insert(&mut self, key: Text, values: ValueList) -> Result<(), NoMemory>
+        requires folded { IsFolded key }
+        requires some { values ≢ [] }
+        ensures ok { OnOk result (self.new ≡ with_item self.old key values) }
+        ensures err { OnErr result (self.new ≡ self.old) }
+    {
+        self.entries.insert(key, values)
+    }
+}

@@ -1,0 +1,26 @@
+//! Requests, schemas, tests and sets of policies, with what they mean: which requests are valid, what
+//! a test answers, and what a set allows.
+#![tactic(auto)]
+
+mod context;
+mod matcher;
+mod principal;
+mod request;
+mod schema;
+mod set;
+mod test;
+mod validity;
+mod value;
+
+pub use context::Context;
+pub use matcher::Matcher;
+pub use plain_lists::{List, NoMemory};
+pub use principal::{Entry, EntryList, PrincipalKind, entry_holds};
+pub use request::Request;
+pub use schema::{KeyRule, KeyRules, Schema, Shapes};
+pub use set::{
+    Document, DocumentList, GuardList, PolicySet, Statement, StatementList, StatementName,
+};
+pub use test::{Slot, SlotList, Test, TestList, test_holds};
+pub use validity::valid;
+pub use value::{Kind, Value, ValueList};

@@ -1,0 +1,106 @@
+//! Principals of requests, and the entries of a policy that name them.
+ghost use Rattle.std.specs.Prelude.{◌≡◌, ◌↔◌, IsTrue, option_map};
+ghost use Rattle.policy_model.specs.Principals.{EntryHolds, IsOfAccount, behind_colon, behind_prefix, account_test};
+
+use crate::request::Request;
+use plain_lists::List;
+use wildcard_lang::Text;
+
+/// The four kinds of principals of the IAM policy language.
+#[derive(Clone, Copy, Debug, PartialEq, Eq, PartialOrd, Ord, Hash)]
+pub enum PrincipalKind {
+    Aws,
+    Service,
+    Federated,
+    CanonicalUser,
+}
+
+/// One principal entry of a policy.
+#[derive(Drop, PartialEq, Eq, Hash)]
+pub enum Entry {
+    /// Every principal.
+    All,
+    /// Every principal of this kind.
+    Kind(PrincipalKind),
+    /// Every `AWS` principal of this account.
+    Account(Text),
+    /// The principal of this kind and id alone, with regard to case.
+    Exact(PrincipalKind, Text),
+}
+
+/// A list of principal entries.
+pub type EntryList = List<Entry>;
+
+// What follows the first colon.
+fn behind_colon(chars: &[char]) -> Option<&[char]>
+    ensures { option_map (λ s. s.now) result ≡ behind_colon chars.now }
+{
+    for (i, c) in chars.iter().enumerate() {
+        if *c == ':' {
+            return Some(&chars[i + 1..]);
+        }
+    }
+    None
+}
+
+// What follows the prefix, or none where the characters don't begin with it.
+fn behind_prefix<'a>(chars: &'a [char], prefix: &[char]) -> Option<&'a [char]>
+    ensures { option_map (λ s. s.now) result ≡ behind_prefix prefix.now chars.now }
+{
+    match prefix {
+        [] => Some(chars),
+        [wanted, more @ ..] => match chars {
+            [] => None,
+            [first, rest @ ..] => {
+                if *first == *wanted {
+                    behind_prefix(rest, more)
+                } else {
+                    None
+                }
+            }
+        },
+    }
+}
+
+// Whether the id has the form of an account's principal.
+fn account_test(account: &[char], id: &[char]) -> bool
+    ensures { result ≡ account_test account.now id.now }
+{
+    let Some(rest) = behind_prefix(id, &['a', 'r', 'n', ':']) else {
+        return false;
+    };
+    let Some(rest) = behind_colon(rest) else {
+        return false;
+    };
+    let Some(rest) = behind_colon(rest) else {
+        return false;
+    };
+    let Some(rest) = behind_colon(rest) else {
+        return false;
+    };
+    match behind_prefix(rest, account) {
+        Some([':', ..]) => true,
+        _ => false,
+    }
+}
+
+// Whether the id is that of a principal of the account.
+fn is_of_account(account: &Text, id: &Text) -> bool
+    ensures { IsTrue result ↔ IsOfAccount account.now id.now }
+{
+    account_test(account.as_slice(), id.as_slice())
+}
+
+/// Whether the request's principal is one of the entry.
+pub fn entry_holds(entry: &Entry, request: &Request) -> bool
+    ensures { IsTrue result ↔ EntryHolds request.now entry.now }
+{
+    match entry {
+        Entry::All => true,
+        Entry::Kind(kind) => request.kind == *kind,
+        Entry::Account(account) => {
+            request.kind == PrincipalKind::Aws && is_of_account(account, &request.id)
+        }
+        Entry::Exact(kind, id) => request.kind == *kind && request.id == *id,
+    }
+}

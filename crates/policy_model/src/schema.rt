@@ -1,0 +1,159 @@
+//! Schemas: the condition keys that requests may have, and the shapes of their words.
+ghost use Rattle.std.specs.Prelude.{◌≡◌, [], None, length, slice_get, option_map, OnOk, OnErr};
+ghost use Rattle.std.specs.Option.{option_copied};
+ghost use Rattle.text_table.specs.Table.{item_at, with_item};
+ghost use Rattle.policy_model.specs.Keys.{IsFolded, no_shapes};
+
+use crate::value::{Kind, ValueList};
+use plain_lists::NoMemory;
+use std::alloc::Global;
+use std::marker::Model;
+use text_table::Table;
+use wildcard_lang::{Pattern, Text};
+
+/// What the values of a condition key may be.
+#[derive(Drop)]
+pub struct KeyRule {
+    pub kind: Kind,
+    /// Whether a request may give the key several values.
+    pub many: bool,
+    /// Whether each request gives the key a value.
+    pub required: bool,
+    /// The values that the key may have, where they are listed.
+    pub among: Option<ValueList>,
+    /// What each value matches, where a shape is given.
+    pub shape: Option<Pattern>,
+}
+
+/// The rules of condition keys, by the keys' names with their ASCII letters lowered.
+#[derive(Drop)]
+pub struct KeyRules {
+    entries: Table<KeyRule>,
+}
+
+impl Model for KeyRules {
+    ghost use Rattle.text_table.specs.Table.{Entries};
+    ghost use Rattle.policy_model.specs.declared.schema.KeyRule.{KeyRule};
+
+    ghost Value = { Entries KeyRule };
+
+    ghost view = { λ r. r.entries };
+}
+
+/// What the words of a request match, where a shape is given: its action, its resource, and its
+/// principal's id by the principal's kind.
+#[derive(Drop)]
+pub struct Shapes {
+    pub action: Option<Pattern>,
+    pub resource: Option<Pattern>,
+    pub aws: Option<Pattern>,
+    pub service: Option<Pattern>,
+    pub federated: Option<Pattern>,
+    pub canonical_user: Option<Pattern>,
+}
+
+/// A schema says which requests are valid.
+#[derive(Drop)]
+pub struct Schema {
+    /// The version of the schema's file, 1 or 2.
+    pub version: u32,
+    pub keys: KeyRules,
+    pub shapes: Shapes,
+}
+
+impl KeyRules {
+    /// No rules. It takes no memory.
+    pub fn new(alloc: Global) -> KeyRules
+        ensures { result ≡ [] }
+    {
+        KeyRules {
+            entries: Table::new(alloc),
+        }
+    }
+
+    /// How many keys there are.
+    pub fn len(&self) -> usize
+        ensures { result ≡ length self.now }
+    {
+        self.entries.len()
+    }
+
+    /// The rule of a key, or none where the key isn't there.
+    pub fn get(&self, key: &Text) -> Option<&KeyRule>
+        ensures { option_map (λ v. v.now) result ≡ item_at key.now self.now }
+    {
+        self.entries.get(key)
+    }
+
+    /// The key at a place in the order of keys, counted from 0, with its rule, or none where there is
+    /// no such place.
+    pub fn at(&self, i: usize) -> Option<(&Text, &KeyRule)>
+        ensures { option_map (λ p. (p.0.now, p.1.now)) result ≡ slice_get self.now i }
+    {
+        self.entries.at(i)
+    }
+
+    /// Gives a key this rule, in place of the one that it had. Where there is no memory the rules stay
+    /// as they were, and key and rule are dropped.
+    pub fn insert(&mut self, key: Text, rule: KeyRule) -> Result<(), NoMemory>
+        requires { IsFolded key }
+        ensures ok { OnOk result (self.new ≡ with_item self.old key rule) }
+        ensures err { OnErr result (self.new ≡ self.old) }
+    {
+        self.entries.insert(key, rule)
+    }
+}
+
+impl Schema {
+    /// The schema of version 1 without keys and shapes. It takes no memory.
+    pub fn new(alloc: Global) -> Schema
+        ensures version { result.version ≡ 1 }
+        ensures keys { result.keys ≡ [] }
+        ensures shapes { result.shapes ≡ no_shapes }
+    {
+        Schema {
+            version: 1,
+            keys: KeyRules::new(alloc),
+            shapes: Shapes {
+                action: None,
+                resource: None,
+                aws: None,
+                service: None,
+                federated: None,
+                canonical_user: None,
+            },
+        }
+    }
+
+    /// How many keys there are.
+    pub fn len(&self) -> usize
+        ensures { result ≡ length self.now.keys }
+    {
+        self.keys.len()
+    }
+
+    /// The rule of a key, or none where the key isn't there.
+    pub fn get(&self, key: &Text) -> Option<&KeyRule>
+        ensures { option_map (λ v. v.now) result ≡ item_at key.now self.now.keys }
+    {
+        self.keys.get(key)
+    }
+
+    /// The key at a place in the order of keys, counted from 0, with its rule, or none where there is
+    /// no such place.
+    pub fn at(&self, i: usize) -> Option<(&Text, &KeyRule)>
+        ensures { option_map (λ p. (p.0.now, p.1.now)) result ≡ slice_get self.now.keys i }
+    {
+        self.keys.at(i)
+    }
+
+    /// Gives a key this rule, in place of the one that it had. Where there is no memory the schema stays
+    /// as it was, and key and rule are dropped.
+    pub fn insert(&mut self, key: Text, rule: KeyRule) -> Result<(), NoMemory>
+        requires { IsFolded key }
+        ensures ok { OnOk result (self.new ≡ record self.old { keys = with_item self.old.keys key rule }) }
+        ensures err { OnErr result (self.new ≡ self.old) }
+    {
+        self.keys.insert(key, rule)
+    }
+}

@@ -1,0 +1,47 @@
+//! Sets of policies.
+use crate::matcher::Matcher;
+use crate::principal::Entry;
+use plain_lists::List;
+use wildcard_lang::Pattern;
+
+/// One statement of a policy. An absent principal matches every principal, and an absent resource
+/// every resource.
+#[derive(Drop)]
+pub struct Statement {
+    /// `Allow`, or else `Deny`.
+    pub allow: bool,
+    pub principal: Option<Matcher<Entry>>,
+    pub action: Matcher<Pattern>,
+    pub resource: Option<Matcher<Pattern>>,
+}
+
+/// A list of statements.
+pub type StatementList = List<Statement>;
+
+/// One policy document.
+#[derive(Drop)]
+pub struct Document {
+    pub statements: StatementList,
+}
+
+/// A list of documents.
+pub type DocumentList = List<Document>;
+
+/// A list of guards, each a list of pooled documents.
+pub type GuardList = List<DocumentList>;
+
+/// A set of policies: documents that grant, and guards that grant nothing and that each have to allow
+/// too, as permission boundaries and service control policies do.
+#[derive(Drop)]
+pub struct PolicySet {
+    pub grants: DocumentList,
+    pub guards: GuardList,
+}
+
+/// A statement by the numbers of its document and of itself in it, both counted from 1. Documents are
+/// counted through the grants and then through the guards in order.
+#[derive(Clone, Copy, Debug, PartialEq, Eq)]
+pub struct StatementName {
+    pub document: u32,
+    pub statement: u32,
+}

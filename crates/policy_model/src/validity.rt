@@ -1,0 +1,157 @@
+//! Which requests are valid.
+ghost use Rattle.std.specs.Prelude.{◌≡◌, ◌↔◌, IsTrue, All};
+ghost use Rattle.wildcard_lang.specs.Text.{IsText};
+ghost use Rattle.policy_model.specs.Requests.{EntryIsValid, FitsShape, HasValue, IsValid, PermitsValues, IsListed, IsOfKind, IsThere, KeysAreValid, WordsAreValid, IsValueOf, IsWord, ValueFits, shape_of};
+
+use crate::context::Context;
+use crate::principal::PrincipalKind;
+use crate::request::Request;
+use crate::schema::{KeyRule, KeyRules, Schema, Shapes};
+use crate::value::{Kind, Value, ValueList};
+use wildcard_lang::{Pattern, Text, matches};
+
+fn fits_shape(shape: &Option<Pattern>, text: &Text) -> bool
+    ensures { IsTrue result ↔ FitsShape shape.now text.now }
+{
+    match shape {
+        None => true,
+        Some(pattern) => matches(pattern, text),
+    }
+}
+
+fn is_word(shape: &Option<Pattern>, text: &Text) -> bool
+    ensures { IsTrue result ↔ IsWord shape.now text.now }
+{
+    !text.is_empty() && fits_shape(shape, text)
+}
+
+fn shape_of(shapes: &Shapes, kind: PrincipalKind) -> &Option<Pattern>
+    ensures { result.now ≡ shape_of shapes.now kind }
+{
+    match kind {
+        PrincipalKind::Aws => &shapes.aws,
+        PrincipalKind::Service => &shapes.service,
+        PrincipalKind::Federated => &shapes.federated,
+        PrincipalKind::CanonicalUser => &shapes.canonical_user,
+    }
+}
+
+fn is_of_kind(kind: Kind, value: &Value) -> bool
+    ensures { IsTrue result ↔ IsOfKind kind value.now }
+{
+    match value {
+        Value::Word(text) => kind == Kind::Text && is_text(text),
+        Value::Truth(_) => kind == Kind::Truth,
+    }
+}
+
+fn value_fits(shape: &Option<Pattern>, value: &Value) -> bool
+    ensures { IsTrue result ↔ ValueFits shape.now value.now }
+{
+    match value {
+        Value::Word(text) => fits_shape(shape, text),
+        Value::Truth(_) => true,
+    }
+}
+
+fn is_listed(among: &Option<ValueList>, value: &Value) -> bool
+    ensures { IsTrue result ↔ IsListed among.now value.now }
+{
+    match among {
+        None => true,
+        Some(listed) => listed.as_slice().contains(value),
+    }
+}
+
+fn is_value_of(rule: &KeyRule, value: &Value) -> bool
+    ensures { IsTrue result ↔ IsValueOf rule.now value.now }
+{
+    is_of_kind(rule.kind, value) && value_fits(&rule.shape, value) && is_listed(&rule.among, value)
+}
+
+fn permits_values(rule: &KeyRule, values: &ValueList) -> bool
+    ensures { IsTrue result ↔ PermitsValues rule.now values.now }
+{
+    (rule.many || values.len() <= 1)
+        && values
+            .as_slice()
+            .iter()
+            .all(|value| is_value_of(rule, value))
+}
+
+fn entry_is_valid(keys: &KeyRules, key: &Text, values: &ValueList) -> bool
+    ensures { IsTrue result ↔ EntryIsValid keys.now (key.now, values.now) }
+{
+    match keys.get(key) {
+        None => false,
+        Some(rule) => permits_values(rule, values),
+    }
+}
+
+fn entries_are_valid(keys: &KeyRules, context: &Context) -> bool
+    ensures { IsTrue result ↔ All (EntryIsValid keys.now) context.now }
+{
+    for i in 0..context.len() {
+        if let Some((key, values)) = context.at(i) {
+            if !entry_is_valid(keys, key, values) {
+                return false;
+            }
+        }
+    }
+    true
+}
+
+fn is_there(context: &Context, key: &Text, rule: &KeyRule) -> bool
+    ensures { IsTrue result ↔ IsThere context.now (key.now, rule.now) }
+{
+    !rule.required || has_value(context, key)
+}
+
+fn has_value(context: &Context, key: &Text) -> bool
+    ensures { IsTrue result ↔ HasValue context.now key.now }
+{
+    match context.get(key) {
+        None => false,
+        Some(values) => !values.is_empty(),
+    }
+}
+
+fn required_are_there(keys: &KeyRules, context: &Context) -> bool
+    ensures { IsTrue result ↔ All (IsThere context.now) keys.now }
+{
+    for i in 0..keys.len() {
+        if let Some((key, rule)) = keys.at(i) {
+            if !is_there(context, key, rule) {
+                return false;
+            }
+        }
+    }
+    true
+}
+
+fn is_text(text: &Text) -> bool
+    ensures { IsTrue result ↔ IsText text.now }
+{
+    text.len() <= usize::MAX
+}
+
+fn words_are_valid(shapes: &Shapes, request: &Request) -> bool
+    ensures { IsTrue result ↔ WordsAreValid shapes.now request.now }
+{
+    is_word(shape_of(shapes, request.kind), &request.id)
+        && is_word(&shapes.action, &request.action)
+        && is_word(&shapes.resource, &request.resource)
+}
+
+fn keys_are_valid(keys: &KeyRules, context: &Context) -> bool
+    ensures { IsTrue result ↔ KeysAreValid keys.now context.now }
+{
+    entries_are_valid(keys, context) && required_are_there(keys, context)
+}
+
+/// Whether the request is valid under the schema. It takes no memory.
+pub fn valid(schema: &Schema, request: &Request) -> bool
+    ensures { IsTrue result ↔ IsValid schema.now request.now }
+{
+    words_are_valid(&schema.shapes, request) && keys_are_valid(&schema.keys, &request.context)
+}

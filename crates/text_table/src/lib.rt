@@ -1,0 +1,73 @@
+//! The one ordered map of the workspace, from texts to items. Contracts see it as the list of its
+//! entries, in the order of the texts.
+#![tactic(auto)]
+
+ghost use Rattle.std.specs.Prelude.{◌≡◌, [], length, slice_get, option_map, OnOk, OnErr};
+ghost use Rattle.std.specs.Option.{option_copied};
+ghost use Rattle.text_table.specs.Table.{item_at, with_item};
+
+use plain_lists::NoMemory;
+use std::alloc::Global;
+use std::collections::BTreeMap;
+use std::marker::Model;
+use wildcard_lang::Text;
+
+/// An ordered map from texts to items. Texts are in the order of their characters' numbers. It keeps
+/// its allocator.
+#[derive(Drop)]
+pub struct Table<V> {
+    entries: BTreeMap<Text, V>,
+}
+
+impl<V> Model for Table<V> {
+    ghost use Rattle.text_table.specs.Table.{Entries};
+
+    ghost Value = { Entries V };
+
+    ghost view = { λ t. t.entries.entries };
+}
+
+impl<V> Table<V> {
+    /// The empty map. It takes no memory.
+    pub fn new(alloc: Global) -> Table<V>
+        ensures { result ≡ [] }
+    {
+        Table {
+            entries: BTreeMap::new(alloc),
+        }
+    }
+
+    /// How many keys there are.
+    pub fn len(&self) -> usize
+        ensures { result ≡ length self.now }
+    {
+        self.entries.len()
+    }
+
+    /// The item of a key, or none where the key isn't there.
+    pub fn get(&self, key: &Text) -> Option<&V>
+        ensures { option_copied result ≡ item_at key.now self.now }
+    {
+        self.entries.get(key)
+    }
+
+    /// The entry at a place in the order of the keys, counted from 0, or none where the map has no
+    /// such place.
+    pub fn at(&self, i: usize) -> Option<(&Text, &V)>
+        ensures { option_map (λ p. (p.0.now, p.1.now)) result ≡ slice_get self.now i }
+    {
+        self.entries.iter().nth(i)
+    }
+}
+
+impl<V: Drop> Table<V> {
+    /// Puts an item at a key, in place of one that was there. Where there is no memory the map stays
+    /// as it was, and key and item are dropped.
+    pub fn insert(&mut self, key: Text, item: V) -> Result<(), NoMemory>
+        ensures ok { OnOk result (self.new ≡ with_item self.old key item) }
+        ensures err { OnErr result (self.new ≡ self.old) }
+    {
+        self.entries.insert(key, item)?;
+        Ok(())
+    }
+}
