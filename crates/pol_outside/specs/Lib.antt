@@ -1,0 +1,7 @@
+pub mod Faults
+pub mod Folder
+pub mod MemoryFolder
+pub mod SafeFolder
+pub mod Sink
+pub mod MemorySink
+pub mod DiskFolder

@@ -1,0 +1,34 @@
+// A sink that never fails.
+ghost use Rattle.std.specs.Prelude.{◌≡◌, ◌<◌, None, Ok, length};
+ghost use Rattle.pol_outside.specs.Sink.{Puts};
+
+use crate::{Sink, SinkFault};
+
+/// A sink that never fails: its count of faults is 0. It keeps no bytes and tells none.
+#[derive(Clone, Copy, Debug, PartialEq, Eq)]
+pub struct SafeSink;
+
+impl SafeSink {
+    /// The sink. It takes no memory.
+    pub fn new() -> SafeSink
+        ensures told { ⟦<SafeSink as Sink>⟧.written result ≡ None }
+        ensures faults { ⟦<SafeSink as Sink>⟧.faults result ≡ 0 }
+    {
+        SafeSink
+    }
+}
+
+impl Sink for SafeSink {
+    ghost written = { λ _. None };
+
+    ghost faults = { λ _. 0 };
+
+    /// Takes the whole piece.
+    fn put(&mut self, piece: &[u8]) -> Result<usize, SinkFault>
+        requires { 0 < length piece.now }
+        ensures puts { Puts result piece.now None None 0 0 }
+        ensures all { result ≡ Ok (length piece.now) }
+    {
+        Ok(piece.len())
+    }
+}

@@ -1,0 +1,46 @@
+// Standard output, or any other writer.
+ghost use Rattle.std.specs.Prelude.{◌≡◌, ◌<◌, ◌≤◌, None, length};
+ghost use Rattle.pol_outside.specs.Sink.{Puts, CountsSinkFault};
+
+use crate::{Sink, SinkFault};
+use std::io::Write;
+
+/// A sink over a writer, as standard output. It counts its faults and doesn't tell what was
+/// written.
+#[derive(Drop)]
+pub struct StdSink<W> {
+    inner: W,
+    faults: u64,
+}
+
+impl<W: Write + Drop> StdSink<W> {
+    /// The sink over this writer, with no fault yet. It takes no memory.
+    pub fn new(inner: W) -> StdSink<W>
+        ensures told { ⟦<StdSink<W> as Sink>⟧.written result ≡ None }
+        ensures faults { ⟦<StdSink<W> as Sink>⟧.faults result ≡ 0 }
+    {
+        StdSink { inner, faults: 0 }
+    }
+}
+
+impl<W: Write + Drop> Sink for StdSink<W> {
+    ghost written = { λ _. None };
+
+    ghost faults = { λ s. s.faults };
+
+    /// One write. An error of the writer is a fault, and so is a write that took no byte.
+    fn put(&mut self, piece: &[u8]) -> Result<usize, SinkFault>
+        requires { 0 < length piece.now }
+        ensures puts { Puts result piece.now None None self.old.faults self.new.faults }
+        ensures later { self.old.faults ≤ self.new.faults }
+        ensures counts { CountsSinkFault result self.old.faults self.new.faults }
+    {
+        match self.inner.write(piece) {
+            Ok(n) if n > 0 => Ok(n),
+            _ => {
+                self.faults = self.faults.saturating_add(1);
+                Err(SinkFault)
+            }
+        }
+    }
+}
