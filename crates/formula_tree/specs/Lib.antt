@@ -1,0 +1,5 @@
+pub mod Answers
+pub mod Looks
+pub mod Runs
+pub mod Trees
+pub mod Values

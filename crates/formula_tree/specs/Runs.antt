@@ -1,0 +1,47 @@
+-- The plain run of a tree: a search that splits on the picked test, yes first.
+use Rattle.std.specs.Prelude.{◌≡◌, ℕ, suc, zero, ◌+◌, [], ◌∷◌, ◌++◌, Bool, true, false, Option, Some, None, ◌⊎◌}
+use Rattle.formula_tree.specs.declared.value.Three.TheVariants.{Yes, No}
+use Rattle.formula_tree.specs.Answers.{Answers, answer_of, Contained}
+use Rattle.formula_tree.specs.Trees.{Tree}
+use Rattle.formula_tree.specs.Values.{value, pick}
+
+-- the path with one more answer
+abbrev pub answered : Answers → ℕ → Bool → Answers
+answered path n b = path ++ (n, b) ∷ []
+
+-- The run from a path, where `possible` says which paths can be met: it has ended where the Bool is true and has closed
+-- where it is false, with so many splits.
+pub data Run (possible : Answers → Type 0) (tree : Tree) : Answers → Bool → ℕ → Type 0 where
+  -- the value is no
+  closed_by_value : (path : Answers) → value path tree ≡ No → Run possible tree path false 0
+  -- the path can't be met
+  closed_by_path : (path : Answers) → ¬ possible path → Run possible tree path false 0
+  -- the value is yes, and the path can be met
+  ended : (path : Answers) → value path tree ≡ Yes → possible path → Run possible tree path true 0
+  -- a split whose yes side ends
+  ended_after : (path : Answers) (n k all : ℕ) → possible path → pick path tree ≡ Some n →
+      Run possible tree (answered path n true) true k → all ≡ k + 1 → Run possible tree path true all
+  -- a split whose yes side closes: then its no side is run
+  went_on : (path : Answers) (n : ℕ) (end : Bool) (k m all : ℕ) → possible path → pick path tree ≡ Some n →
+      Run possible tree (answered path n true) false k → Run possible tree (answered path n false) end m → all ≡ k + m + 1 → Run possible tree path end all
+
+-- how many of the tests below t the path leaves unanswered
+abbrev pub one_if_none : Option Bool → ℕ
+one_if_none None = 1
+one_if_none (Some b) = 0
+
+abbrev pub unanswered : Answers → ℕ → ℕ
+unanswered path zero = 0
+unanswered path (suc t) = one_if_none (answer_of path t) + unanswered path t
+
+-- some possible path that contains the answers makes the tree yes
+abbrev pub CanBeMet : (Answers → Type 0) → Tree → Answers → Type 0
+CanBeMet possible tree path = (longer : Answers) × Contained path longer × (value longer tree ≡ Yes) × possible longer
+
+-- a longer path is harder to meet
+abbrev pub IsHarderAlong : (Answers → Type 0) → Type 0
+IsHarderAlong possible = (few many : Answers) → Contained few many → possible many → possible few
+
+-- a path that can be met can be met with one of the two answers to any further test
+abbrev pub CanGoOn : (Answers → Type 0) → Type 0
+CanGoOn possible = (path : Answers) (n : ℕ) → possible path → answer_of path n ≡ None → possible (answered path n true) ⊎ possible (answered path n false)

@@ -1,0 +1,121 @@
+//! Paths: lists of answered tests. Beside the list a path keeps a table by test numbers, so that an
+//! answer is read at once.
+ghost use Rattle.std.specs.Prelude.{◌≡◌, ◌++◌, ◌∷◌, [], ℕ, None, Option, Bool, List, length, slice_get, slice_index_or, option_to_list, OnOk, OnErr, IfOk, ◌<◌, ◌↔◌, IsSome};
+ghost use Rattle.formula_tree.specs.Answers.{IsDistinct, answer_of};
+
+use plain_lists::NoMemory;
+use std::alloc::Global;
+use std::marker::Model;
+
+/// A list of answered tests, in the order in which they were answered; no test stands twice. It
+/// takes memory by the greatest test number in it, and keeps its allocator.
+#[derive(Drop)]
+pub struct Path {
+    pairs: Vec<(u32, bool)>,
+    table: Vec<Option<bool>>,
+}
+
+impl Model for Path {
+    ghost use Rattle.std.specs.Prelude.{ℕ, Bool, List};
+
+    ghost Value = { List (ℕ × Bool) };
+
+    ghost use Rattle.formula_tree.specs.Answers.{IsTabled};
+
+    ghost view = { λ p. p.pairs.items };
+
+    ghost invariant = { λ p. IsTabled p.pairs.items p.table.items };
+}
+
+impl Path {
+    /// The path without answers. It takes no memory.
+    pub fn new(alloc: Global) -> Path
+        ensures { result ≡ [] }
+    {
+        Path {
+            pairs: Vec::new(alloc),
+            table: Vec::new(alloc),
+        }
+    }
+
+    /// The answers, in order. No test stands twice.
+    pub fn as_slice(&self) -> &[(u32, bool)]
+        ensures value { result.now ≡ self.now }
+        ensures distinct { IsDistinct self.now }
+    {
+        let _table = &self.table;
+        self.pairs.as_slice()
+    }
+
+    /// How many tests are answered.
+    pub fn len(&self) -> usize
+        ensures value { result ≡ length self.now }
+        ensures distinct { IsDistinct self.now }
+    {
+        let _table = &self.table;
+        self.pairs.len()
+    }
+
+    /// The answered test at a place, counted from 0, with its answer, or none where the path has no
+    /// such place.
+    pub fn get(&self, i: usize) -> Option<(u32, bool)>
+        ensures { result ≡ slice_get self.now i }
+    {
+        self.pairs.as_slice().get(i).copied()
+    }
+
+    /// The answer to a test, or none where the path doesn't answer it.
+    pub fn answer(&self, test: u32) -> Option<bool>
+        ensures { result ≡ answer_of self.now test }
+    {
+        match self.table.as_slice().get(test as usize) {
+            Some(answer) => *answer,
+            None => None,
+        }
+    }
+
+    /// Answers one more test, at the end. Where there is no memory the path stays as it was.
+    pub fn push(&mut self, test: u32, answer: bool) -> Result<(), NoMemory>
+        requires { answer_of self.old test ≡ None }
+        ensures ok { OnOk result (self.new ≡ self.old ++ (test, answer) ∷ []) }
+        ensures err { OnErr result (self.new ≡ self.old) }
+    {
+        make_room(&mut self.table, test)?;
+        self.pairs.push((test, answer))?;
+        self.table[test as usize] = Some(answer);
+        Ok(())
+    }
+
+    /// Takes the last answer away, and gives it; none where the path is empty.
+    pub fn pop(&mut self) -> Option<(u32, bool)>
+        ensures last { self.old ≡ self.new ++ option_to_list result }
+        ensures some { IsSome result ↔ (0 < length self.old) }
+    {
+        let last = self.pairs.pop();
+        if let Some((test, _)) = last {
+            self.table[test as usize] = None;
+        }
+        last
+    }
+
+    /// A path of the same answers.
+    pub fn copy(&self) -> Result<Path, NoMemory>
+        ensures { IfOk result (λ p. p ≡ self.now) }
+    {
+        Ok(Path {
+            pairs: self.pairs.clone()?,
+            table: self.table.clone()?,
+        })
+    }
+}
+
+// Makes the table long enough to have a place for the test, with no answer at the new places.
+fn make_room(table: &mut Vec<Option<bool>>, test: u32) -> Result<(), NoMemory>
+    ensures same { (n : ℕ) → slice_index_or table.new.items n None ≡ slice_index_or table.old.items n None }
+    ensures room { OnOk result (test < length table.new.items) }
+{
+    'room: for _ in table.len()..test as usize + 1 {
+        table.push(None)?;
+    }
+    Ok(())
+}

@@ -1,0 +1,144 @@
+//! The value of a formula under a path, and the test that it waits for where the value is unknown.
+//! One walk finds both; it takes no memory, and its depth is that of the formula alone.
+ghost use Rattle.std.specs.Prelude.{◌≡◌, ◌↔◌, ◌<◌, ℕ, None, IsSome, IfSome};
+ghost use Rattle.formula_tree.specs.Answers.{answer_of};
+ghost use Rattle.formula_tree.specs.Looks.{least, looked, looked_at_all, looked_at_some, most, pick_in, turned, value_in};
+ghost use Rattle.formula_tree.specs.Trees.{of_list, tree_of, trees_of};
+ghost use Rattle.formula_tree.specs.Values.{AreBelow, pick, value};
+
+use crate::formula::{Branches, Formula};
+use crate::path::Path;
+
+/// A truth value, or that it isn't known yet.
+#[derive(Clone, Copy, Debug, PartialEq, Eq)]
+pub enum Three {
+    Yes,
+    No,
+    Unknown,
+}
+
+// A value with the test that an unknown one waits for.
+#[derive(Clone, Copy)]
+enum Looked {
+    Yes,
+    No,
+    Unknown(u32),
+}
+
+fn value_in(looked: Looked) -> Three
+    ensures { result ≡ value_in looked }
+{
+    match looked {
+        Looked::Yes => Three::Yes,
+        Looked::No => Three::No,
+        Looked::Unknown(_) => Three::Unknown,
+    }
+}
+
+fn pick_in(looked: Looked) -> Option<u32>
+    ensures { result ≡ pick_in looked }
+{
+    match looked {
+        Looked::Yes | Looked::No => None,
+        Looked::Unknown(test) => Some(test),
+    }
+}
+
+fn turned(looked: Looked) -> Looked
+    ensures { result ≡ turned looked }
+{
+    match looked {
+        Looked::Yes => Looked::No,
+        Looked::No => Looked::Yes,
+        Looked::Unknown(test) => Looked::Unknown(test),
+    }
+}
+
+fn least(first: Looked, second: Looked) -> Looked
+    ensures { result ≡ least first second }
+{
+    match (first, second) {
+        (Looked::No, _) | (_, Looked::No) => Looked::No,
+        (Looked::Yes, _) => second,
+        (Looked::Unknown(test), _) => Looked::Unknown(test),
+    }
+}
+
+fn most(first: Looked, second: Looked) -> Looked
+    ensures { result ≡ most first second }
+{
+    match (first, second) {
+        (Looked::Yes, _) | (_, Looked::Yes) => Looked::Yes,
+        (Looked::No, _) => second,
+        (Looked::Unknown(test), _) => Looked::Unknown(test),
+    }
+}
+
+#[cycle(look)]
+fn look(formula: &Formula, path: &Path) -> Looked
+    ensures { result ≡ looked path.now (tree_of formula.now) }
+{
+    match formula {
+        Formula::Yes => Looked::Yes,
+        Formula::No => Looked::No,
+        Formula::Test(test) => match path.answer(*test) {
+            Some(true) => Looked::Yes,
+            Some(false) => Looked::No,
+            None => Looked::Unknown(*test),
+        },
+        Formula::Not(inner) => turned(look(inner, path)),
+        Formula::All(branches) => look_at_all(branches, path),
+        Formula::OneOf(branches) => look_at_some(branches, path),
+    }
+}
+
+#[cycle(look)]
+fn look_at_all(branches: &Branches, path: &Path) -> Looked
+    ensures { result ≡ looked_at_all path.now (of_list (trees_of branches.now)) }
+{
+    let mut all = Looked::Yes;
+    'all: for branch in &branches.items {
+        let next = look(&branch.formula, path);
+        if let Looked::No = next {
+            return Looked::No;
+        }
+        all = least(all, next);
+    }
+    all
+}
+
+#[cycle(look)]
+fn look_at_some(branches: &Branches, path: &Path) -> Looked
+    ensures { result ≡ looked_at_some path.now (of_list (trees_of branches.now)) }
+{
+    let mut some = Looked::No;
+    'some: for branch in &branches.items {
+        let next = look(&branch.formula, path);
+        if let Looked::Yes = next {
+            return Looked::Yes;
+        }
+        some = most(some, next);
+    }
+    some
+}
+
+/// The value of the formula under the path's answers, in the three-valued logic of Kleene: of `All`
+/// no where a branch is no and yes where all are yes, so also where there is none; of `OneOf` the
+/// other way round. It takes no memory.
+pub fn value3(formula: &Formula, path: &Path) -> Three
+    ensures { result ≡ value path.now (tree_of formula.now) }
+{
+    value_in(look(formula, path))
+}
+
+/// The test that the formula waits for under the path's answers: an unanswered test is picked
+/// itself, and of other formulas what is picked in the first branch of unknown value. None exactly
+/// where the value isn't unknown. It takes no memory.
+pub fn pick(formula: &Formula, path: &Path) -> Option<u32>
+    ensures value { result ≡ pick path.now (tree_of formula.now) }
+    ensures unknown { IsSome result ↔ (value path.now (tree_of formula.now) ≡ Three.Unknown) }
+    ensures unanswered { IfSome result (λ test. answer_of path.now test ≡ None) }
+    ensures within { IfSome result (λ test. (t : ℕ) → AreBelow t (tree_of formula.now) → test < t) }
+{
+    pick_in(look(formula, path))
+}

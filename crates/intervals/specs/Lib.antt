@@ -1,0 +1,7 @@
+pub mod Scaled
+pub mod Compare
+pub mod Digits
+pub mod Decimals
+pub mod DecimalTexts
+pub mod Moments
+pub mod MomentTexts

@@ -1,0 +1,19 @@
+-- Scaled numbers: whole numbers of units of 10^-9. That they are less than 10^27 in size is this project's own choice: eighteen
+-- digits before the point, nine behind it.
+use Rattle.std.specs.Prelude.{ℕ, ℤ, pos, ◌*ℤ◌, ◌<◌, unsigned_abs}
+
+-- 10^27, which the number of units is less than in size
+abbrev pub size_limit : ℕ
+size_limit = 1_000_000_000_000_000_000_000_000_000
+
+-- 10^18, which a whole number is less than in size
+abbrev pub whole_limit : ℕ
+whole_limit = 1_000_000_000_000_000_000
+
+-- the number of units of a scaled number
+abbrev pub IsScaled : ℤ → Type 0
+IsScaled units = unsigned_abs units < size_limit
+
+-- the units of the whole number n
+abbrev pub units_of_whole : ℤ → ℤ
+units_of_whole n = n *ℤ pos 1_000_000_000
