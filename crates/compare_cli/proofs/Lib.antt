@@ -1,0 +1,9 @@
+pub mod Candidates
+pub mod Completeness
+pub mod Json
+pub mod Literals
+pub mod Members
+pub mod Promises
+pub mod Statements
+pub mod Verdicts
+pub mod OwnCharacters

@@ -1,0 +1,11 @@
+pub mod Files
+pub mod Plain
+pub mod Reading
+pub mod Words
+pub mod Comparison
+pub mod Candidates
+pub mod Texts
+pub mod Answers
+pub mod Runs
+pub mod Promises
+pub mod Complete

@@ -1,0 +1,49 @@
+-- The texts of the answers.
+use Rattle.std.specs.Prelude.{ℕ, List, ◌++◌, codes}
+use Rattle.std.specs.Str.{encode_utf8_all}
+use Rattle.serde_json.specs.Data.{Data, object, no_members, member, string}
+use Rattle.serde_json.specs.Written.{compact_text}
+use Rattle.policy_model.specs.declared.principal.PrincipalKind.{PrincipalKind}
+use Rattle.policy_model.specs.declared.principal.PrincipalKind.TheVariants.{Aws, Service, Federated, CanonicalUser}
+use Rattle.policy_model.specs.declared.request.Request.{Request}
+use Rattle.compare_cli.specs.declared.answer.Role.{Role}
+use Rattle.compare_cli.specs.declared.answer.Role.TheVariants.{First, Second}
+use Rattle.compare_cli.specs.declared.answer.Answer.{Answer}
+use Rattle.compare_cli.specs.declared.answer.Answer.TheVariants.{Usage, ReadFault, TooLong, Refused, NotMore, More}
+use Rattle.compare_cli.specs.declared.reader.PolicyCode.{PolicyCode}
+use Rattle.compare_cli.specs.declared.reader.PolicyCode.TheVariants.{P0NotBuilt, P1NotJson}
+
+abbrev pub role_word : Role → List ℕ
+role_word First = codes "first"
+role_word Second = codes "second"
+
+abbrev pub code_word : PolicyCode → List ℕ
+code_word P0NotBuilt = codes "P0 NotBuilt"
+code_word P1NotJson = codes "P1 NotJson"
+
+-- the name of a kind of principals in a policy and in a request
+abbrev pub kind_word : PrincipalKind → List ℕ
+kind_word Aws = codes "AWS"
+kind_word Service = codes "Service"
+kind_word Federated = codes "Federated"
+kind_word CanonicalUser = codes "CanonicalUser"
+
+-- a principal as JSON
+abbrev pub principal_data : Request → Data
+principal_data q = object (member (kind_word q.kind) (string (encode_utf8_all q.id)) no_members)
+
+-- a request without condition keys as JSON
+abbrev pub request_data : Request → Data
+request_data q = object (member (codes "Action") (string (encode_utf8_all q.action)) (member (codes "Context") (object no_members) (member (codes "Principal") (principal_data q) (member (codes "Resource") (string (encode_utf8_all q.resource)) no_members))))
+
+abbrev pub request_text : Request → List ℕ
+request_text q = compact_text (request_data q)
+
+-- the whole text of an answer
+unfoldable pub answer_text : Answer → List ℕ
+answer_text Usage = codes "usage: compare FIRST SECOND | summary SET DIMENSION.. | check FIRST SECOND PROOF | eval SET REQUEST | load N\n"
+answer_text (ReadFault role) = codes "read fault: " ++ role_word role ++ codes "\n"
+answer_text (TooLong role) = codes "refused: " ++ role_word role ++ codes ": file longer than 1048576 bytes\n"
+answer_text (Refused role code) = codes "refused: " ++ role_word role ++ codes ": " ++ code_word code ++ codes ": document 0, statement 0, \"\"\n"
+answer_text NotMore = codes "not more permissive\n"
+answer_text (More q) = codes "more permissive\n" ++ request_text q ++ codes "\n"

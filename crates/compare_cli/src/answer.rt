@@ -1,0 +1,113 @@
+//! The answers, and their texts.
+ghost use Rattle.std.specs.Prelude.{◌≡◌, IfOk, string_bytes};
+ghost use Rattle.serde_json.specs.View.{view};
+ghost use Rattle.compare_cli.specs.Texts.{answer_text, code_word, principal_data, request_data, request_text, role_word};
+
+use crate::reader::PolicyCode;
+use policy_model::{PrincipalKind, Request};
+use serde_json::{Value, json};
+use std::alloc::{AllocError, Global};
+
+/// What a file is for.
+#[derive(Clone, Copy, Debug, PartialEq, Eq)]
+pub enum Role {
+    First,
+    Second,
+}
+
+/// What a run answers.
+#[derive(Drop)]
+pub enum Answer {
+    /// The words are of no command's form.
+    Usage,
+    /// A file couldn't be read.
+    ReadFault(Role),
+    /// A file has more than 1,048,576 bytes.
+    TooLong(Role),
+    /// A file is refused as a set of policies.
+    Refused(Role, PolicyCode),
+    /// The second set allows every valid request that the first allows.
+    NotMore,
+    /// A valid request that the first set allows and the second doesn't.
+    More(Request),
+}
+
+const USAGE: &str =
+    "usage: compare FIRST SECOND | summary SET DIMENSION.. | check FIRST SECOND PROOF | eval SET REQUEST | load N\n";
+
+fn role_word(role: Role) -> &'static str
+    ensures { result.now ≡ role_word role }
+{
+    match role {
+        Role::First => "first",
+        Role::Second => "second",
+    }
+}
+
+fn code_word(code: PolicyCode) -> &'static str
+    ensures { result.now ≡ code_word code }
+{
+    match code {
+        PolicyCode::P0NotBuilt => "P0 NotBuilt",
+        PolicyCode::P1NotJson => "P1 NotJson",
+    }
+}
+
+fn principal(alloc: Global, request: &Request) -> Result<Value, AllocError>
+    ensures { IfOk result (λ v. view v ≡ principal_data request.now) }
+{
+    let id = request.id.to_utf8()?;
+    let id = id.as_str();
+    match request.kind {
+        PrincipalKind::Aws => json!(in alloc; {"AWS": id}),
+        PrincipalKind::Service => json!(in alloc; {"Service": id}),
+        PrincipalKind::Federated => json!(in alloc; {"Federated": id}),
+        PrincipalKind::CanonicalUser => json!(in alloc; {"CanonicalUser": id}),
+    }
+}
+
+fn request_value(alloc: Global, request: &Request) -> Result<Value, AllocError>
+    ensures { IfOk result (λ v. view v ≡ request_data request.now) }
+{
+    let action = request.action.to_utf8()?;
+    let resource = request.resource.to_utf8()?;
+    let action = action.as_str();
+    let resource = resource.as_str();
+    let principal = principal(alloc, request)?;
+    json!(in alloc; {"Action": action, "Context": {}, "Principal": principal, "Resource": resource})
+}
+
+// A request as one line of JSON (RFC 8259), its names in the order of their bytes.
+fn write_request(alloc: Global, request: &Request) -> Result<String, AllocError>
+    ensures { IfOk result (λ s. string_bytes s ≡ request_text request.now) }
+{
+    request_value(alloc, request)?.to_string(alloc)
+}
+
+/// The text of an answer: one line, and for `More` the request on a second one.
+#[tactic(auto, unfolding(crate::specs::Texts::answer_text))]
+pub fn answer_text(alloc: Global, answer: &Answer) -> Result<String, AllocError>
+    ensures { IfOk result (λ s. string_bytes s ≡ answer_text answer.now) }
+{
+    match answer {
+        Answer::Usage => String::from_str(alloc, USAGE),
+        Answer::ReadFault(role) => {
+            let role = role_word(*role);
+            format!(in alloc; "read fault: {role}\n")
+        }
+        Answer::TooLong(role) => {
+            let role = role_word(*role);
+            format!(in alloc; "refused: {role}: file longer than 1048576 bytes\n")
+        }
+        Answer::Refused(role, code) => {
+            let role = role_word(*role);
+            let code = code_word(*code);
+            format!(in alloc; "refused: {role}: {code}: document 0, statement 0, \"\"\n")
+        }
+        Answer::NotMore => String::from_str(alloc, "not more permissive\n"),
+        Answer::More(request) => {
+            let request = write_request(alloc, request)?;
+            format!(in alloc; "more permissive\n{request}\n")
+        }
+    }
+}

@@ -1,0 +1,17 @@
+//! The comparer of IAM policies: from the words of a command line and the files that they name to the
+//! bytes of an answer and a status.
+#![tactic(auto)]
+
+mod answer;
+mod files;
+mod reader;
+mod top;
+mod witness;
+mod words;
+
+pub use answer::{Answer, Role};
+pub use reader::PolicyCode;
+pub use top::{Status, run};
+
+#[cfg(test)]
+mod tests;

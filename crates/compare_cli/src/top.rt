@@ -1,0 +1,185 @@
+//! One run, from the words to the bytes that are written.
+ghost use Rattle.std.specs.Prelude.{◌≡◌, ◌≤◌, ◌≢◌, ℕ, List, None, IfOk, map, string_bytes};
+ghost use Rattle.pol_outside.specs.Faults.{Rose};
+ghost use Rattle.compare_cli.specs.Words.{asked};
+ghost use Rattle.compare_cli.specs.Answers.{IsAnswer, IsAnswerTo, IsFaultAnswer, IsVerdict};
+ghost use Rattle.compare_cli.specs.Runs.{Runs, status_of};
+ghost use Rattle.compare_cli.specs.Promises.{MoreByWords, NotMoreByWords, ReadFaultByCount, RefusedByWords, UsageByWords};
+ghost use Rattle.compare_cli.specs.Complete.{IsAccepted, IsDecided};
+
+use crate::answer::{Answer, Role, answer_text};
+use crate::files::read_file;
+use crate::reader::{PolicyAnswer, read_set};
+use crate::witness::find_witness;
+use crate::words::asked;
+use pol_outside::{Folder, Sink, TakeFault, put_all};
+use std::alloc::{AllocError, Global};
+
+/// How a run ends. The numbers of the statuses in this order, from 0, are the program's exit numbers.
+#[derive(Clone, Copy, Debug, PartialEq, Eq)]
+pub enum Status {
+    /// The answer is yes: `not more permissive`.
+    Holds,
+    /// The answer is no: `more permissive`.
+    Fails,
+    /// A file was refused.
+    Refused,
+    /// A budget ran out.
+    Undecided,
+    /// The words are of no command's form.
+    Usage,
+    /// A file couldn't be read.
+    ReadFault,
+    /// The answer couldn't be written whole.
+    WriteFault,
+    /// There was no memory. Nothing was written.
+    NoMemory,
+    /// A certificate doesn't hold.
+    BadProof,
+}
+
+// The answer of two files that were read.
+fn verdict(alloc: Global, first: &[u8], second: &[u8]) -> Result<Answer, AllocError>
+    ensures { IfOk result (IsVerdict first.now second.now) }
+{
+    let one = match read_set(alloc, first) {
+        Ok(set) => set,
+        Err(PolicyAnswer::Refused(code)) => return Ok(Answer::Refused(Role::First, code)),
+        Err(PolicyAnswer::NoMemory) => return Err(AllocError),
+    };
+    let two = match read_set(alloc, second) {
+        Ok(set) => set,
+        Err(PolicyAnswer::Refused(code)) => return Ok(Answer::Refused(Role::Second, code)),
+        Err(PolicyAnswer::NoMemory) => return Err(AllocError),
+    };
+    match find_witness(alloc, &one, &two)? {
+        Some(request) => Ok(Answer::More(request)),
+        None => Ok(Answer::NotMore),
+    }
+}
+
+fn fault_answer(role: Role, fault: TakeFault) -> Result<Answer, AllocError>
+    ensures { IsFaultAnswer role fault result }
+{
+    match fault {
+        TakeFault::Failed => Ok(Answer::ReadFault(role)),
+        TakeFault::TooLong => Ok(Answer::TooLong(role)),
+        TakeFault::NoMemory => Err(AllocError),
+    }
+}
+
+// The answer to two names.
+fn answer_to<F: Folder>(
+    alloc: Global,
+    folder: &mut F,
+    first: &str,
+    second: &str,
+) -> Result<Answer, AllocError>
+    ensures given { IfOk result (IsAnswerTo (F.held folder.old) (F.faults folder.old) (F.faults folder.new) (F.last_fault folder.new) (first.now, second.now)) }
+    ensures held { F.held folder.new ≡ F.held folder.old }
+    ensures later { F.faults folder.old ≤ F.faults folder.new }
+{
+    let one = match read_file(alloc, folder, first) {
+        Ok(bytes) => bytes,
+        Err(fault) => return fault_answer(Role::First, fault),
+    };
+    let two = match read_file(alloc, folder, second) {
+        Ok(bytes) => bytes,
+        Err(fault) => return fault_answer(Role::Second, fault),
+    };
+    verdict(alloc, one.as_slice(), two.as_slice())
+}
+
+fn answer<F: Folder>(alloc: Global, words: &[String], folder: &mut F) -> Result<Answer, AllocError>
+    ensures given { IfOk result (IsAnswer (F.held folder.old) (F.faults folder.old) (F.faults folder.new) (F.last_fault folder.new) (asked (map (λ w. string_bytes w) words.now))) }
+    ensures untouched { asked (map (λ w. string_bytes w) words.now) ≡ None → folder.new ≡ folder.old }
+    ensures held { F.held folder.new ≡ F.held folder.old }
+    ensures later { F.faults folder.old ≤ F.faults folder.new }
+{
+    match asked(words) {
+        Some((first, second)) => answer_to(alloc, folder, first, second),
+        None => Ok(Answer::Usage),
+    }
+}
+
+fn status_of(answer: &Answer) -> Status
+    ensures { result ≡ status_of answer.now }
+{
+    match answer {
+        Answer::Usage => Status::Usage,
+        Answer::ReadFault(_) => Status::ReadFault,
+        Answer::TooLong(_) | Answer::Refused(_, _) => Status::Refused,
+        Answer::NotMore => Status::Holds,
+        Answer::More(_) => Status::Fails,
+    }
+}
+
+// Answers, and writes the answer.
+fn answer_and_write<F: Folder, S: Sink>(
+    alloc: Global,
+    words: &[String],
+    folder: &mut F,
+    out: &mut S,
+) -> Status
+    ensures runs { Runs
+        (IsAnswer (F.held folder.old) (F.faults folder.old) (F.faults folder.new) (F.last_fault folder.new)
+        (asked (map (λ w. string_bytes w) words.now)))
+        result (S.faults out.old) (S.faults out.new) (S.written out.old) (S.written out.new) }
+    ensures untouched { asked (map (λ w. string_bytes w) words.now) ≡ None → folder.new ≡ folder.old }
+    ensures held { F.held folder.new ≡ F.held folder.old }
+{
+    let Ok(answer) = answer(alloc, words, folder) else {
+        return Status::NoMemory;
+    };
+    let Ok(text) = answer_text(alloc, &answer) else {
+        return Status::NoMemory;
+    };
+    match put_all(out, text.as_bytes()) {
+        Ok(()) => status_of(&answer),
+        Err(_) => Status::WriteFault,
+    }
+}
+
+/// Reads the files that the words name, answers, and writes the answer. The words are those after the
+/// program's name. The clauses say, over the words, the bytes that the folder holds, the bytes that were
+/// written and the status:
+///
+/// - `runs`: what was written by each status: the whole text of an answer that may be given, a prefix of
+///   it with `WriteFault`, nothing with `NoMemory`;
+/// - `usage`, `untouched`: `Usage` exactly where the words are no `compare FIRST SECOND`, and then the
+///   folder is as before;
+/// - `read_fault`, `write_fault`: only where the count of faults rose in this call, and a role's fault
+///   of reading only with that role's file as the last fault's name;
+/// - `refused`: a refusal by the first cause, with its line;
+/// - `not_more`: the second set allows each valid request that the first allows, over all texts;
+/// - `more`: the second line is a valid request that the first set alone allows;
+/// - `complete`: two accepted files and no fault give a comparison, unless memory is wanting.
+pub fn run<F: Folder, S: Sink>(
+    alloc: Global,
+    words: &[String],
+    folder: &mut F,
+    out: &mut S,
+) -> Status
+    ensures runs { Runs
+        (IsAnswer (F.held folder.old) (F.faults folder.old) (F.faults folder.new) (F.last_fault folder.new)
+        (asked (map (λ w. string_bytes w) words.now)))
+        result (S.faults out.old) (S.faults out.new) (S.written out.old) (S.written out.new) }
+    ensures usage { UsageByWords (asked (map (λ w. string_bytes w) words.now)) result }
+    ensures untouched { asked (map (λ w. string_bytes w) words.now) ≡ None → folder.new ≡ folder.old }
+    ensures held { F.held folder.new ≡ F.held folder.old }
+    ensures read_fault { result ≡ Status.ReadFault → ReadFaultByCount (asked (map (λ w. string_bytes w) words.now))
+        (F.faults folder.old) (F.faults folder.new) (F.last_fault folder.new) (S.written out.old) (S.written out.new) }
+    ensures write_fault { result ≡ Status.WriteFault → Rose (S.faults out.old) (S.faults out.new) }
+    ensures refused { result ≡ Status.Refused → RefusedByWords (F.held folder.old)
+        (asked (map (λ w. string_bytes w) words.now)) (S.written out.old) (S.written out.new) }
+    ensures not_more { result ≡ Status.Holds → NotMoreByWords (F.held folder.old)
+        (asked (map (λ w. string_bytes w) words.now)) (S.written out.old) (S.written out.new) }
+    ensures more { result ≡ Status.Fails → MoreByWords (F.held folder.old)
+        (asked (map (λ w. string_bytes w) words.now)) (S.written out.old) (S.written out.new) }
+    ensures complete { IsAccepted (F.held folder.old) (asked (map (λ w. string_bytes w) words.now))
+        → ¬ Rose (F.faults folder.old) (F.faults folder.new)
+        → ¬ Rose (S.faults out.old) (S.faults out.new)
+        → IsDecided result }
+{
+    answer_and_write(alloc, words, folder, out)
+}
