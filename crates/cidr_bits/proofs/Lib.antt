@@ -1,0 +1,5 @@
+pub mod Runs
+pub mod Cleared
+pub mod Reading
+pub mod Hex
+pub mod ReadBack

@@ -1,0 +1,5 @@
+pub mod Numbers
+pub mod Blocks
+pub mod Forms
+pub mod Texts
+pub mod Laws

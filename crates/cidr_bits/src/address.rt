@@ -1,0 +1,15 @@
+//! Addresses as numbers.
+
+/// An IPv4 or an IPv6 address, as the number whose bits are those of the address, the first bit of
+/// the address being the highest.
+#[derive(Clone, Copy, Debug, PartialEq, Eq, PartialOrd, Ord, Hash)]
+pub enum Address {
+    /// An IPv4 address: 32 bits.
+    V4(u32),
+    /// An IPv6 address: 128 bits.
+    V6(u128),
+}
+
+/// The answer of a reader where the text isn't of its form.
+#[derive(Clone, Copy, Debug, PartialEq, Eq)]
+pub struct BadAddress;

@@ -1,0 +1,22 @@
+//! IPv4 and IPv6 addresses and blocks of addresses: reading, writing, and which addresses lie in a
+//! block.
+#![tactic(auto)]
+
+mod address;
+mod bits;
+mod block;
+mod laws;
+mod read;
+mod write;
+
+pub use address::{Address, BadAddress};
+pub use bits::{bounds, contains};
+pub use block::Block;
+pub use laws::{
+    address_is_read_back, block_is_read_back, text_spells_one_address, text_spells_one_block,
+};
+pub use read::{read_address, read_block};
+pub use write::{write_address, write_block};
+
+#[cfg(test)]
+mod tests;

@@ -1,0 +1,4 @@
+pub mod Choices
+pub mod Hits
+pub mod Index
+pub mod Stored

@@ -1,0 +1,12 @@
+//! Learned refutations: values that close under lists of answers, and a store that finds the first
+//! one whose answers a path contains.
+#![tactic(auto)]
+
+mod buckets;
+mod lists;
+mod store;
+#[cfg(test)]
+mod tests;
+
+pub use plain_lists::NoMemory;
+pub use store::{Closes, Store};

@@ -1,0 +1,91 @@
+//! The store of learned refutations.
+ghost use Rattle.std.specs.Prelude.{◌≡◌, ◌++◌, ◌∷◌, [], ℕ, true, Some, List, Bool, OnOk, OnErr, IfSome, IfNone, slice_get, length};
+ghost use Rattle.formula_tree.specs.Answers.{Contained};
+ghost use Rattle.nogoods.specs.Hits.{IsFirstHit, NoHit};
+ghost use Rattle.nogoods.specs.Stored.{lists_of};
+
+use crate::lists::Lists;
+use formula_tree::Path;
+use plain_lists::NoMemory;
+use std::alloc::Global;
+use std::marker::Model;
+use std::rc::Rc;
+
+/// A value that closes under some lists of answers, as a refutation does. What closes under some
+/// answers closes under all answers that contain them.
+pub trait Closes {
+    /// Whether the value closes under a list of answers.
+    ghost closes: { Self → List (ℕ × Bool) → Bool };
+
+    /// Whether the value closes under the path's answers. It takes no memory.
+    fn closes_under(&self, path: &Path) -> bool
+        ensures { result ≡ closes self.now path.now };
+
+    /// What closes under some answers closes under all answers that contain them.
+    ghost stays_closed: { (x : Self) (few many : List (ℕ × Bool)) → Contained few many → closes x few ≡ true → closes x many ≡ true };
+}
+
+/// Learned refutations: pairs of a list of answers and a value that closes under them, in the order
+/// in which they were learned. It takes memory by the answers that are stored and by the greatest
+/// test number in them.
+#[derive(Drop)]
+pub struct Store<T: Closes> {
+    lists: Lists,
+    values: Vec<Rc<T>>,
+}
+
+impl<T: Closes> Model for Store<T> {
+    ghost use Rattle.std.specs.Prelude.{◌≡◌, ℕ, Bool, List, zip, length};
+
+    ghost Value = { List (List (ℕ × Bool) × T) };
+
+    ghost use Rattle.nogoods.specs.Stored.{AllClose, shared_values};
+
+    ghost view = { λ s. zip s.lists (shared_values s.values.items) };
+
+    ghost invariant = { λ s. (length s.lists ≡ length s.values.items) × AllClose T.closes (zip s.lists (shared_values s.values.items)) };
+}
+
+impl<T: Closes> Store<T> {
+    /// The store without a pair. It takes no memory.
+    pub fn new(alloc: Global) -> Store<T>
+        ensures { result ≡ [] }
+    {
+        Store {
+            lists: Lists::new(alloc),
+            values: Vec::new(alloc),
+        }
+    }
+
+    /// The first stored pair whose answers the path contains, or none exactly where the path
+    /// contains the answers of no pair. Its value closes under the path. It takes no memory.
+    pub fn hit(&self, path: &Path) -> Option<(&Path, &Rc<T>)>
+        ensures first { IfSome result (λ pair. (i : ℕ) × IsFirstHit (lists_of self.now) path.now i × (slice_get self.now i ≡ Some (pair.0.now, pair.1.now.value))) }
+        ensures none { IfNone result (NoHit (lists_of self.now) path.now) }
+        ensures closes { IfSome result (λ pair. T.closes pair.1.now.value path.now ≡ true) }
+    {
+        match self.lists.first(path) {
+            Some(place) => Some((self.lists.at(place), &self.values[place])),
+            None => None,
+        }
+    }
+}
+
+impl<T: Closes + Drop> Store<T> {
+    /// Stores a value under answers under which it closes. Where there is no memory both are
+    /// dropped and the store stays as it was.
+    pub fn learn(&mut self, answers: Path, what: Rc<T>) -> Result<(), NoMemory>
+        requires { T.closes what.value answers ≡ true }
+        ensures ok { OnOk result (self.new ≡ self.old ++ (answers, what.value) ∷ []) }
+        ensures err { OnErr result (self.new ≡ self.old) }
+    {
+        self.values.push(what)?;
+        match self.lists.add(answers) {
+            Ok(()) => Ok(()),
+            Err(error) => {
+                self.values.pop();
+                Err(error)
+            }
+        }
+    }
+}

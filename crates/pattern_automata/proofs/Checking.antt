@@ -1,0 +1,206 @@
+-- The check of a closed set: the marks of its lists tell the lists, where their places fit.
+use Rattle.std.proofs.Common.{◌≡◌, ℕ, zero, suc, ◌+◌, ◌<◌, ◌≤◌, List, [], ◌∷◌, ◌++◌, length, get_or, Bool, true, false, cond, nat_le, All, Contains, refl, sym, ap, ◌∙◌, inl, inr, arith, take, drop, add-one}
+use Rattle.std.specs.List.{list_all}
+use Rattle.std.proofs.lemmas.Bool.{cases_eq, and_parts, and_from}
+use Rattle.std.proofs.lemmas.Bool.Decides.{nat_tests}
+use Rattle.std.proofs.lemmas.List.{append_assoc, append-nil, take_at, drop_at, get_or_default, get_or_append_left, get_or-append-add}
+use Rattle.wildcard_lang.specs.declared.piece.Piece.{Piece}
+use Rattle.std.specs.Char.{IsScalar}
+use Rattle.wildcard_lang.specs.Accepts.{tests, reaches, accepts}
+use Rattle.wildcard_lang.proofs.Accept.{length-tests, get_or-tests}
+use Rattle.pattern_automata.specs.declared.wants.Literal.{Literal}
+use Rattle.wildcard_lang.specs.Places.{has, rising, lists_of, step_lists}
+use Rattle.pattern_automata.specs.Closed.{rises_from, IsShaped, InRange, lists_meet, Represent, IsClosed}
+use Rattle.pattern_automata.specs.Marks.{marks_from, total}
+use Rattle.pattern_automata.specs.Tree.{IsEnds, words_meet}
+use Rattle.pattern_automata.specs.Packed.{all_words, pack}
+use Rattle.pattern_automata.proofs.Packing.{mark-pack, pack-same}
+use Rattle.pattern_automata.proofs.Indexing.{length-marks_from}
+use Rattle.pattern_automata.specs.Checked.{fits, IsIndex, Passes}
+use Rattle.wildcard_lang.proofs.Stepping.{rising-same}
+use Rattle.pattern_automata.proofs.Empty.{clauses_hold-same}
+use Rattle.pattern_automata.proofs.Leading.{reached-from, all_marks-from}
+use Rattle.pattern_automata.proofs.Answering.{from-rising, shaped-lists}
+
+tests-push : (f : ℕ → Bool) (i k : ℕ) → tests f i (suc k) ≡ tests f i k ++ f (i + k) ∷ []
+tests-push f i zero = let e : i + 0 ≡ i = omega arith in rw e refl
+tests-push f i (suc k) =
+    let e : i + 1 + k ≡ i + suc k = omega arith in
+    ap (λ x. f i ∷ x) (rw e at (tests-push f (i + 1) k))
+
+pub push-mark : (list : List ℕ) (j : ℕ) (old marks new : List Bool) (b : Bool) → b ≡ has list j → marks ≡ old ++ tests (has list) 0 j → new ≡ marks ++ b ∷ [] →
+    new ≡ old ++ tests (has list) 0 (j + 1)
+push-mark list j old marks new b is are pushed =
+    let z : 0 + j ≡ j = omega arith in
+    let t : tests (has list) 0 (suc j) ≡ tests (has list) 0 j ++ has list j ∷ [] = rw z at (tests-push (has list) 0 j) in
+    rw (pushed, are, is, add-one, t) (append_assoc old (tests (has list) 0 j) (has list j ∷ []))
+
+marks_from-suc : (ps : List (List Piece)) (lists : List (List ℕ)) (i : ℕ) (p : List Piece) (l : List ℕ) → i < length ps → i < length lists → p ≡ get_or ps i p → l ≡ get_or lists i l →
+    marks_from (take (suc i) ps) (take (suc i) lists) ≡ marks_from (take i ps) (take i lists) ++ tests (has l) 0 (length p + 1)
+marks_from-suc [] lists i p l h k e f = absurd (omega arith)
+marks_from-suc (q ∷ qs) [] i p l h k e f = absurd (omega arith)
+marks_from-suc (q ∷ qs) (m ∷ ms) zero p l h k e f = append-nil (tests (has m) 0 (length q + 1)) ∙ rw (e, f) refl
+marks_from-suc (q ∷ qs) (m ∷ ms) (suc i) p l h k e f =
+    ap (λ x. tests (has m) 0 (length q + 1) ++ x) (marks_from-suc qs ms i p l (omega arith) (omega arith) e f)
+    ∙ sym (append_assoc (tests (has m) 0 (length q + 1)) (marks_from (take i qs) (take i ms)) (tests (has l) 0 (length p + 1)))
+
+pub marks_from-more : (ps : List (List Piece)) (lists : List (List ℕ)) (i : ℕ) (p : List Piece) (l view : List ℕ) (n : ℕ) (marks new : List Bool) → i < length ps → length lists ≡ length ps →
+    p ≡ get_or ps i p → l ≡ get_or lists i l → view ≡ l → n ≡ length p → marks ≡ marks_from (take i ps) (take i lists) → new ≡ marks ++ tests (has view) 0 (n + 1) →
+    new ≡ marks_from (take (i + 1) ps) (take (i + 1) lists)
+marks_from-more ps lists i p l view n marks new h k e f v m are pushed =
+    let a : i + 1 ≡ suc i = omega arith in
+    rw (pushed, are, v, m, a) (sym (marks_from-suc ps lists i p l h (omega arith) e f))
+
+-- the last mark of each pattern says whether the pattern matches in the list
+last-of : (ps : List (List Piece)) (lists : List (List ℕ)) (k : ℕ) → length lists ≡ length ps → k < length ps →
+    get_or (marks_from ps lists) (total (take k ps) + length (get_or ps k [])) false ≡ has (get_or lists k []) (length (get_or ps k []))
+last-of [] lists k n h = absurd (omega arith)
+last-of (p ∷ ps) [] k n h = absurd (omega arith)
+last-of (p ∷ ps) (l ∷ ls) zero n h =
+    let z : 0 + length p ≡ length p = omega arith in
+    let t : length (tests (has l) 0 (length p + 1)) ≡ length p + 1 = length-tests (has l) 0 (length p + 1) in
+    rw z (get_or_append_left (tests (has l) 0 (length p + 1)) (marks_from ps ls) false (length p) (omega (arith, t)) ∙ (get_or-tests (has l) 0 (length p + 1) (length p) (omega arith) ∙ ap (has l) z))
+last-of (p ∷ ps) (l ∷ ls) (suc k) n h =
+    let t : length (tests (has l) 0 (length p + 1)) ≡ length p + 1 = length-tests (has l) 0 (length p + 1) in
+    let e : length p + 1 + total (take k ps) + length (get_or ps k []) ≡ length (tests (has l) 0 (length p + 1)) + (total (take k ps) + length (get_or ps k [])) = omega (arith, t) in
+    rw (e, get_or-append-add (tests (has l) 0 (length p + 1)) (marks_from ps ls) (total (take k ps) + length (get_or ps k [])) false) (last-of ps ls k (omega arith) (omega arith))
+
+pub meet-lists : (ps : List (List Piece)) (ends : List ℕ) (clauses : List (List Literal)) (lists : List (List ℕ)) → IsEnds ps ends → InRange (length ps) clauses → length lists ≡ length ps →
+    words_meet ends clauses (pack (marks_from ps lists)) ≡ lists_meet ps clauses lists
+meet-lists ps ends clauses lists are range n =
+    clauses_hold-same _ _ (length ps) (λ i h. mark-pack (marks_from ps lists) (get_or ends i 0) ∙ (ap (λ x. get_or (marks_from ps lists) x false) (are.each i h) ∙ last-of ps lists i n h)) clauses range
+
+-- a list that rises and fits is the list of the numbers that it has
+none-below : (i j : ℕ) (l : List ℕ) → j < i → rises_from i l ≡ true → has l j ≡ false
+none-below i j [] h r = refl
+none-below i j (k ∷ ks) h r = grind (arith, nat_tests, none-below (k + 1) j ks)
+
+has-next : (i j : ℕ) (js : List ℕ) → i < j → has (i ∷ js) j ≡ has js j
+has-next i j js h = grind (arith, nat_tests)
+
+rising-has : (n i k : ℕ) (l : List ℕ) → i + k ≡ n + 1 → rises_from i l ≡ true → list_all (λ j. nat_le j n) l ≡ true → rising (has l) i k ≡ l
+rising-has n i zero [] e r f = refl
+rising-has n i zero (j ∷ js) e r f = absurd (grind (arith, nat_tests))
+rising-has n i (suc k) [] e r f = rising-has n (i + 1) k [] (omega arith) refl refl
+rising-has n i (suc k) (j ∷ js) e r f =
+    let parts = and_parts (nat_le i j) (rises_from (j + 1) js) r in
+    let fit = and_parts (nat_le j n) (list_all (λ x. nat_le x n) js) f in
+    elim (cases_eq j i) [
+      | inl same ↦
+          let here : has (j ∷ js) i ≡ true = grind (arith, nat_tests) in
+          let rest : rising (has (j ∷ js)) (i + 1) k ≡ js =
+          rising-same (has (j ∷ js)) (has js) (i + 1) k (λ x a b. has-next j x js (omega arith))
+          ∙ rising-has n (i + 1) k js (omega arith) (rw same at parts.1) fit.1 in
+          rw (here, rest, same) refl
+      | inr ne ↦
+          let more : rises_from (i + 1) (j ∷ js) ≡ true = grind (arith, nat_tests) in
+          let here : has (j ∷ js) i ≡ false = none-below (i + 1) i (j ∷ js) (omega arith) more in
+          rw here (rising-has n (i + 1) k (j ∷ js) (omega arith) more f)
+    ]
+
+same-list : (n : ℕ) (a b : List ℕ) → rises_from 0 a ≡ true → rises_from 0 b ≡ true → list_all (λ j. nat_le j n) a ≡ true → list_all (λ j. nat_le j n) b ≡ true →
+    tests (has a) 0 (n + 1) ≡ tests (has b) 0 (n + 1) → a ≡ b
+same-list n a b r s f g e =
+    let agree : (j : ℕ) → 0 ≤ j → j < 0 + (n + 1) → has a j ≡ has b j =
+    λ j l h.
+    let z : 0 + j ≡ j = omega arith in
+    ap (has a) (sym z) ∙ (sym (get_or-tests (has a) 0 (n + 1) j (omega arith)) ∙ (ap (λ x. get_or x j false) e ∙ (get_or-tests (has b) 0 (n + 1) j (omega arith) ∙ ap (has b) z))) in
+    sym (rising-has n 0 (n + 1) a (omega arith) r f) ∙ (rising-same (has a) (has b) 0 (n + 1) agree ∙ rising-has n 0 (n + 1) b (omega arith) s g)
+
+pub same-lists : (ps : List (List Piece)) (a b : List (List ℕ)) → IsShaped ps a → IsShaped ps b → fits ps a ≡ true → fits ps b ≡ true →
+    marks_from ps a ≡ marks_from ps b → a ≡ b
+same-lists [] [] [] x y f g e = refl
+same-lists [] [] (b ∷ bs) x y f g e = absurd (omega (arith, y.0))
+same-lists [] (a ∷ as') b x y f g e = absurd (omega (arith, x.0))
+same-lists (p ∷ ps) [] b x y f g e = absurd (omega (arith, x.0))
+same-lists (p ∷ ps) (a ∷ as') [] x y f g e = absurd (omega (arith, y.0))
+same-lists (p ∷ ps) (a ∷ as') (b ∷ bs) x y f g e =
+    let n : ℕ = length p + 1 in
+    let ta : length (tests (has a) 0 n) ≡ n = length-tests (has a) 0 n in
+    let tb : length (tests (has b) 0 n) ≡ n = length-tests (has b) 0 n in
+    let heads : tests (has a) 0 n ≡ tests (has b) 0 n =
+    sym (take_at (tests (has a) 0 n) (marks_from ps as') n ta) ∙ (ap (λ v. take n v) e ∙ take_at (tests (has b) 0 n) (marks_from ps bs) n tb) in
+    let tails : marks_from ps as' ≡ marks_from ps bs =
+    sym (drop_at (tests (has a) 0 n) (marks_from ps as') n ta) ∙ (ap (λ v. drop n v) e ∙ drop_at (tests (has b) 0 n) (marks_from ps bs) n tb) in
+    let xr = and_parts _ _ x.1 in
+    let yr = and_parts _ _ y.1 in
+    let fr = and_parts _ _ f in
+    let gr = and_parts _ _ g in
+    rw (same-list (length p) a b xr.0 yr.0 fr.0 gr.0 heads, same-lists ps as' bs (omega (arith, x.0), xr.1) (omega (arith, y.0), yr.1) fr.1 gr.1 tails) refl
+
+-- the lists of a text and a step have one rising list per pattern, whose places fit
+fit-rising : (n : ℕ) (f : ℕ → Bool) (i k : ℕ) → i + k ≡ n + 1 → list_all (λ j. nat_le j n) (rising f i k) ≡ true
+fit-rising n f i zero e = refl
+fit-rising n f i (suc k) e =
+    elim (f i) as (λ b. list_all (λ j. nat_le j n) (cond b (i ∷ rising f (i + 1) k) (rising f (i + 1) k)) ≡ true) [
+      | true ↦ grind (arith, nat_tests, fit-rising n f (i + 1) k (omega arith))
+      | false ↦ fit-rising n f (i + 1) k (omega arith)
+    ]
+
+pub fit-lists_of : (ps : List (List Piece)) (t : List ℕ) → fits ps (lists_of ps t) ≡ true
+fit-lists_of [] t = refl
+fit-lists_of (p ∷ ps) t = and_from _ _ (fit-rising (length p) (λ i. accepts (take i p) t) 0 (length p + 1) (omega arith)) (fit-lists_of ps t)
+
+fit-steps : (ps : List (List Piece)) (lists : List (List ℕ)) (c : ℕ) → fits ps (step_lists ps lists c) ≡ true
+fit-steps [] lists c = refl
+fit-steps (p ∷ ps) [] c = refl
+fit-steps (p ∷ ps) (l ∷ ls) c = and_from _ _ (fit-rising (length p) (reaches p (has l) c) 0 (length p + 1) (omega arith)) (fit-steps ps ls c)
+
+shaped-steps : (ps : List (List Piece)) (lists : List (List ℕ)) (c : ℕ) → length lists ≡ length ps → IsShaped ps (step_lists ps lists c)
+shaped-steps [] lists c n = (refl, refl)
+shaped-steps (p ∷ ps) [] c n = absurd (omega arith)
+shaped-steps (p ∷ ps) (l ∷ ls) c n =
+    let rest = shaped-steps ps ls c (omega arith) in
+    (ap suc rest.0, and_from _ _ (from-rising (reaches p (has l) c) 0 (length p + 1)) rest.1)
+
+module _ (patterns : List (List Piece)) (closed : List (List (List ℕ))) (index : List (List ℕ)) (shaped : All (IsShaped patterns) closed)
+    (is : IsIndex patterns closed (length closed) index) where
+  -- the index has the marks of a list that fits exactly where the set has the list
+  to-index : (lists : List (List ℕ)) (m : List ℕ) → fits patterns lists ≡ true → pack (marks_from patterns lists) ≡ m → Contains closed lists → Contains index m
+  to-index lists m fit e inside =
+      let same : get_or closed inside.0 [] ≡ lists = get_or_default closed inside.0 [] lists inside.1 ∙ inside.2 in
+      (is m).1 (record { place = inside.0; below = inside.1; fit = rw same fit; words = rw same e })
+
+  from-index : (lists : List (List ℕ)) (m : List ℕ) → IsShaped patterns lists → fits patterns lists ≡ true → pack (marks_from patterns lists) ≡ m → Contains index m → Contains closed lists
+  from-index lists m shape fit e inside =
+      let found = (is m).0 inside in
+      let same : get_or closed found.place [] ≡ lists =
+      same-lists patterns _ lists (shaped found.place [] found.below) shape found.fit fit
+      (pack-same _ _ (length-marks_from patterns _ (shaped found.place [] found.below).0 ∙ sym (length-marks_from patterns lists shape.0)) (found.words ∙ sym e)) in
+      (found.place, found.below, get_or_default closed found.place lists [] found.below ∙ same)
+
+  module _ (ends : List ℕ) (clauses : List (List Literal)) (characters : List ℕ) (are : IsEnds patterns ends) (range : InRange (length patterns) clauses)
+      (represent : Represent patterns characters) where
+    pub closed-if : Contains index (all_words patterns []) → All (λ lists. Passes patterns ends clauses characters index (marks_from patterns lists)) closed → IsClosed patterns clauses closed
+    closed-if start pass = record {
+      shaped = shaped;
+      starts = from-index (lists_of patterns []) _ (shaped-lists patterns []) (fit-lists_of patterns []) (ap pack (sym (all_marks-from patterns []))) start;
+      steps = λ lists c inside r.
+          let same : get_or closed inside.0 [] ≡ lists = get_or_default closed inside.0 [] lists inside.1 ∙ inside.2 in
+          let shape : IsShaped patterns lists = rw same at (shaped inside.0 [] inside.1) in
+          let passes = rw same at (pass inside.0 [] inside.1) in
+          let scalar : IsScalar c = elim r [ inl n ↦ n.0 | inr f ↦ f.scalar ] in
+          let known : has characters c ≡ true = (represent c scalar).0 r in
+          from-index (step_lists patterns lists c) _ (shaped-steps patterns lists c shape.0) (fit-steps patterns lists c)
+          (ap pack (sym (reached-from patterns lists c shape.0))) (passes.steps c scalar known);
+      none_meets = λ lists inside.
+          let same : get_or closed inside.0 [] ≡ lists = get_or_default closed inside.0 [] lists inside.1 ∙ inside.2 in
+          let shape : IsShaped patterns lists = rw same at (shaped inside.0 [] inside.1) in
+          let passes = rw same at (pass inside.0 [] inside.1) in
+          sym (meet-lists patterns ends clauses lists are range shape.0) ∙ passes.none;
+    }
+
+    pub start-if : IsClosed patterns clauses closed → Contains index (all_words patterns [])
+    start-if c = to-index (lists_of patterns []) _ (fit-lists_of patterns []) (ap pack (sym (all_marks-from patterns []))) c.starts
+
+    pub passes-if : IsClosed patterns clauses closed → All (λ lists. Passes patterns ends clauses characters index (marks_from patterns lists)) closed
+    passes-if c k d h =
+        let lists : List (List ℕ) = get_or closed k d in
+        let inside : Contains closed lists = (k, h, get_or_default closed k lists d h) in
+        let shape = shaped k d h in
+        record {
+          none = meet-lists patterns ends clauses lists are range shape.0 ∙ c.none_meets lists inside;
+          steps = λ x s known.
+              to-index (step_lists patterns lists x) _ (fit-steps patterns lists x) (ap pack (sym (reached-from patterns lists x shape.0)))
+              (c.steps lists x inside ((represent x s).1 known));
+        }

@@ -1,0 +1,7 @@
+use Rattle.std.proofs.Common.{◌≡◌, ◌++◌}
+use Rattle.wildcard_lang.specs.Accepts.{tests}
+use Rattle.wildcard_lang.specs.Places.{has}
+use Rattle.pattern_automata.proofs.check.push_marks.Given as goal
+
+abbrev pub invariant-loop-j : goal.invariant-loop-j
+invariant-loop-j l = l.marks.items ≡ l.fn.marks.items ++ tests (has l.list) 0 l.j

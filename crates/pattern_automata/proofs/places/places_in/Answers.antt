@@ -1,0 +1,12 @@
+use Rattle.std.proofs.Common.{◌∙◌, ◌+◌, sym}
+use Rattle.pattern_automata.specs.Packed.{word_mark}
+use Rattle.pattern_automata.proofs.Listing.{push-place, skip-place}
+use Rattle.pattern_automata.proofs.places.places_in.Goals as goal
+use Rattle.pattern_automata.proofs.places.places_in.Goals.{then-has_mark+in_ok-push, else-has_mark}
+
+pub loop-i-preserved : goal.loop-i-preserved
+loop-i-preserved c =
+    elim c.if-has_mark.branch [
+      | then-has_mark+in_ok-push w ↦ push-place (λ j. word_mark c.args.words.now (c.args.at + j)) c.loop-i.i c.loop-i.list c.loop-i.invariant _ (sym c.has_mark.ensures ∙ w.if-has_mark.true) (w.list-is ∙ w.in_ok-push.ensures.ok)
+      | else-has_mark w ↦ w.list-is ∙ skip-place (λ j. word_mark c.args.words.now (c.args.at + j)) c.loop-i.i c.loop-i.list c.loop-i.invariant (sym c.has_mark.ensures ∙ w.if-has_mark.false)
+    ]

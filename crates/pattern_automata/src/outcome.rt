@@ -1,0 +1,14 @@
+//! What a product answers.
+use crate::places::Closed;
+use wildcard_lang::{Text, TextList};
+
+/// What a product finds.
+#[derive(Drop)]
+pub enum Product {
+    /// A text that meets the clauses.
+    Found(Text),
+    /// A closed set, so no text meets them.
+    Empty(Closed),
+    /// One more text than the limit, no two with the same lists of places.
+    TooMany(TextList),
+}

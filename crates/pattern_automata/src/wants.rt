@@ -1,0 +1,29 @@
+//! Patterns, and what is wanted of them.
+
+use plain_lists::List;
+use wildcard_lang::PatternList;
+
+/// A pattern by its number, counted from 0, and whether it is to match.
+#[derive(Clone, Copy, Debug, PartialEq, Eq)]
+pub struct Literal {
+    /// The number of the pattern.
+    pub pattern: u32,
+    /// Whether it is to match.
+    pub holds: bool,
+}
+
+/// A clause: a list of literals, of which one is to be met.
+pub type LiteralList = List<Literal>;
+
+/// A list of clauses, each of which is to be met.
+pub type ClauseList = List<LiteralList>;
+
+/// Patterns, and clauses over them. A text meets the wants where each clause has a literal whose
+/// pattern matches the text or not, as the literal says.
+#[derive(Drop)]
+pub struct Wants {
+    /// The patterns.
+    pub patterns: PatternList,
+    /// The clauses.
+    pub clauses: ClauseList,
+}

@@ -1,0 +1,19 @@
+//! Whether some truth value, number, address or byte string meets clauses over conditions on it.
+#![tactic(auto)]
+
+mod clause;
+mod kinds;
+mod laws;
+mod meaning;
+mod samples;
+mod search;
+
+pub use clause::{ClauseList, Literal, LiteralList};
+pub use kinds::{PlainCond, PlainCondList, PlainKind, PlainValue};
+pub use laws::{meets_is_meaning, samples_stand_for_all};
+pub use meaning::meets_condition;
+pub use plain_lists::NoMemory;
+pub use search::{PlainWants, Solved, solve};
+
+#[cfg(test)]
+mod tests;

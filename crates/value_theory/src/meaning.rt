@@ -1,0 +1,50 @@
+//! Which values meet which conditions.
+ghost use Rattle.std.specs.Prelude.{◌≡◌, IfOk};
+ghost use Rattle.value_theory.specs.Meaning.{meets, stands_to};
+ghost use Rattle.value_theory.specs.Solutions.{answers};
+
+use crate::kinds::{PlainCond, PlainValue};
+use cidr_bits::contains;
+use intervals::{Compare, Scaled, satisfies};
+use plain_lists::NoMemory;
+use std::alloc::Global;
+
+/// Whether the value meets the condition. A value of another kind than the condition's never does. It
+/// takes no memory.
+pub fn meets_condition(value: &PlainValue, cond: &PlainCond) -> bool
+    ensures { result ≡ meets value.now cond.now }
+{
+    match (value, cond) {
+        (PlainValue::Truth(truth), PlainCond::Flag(at_true, at_false)) => {
+            if *truth { *at_true } else { *at_false }
+        }
+        (PlainValue::Number(number), PlainCond::Compares(compare, bound)) => {
+            number_stands_to(*compare, *bound, *number)
+        }
+        (PlainValue::Address(address), PlainCond::Inside(block)) => contains(block, address),
+        (PlainValue::Bytes(bytes), PlainCond::Equals(wanted)) => {
+            bytes.as_slice() == wanted.as_slice()
+        }
+        _ => false,
+    }
+}
+
+fn number_stands_to(compare: Compare, bound: Scaled, number: Scaled) -> bool
+    ensures { result ≡ stands_to compare bound number }
+{
+    satisfies(compare, bound, number)
+}
+
+// For each condition whether the value meets it.
+pub(crate) fn answers_of(
+    alloc: Global,
+    value: &PlainValue,
+    conds: &[PlainCond],
+) -> Result<Vec<bool>, NoMemory>
+    ensures { IfOk result (λ found. found.items ≡ answers conds.now value.now) }
+{
+    conds
+        .iter()
+        .map(|cond| meets_condition(value, cond))
+        .collect(alloc)
+}

@@ -1,0 +1,158 @@
+//! The sample points: finitely many values that stand for all values of a kind.
+ghost use Rattle.std.specs.Prelude.{◌≡◌, ◌+◌, ◌<◌, [], ◌∷◌, ◌++◌, All, IfOk, OnOk, replicate, map};
+ghost use Rattle.std.specs.Option.{option_to_list};
+ghost use Rattle.intervals.specs.Scaled.{IsScaled};
+ghost use Rattle.cidr_bits.specs.Numbers.{number};
+ghost use Rattle.value_theory.specs.declared.kinds.PlainKind.TheVariants as Kind;
+ghost use Rattle.value_theory.specs.declared.kinds.PlainValue.TheVariants as Value;
+ghost use Rattle.value_theory.specs.Meaning.{kind_of, IsOfKind};
+ghost use Rattle.value_theory.specs.Samples.{samples, first_samples, samples_at, number_after, address_past, address_at, longest, length_named};
+
+use crate::kinds::{PlainCond, PlainKind, PlainValue};
+use cidr_bits::{Address, Block, bounds};
+use intervals::{ByteList, Scaled};
+use plain_lists::{List, NoMemory};
+use std::alloc::Global;
+
+// The least number: 10^27 is out of range.
+const LEAST_UNITS: i128 = -999_999_999_999_999_999_999_999_999;
+
+pub(crate) type SampleList = List<PlainValue>;
+
+/// All sample points of the kind for these conditions.
+pub(crate) fn samples_of(
+    alloc: Global,
+    kind: PlainKind,
+    conds: &[PlainCond],
+) -> Result<SampleList, NoMemory>
+    requires { All (λ c. kind_of c ≡ kind) conds.now }
+    ensures items { IfOk result (λ points. points ≡ samples kind conds.now) }
+    ensures kinds { IfOk result (λ points. All (IsOfKind kind) points) }
+{
+    let mut points = first_points(alloc, kind, conds)?;
+    for cond in conds {
+        push_points(alloc, cond, &mut points)?;
+    }
+    Ok(points)
+}
+
+// The points that the kind has whatever the conditions are, and the byte string that none names.
+fn first_points(alloc: Global, kind: PlainKind, conds: &[PlainCond]) -> Result<SampleList, NoMemory>
+    ensures items { IfOk result (λ points. points ≡ first_samples kind conds.now) }
+    ensures kinds { IfOk result (λ points. All (IsOfKind kind) points) }
+{
+    let mut points = List::new(alloc);
+    match kind {
+        PlainKind::Truth => {
+            points.push(PlainValue::Truth(false))?;
+            points.push(PlainValue::Truth(true))?;
+        }
+        PlainKind::Number => points.push(PlainValue::Number(number_of(LEAST_UNITS)))?,
+        PlainKind::Address => {
+            points.push(PlainValue::Address(Address::V4(0)))?;
+            points.push(PlainValue::Address(Address::V6(0)))?;
+        }
+        PlainKind::Bytes => points.push(PlainValue::Bytes(zeros(alloc, longest_of(conds))?))?,
+    }
+    Ok(points)
+}
+
+fn number_of(units: i128) -> Scaled
+    requires { IsScaled units }
+    ensures { result ≡ units }
+{
+    match Scaled::from_units(units) {
+        Ok(number) => number,
+        Err(_) => unreachable!(),
+    }
+}
+
+// A byte string of zeros with one more than `count`.
+fn zeros(alloc: Global, count: usize) -> Result<ByteList, NoMemory>
+    ensures items { IfOk result (λ bytes. bytes ≡ replicate count 0 ++ 0 ∷ []) }
+{
+    let mut bytes = vec![in alloc; 0u8; count]?;
+    bytes.push(0)?;
+    Ok(List::from_vec(bytes))
+}
+
+// The length of the longest byte string that a condition names.
+fn longest_of(conds: &[PlainCond]) -> usize
+    ensures { result ≡ longest conds.now }
+{
+    conds.iter().fold(0, |most, cond| most.max(length_of(cond)))
+}
+
+fn length_of(cond: &PlainCond) -> usize
+    ensures { result ≡ length_named cond.now }
+{
+    match cond {
+        PlainCond::Equals(bytes) => bytes.len(),
+        _ => 0,
+    }
+}
+
+// Adds the points at which the answer to the condition changes.
+fn push_points(alloc: Global, cond: &PlainCond, points: &mut SampleList) -> Result<(), NoMemory>
+    ensures items { OnOk result (points.new ≡ points.old ++ samples_at cond.now) }
+    ensures kinds { OnOk result (All (IsOfKind (kind_of cond.now)) (samples_at cond.now)) }
+{
+    match cond {
+        PlainCond::Compares(_, bound) => push_numbers(*bound, points),
+        PlainCond::Inside(block) => push_addresses(block, points),
+        PlainCond::Flag(_, _) => Ok(()),
+        PlainCond::Equals(bytes) => push_bytes(alloc, bytes, points),
+    }
+}
+
+// Adds the bound and the number past it.
+fn push_numbers(bound: Scaled, points: &mut SampleList) -> Result<(), NoMemory>
+    ensures items { OnOk result (points.new ≡ points.old ++ Value.Number bound ∷ number_after bound) }
+    ensures kinds { OnOk result (All (IsOfKind Kind.Number) (Value.Number bound ∷ number_after bound)) }
+{
+    points.push(PlainValue::Number(bound))?;
+    if let Ok(after) = Scaled::from_units(bound.units() + 1) {
+        points.push(PlainValue::Number(after))?;
+    }
+    Ok(())
+}
+
+// Adds the first address of the block and the one past its last.
+fn push_addresses(block: &Block, points: &mut SampleList) -> Result<(), NoMemory>
+    ensures items { OnOk result (points.new ≡ points.old ++ Value.Address block.now.first ∷ address_past block.now) }
+    ensures kinds { OnOk result (All (IsOfKind Kind.Address) (Value.Address block.now.first ∷ address_past block.now)) }
+{
+    let (first, last) = bounds(block);
+    points.push(PlainValue::Address(first))?;
+    if let Some(past) = next_address(last) {
+        points.push(PlainValue::Address(past))?;
+    }
+    Ok(())
+}
+
+// The address after this one, where there is one.
+fn next_address(address: Address) -> Option<Address>
+    ensures { map Value.Address (option_to_list result) ≡ address_at address (number address + 1) }
+{
+    match address {
+        Address::V4(number) => number.checked_add(1).map(Address::V4),
+        Address::V6(number) => number.checked_add(1).map(Address::V6),
+    }
+}
+
+// Adds the byte string.
+fn push_bytes(alloc: Global, bytes: &ByteList, points: &mut SampleList) -> Result<(), NoMemory>
+    ensures items { OnOk result (points.new ≡ points.old ++ Value.Bytes bytes.now ∷ []) }
+    ensures kinds { OnOk result (All (IsOfKind Kind.Bytes) (Value.Bytes bytes.now ∷ [])) }
+{
+    let copy = copy_of(alloc, bytes.as_slice())?;
+    points.push(PlainValue::Bytes(copy))?;
+    Ok(())
+}
+
+fn copy_of(alloc: Global, bytes: &[u8]) -> Result<ByteList, NoMemory>
+    ensures items { IfOk result (λ copy. copy ≡ bytes.now) }
+    ensures range { All (λ b. b < 256) bytes.now }
+{
+    Ok(List::from_vec(Vec::from_slice(alloc, bytes)?))
+}
