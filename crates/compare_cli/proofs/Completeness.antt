@@ -1,7 +1,8 @@
 -- A run over accepted files without faults ends with a comparison.
-use Rattle.std.proofs.Common.{◌≡◌, ℕ, ◌<◌, List, length, Option, Some, None, Err, arith, subst}
+use Rattle.std.proofs.Common.{◌≡◌, ℕ, ◌<◌, List, length, Option, Some, None, Ok, Err, arith, subst}
 use Rattle.pol_outside.specs.Faults.{Rose}
 use Rattle.pol_outside.specs.Folder.{Files}
+use Rattle.policy_model.specs.declared.set.PolicySet.{PolicySet}
 use Rattle.compare_cli.specs.declared.answer.Role.TheVariants.{First, Second}
 use Rattle.compare_cli.specs.declared.answer.Answer.{Answer}
 use Rattle.compare_cli.specs.declared.answer.Answer.TheVariants as answer
@@ -9,10 +10,12 @@ use Rattle.compare_cli.specs.declared.reader.PolicyCode.{PolicyCode}
 use Rattle.compare_cli.specs.declared.top.Status.{Status}
 use Rattle.compare_cli.specs.declared.top.Status.TheVariants.{Holds, Fails, Refused, Undecided, Usage, ReadFault, WriteFault, NoMemory, BadProof}
 use Rattle.compare_cli.specs.Reading.{set_from}
-use Rattle.compare_cli.specs.Answers.{IsAnswer}
+use Rattle.compare_cli.specs.Answers.{IsAnswer, StandsFor}
+use Rattle.compare_cli.specs.Comparison.{FitsSplits, NeedsSplits, NeedsStates}
 use Rattle.compare_cli.specs.Files.{IsLong, IsShort}
+use Rattle.compare_cli.specs.Promises.{Asked, ReadSets}
 use Rattle.compare_cli.specs.Runs.{Runs, status_of}
-use Rattle.compare_cli.specs.Complete.{HoldsSet, IsAccepted, IsDecided}
+use Rattle.compare_cli.specs.Complete.{HoldsSet, IsAccepted, IsDecidable, IsDecided}
 
 not_long : (files : Files) (name : List ℕ) → HoldsSet files name → IsLong (Some files) name → ⊥
 not_long files name h (bytes, held, long) =
@@ -22,39 +25,67 @@ not_long files name h (bytes, held, long) =
     let still : 1048576 < length h.bytes = rw (← same) long in
     omega arith
 
+same_bytes : (files : Files) (name bytes : List ℕ) (h : HoldsSet files name) → IsShort (Some files) name bytes → bytes ≡ h.bytes
+same_bytes files name bytes h short = let held = short.0 in let mine = h.held in cc
+
 not_refused : (files : Files) (name bytes : List ℕ) (code : PolicyCode) → HoldsSet files name → IsShort (Some files) name bytes → set_from bytes ≡ Err code → ⊥
 not_refused files name bytes code h short e =
-    let held = short.0 in
-    let mine = h.held in
-    let same : bytes ≡ h.bytes = cc in
+    let same = same_bytes files name bytes h short in
     let stands = h.stands in
     let mine : set_from h.bytes ≡ Err code = rw (← same) e in
     cc
 
-answer_decided : (held : Option Files) (before now : ℕ) (last : Option (List ℕ)) (names : Option (List ℕ × List ℕ)) (a : Answer) → IsAccepted held names → ¬ Rose before now → IsAnswer held before now last names a → IsDecided (status_of a)
-answer_decided None before now last names a accepted calm given = absurd accepted
+same_set : (files : Files) (name bytes : List ℕ) (set : PolicySet) (h : HoldsSet files name) → IsShort (Some files) name bytes → StandsFor bytes set → set ≡ h.set
+same_set files name bytes set h short stands =
+    let same = same_bytes files name bytes h short in
+    let mine : set_from h.bytes ≡ Ok set = subst (λ (b : List ℕ). set_from b ≡ Ok set) same stands in
+    let other = h.stands in
+    cc
+
+-- what holds of the sets that were read holds of the sets that the folder holds
+of_held : (files : Files) (asked : Asked) (d : IsDecidable files asked) (P : PolicySet → PolicySet → Type 0) → ReadSets (Some files) asked P → P d.first.set d.second.set
+of_held files asked d P (first, second, first_short, second_short, sets) =
+    let one = same_set files asked.0 first sets.one d.first first_short sets.first_stands in
+    let two = same_set files asked.1 second sets.two d.second second_short sets.second_stands in
+    subst (λ (b : PolicySet). P d.first.set b) two (subst (λ (a : PolicySet). P a sets.two) one sets.holds)
+
+fits_not_needs : (one two : PolicySet) (splits : ℕ) → FitsSplits one two splits → NeedsSplits one two splits → ⊥
+fits_not_needs one two splits fits needs = let (end, n, run, few) = fits.fits needs.query needs.is in let more = needs.needs end n run in omega arith
+
+answer_decided : (held : Option Files) (before now : ℕ) (last : Option (List ℕ)) (asked : Option Asked) (a : Answer) → IsAccepted held asked → ¬ Rose before now → IsAnswer held before now last asked a → IsDecided (status_of a)
+answer_decided None before now last asked a accepted calm given = absurd accepted
 answer_decided (Some files) before now last None a accepted calm given = absurd accepted
-answer_decided (Some files) before now last (Some names) answer.Usage accepted calm given = given
-answer_decided (Some files) before now last (Some names) (answer.ReadFault First) accepted calm given = calm given.0
-answer_decided (Some files) before now last (Some names) (answer.ReadFault Second) accepted calm given = calm given.1
-answer_decided (Some files) before now last (Some names) (answer.TooLong First) accepted calm given = not_long files names.0 accepted.0 given
-answer_decided (Some files) before now last (Some names) (answer.TooLong Second) accepted calm given = not_long files names.1 accepted.1 given.1
-answer_decided (Some files) before now last (Some names) (answer.Refused First code) accepted calm given = not_refused files names.0 given.0 code accepted.0 given.2 given.4
-answer_decided (Some files) before now last (Some names) (answer.Refused Second code) accepted calm given = not_refused files names.1 given.1 code accepted.1 given.3 given.4.1
-answer_decided (Some files) before now last (Some names) answer.NotMore accepted calm given = tt
-answer_decided (Some files) before now last (Some names) (answer.More q) accepted calm given = tt
+answer_decided (Some files) before now last (Some asked) answer.Usage accepted calm given = given
+answer_decided (Some files) before now last (Some asked) (answer.ReadFault First) accepted calm given = calm given.0
+answer_decided (Some files) before now last (Some asked) (answer.ReadFault Second) accepted calm given = calm given.1
+answer_decided (Some files) before now last (Some asked) (answer.TooLong First) accepted calm given = not_long files asked.0 accepted.first given
+answer_decided (Some files) before now last (Some asked) (answer.TooLong Second) accepted calm given = not_long files asked.1 accepted.second given.1
+answer_decided (Some files) before now last (Some asked) (answer.Refused First code) accepted calm given = not_refused files asked.0 given.0 code accepted.first given.2 given.4
+answer_decided (Some files) before now last (Some asked) (answer.Refused Second code) accepted calm given = not_refused files asked.1 given.1 code accepted.second given.3 given.4.1
+answer_decided (Some files) before now last (Some asked) answer.TooManyTests accepted calm given = accepted.tests (of_held files asked accepted _ given)
+answer_decided (Some files) before now last (Some asked) answer.TooManyPieces accepted calm given = accepted.pieces (of_held files asked accepted _ given)
+answer_decided (Some files) before now last (Some asked) (answer.UndecidedSplits n) accepted calm given =
+    let (first, second, first_short, second_short, (is, sets)) = given in
+    let needs : NeedsSplits accepted.first.set accepted.second.set n = of_held files asked accepted (λ one two. NeedsSplits one two n) (first, second, first_short, second_short, sets) in
+    fits_not_needs accepted.first.set accepted.second.set asked.2.splits accepted.splits (subst (λ (k : ℕ). NeedsSplits accepted.first.set accepted.second.set k) is needs)
+answer_decided (Some files) before now last (Some asked) (answer.UndecidedStates n s) accepted calm given =
+    let (first, second, first_short, second_short, (is, sets)) = given in
+    let needs : NeedsStates accepted.first.set accepted.second.set n s = of_held files asked accepted (λ one two. NeedsStates one two n s) (first, second, first_short, second_short, sets) in
+    accepted.states s (subst (λ (k : ℕ). NeedsStates accepted.first.set accepted.second.set k s) is needs)
+answer_decided (Some files) before now last (Some asked) answer.NotMore accepted calm given = tt
+answer_decided (Some files) before now last (Some asked) (answer.More q) accepted calm given = tt
 
 pub IsDecided-from_Runs : (may : Answer → Type 0) (decided : (a : Answer) → may a → IsDecided (status_of a)) (status : Status) (before now : ℕ) (old new : Option (List ℕ)) → ¬ Rose before now → Runs may status before now old new → IsDecided status
 IsDecided-from_Runs may decided NoMemory before now old new calm runs = tt
 IsDecided-from_Runs may decided WriteFault before now old new calm runs = calm runs.rose
-IsDecided-from_Runs may decided Undecided before now old new calm runs = runs
 IsDecided-from_Runs may decided BadProof before now old new calm runs = runs
 IsDecided-from_Runs may decided Holds before now old new calm runs = tt
 IsDecided-from_Runs may decided Fails before now old new calm runs = tt
+IsDecided-from_Runs may decided Undecided before now old new calm runs = subst (λ (s : Status). IsDecided s) runs.status_is (decided runs.answer runs.given)
 IsDecided-from_Runs may decided Refused before now old new calm runs = subst (λ (s : Status). IsDecided s) runs.status_is (decided runs.answer runs.given)
 IsDecided-from_Runs may decided Usage before now old new calm runs = subst (λ (s : Status). IsDecided s) runs.status_is (decided runs.answer runs.given)
 IsDecided-from_Runs may decided ReadFault before now old new calm runs = subst (λ (s : Status). IsDecided s) runs.status_is (decided runs.answer runs.given)
 
-pub run_decided : (held : Option Files) (before now : ℕ) (last : Option (List ℕ)) (names : Option (List ℕ × List ℕ)) (status : Status) (s0 s1 : ℕ) (old new : Option (List ℕ)) → Runs (IsAnswer held before now last names) status s0 s1 old new → IsAccepted held names → ¬ Rose before now → ¬ Rose s0 s1 → IsDecided status
-run_decided held before now last names status s0 s1 old new runs accepted calm calm_sink =
-    IsDecided-from_Runs (IsAnswer held before now last names) (λ a given. answer_decided held before now last names a accepted calm given) status s0 s1 old new calm_sink runs
+pub run_decided : (held : Option Files) (before now : ℕ) (last : Option (List ℕ)) (asked : Option Asked) (status : Status) (s0 s1 : ℕ) (old new : Option (List ℕ)) → Runs (IsAnswer held before now last asked) status s0 s1 old new → IsAccepted held asked → ¬ Rose before now → ¬ Rose s0 s1 → IsDecided status
+run_decided held before now last asked status s0 s1 old new runs accepted calm calm_sink =
+    IsDecided-from_Runs (IsAnswer held before now last asked) (λ a given. answer_decided held before now last asked a accepted calm given) status s0 s1 old new calm_sink runs

@@ -1,9 +1,8 @@
-pub mod Candidates
+pub mod Comparing
 pub mod Completeness
 pub mod Json
-pub mod Literals
 pub mod Members
 pub mod Promises
+pub mod Queries
 pub mod Statements
 pub mod Verdicts
-pub mod OwnCharacters

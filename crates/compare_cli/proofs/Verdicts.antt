@@ -2,14 +2,35 @@
 use Rattle.std.proofs.Common.{ℕ, List, Option}
 use Rattle.pol_outside.specs.Folder.{Files}
 use Rattle.compare_cli.specs.declared.answer.Answer.{Answer}
-use Rattle.compare_cli.specs.declared.answer.Answer.TheVariants.{Usage, ReadFault, TooLong, Refused, NotMore, More}
-use Rattle.compare_cli.specs.Answers.{IsVerdict, IsAnswerTo}
+use Rattle.compare_cli.specs.declared.answer.Answer.TheVariants as answer
+use Rattle.compare_cli.specs.Answers.{IsAnswerTo, IsVerdict, StandsFor}
+use Rattle.compare_cli.specs.Decided.{IsComparison}
 use Rattle.compare_cli.specs.Files.{IsShort}
+use Rattle.compare_cli.specs.Promises.{Asked}
+use Rattle.policy_model.specs.declared.set.PolicySet.{PolicySet}
+use Rattle.tree_search.specs.declared.outcome.Budgets.{Budgets}
 
-pub IsAnswerTo-verdict : (held : Option Files) (before now : ℕ) (last : Option (List ℕ)) (names : List ℕ × List ℕ) (one two : List ℕ) → IsShort held names.0 one → IsShort held names.1 two → (answer : Answer) → IsVerdict one two answer → IsAnswerTo held before now last names answer
-IsAnswerTo-verdict held before now last names one two first second Usage v = v
-IsAnswerTo-verdict held before now last names one two first second (ReadFault role) v = absurd v
-IsAnswerTo-verdict held before now last names one two first second (TooLong role) v = absurd v
-IsAnswerTo-verdict held before now last names one two first second (Refused role code) v = (one, two, first, second, v)
-IsAnswerTo-verdict held before now last names one two first second NotMore v = (one, two, first, second, v)
-IsAnswerTo-verdict held before now last names one two first second (More q) v = (one, two, first, second, v)
+pub IsAnswerTo-verdict : (held : Option Files) (before now : ℕ) (last : Option (List ℕ)) (asked : Asked) (one two : List ℕ) → IsShort held asked.0 one → IsShort held asked.1 two → (a : Answer) → IsVerdict one two asked.2 a → IsAnswerTo held before now last asked a
+IsAnswerTo-verdict held before now last asked one two first second answer.Usage v = v
+IsAnswerTo-verdict held before now last asked one two first second (answer.ReadFault role) v = absurd v
+IsAnswerTo-verdict held before now last asked one two first second (answer.TooLong role) v = absurd v
+IsAnswerTo-verdict held before now last asked one two first second (answer.Refused role code) v = (one, two, first, second, v)
+IsAnswerTo-verdict held before now last asked one two first second answer.TooManyTests v = (one, two, first, second, v)
+IsAnswerTo-verdict held before now last asked one two first second answer.TooManyPieces v = (one, two, first, second, v)
+IsAnswerTo-verdict held before now last asked one two first second (answer.UndecidedSplits n) v = (one, two, first, second, v)
+IsAnswerTo-verdict held before now last asked one two first second (answer.UndecidedStates n s) v = (one, two, first, second, v)
+IsAnswerTo-verdict held before now last asked one two first second answer.NotMore v = (one, two, first, second, v)
+IsAnswerTo-verdict held before now last asked one two first second (answer.More q) v = (one, two, first, second, v)
+
+-- a comparison of the sets that two files stand for is a verdict on the files
+pub IsVerdict-comparison : (first second : List ℕ) (budgets : Budgets) (one two : PolicySet) → StandsFor first one → StandsFor second two → (a : Answer) → IsComparison one two budgets a → IsVerdict first second budgets a
+IsVerdict-comparison first second budgets one two s1 s2 answer.Usage v = absurd v
+IsVerdict-comparison first second budgets one two s1 s2 (answer.ReadFault role) v = absurd v
+IsVerdict-comparison first second budgets one two s1 s2 (answer.TooLong role) v = absurd v
+IsVerdict-comparison first second budgets one two s1 s2 (answer.Refused role code) v = absurd v
+IsVerdict-comparison first second budgets one two s1 s2 answer.TooManyTests v = record { one = one; two = two; first_stands = s1; second_stands = s2; holds = v }
+IsVerdict-comparison first second budgets one two s1 s2 answer.TooManyPieces v = record { one = one; two = two; first_stands = s1; second_stands = s2; holds = v }
+IsVerdict-comparison first second budgets one two s1 s2 (answer.UndecidedSplits n) v = (v.0, record { one = one; two = two; first_stands = s1; second_stands = s2; holds = v.1 })
+IsVerdict-comparison first second budgets one two s1 s2 (answer.UndecidedStates n s) v = (v.0, record { one = one; two = two; first_stands = s1; second_stands = s2; holds = v.1 })
+IsVerdict-comparison first second budgets one two s1 s2 answer.NotMore v = record { one = one; two = two; first_stands = s1; second_stands = s2; holds = v }
+IsVerdict-comparison first second budgets one two s1 s2 (answer.More q) v = record { one = one; two = two; first_stands = s1; second_stands = s2; holds = v }

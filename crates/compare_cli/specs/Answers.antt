@@ -9,48 +9,66 @@ use Rattle.policy_model.specs.declared.set.PolicySet.{PolicySet}
 use Rattle.compare_cli.specs.declared.answer.Role.{Role}
 use Rattle.compare_cli.specs.declared.answer.Role.TheVariants.{First, Second}
 use Rattle.compare_cli.specs.declared.answer.Answer.{Answer}
-use Rattle.compare_cli.specs.declared.answer.Answer.TheVariants.{Usage, ReadFault, TooLong, Refused, NotMore, More}
+use Rattle.compare_cli.specs.declared.answer.Answer.TheVariants.{Usage, ReadFault, TooLong, Refused, TooManyTests as too_many_tests, TooManyPieces as too_many_pieces, UndecidedSplits, UndecidedStates, NotMore, More}
 use Rattle.compare_cli.specs.Files.{IsShort, IsLong}
 use Rattle.compare_cli.specs.Reading.{set_from}
-use Rattle.compare_cli.specs.Comparison.{Covers, IsWitness}
+use Rattle.compare_cli.specs.Comparison.{Covers, IsWitness, NeedsSplits, NeedsStates, TooManyPieces, TooManyTests}
+use Rattle.tree_search.specs.declared.outcome.Budgets.{Budgets}
 
 -- a file stands for this set
 abbrev pub StandsFor : List ℕ → PolicySet → Type 0
 StandsFor bytes set = set_from bytes ≡ Ok set
 
--- what two files that were read may be answered: the first refusal in their order, or a comparison of their sets
-abbrev pub IsVerdict : List ℕ → List ℕ → Answer → Type 0
-IsVerdict first second (Refused First code) = set_from first ≡ Err code
-IsVerdict first second (Refused Second code) = ((set : PolicySet) × StandsFor first set) × (set_from second ≡ Err code)
-IsVerdict first second NotMore = (one : PolicySet) × (two : PolicySet) × StandsFor first one × StandsFor second two × Covers one two
-IsVerdict first second (More q) = (one : PolicySet) × (two : PolicySet) × StandsFor first one × StandsFor second two × IsWitness one two q
-IsVerdict first second Usage = ⊥
-IsVerdict first second (ReadFault role) = ⊥
-IsVerdict first second (TooLong role) = ⊥
+-- both files stand for sets, of which this holds
+pub record OfSets (first second : List ℕ) (P : PolicySet → PolicySet → Type 0) : Type 0 where
+  pub one : PolicySet
+  pub two : PolicySet
+  pub first_stands : StandsFor first one
+  pub second_stands : StandsFor second two
+  pub holds : P one two
+
+-- what two files that were read may be answered: the first refusal in their order, a limit of the query, a budget that is too
+-- small, or a comparison of their sets
+abbrev pub IsVerdict : List ℕ → List ℕ → Budgets → Answer → Type 0
+IsVerdict first second budgets (Refused First code) = set_from first ≡ Err code
+IsVerdict first second budgets (Refused Second code) = ((set : PolicySet) × StandsFor first set) × (set_from second ≡ Err code)
+IsVerdict first second budgets too_many_tests = OfSets first second TooManyTests
+IsVerdict first second budgets too_many_pieces = OfSets first second TooManyPieces
+IsVerdict first second budgets (UndecidedSplits n) = (n ≡ budgets.splits) × OfSets first second (λ one two. NeedsSplits one two n)
+IsVerdict first second budgets (UndecidedStates n s) = (n ≡ budgets.states) × OfSets first second (λ one two. NeedsStates one two n s)
+IsVerdict first second budgets NotMore = OfSets first second Covers
+IsVerdict first second budgets (More q) = OfSets first second (λ one two. IsWitness one two q)
+IsVerdict first second budgets Usage = ⊥
+IsVerdict first second budgets (ReadFault role) = ⊥
+IsVerdict first second budgets (TooLong role) = ⊥
 
 -- both files were read within their limits, and the answer is one of theirs
-abbrev pub BothRead : Option Files → List ℕ × List ℕ → Answer → Type 0
-BothRead held names answer = (first : List ℕ) × (second : List ℕ) × IsShort held names.0 first × IsShort held names.1 second × IsVerdict first second answer
+abbrev pub BothRead : Option Files → List ℕ × List ℕ × Budgets → Answer → Type 0
+BothRead held asked answer = (first : List ℕ) × (second : List ℕ) × IsShort held asked.0 first × IsShort held asked.1 second × IsVerdict first second asked.2 answer
 
 -- what two names may be answered, with the folder's count of faults before and now and the name of its last fault
-abbrev pub IsAnswerTo : Option Files → ℕ → ℕ → Option (List ℕ) → List ℕ × List ℕ → Answer → Type 0
-IsAnswerTo held before now last names Usage = ⊥
-IsAnswerTo held before now last names (ReadFault First) = Rose before now × (last ≡ Some names.0)
-IsAnswerTo held before now last names (ReadFault Second) = ((first : List ℕ) × IsShort held names.0 first) × Rose before now × (last ≡ Some names.1)
-IsAnswerTo held before now last names (TooLong First) = IsLong held names.0
-IsAnswerTo held before now last names (TooLong Second) = ((first : List ℕ) × IsShort held names.0 first) × IsLong held names.1
-IsAnswerTo held before now last names (Refused role code) = BothRead held names (Refused role code)
-IsAnswerTo held before now last names NotMore = BothRead held names NotMore
-IsAnswerTo held before now last names (More q) = BothRead held names (More q)
+abbrev pub IsAnswerTo : Option Files → ℕ → ℕ → Option (List ℕ) → List ℕ × List ℕ × Budgets → Answer → Type 0
+IsAnswerTo held before now last asked Usage = ⊥
+IsAnswerTo held before now last asked (ReadFault First) = Rose before now × (last ≡ Some asked.0)
+IsAnswerTo held before now last asked (ReadFault Second) = ((first : List ℕ) × IsShort held asked.0 first) × Rose before now × (last ≡ Some asked.1)
+IsAnswerTo held before now last asked (TooLong First) = IsLong held asked.0
+IsAnswerTo held before now last asked (TooLong Second) = ((first : List ℕ) × IsShort held asked.0 first) × IsLong held asked.1
+IsAnswerTo held before now last asked (Refused role code) = BothRead held asked (Refused role code)
+IsAnswerTo held before now last asked too_many_tests = BothRead held asked too_many_tests
+IsAnswerTo held before now last asked too_many_pieces = BothRead held asked too_many_pieces
+IsAnswerTo held before now last asked (UndecidedSplits n) = BothRead held asked (UndecidedSplits n)
+IsAnswerTo held before now last asked (UndecidedStates n s) = BothRead held asked (UndecidedStates n s)
+IsAnswerTo held before now last asked NotMore = BothRead held asked NotMore
+IsAnswerTo held before now last asked (More q) = BothRead held asked (More q)
 
 abbrev pub IsUsage : Answer → Type 0
 IsUsage Usage = ⊤
 IsUsage _ = ⊥
 
 -- what the words may be answered: the usage line exactly where they ask for nothing
-abbrev pub IsAnswer : Option Files → ℕ → ℕ → Option (List ℕ) → Option (List ℕ × List ℕ) → Answer → Type 0
+abbrev pub IsAnswer : Option Files → ℕ → ℕ → Option (List ℕ) → Option (List ℕ × List ℕ × Budgets) → Answer → Type 0
 IsAnswer held before now last None answer = IsUsage answer
-IsAnswer held before now last (Some names) answer = IsAnswerTo held before now last names answer
+IsAnswer held before now last (Some asked) answer = IsAnswerTo held before now last asked answer
 
 -- what a fault of reading is answered by
 abbrev pub IsFaultAnswer : Role → TakeFault → Result Answer AllocError → Type 0

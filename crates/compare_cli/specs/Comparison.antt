@@ -1,11 +1,24 @@
 -- What a comparison of two sets says: the question whether a first set of policies allows a request that a second doesn't.
-use Rattle.std.specs.Prelude.{[]}
+use Rattle.std.specs.Prelude.{◌≤◌, ℕ, [], Bool}
+use Rattle.formula_tree.specs.Answers.{Answers}
+use Rattle.formula_tree.specs.Runs.{Run}
+use Rattle.formula_tree.specs.Trees.{tree_of}
+use Rattle.wildcard_lang.specs.Places.{IsWider}
 use Rattle.policy_model.specs.declared.request.Request.{Request}
 use Rattle.policy_model.specs.declared.schema.Schema.{Schema}
 use Rattle.policy_model.specs.declared.set.PolicySet.{PolicySet}
+use Rattle.policy_model.specs.declared.test.Slot.{Slot}
 use Rattle.policy_model.specs.Keys.{no_shapes}
 use Rattle.policy_model.specs.Requests.{IsValid}
 use Rattle.policy_model.specs.Sets.{Allows}
+use Rattle.policy_compile.specs.declared.outcome.Query.{Query}
+use Rattle.policy_compile.specs.Numbering.{HasTooMany}
+use Rattle.policy_compile.specs.Plans.{tests_in}
+use Rattle.policy_compile.specs.Queries.{HasTooManyPieces, IsQuery}
+use Rattle.policy_compile.specs.Sets.{query_plan}
+use Rattle.slot_theory.specs.Possible.{IsPossible}
+use Rattle.slot_theory.specs.Slots.{patterns_at}
+use Rattle.tree_search.specs.Nodes.{IsNode, NeedsMore}
 
 -- the schema of a run: no condition keys and no shapes are read yet
 abbrev pub run_schema : Schema
@@ -24,3 +37,35 @@ IsCovered first second r = IsValid run_schema r → Allows first r → Allows se
 -- the second set allows each valid request that the first allows: all requests, of texts of any length
 abbrev pub Covers : PolicySet → PolicySet → Type 0
 Covers first second = (r : Request) → IsCovered first second r
+
+-- ---- limits and budgets
+
+-- the query 'the first set allows the request and the second doesn't' has more than 1,000 tests
+abbrev pub TooManyTests : PolicySet → PolicySet → Type 0
+TooManyTests first second = HasTooMany [] (tests_in (query_plan first second))
+
+-- it has at most 1,000, and their patterns have more than 65,536 pieces together
+abbrev pub TooManyPieces : PolicySet → PolicySet → Type 0
+TooManyPieces first second = HasTooManyPieces (query_plan first second)
+
+-- the plain run of the query needs more splits
+pub record NeedsSplits (first second : PolicySet) (splits : ℕ) : Type 0 where
+  pub query : Query
+  pub is : IsQuery (query_plan first second) query
+  pub needs : NeedsMore (IsPossible run_schema query.tests) (tree_of query.formula.value) [] splits
+
+-- at a node of the plain run the patterns of the slot have more lists of places
+pub record NeedsStates (first second : PolicySet) (states : ℕ) (s : Slot) : Type 0 where
+  pub query : Query
+  pub is : IsQuery (query_plan first second) query
+  pub path : Answers
+  pub node : IsNode (IsPossible run_schema query.tests) (tree_of query.formula.value) [] path
+  pub wider : IsWider (patterns_at run_schema query.tests path s) states
+
+-- the plain run of the query has at most so many splits
+pub record FitsSplits (first second : PolicySet) (splits : ℕ) : Type 0 where
+  pub fits : (q : Query) → IsQuery (query_plan first second) q → (end : Bool) × (n : ℕ) × Run (IsPossible run_schema q.tests) (tree_of q.formula.value) [] end n × (n ≤ splits)
+
+-- at no node of the plain run a slot's patterns have more lists of places
+abbrev pub FitsStates : PolicySet → PolicySet → ℕ → Type 0
+FitsStates first second states = (s : Slot) → ¬ NeedsStates first second states s

@@ -1,30 +1,33 @@
--- What the bytes of a set file stand for: a policy document (IAM JSON policy reference) of plain texts, without principals,
--- conditions and wildcards. Any other file is refused until the reader of its form is built.
+-- What the bytes of a set file stand for: a policy document (IAM JSON policy reference) without principals and conditions. Any
+-- other file is refused until the reader of its form is built.
 use Rattle.std.specs.Prelude.{◌≡◌, ⊤, ℕ, ◌&&◌, ◌||◌, ◌==◌, List, [], ◌∷◌, ◌++◌, length, Bool, true, false, not, nat_le, if◌then◌else◌, Option, Some, None, Result, Ok, Err, option_map, option_and_then, codes}
-use Rattle.std.specs.List.{list_all}
 use Rattle.std.specs.Str.{chars, is_utf8, bytes_eq}
 use Rattle.serde_json.specs.Data.{Data, null, boolean, number, string, array, object, Items, no_items, item}
 use Rattle.serde_json.specs.Read.{read}
 use Rattle.serde_json.specs.Find.{get, as_str}
 use Rattle.serde_json.specs.Events.{members_len, items_len}
 use Rattle.wildcard_lang.specs.declared.piece.Piece.{Piece}
-use Rattle.wildcard_lang.specs.Reading.{literals}
+use Rattle.wildcard_lang.specs.Reading.{wildcards}
 use Rattle.policy_model.specs.declared.matcher.Matcher.{Matcher}
 use Rattle.policy_model.specs.declared.set.Statement.{Statement}
-use Rattle.policy_model.specs.declared.set.Document.{Document}
 use Rattle.policy_model.specs.declared.set.PolicySet.{PolicySet}
 use Rattle.compare_cli.specs.declared.reader.PolicyAnswer.{PolicyAnswer}
 use Rattle.compare_cli.specs.declared.reader.PolicyAnswer.TheVariants.{Refused, NoMemory}
 use Rattle.compare_cli.specs.declared.reader.PolicyCode.{PolicyCode}
 use Rattle.compare_cli.specs.declared.reader.PolicyCode.TheVariants.{P0NotBuilt, P1NotJson}
 
--- the value that a file of JSON is (RFC 8259), or none where it has no reading
+-- the value that `serde_json` reads from a file (RFC 8259; nested at most 127 deep, numbers up to the greatest float), or none
 abbrev pub json_of : List ℕ → Option Data
 json_of bytes = (if is_utf8 bytes then read bytes else None)
 
--- `*` or `?`
-abbrev pub is_wildcard : ℕ → Bool
-is_wildcard c = (c == 42) || (c == 63)
+-- what each value of a list stands for, or none where one stands for nothing
+abbrev pub all_of : {X : Type 0} → (Data → Option X) → Items → Option (List X)
+all_of f no_items = Some []
+all_of f (item d ds) = option_and_then (λ x. option_map (λ rest. x ∷ rest) (all_of f ds)) (f d)
+
+-- what stands in front, and then the rest
+abbrev pub before : {X : Type 0} → List X → Option (List X) → Option (List X)
+before front o = option_map (λ rest. front ++ rest) o
 
 -- a `{` stands first
 abbrev pub opens : List ℕ → Bool
@@ -36,20 +39,38 @@ abbrev pub has_variable : List ℕ → Bool
 has_variable [] = false
 has_variable (x ∷ rest) = ((x == 36) && opens rest) || has_variable rest
 
--- the items of an element with one item
-abbrev pub one_item : {T : Type 0} → T → Matcher T
-one_item x = record { not = false; items = x ∷ [] }
+-- a pattern has at most 2,048 pieces; `*` and `?` are wildcards
+abbrev pub glob_of : Bool → List ℕ → Option (List Piece)
+glob_of fold text = (if nat_le (length (chars text)) 2048 then Some (wildcards fold (chars text)) else None)
 
--- a plain text has at most 2,048 characters, and none of them is `*` or `?`
-unfoldable pub plain_matcher : Bool → List ℕ → Option (Matcher (List Piece))
-plain_matcher fold text = (if nat_le (length (chars text)) 2048 && list_all (λ c. not (is_wildcard c)) (chars text) then Some (one_item (literals fold (chars text))) else None)
+-- an action is compared without regard to the case of ASCII letters, a resource with regard to it; no policy variable stands in
+-- a resource
+abbrev pub pattern_of : Bool → List ℕ → Option (List Piece)
+pattern_of is_resource text = (if is_resource && has_variable text then None else glob_of (not is_resource) text)
 
--- an action is compared without regard to the case of ASCII letters, a resource with regard to it
-abbrev pub action_matcher : List ℕ → Option (Matcher (List Piece))
-action_matcher text = plain_matcher true text
+-- the pattern of a string
+abbrev pub pattern_at : Bool → Data → Option (List Piece)
+pattern_at is_resource d = option_and_then (pattern_of is_resource) (as_str d)
 
-abbrev pub resource_matcher : List ℕ → Option (Matcher (List Piece))
-resource_matcher text = (if has_variable text then None else plain_matcher false text)
+abbrev pub patterns_in : Bool → Items → Option (List (List Piece))
+patterns_in is_resource ds = all_of (pattern_at is_resource) ds
+
+-- one string, or a list of strings
+unfoldable pub patterns_of : Bool → Data → Option (List (List Piece))
+patterns_of is_resource (array ds) = patterns_in is_resource ds
+patterns_of is_resource null = None
+patterns_of is_resource (boolean b) = None
+patterns_of is_resource (number x) = None
+patterns_of is_resource (string t) = option_map (λ p. p ∷ []) (pattern_at is_resource (string t))
+patterns_of is_resource (object ms) = None
+
+-- the element of these patterns
+abbrev pub matcher_of : List (List Piece) → Matcher (List Piece)
+matcher_of patterns = record { not = false; items = patterns }
+
+-- the element under a name
+abbrev pub matcher_at : Bool → List ℕ → Data → Option (Matcher (List Piece))
+matcher_at is_resource name d = option_map matcher_of (option_and_then (patterns_of is_resource) (get name d))
 
 -- whether the statement allows
 abbrev pub effect_of : List ℕ → Option Bool
@@ -70,15 +91,10 @@ text_at name d = option_and_then as_str (get name d)
 
 -- a statement has exactly an effect, an action and a resource
 unfoldable pub statement_of : Data → Option Statement
-statement_of d = (if has_members 3 d then option_and_then (λ allow. option_and_then (λ action. option_map (λ resource. record { allow = allow; principal = None; action = action; resource = Some resource }) (option_and_then resource_matcher (text_at (codes "Resource") d))) (option_and_then action_matcher (text_at (codes "Action") d))) (option_and_then effect_of (text_at (codes "Effect") d)) else None)
+statement_of d = (if has_members 3 d then option_and_then (λ allow. option_and_then (λ action. option_map (λ resource. record { allow = allow; principal = None; action = action; resource = Some resource }) (matcher_at true (codes "Resource") d)) (matcher_at false (codes "Action") d)) (option_and_then effect_of (text_at (codes "Effect") d)) else None)
 
 abbrev pub statements_in : Items → Option (List Statement)
-statements_in no_items = Some []
-statements_in (item d ds) = option_and_then (λ s. option_map (λ rest. s ∷ rest) (statements_in ds)) (statement_of d)
-
--- the statements that stand in front, and then the rest
-abbrev pub before : List Statement → Option (List Statement) → Option (List Statement)
-before front o = option_map (λ rest. front ++ rest) o
+statements_in ds = all_of statement_of ds
 
 -- one statement, or a list of at most 2,000
 unfoldable pub statements_of : Data → Option (List Statement)

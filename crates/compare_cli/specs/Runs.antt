@@ -14,6 +14,10 @@ status_of answer.Usage = Usage
 status_of (answer.ReadFault role) = ReadFault
 status_of (answer.TooLong role) = Refused
 status_of (answer.Refused role code) = Refused
+status_of answer.TooManyTests = Refused
+status_of answer.TooManyPieces = Refused
+status_of (answer.UndecidedSplits n) = Undecided
+status_of (answer.UndecidedStates n s) = Undecided
 status_of answer.NotMore = Holds
 status_of (answer.More q) = Fails
 
@@ -36,7 +40,7 @@ pub record Breaks (may : Answer → Type 0) (before now : ℕ) (old new : Option
 abbrev pub Runs : (Answer → Type 0) → Status → ℕ → ℕ → Option (List ℕ) → Option (List ℕ) → Type 0
 Runs may NoMemory before now old new = new ≡ old
 Runs may WriteFault before now old new = Breaks may before now old new
-Runs may Undecided before now old new = ⊥
+Runs may Undecided before now old new = Answers may Undecided old new
 Runs may BadProof before now old new = ⊥
 Runs may Holds before now old new = Answers may Holds old new
 Runs may Fails before now old new = Answers may Fails old new

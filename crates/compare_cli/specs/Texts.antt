@@ -1,15 +1,17 @@
 -- The texts of the answers.
-use Rattle.std.specs.Prelude.{ℕ, List, ◌++◌, codes}
+use Rattle.std.specs.Prelude.{ℕ, List, ◌++◌, codes, decimal}
 use Rattle.std.specs.Str.{encode_utf8_all}
 use Rattle.serde_json.specs.Data.{Data, object, no_members, member, string}
 use Rattle.serde_json.specs.Written.{compact_text}
 use Rattle.policy_model.specs.declared.principal.PrincipalKind.{PrincipalKind}
 use Rattle.policy_model.specs.declared.principal.PrincipalKind.TheVariants.{Aws, Service, Federated, CanonicalUser}
 use Rattle.policy_model.specs.declared.request.Request.{Request}
+use Rattle.policy_model.specs.declared.test.Slot.{Slot}
+use Rattle.policy_model.specs.declared.test.Slot.TheVariants as slot
 use Rattle.compare_cli.specs.declared.answer.Role.{Role}
 use Rattle.compare_cli.specs.declared.answer.Role.TheVariants.{First, Second}
 use Rattle.compare_cli.specs.declared.answer.Answer.{Answer}
-use Rattle.compare_cli.specs.declared.answer.Answer.TheVariants.{Usage, ReadFault, TooLong, Refused, NotMore, More}
+use Rattle.compare_cli.specs.declared.answer.Answer.TheVariants.{Usage, ReadFault, TooLong, Refused, TooManyTests, TooManyPieces, UndecidedSplits, UndecidedStates, NotMore, More}
 use Rattle.compare_cli.specs.declared.reader.PolicyCode.{PolicyCode}
 use Rattle.compare_cli.specs.declared.reader.PolicyCode.TheVariants.{P0NotBuilt, P1NotJson}
 
@@ -39,11 +41,22 @@ request_data q = object (member (codes "Action") (string (encode_utf8_all q.acti
 abbrev pub request_text : Request → List ℕ
 request_text q = compact_text (request_data q)
 
+-- the name of a slot
+abbrev pub slot_word : Slot → List ℕ
+slot_word slot.Principal = codes "principal"
+slot_word slot.Action = codes "action"
+slot_word slot.Resource = codes "resource"
+slot_word (slot.Key name) = codes "key " ++ encode_utf8_all name
+
 -- the whole text of an answer
 unfoldable pub answer_text : Answer → List ℕ
 answer_text Usage = codes "usage: compare FIRST SECOND | summary SET DIMENSION.. | check FIRST SECOND PROOF | eval SET REQUEST | load N\n"
 answer_text (ReadFault role) = codes "read fault: " ++ role_word role ++ codes "\n"
 answer_text (TooLong role) = codes "refused: " ++ role_word role ++ codes ": file longer than 1048576 bytes\n"
 answer_text (Refused role code) = codes "refused: " ++ role_word role ++ codes ": " ++ code_word code ++ codes ": document 0, statement 0, \"\"\n"
+answer_text TooManyTests = codes "refused: query: P17 Limit: document 0, statement 0, \"tests\"\n"
+answer_text TooManyPieces = codes "refused: query: P17 Limit: document 0, statement 0, \"pieces\"\n"
+answer_text (UndecidedSplits splits) = codes "undecided: splits " ++ decimal splits ++ codes "\n"
+answer_text (UndecidedStates states s) = codes "undecided: states " ++ decimal states ++ codes " at " ++ slot_word s ++ codes "\n"
 answer_text NotMore = codes "not more permissive\n"
 answer_text (More q) = codes "more permissive\n" ++ request_text q ++ codes "\n"

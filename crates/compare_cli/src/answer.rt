@@ -1,10 +1,10 @@
 //! The answers, and their texts.
-ghost use Rattle.std.specs.Prelude.{◌≡◌, IfOk, string_bytes};
+ghost use Rattle.std.specs.Prelude.{◌≡◌, ◌++◌, IfOk, codes, decimal, string_bytes};
 ghost use Rattle.serde_json.specs.View.{view};
-ghost use Rattle.compare_cli.specs.Texts.{answer_text, code_word, principal_data, request_data, request_text, role_word};
+ghost use Rattle.compare_cli.specs.Texts.{answer_text, code_word, principal_data, request_data, request_text, role_word, slot_word};
 
 use crate::reader::PolicyCode;
-use policy_model::{PrincipalKind, Request};
+use policy_model::{PrincipalKind, Request, Slot};
 use serde_json::{Value, json};
 use std::alloc::{AllocError, Global};
 
@@ -26,6 +26,14 @@ pub enum Answer {
     TooLong(Role),
     /// A file is refused as a set of policies.
     Refused(Role, PolicyCode),
+    /// The query has more than 1,000 different tests.
+    TooManyTests,
+    /// The patterns of the query's tests have more than 65,536 pieces together.
+    TooManyPieces,
+    /// The search needs more splits than this number.
+    UndecidedSplits(u32),
+    /// The search needs more states than this number at the slot.
+    UndecidedStates(u32, Slot),
     /// The second set allows every valid request that the first allows.
     NotMore,
     /// A valid request that the first set allows and the second doesn't.
@@ -77,6 +85,44 @@ fn request_value(alloc: Global, request: &Request) -> Result<Value, AllocError>
     json!(in alloc; {"Action": action, "Context": {}, "Principal": principal, "Resource": resource})
 }
 
+// The name of a slot: a key's is its own, with its ASCII letters lowered.
+fn slot_word(alloc: Global, slot: &Slot) -> Result<String, AllocError>
+    ensures { IfOk result (λ s. string_bytes s ≡ slot_word slot.now) }
+{
+    match slot {
+        Slot::Principal => String::from_str(alloc, "principal"),
+        Slot::Action => String::from_str(alloc, "action"),
+        Slot::Resource => String::from_str(alloc, "resource"),
+        Slot::Key(name) => {
+            let name = name.to_utf8()?;
+            format!(in alloc; "key {name}")
+        }
+    }
+}
+
+fn number_text(alloc: Global, number: u32) -> Result<String, AllocError>
+    ensures { IfOk result (λ s. string_bytes s ≡ decimal number) }
+{
+    format!(in alloc; "{number}")
+}
+
+fn slot_end(alloc: Global, slot: &Slot) -> Result<String, AllocError>
+    ensures { IfOk result (λ s. string_bytes s ≡ codes " at " ++ slot_word slot.now ++ codes "\n") }
+{
+    let slot = slot_word(alloc, slot)?;
+    format!(in alloc; " at {slot}\n")
+}
+
+fn states_text(alloc: Global, states: u32, slot: &Slot) -> Result<String, AllocError>
+    ensures { IfOk result (λ s. string_bytes s ≡ codes "undecided: states " ++ decimal states ++ codes " at " ++ slot_word slot.now ++ codes "\n") }
+{
+    let end = slot_end(alloc, slot)?;
+    let states = number_text(alloc, states)?;
+    let states = states.as_str();
+    let end = end.as_str();
+    format!(in alloc; "undecided: states {states}{end}")
+}
+
 // A request as one line of JSON (RFC 8259), its names in the order of their bytes.
 fn write_request(alloc: Global, request: &Request) -> Result<String, AllocError>
     ensures { IfOk result (λ s. string_bytes s ≡ request_text request.now) }
@@ -104,6 +150,16 @@ pub fn answer_text(alloc: Global, answer: &Answer) -> Result<String, AllocError>
             let code = code_word(*code);
             format!(in alloc; "refused: {role}: {code}: document 0, statement 0, \"\"\n")
         }
+        Answer::TooManyTests => String::from_str(
+            alloc,
+            "refused: query: P17 Limit: document 0, statement 0, \"tests\"\n",
+        ),
+        Answer::TooManyPieces => String::from_str(
+            alloc,
+            "refused: query: P17 Limit: document 0, statement 0, \"pieces\"\n",
+        ),
+        Answer::UndecidedSplits(splits) => format!(in alloc; "undecided: splits {splits}\n"),
+        Answer::UndecidedStates(states, slot) => states_text(alloc, *states, slot),
         Answer::NotMore => String::from_str(alloc, "not more permissive\n"),
         Answer::More(request) => {
             let request = write_request(alloc, request)?;

@@ -3,10 +3,10 @@
 #![tactic(auto)]
 
 mod answer;
+mod decision;
 mod files;
 mod reader;
 mod top;
-mod witness;
 mod words;
 
 pub use answer::{Answer, Role};

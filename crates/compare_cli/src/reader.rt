@@ -1,24 +1,23 @@
-//! Reads a set of policies: documents of plain texts, without principals, conditions and wildcards.
-ghost use Rattle.std.specs.Prelude.{◌≡◌, ◌⊎◌, true, false, None, Some, IfOk, IfErr, IfSome, All, not, option_map, codes};
-ghost use Rattle.std.specs.List.{list_all};
-ghost use Rattle.std.specs.Str.{chars};
+//! Reads a set of policies: a document without principals and conditions.
+ghost use Rattle.std.specs.Prelude.{◌≡◌, ◌⊎◌, [], ◌∷◌, None, Some, IfOk, IfErr, IfSome, All, option_map, codes};
 ghost use Rattle.serde_json.specs.View.{view, items_view};
 ghost use Rattle.serde_json.specs.Find.{get, as_str};
-ghost use Rattle.compare_cli.specs.Reading.{IsReadOf, action_matcher, effect_of, has_members, has_variable, is_version_text, is_wildcard, json_of, one_item, opens, plain_matcher, resource_matcher, set_of, set_with, statement_of, statements_in, statements_of, text_at, version_fits};
-ghost use Rattle.compare_cli.specs.Plain.{IsPlain, IsPlainMatcher, IsPlainSet};
+ghost use Rattle.compare_cli.specs.Reading.{IsReadOf, effect_of, glob_of, has_members, has_variable, is_version_text, json_of, matcher_at, opens, pattern_at, pattern_of, patterns_in, patterns_of, set_of, set_with, statement_of, statements_in, statements_of, text_at, version_fits};
+ghost use Rattle.compare_cli.specs.WordSets.{IsWordSet, IsWordStatement};
 ghost use Rattle.compare_cli.specs.declared.reader.PolicyAnswer.TheVariants.{NoMemory};
 
 use policy_model::{Document, List, Matcher, PolicySet, Statement, StatementList};
 use serde_json::Value;
 use std::alloc::{AllocError, Global};
-use wildcard_lang::{Pattern, PatternFault, read_literal};
+use wildcard_lang::{Pattern, PatternFault, PatternList, read_glob};
 
 /// Why a file is refused as a set of policies.
 #[derive(Clone, Copy, Debug, PartialEq, Eq)]
 pub enum PolicyCode {
     /// The file is JSON of a form that isn't built yet.
     P0NotBuilt,
-    /// The file isn't JSON (RFC 8259).
+    /// The file has no reading as a JSON value (RFC 8259) by `serde_json`, which takes values nested at
+    /// most 127 deep and numbers up to the greatest float.
     P1NotJson,
 }
 
@@ -63,60 +62,103 @@ fn opens(bytes: &[u8]) -> bool
     }
 }
 
-// Whether the text has no wildcard.
-fn is_plain(text: &str) -> bool
-    ensures { result ≡ list_all (λ c. not (is_wildcard c)) (chars text.now) }
+// The pattern of a text, or none where it has too many pieces.
+fn glob_of(alloc: Global, text: &str, fold: bool) -> Result<Option<Pattern>, AllocError>
+    ensures { IfOk result (λ p. p ≡ glob_of fold text.now) }
 {
-    text.chars().all(|c| !(c == '*' || c == '?'))
-}
-
-// The list of one item.
-fn only(alloc: Global, pattern: Pattern) -> Result<Matcher<Pattern>, AllocError>
-    ensures { IfOk result (λ m. m ≡ one_item pattern) }
-{
-    let mut items = List::new(alloc);
-    items.push(pattern)?;
-    Ok(Matcher { not: false, items })
-}
-
-// The matcher of one plain text.
-#[tactic(auto, unfolding(crate::specs::Reading::plain_matcher))]
-fn plain_matcher(
-    alloc: Global,
-    text: &str,
-    fold: bool,
-) -> Result<Option<Matcher<Pattern>>, AllocError>
-    ensures value { IfOk result (λ m. m ≡ plain_matcher fold text.now) }
-    ensures plain { IfOk result (λ m. IfSome m (IsPlainMatcher fold)) }
-{
-    match read_literal(alloc, text, fold, false) {
-        Ok(pattern) => {
-            if is_plain(text) {
-                Ok(Some(only(alloc, pattern)?))
-            } else {
-                Ok(None)
-            }
-        }
+    match read_glob(alloc, text, fold, false) {
+        Ok(pattern) => Ok(Some(pattern)),
         Err(PatternFault::NoMemory) => Err(AllocError),
         Err(_) => Ok(None),
     }
 }
 
-fn action_matcher(alloc: Global, text: &str) -> Result<Option<Matcher<Pattern>>, AllocError>
-    ensures value { IfOk result (λ m. m ≡ action_matcher text.now) }
-    ensures plain { IfOk result (λ m. IfSome m (IsPlainMatcher true)) }
+// The pattern of an action or of a resource, or none where the text is of neither form.
+fn pattern_of(alloc: Global, text: &str, is_resource: bool) -> Result<Option<Pattern>, AllocError>
+    ensures { IfOk result (λ p. p ≡ pattern_of is_resource text.now) }
 {
-    plain_matcher(alloc, text, true)
-}
-
-fn resource_matcher(alloc: Global, text: &str) -> Result<Option<Matcher<Pattern>>, AllocError>
-    ensures value { IfOk result (λ m. m ≡ resource_matcher text.now) }
-    ensures plain { IfOk result (λ m. IfSome m (IsPlainMatcher false)) }
-{
-    if has_variable(text.as_bytes()) {
+    if is_resource && has_variable(text.as_bytes()) {
         return Ok(None);
     }
-    plain_matcher(alloc, text, false)
+    glob_of(alloc, text, !is_resource)
+}
+
+fn pattern_at(
+    alloc: Global,
+    value: &Value,
+    is_resource: bool,
+) -> Result<Option<Pattern>, AllocError>
+    ensures { IfOk result (λ p. p ≡ pattern_at is_resource (view value.now)) }
+{
+    match value.as_str() {
+        Some(text) => pattern_of(alloc, text, is_resource),
+        None => Ok(None),
+    }
+}
+
+fn read_patterns(
+    alloc: Global,
+    values: &[Value],
+    is_resource: bool,
+) -> Result<Option<PatternList>, AllocError>
+    ensures { IfOk result (λ p. p ≡ patterns_in is_resource (items_view values.now)) }
+{
+    let mut patterns = List::new(alloc);
+    for value in values {
+        let Some(pattern) = pattern_at(alloc, value, is_resource)? else {
+            return Ok(None);
+        };
+        patterns.push(pattern)?;
+    }
+    Ok(Some(patterns))
+}
+
+fn one_pattern(
+    alloc: Global,
+    value: &Value,
+    is_resource: bool,
+) -> Result<Option<PatternList>, AllocError>
+    ensures { IfOk result (λ o. o ≡ option_map (λ p. p ∷ []) (pattern_at is_resource (view value.now))) }
+{
+    let Some(pattern) = pattern_at(alloc, value, is_resource)? else {
+        return Ok(None);
+    };
+    let mut patterns = List::new(alloc);
+    patterns.push(pattern)?;
+    Ok(Some(patterns))
+}
+
+// The patterns of one string, or of a list of strings.
+#[tactic(auto, unfolding(crate::specs::Reading::patterns_of))]
+fn patterns_of(
+    alloc: Global,
+    value: &Value,
+    is_resource: bool,
+) -> Result<Option<PatternList>, AllocError>
+    ensures { IfOk result (λ p. p ≡ patterns_of is_resource (view value.now)) }
+{
+    match value.as_array() {
+        Some(values) => read_patterns(alloc, values.as_slice(), is_resource),
+        None => one_pattern(alloc, value, is_resource),
+    }
+}
+
+// The element under a name.
+fn matcher_at(
+    alloc: Global,
+    value: &Value,
+    name: &str,
+    is_resource: bool,
+) -> Result<Option<Matcher<Pattern>>, AllocError>
+    ensures { IfOk result (λ m. m ≡ matcher_at is_resource name.now (view value.now)) }
+{
+    let Some(element) = value.get(name) else {
+        return Ok(None);
+    };
+    match patterns_of(alloc, element, is_resource)? {
+        Some(items) => Ok(Some(Matcher { not: false, items })),
+        None => Ok(None),
+    }
 }
 
 fn effect_of(text: &str) -> Option<bool>
@@ -148,7 +190,7 @@ fn text_at<'a>(value: &'a Value, name: &str) -> Option<&'a str>
 #[tactic(auto, unfolding(crate::specs::Reading::statement_of))]
 fn read_statement(alloc: Global, value: &Value) -> Result<Option<Statement>, AllocError>
     ensures value { IfOk result (λ s. s ≡ statement_of (view value.now)) }
-    ensures plain { IfOk result (λ s. IfSome s IsPlain) }
+    ensures words { IfOk result (λ s. IfSome s IsWordStatement) }
 {
     if !has_members(3, value) {
         return Ok(None);
@@ -156,16 +198,10 @@ fn read_statement(alloc: Global, value: &Value) -> Result<Option<Statement>, All
     let Some(allow) = text_at(value, "Effect").and_then(effect_of) else {
         return Ok(None);
     };
-    let Some(action) = text_at(value, "Action") else {
+    let Some(action) = matcher_at(alloc, value, "Action", false)? else {
         return Ok(None);
     };
-    let Some(action) = action_matcher(alloc, action)? else {
-        return Ok(None);
-    };
-    let Some(resource) = text_at(value, "Resource") else {
-        return Ok(None);
-    };
-    let Some(resource) = resource_matcher(alloc, resource)? else {
+    let Some(resource) = matcher_at(alloc, value, "Resource", true)? else {
         return Ok(None);
     };
     Ok(Some(Statement {
@@ -178,7 +214,7 @@ fn read_statement(alloc: Global, value: &Value) -> Result<Option<Statement>, All
 
 fn read_list(alloc: Global, values: &[Value]) -> Result<Option<StatementList>, AllocError>
     ensures value { IfOk result (λ s. s ≡ statements_in (items_view values.now)) }
-    ensures plain { IfOk result (λ s. IfSome s (All IsPlain)) }
+    ensures words { IfOk result (λ s. IfSome s (All IsWordStatement)) }
 {
     let mut statements = List::new(alloc);
     for value in values {
@@ -194,7 +230,7 @@ fn read_list(alloc: Global, values: &[Value]) -> Result<Option<StatementList>, A
 #[tactic(auto, unfolding(crate::specs::Reading::statements_of))]
 fn read_statements(alloc: Global, value: &Value) -> Result<Option<StatementList>, AllocError>
     ensures value { IfOk result (λ s. s ≡ statements_of (view value.now)) }
-    ensures plain { IfOk result (λ s. IfSome s (All IsPlain)) }
+    ensures words { IfOk result (λ s. IfSome s (All IsWordStatement)) }
 {
     if let Some(values) = value.as_array() {
         if values.len() > MOST_STATEMENTS {
@@ -243,7 +279,7 @@ fn set_with(alloc: Global, statements: StatementList) -> Result<PolicySet, Alloc
 #[tactic(auto, unfolding(crate::specs::Reading::set_of))]
 fn read_document(alloc: Global, value: &Value) -> Result<Option<PolicySet>, AllocError>
     ensures value { IfOk result (λ s. s ≡ set_of (view value.now)) }
-    ensures plain { IfOk result (λ s. IfSome s IsPlainSet) }
+    ensures words { IfOk result (λ s. IfSome s IsWordSet) }
 {
     if !version_fits(value) {
         return Ok(None);
@@ -258,11 +294,11 @@ fn read_document(alloc: Global, value: &Value) -> Result<Option<PolicySet>, Allo
 }
 
 /// The set of policies that a file stands for, or why it stands for none: `P1NotJson` exactly where the
-/// bytes aren't JSON, and `P0NotBuilt` exactly where they are and the value isn't of the form that is
+/// bytes have no reading as a JSON value, and `P0NotBuilt` exactly where they are and the value isn't of the form that is
 /// built.
 pub fn read_set(alloc: Global, bytes: &[u8]) -> Result<PolicySet, PolicyAnswer>
     ensures value { IsReadOf bytes.now result }
-    ensures plain { IfOk result IsPlainSet }
+    ensures words { IfOk result IsWordSet }
 {
     let value = read_value(alloc, bytes)?;
     match read_document(alloc, &value)? {

@@ -48,9 +48,10 @@ fn words_of(alloc: Global, words: &[&str]) -> Result<Vec<String>, Fail> {
     Ok(list)
 }
 
-// Compares two files, and looks at the status and at what was written.
-fn shows(
+// Runs the words over two files, and looks at the status and at what was written.
+fn answers(
     rt: &(impl Abort + AllocGlobal),
+    words: &[&str],
     first: &[u8],
     second: &[u8],
     status: Status,
@@ -61,11 +62,28 @@ fn shows(
     folder.hold("first", first)?;
     folder.hold("second", second)?;
     let mut sink = MemorySink::new(alloc, 1000, 7)?;
-    let words = words_of(alloc, &["compare", "first", "second"])?;
+    let words = words_of(alloc, words)?;
     let answer = run(alloc, words.as_slice(), &mut folder, &mut sink);
     assert_eq!(rt; answer, status, "of {text}");
     assert!(rt; sink.written() == text.as_bytes(), "of {text}");
     Ok(())
+}
+
+fn shows(
+    rt: &(impl Abort + AllocGlobal),
+    first: &[u8],
+    second: &[u8],
+    status: Status,
+    text: &str,
+) -> Result<(), Fail> {
+    answers(
+        rt,
+        &["compare", "first", "second"],
+        first,
+        second,
+        status,
+        text,
+    )
 }
 
 fn compares(
@@ -134,14 +152,6 @@ fn is_not_built(rt: &(impl Abort + AllocGlobal), first: &str) -> Result<(), Fail
 fn other_forms_are_not_built(rt: HostRuntime) -> Result<(), Fail> {
     is_not_built(
         &rt,
-        "{\"Statement\":{\"Effect\":\"Allow\",\"Action\":\"*\",\"Resource\":\"y\"}}",
-    )?;
-    is_not_built(
-        &rt,
-        "{\"Statement\":{\"Effect\":\"Allow\",\"Action\":\"x\",\"Resource\":\"?\"}}",
-    )?;
-    is_not_built(
-        &rt,
         "{\"Statement\":{\"Effect\":\"Allow\",\"Action\":\"x\",\"Resource\":\"a${aws:username}\"}}",
     )?;
     is_not_built(
@@ -150,7 +160,7 @@ fn other_forms_are_not_built(rt: HostRuntime) -> Result<(), Fail> {
     )?;
     is_not_built(
         &rt,
-        "{\"Statement\":{\"Effect\":\"Allow\",\"Action\":[\"x\"],\"Resource\":\"y\"}}",
+        "{\"Statement\":{\"Effect\":\"Allow\",\"Action\":[\"x\",1],\"Resource\":\"y\"}}",
     )?;
     is_not_built(
         &rt,
@@ -210,6 +220,16 @@ fn other_words_are_answered_by_the_usage_line(rt: HostRuntime) -> Result<(), Fai
     usage(&rt, &["Compare", "first", "second"])?;
     usage(&rt, &["compare", "-first", "second"])?;
     usage(&rt, &["compare", "first", "second", "--splits", "0"])?;
+    usage(&rt, &["compare", "first", "second", "--splits", "1000001"])?;
+    usage(&rt, &["compare", "first", "second", "--splits", "+1"])?;
+    usage(&rt, &["compare", "first", "second", "--states", "100001"])?;
+    usage(&rt, &["compare", "first", "second", "--splits"])?;
+    usage(
+        &rt,
+        &[
+            "compare", "first", "second", "--states", "1", "--splits", "1",
+        ],
+    )?;
     let words = words_of(alloc, &["compare", "first", "second"])?;
     let mut folder = SafeFolder::new(alloc);
     folder.hold("first", X_Y.as_bytes())?;
@@ -269,4 +289,110 @@ fn faults_are_told(rt: HostRuntime) -> Result<(), Fail> {
     );
     assert!(rt; sink.written() == NOT_MORE.as_bytes());
     Ok(())
+}
+
+const ALL: &str = "{\"Statement\":{\"Effect\":\"Allow\",\"Action\":\"*\",\"Resource\":\"*\"}}";
+
+const ALL_BUT_IAM: &str =
+    "{\"Statement\":[{\"Effect\":\"Allow\",\"Action\":\"*\",\"Resource\":\"*\"},{\"Effect\":\"Deny\",\"Action\":\"iam:*\",\"Resource\":\"*\"}]}";
+
+const BUCKET: &str =
+    "{\"Statement\":{\"Effect\":\"Allow\",\"Action\":\"*\",\"Resource\":\"arn:aws:s3:::b/*\"}}";
+
+const BUCKET_OBJECTS: &str =
+    "{\"Statement\":{\"Effect\":\"Allow\",\"Action\":[\"*\"],\"Resource\":[\"arn:aws:s3:::b/?*\"]}}";
+
+const LATE_A: &str =
+    "{\"Statement\":{\"Effect\":\"Allow\",\"Action\":\"*\",\"Resource\":\"*a????????\"}}";
+
+const LATE_A_IN_PARTS: &str =
+    "{\"Statement\":{\"Effect\":\"Allow\",\"Action\":\"*\",\"Resource\":[\"a????????\",\"?*a????????\"]}}";
+
+#[test]
+fn wildcards_are_decided_over_all_texts(rt: HostRuntime) -> Result<(), Fail> {
+    compares(&rt, BUCKET_OBJECTS, BUCKET, Status::Holds, NOT_MORE)?;
+    compares(
+        &rt,
+        BUCKET,
+        BUCKET_OBJECTS,
+        Status::Fails,
+        "more permissive\n{\"Action\":\":\",\"Context\":{},\"Principal\":{\"AWS\":\"x\"},\"Resource\":\"arn:aws:s3:::b/\"}\n",
+    )?;
+    compares(&rt, ALL_BUT_IAM, ALL, Status::Holds, NOT_MORE)?;
+    compares(&rt, LATE_A, LATE_A_IN_PARTS, Status::Holds, NOT_MORE)?;
+    compares(&rt, LATE_A_IN_PARTS, LATE_A, Status::Holds, NOT_MORE)
+}
+
+#[test]
+fn budgets_that_are_too_small_are_named(rt: HostRuntime) -> Result<(), Fail> {
+    let three = ["compare", "first", "second", "--splits", "3"];
+    let two = ["compare", "first", "second", "--splits", "2"];
+    let few = ["compare", "first", "second", "--states", "50"];
+    answers(
+        &rt,
+        &three,
+        X_Y.as_bytes(),
+        X_Z.as_bytes(),
+        Status::Fails,
+        MORE_X_Y,
+    )?;
+    answers(
+        &rt,
+        &two,
+        X_Y.as_bytes(),
+        X_Z.as_bytes(),
+        Status::Undecided,
+        "undecided: splits 2\n",
+    )?;
+    answers(
+        &rt,
+        &two,
+        OBJECT.as_bytes(),
+        OBJECT.as_bytes(),
+        Status::Holds,
+        NOT_MORE,
+    )?;
+    answers(
+        &rt,
+        &few,
+        LATE_A.as_bytes(),
+        LATE_A_IN_PARTS.as_bytes(),
+        Status::Undecided,
+        "undecided: states 50 at resource\n",
+    )
+}
+
+// A set that allows so many different actions.
+fn actions(alloc: Global, count: usize) -> Result<String, Fail> {
+    let mut text = String::from_str(
+        alloc,
+        "{\"Statement\":{\"Effect\":\"Allow\",\"Resource\":\"*\",\"Action\":[\"a\"",
+    )?;
+    for i in 1..count {
+        let action = format!(in alloc; ",\"a{i}\"")?;
+        text.push_str(action.as_str())?;
+    }
+    text.push_str("]}}")?;
+    Ok(text)
+}
+
+#[test]
+fn a_query_has_at_most_a_thousand_tests(rt: HostRuntime) -> Result<(), Fail> {
+    let alloc = rt.alloc();
+    let most = actions(alloc, 999)?;
+    compares(
+        &rt,
+        most.as_str(),
+        NOBODY,
+        Status::Fails,
+        "more permissive\n{\"Action\":\"a\",\"Context\":{},\"Principal\":{\"AWS\":\"x\"},\"Resource\":\":\"}\n",
+    )?;
+    let many = actions(alloc, 1000)?;
+    compares(
+        &rt,
+        many.as_str(),
+        many.as_str(),
+        Status::Refused,
+        "refused: query: P17 Limit: document 0, statement 0, \"tests\"\n",
+    )
 }

@@ -4,16 +4,17 @@ ghost use Rattle.pol_outside.specs.Faults.{Rose};
 ghost use Rattle.compare_cli.specs.Words.{asked};
 ghost use Rattle.compare_cli.specs.Answers.{IsAnswer, IsAnswerTo, IsFaultAnswer, IsVerdict};
 ghost use Rattle.compare_cli.specs.Runs.{Runs, status_of};
-ghost use Rattle.compare_cli.specs.Promises.{MoreByWords, NotMoreByWords, ReadFaultByCount, RefusedByWords, UsageByWords};
+ghost use Rattle.compare_cli.specs.Promises.{MoreByWords, NotMoreByWords, ReadFaultByCount, RefusedByCause, UndecidedByNeed, UsageByWords};
 ghost use Rattle.compare_cli.specs.Complete.{IsAccepted, IsDecided};
 
 use crate::answer::{Answer, Role, answer_text};
+use crate::decision::compare;
 use crate::files::read_file;
 use crate::reader::{PolicyAnswer, read_set};
-use crate::witness::find_witness;
 use crate::words::asked;
 use pol_outside::{Folder, Sink, TakeFault, put_all};
 use std::alloc::{AllocError, Global};
+use tree_search::Budgets;
 
 /// How a run ends. The numbers of the statuses in this order, from 0, are the program's exit numbers.
 #[derive(Clone, Copy, Debug, PartialEq, Eq)]
@@ -39,8 +40,15 @@ pub enum Status {
 }
 
 // The answer of two files that were read.
-fn verdict(alloc: Global, first: &[u8], second: &[u8]) -> Result<Answer, AllocError>
-    ensures { IfOk result (IsVerdict first.now second.now) }
+fn verdict(
+    alloc: Global,
+    first: &[u8],
+    second: &[u8],
+    budgets: Budgets,
+) -> Result<Answer, AllocError>
+    requires splits { 1 ≤ budgets.splits }
+    requires states { 1 ≤ budgets.states }
+    ensures { IfOk result (IsVerdict first.now second.now budgets) }
 {
     let one = match read_set(alloc, first) {
         Ok(set) => set,
@@ -52,10 +60,7 @@ fn verdict(alloc: Global, first: &[u8], second: &[u8]) -> Result<Answer, AllocEr
         Err(PolicyAnswer::Refused(code)) => return Ok(Answer::Refused(Role::Second, code)),
         Err(PolicyAnswer::NoMemory) => return Err(AllocError),
     };
-    match find_witness(alloc, &one, &two)? {
-        Some(request) => Ok(Answer::More(request)),
-        None => Ok(Answer::NotMore),
-    }
+    compare(alloc, &one, &two, budgets)
 }
 
 fn fault_answer(role: Role, fault: TakeFault) -> Result<Answer, AllocError>
@@ -74,8 +79,11 @@ fn answer_to<F: Folder>(
     folder: &mut F,
     first: &str,
     second: &str,
+    budgets: Budgets,
 ) -> Result<Answer, AllocError>
-    ensures given { IfOk result (IsAnswerTo (F.held folder.old) (F.faults folder.old) (F.faults folder.new) (F.last_fault folder.new) (first.now, second.now)) }
+    requires splits { 1 ≤ budgets.splits }
+    requires states { 1 ≤ budgets.states }
+    ensures given { IfOk result (IsAnswerTo (F.held folder.old) (F.faults folder.old) (F.faults folder.new) (F.last_fault folder.new) (first.now, second.now, budgets)) }
     ensures held { F.held folder.new ≡ F.held folder.old }
     ensures later { F.faults folder.old ≤ F.faults folder.new }
 {
@@ -87,7 +95,7 @@ fn answer_to<F: Folder>(
         Ok(bytes) => bytes,
         Err(fault) => return fault_answer(Role::Second, fault),
     };
-    verdict(alloc, one.as_slice(), two.as_slice())
+    verdict(alloc, one.as_slice(), two.as_slice(), budgets)
 }
 
 fn answer<F: Folder>(alloc: Global, words: &[String], folder: &mut F) -> Result<Answer, AllocError>
@@ -97,7 +105,7 @@ fn answer<F: Folder>(alloc: Global, words: &[String], folder: &mut F) -> Result<
     ensures later { F.faults folder.old ≤ F.faults folder.new }
 {
     match asked(words) {
-        Some((first, second)) => answer_to(alloc, folder, first, second),
+        Some((first, second, budgets)) => answer_to(alloc, folder, first, second, budgets),
         None => Ok(Answer::Usage),
     }
 }
@@ -108,7 +116,9 @@ fn status_of(answer: &Answer) -> Status
     match answer {
         Answer::Usage => Status::Usage,
         Answer::ReadFault(_) => Status::ReadFault,
-        Answer::TooLong(_) | Answer::Refused(_, _) => Status::Refused,
+        Answer::TooLong(_) | Answer::Refused(_, _) | Answer::TooManyTests | Answer::TooManyPieces =>
+            Status::Refused,
+        Answer::UndecidedSplits(_) | Answer::UndecidedStates(_, _) => Status::Undecided,
         Answer::NotMore => Status::Holds,
         Answer::More(_) => Status::Fails,
     }
@@ -146,14 +156,16 @@ fn answer_and_write<F: Folder, S: Sink>(
 ///
 /// - `runs`: what was written by each status: the whole text of an answer that may be given, a prefix of
 ///   it with `WriteFault`, nothing with `NoMemory`;
-/// - `usage`, `untouched`: `Usage` exactly where the words are no `compare FIRST SECOND`, and then the
-///   folder is as before;
+/// - `usage`, `untouched`: `Usage` exactly where the words are no `compare FIRST SECOND [--splits N]
+///   [--states N]`, and then the folder is as before;
 /// - `read_fault`, `write_fault`: only where the count of faults rose in this call, and a role's fault
 ///   of reading only with that role's file as the last fault's name;
 /// - `refused`: a refusal by the first cause, with its line;
+/// - `undecided`: only where a named budget is below the plain need, with a line that names it;
 /// - `not_more`: the second set allows each valid request that the first allows, over all texts;
 /// - `more`: the second line is a valid request that the first set alone allows;
-/// - `complete`: two accepted files and no fault give a comparison, unless memory is wanting.
+/// - `complete`: two accepted files, budgets that are at least the plain need and no fault give a
+///   comparison, unless memory is wanting.
 pub fn run<F: Folder, S: Sink>(
     alloc: Global,
     words: &[String],
@@ -170,7 +182,9 @@ pub fn run<F: Folder, S: Sink>(
     ensures read_fault { result ≡ Status.ReadFault → ReadFaultByCount (asked (map (λ w. string_bytes w) words.now))
         (F.faults folder.old) (F.faults folder.new) (F.last_fault folder.new) (S.written out.old) (S.written out.new) }
     ensures write_fault { result ≡ Status.WriteFault → Rose (S.faults out.old) (S.faults out.new) }
-    ensures refused { result ≡ Status.Refused → RefusedByWords (F.held folder.old)
+    ensures refused { result ≡ Status.Refused → RefusedByCause (F.held folder.old)
+        (asked (map (λ w. string_bytes w) words.now)) (S.written out.old) (S.written out.new) }
+    ensures undecided { result ≡ Status.Undecided → UndecidedByNeed (F.held folder.old)
         (asked (map (λ w. string_bytes w) words.now)) (S.written out.old) (S.written out.new) }
     ensures not_more { result ≡ Status.Holds → NotMoreByWords (F.held folder.old)
         (asked (map (λ w. string_bytes w) words.now)) (S.written out.old) (S.written out.new) }

@@ -1,6 +1,18 @@
 //! What the words of a command line ask for.
-ghost use Rattle.std.specs.Prelude.{◌≡◌, map, option_map, string_bytes};
-ghost use Rattle.compare_cli.specs.Words.{asked, begins_dash};
+ghost use Rattle.std.specs.Prelude.{◌≡◌, ◌≤◌, IfSome, map, option_map, string_bytes};
+ghost use Rattle.compare_cli.specs.Words.{asked, begins_dash, budgets_of, default_budgets, digits_from, number_of};
+
+use tree_search::Budgets;
+
+/// The most splits that may be asked for, and those that are had unless others are.
+const MOST_SPLITS: u32 = 1_000_000;
+
+const DEFAULT_SPLITS: u32 = 100_000;
+
+/// The most states that may be asked for, and those that are had unless others are.
+const MOST_STATES: u32 = 100_000;
+
+const DEFAULT_STATES: u32 = 20_000;
 
 fn begins_dash(name: &[u8]) -> bool
     ensures { result ≡ begins_dash name.now }
@@ -11,18 +23,101 @@ fn begins_dash(name: &[u8]) -> bool
     }
 }
 
-/// The names of the two files that the words ask to compare, or none where the words are no
-/// `compare FIRST SECOND`.
-pub fn asked(words: &[String]) -> Option<(&str, &str)>
-    ensures { option_map (λ p. (p.0.now, p.1.now)) result ≡ asked (map (λ w. string_bytes w) words.now) }
+// The number that the digits go on from, as long as it is at most `most`.
+fn digits_from(most: u32, n: u32, digits: &[u8]) -> Option<u32>
+    requires room { most ≤ 1000000 }
+    requires within { n ≤ most }
+    ensures { result ≡ digits_from most n digits.now }
+{
+    match digits {
+        [] => Some(n),
+        [digit, rest @ ..] => {
+            if !digit.is_ascii_digit() {
+                return None;
+            }
+            let next = n * 10 + u32::from(*digit - b'0');
+            if next > most {
+                return None;
+            }
+            digits_from(most, next, rest)
+        }
+    }
+}
+
+// A number in decimal digits from 1 to `most`.
+fn number_of(most: u32, word: &str) -> Option<u32>
+    requires { most ≤ 1000000 }
+    ensures value { result ≡ number_of most word.now }
+    ensures some { IfSome result (λ n. 1 ≤ n) }
+{
+    match digits_from(most, 0, word.as_bytes()) {
+        Some(n) if n >= 1 => Some(n),
+        _ => None,
+    }
+}
+
+fn default_budgets() -> Budgets
+    ensures { result ≡ default_budgets }
+{
+    Budgets {
+        splits: DEFAULT_SPLITS,
+        states: DEFAULT_STATES,
+    }
+}
+
+// The budgets that the options ask for.
+fn budgets_of(options: &[String]) -> Option<Budgets>
+    ensures value { result ≡ budgets_of (map (λ w. string_bytes w) options.now) }
+    ensures splits { IfSome result (λ b. 1 ≤ b.splits) }
+    ensures states { IfSome result (λ b. 1 ≤ b.states) }
+{
+    match options {
+        [] => Some(default_budgets()),
+        [option, number] => {
+            if option.as_str() == "--splits" {
+                let splits = number_of(MOST_SPLITS, number.as_str())?;
+                Some(Budgets {
+                    splits,
+                    states: DEFAULT_STATES,
+                })
+            } else if option.as_str() == "--states" {
+                let states = number_of(MOST_STATES, number.as_str())?;
+                Some(Budgets {
+                    splits: DEFAULT_SPLITS,
+                    states,
+                })
+            } else {
+                None
+            }
+        }
+        [option, number, next, more] => {
+            if option.as_str() == "--splits" && next.as_str() == "--states" {
+                let splits = number_of(MOST_SPLITS, number.as_str())?;
+                let states = number_of(MOST_STATES, more.as_str())?;
+                Some(Budgets { splits, states })
+            } else {
+                None
+            }
+        }
+        _ => None,
+    }
+}
+
+/// The names of the two files that the words ask to compare and the budgets, or none where the words
+/// are no `compare FIRST SECOND [--splits N] [--states N]`.
+pub fn asked(words: &[String]) -> Option<(&str, &str, Budgets)>
+    ensures value { option_map (λ p. (p.0.now, p.1.now, p.2)) result ≡ asked (map (λ w. string_bytes w) words.now) }
+    ensures splits { IfSome result (λ p. 1 ≤ p.2.splits) }
+    ensures states { IfSome result (λ p. 1 ≤ p.2.states) }
 {
     match words {
-        [command, first, second] => {
+        [command, first, second, options @ ..] => {
             if command.as_str() == "compare"
                 && !begins_dash(first.as_bytes())
                 && !begins_dash(second.as_bytes())
             {
-                Some((first.as_str(), second.as_str()))
+                let budgets = budgets_of(options)?;
+                Some((first.as_str(), second.as_str(), budgets))
             } else {
                 None
             }

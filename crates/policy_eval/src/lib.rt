@@ -8,3 +8,6 @@ mod outcome;
 pub use eval::allows;
 pub use first::decider;
 pub use outcome::Decider;
+
+#[cfg(test)]
+mod tests;

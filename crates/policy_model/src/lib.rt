@@ -9,6 +9,8 @@ mod request;
 mod schema;
 mod set;
 mod test;
+#[cfg(test)]
+mod tests;
 mod validity;
 mod value;
 

@@ -1,9 +1,9 @@
 //! Principals of requests, and the entries of a policy that name them.
-ghost use Rattle.std.specs.Prelude.{◌≡◌, ◌↔◌, IsTrue, option_map};
+ghost use Rattle.std.specs.Prelude.{◌≡◌, ◌↔◌, IfOk, IsTrue, option_map};
 ghost use Rattle.policy_model.specs.Principals.{EntryHolds, IsOfAccount, behind_colon, behind_prefix, account_test};
 
 use crate::request::Request;
-use plain_lists::List;
+use plain_lists::{List, NoMemory};
 use wildcard_lang::Text;
 
 /// The four kinds of principals of the IAM policy language.
@@ -26,6 +26,20 @@ pub enum Entry {
     Account(Text),
     /// The principal of this kind and id alone, with regard to case.
     Exact(PrincipalKind, Text),
+}
+
+impl Entry {
+    /// An equal entry.
+    pub fn copy(&self) -> Result<Entry, NoMemory>
+        ensures { IfOk result (λ e. e ≡ self.now) }
+    {
+        match self {
+            Entry::All => Ok(Entry::All),
+            Entry::Kind(kind) => Ok(Entry::Kind(*kind)),
+            Entry::Account(account) => Ok(Entry::Account(account.copy()?)),
+            Entry::Exact(kind, id) => Ok(Entry::Exact(*kind, id.copy()?)),
+        }
+    }
 }
 
 /// A list of principal entries.

@@ -1,10 +1,10 @@
 //! The single tests that a policy makes of a request.
-ghost use Rattle.std.specs.Prelude.{◌↔◌, IsTrue};
+ghost use Rattle.std.specs.Prelude.{◌≡◌, ◌↔◌, IfOk, IsTrue};
 ghost use Rattle.policy_model.specs.Tests.{TestHolds};
 
 use crate::principal::{Entry, entry_holds};
 use crate::request::Request;
-use plain_lists::List;
+use plain_lists::{List, NoMemory};
 use wildcard_lang::{Pattern, Text, matches};
 
 /// A test of a request.
@@ -16,6 +16,19 @@ pub enum Test {
     Action(Pattern),
     /// The resource matches.
     Resource(Pattern),
+}
+
+impl Test {
+    /// An equal test.
+    pub fn copy(&self) -> Result<Test, NoMemory>
+        ensures { IfOk result (λ t. t ≡ self.now) }
+    {
+        match self {
+            Test::Principal(entry) => Ok(Test::Principal(entry.copy()?)),
+            Test::Action(pattern) => Ok(Test::Action(pattern.copy()?)),
+            Test::Resource(pattern) => Ok(Test::Resource(pattern.copy()?)),
+        }
+    }
 }
 
 /// A list of tests.

@@ -8,4 +8,4 @@ pub returns-clause-given : goal.returns-clause-given
 returns-clause-given g c =
     let one : IsShort (g.F.Folder.held c.args.folder.now) c.args.first.now c.as_slice.result.now = search rules in
     let two : IsShort (g.F.Folder.held c.args.folder.now) c.args.second.now c.as_slice-2.result.now = search rules in
-    IfOk-weaker c.verdict.result _ _ (λ a v. IsAnswerTo-verdict _ _ _ _ (c.args.first.now, c.args.second.now) _ _ one two a v) c.verdict.ensures
+    IfOk-weaker c.verdict.result _ _ (λ a v. IsAnswerTo-verdict _ _ _ _ (c.args.first.now, c.args.second.now, c.args.budgets) _ _ one two a v) c.verdict.ensures

@@ -1,0 +1,6 @@
+pub mod Asking
+pub mod Collecting
+pub mod Meanings
+pub mod Pieces
+pub mod Ranges
+pub mod Steps

@@ -1,0 +1,10 @@
+use Rattle.std.proofs.Common.{take, false}
+use Rattle.formula_tree.specs.Trees.{trees_of}
+use Rattle.policy_compile.specs.Building.{Added}
+use Rattle.std.specs.List.{flat_map}
+use Rattle.policy_compile.specs.Sets.{document_plans}
+use Rattle.policy_compile.proofs.sets.add_denies.Given as goal
+
+-- the trees of the items so far are added
+abbrev pub invariant-loop-item : goal.invariant-loop-item
+invariant-loop-item l = Added l.initial.numbers.tests l.initial.numbers.full l.numbers.tests l.numbers.full (flat_map (λ g. document_plans false g) (take l.item-index l.items)) (trees_of l.initial.branches) (trees_of l.branches)

@@ -1,0 +1,6 @@
+pub mod Plans
+pub mod Sets
+pub mod Numbering
+pub mod Building
+pub mod Meaning
+pub mod Queries

@@ -1,0 +1,17 @@
+//! Queries: what sets of policies ask of a request, as a tree over numbered tests.
+#![tactic(auto)]
+
+mod compile;
+mod elements;
+mod formulas;
+mod laws;
+mod numbers;
+mod outcome;
+mod sets;
+
+pub use compile::{query, set_query};
+pub use laws::{
+    numbers_are_below, queries_compare, set_queries_allow, tests_of_queries_suit,
+    tests_of_set_queries_suit,
+};
+pub use outcome::{Query, QueryFault};

@@ -1,0 +1,47 @@
+-- A refutation that closes under a path leaves no valid request that answers the path and makes the tree met.
+use Rattle.std.proofs.Common.{◌≡◌, ℕ, Bool, true, false, List, [], Some, None, MatchBool, All, sym, ◌∙◌, subst, inl, inr}
+use Rattle.std.proofs.lemmas.Bool.{cases_Bool}
+use Rattle.formula_tree.specs.Answers.{Answers, Completes, answer_of}
+use Rattle.formula_tree.specs.Runs.{answered}
+use Rattle.formula_tree.specs.Trees.{Tree}
+use Rattle.formula_tree.specs.Values.{holds}
+use Rattle.formula_tree.proofs.AnswerLists.{answer_of-besides, answer_of-last, cases_eq}
+use Rattle.formula_tree.proofs.Keeping.{says-no}
+use Rattle.policy_model.specs.declared.request.Request.{Request}
+use Rattle.policy_model.specs.declared.schema.Schema.{Schema}
+use Rattle.policy_model.specs.declared.test.Test.{Test}
+use Rattle.policy_model.specs.Requests.{IsValid}
+use Rattle.policy_model.specs.Tests.{TestHolds}
+use Rattle.slot_theory.specs.Possible.{AnswersPath}
+use Rattle.slot_theory.specs.Slots.{IsWordTest}
+use Rattle.slot_theory.proofs.Impossible.{impossible}
+use Rattle.refute_check.specs.Closing.{Closes}
+use Rattle.refute_check.specs.Laws.{AnswersAs, ClosedQueriesAreNo}
+use Rattle.refute_check.specs.Proofs.{Proof, by_slot, by_value, split}
+
+-- one more answer that the request gives
+completes_more : (total : ℕ → Bool) (path : Answers) (n : ℕ) (b : Bool) → answer_of path n ≡ None → total n ≡ b → Completes total path → Completes total (answered path n b)
+completes_more total path n b new is before m c here =
+    elim (cases_eq m n) [
+      | inl same ↦
+          let last : answer_of (answered path n b) m ≡ Some b = subst (λ (k : ℕ). answer_of (answered path n b) k ≡ Some b) (sym same) (answer_of-last path n b new) in
+          let told : total m ≡ b = subst (λ (k : ℕ). total k ≡ b) (sym same) is in
+          cc
+      | inr other ↦ before m c (sym (answer_of-besides path n b m other) ∙ here)
+    ]
+
+answers_path : (tests : List Test) (r : Request) (total : ℕ → Bool) (path : Answers) → AnswersAs tests r total → Completes total path → AnswersPath tests path r
+answers_path tests r total path answers completes n b t answered is = subst (λ (x : Bool). MatchBool x (TestHolds r t) (¬ TestHolds r t)) (completes n b answered) (answers n t is)
+
+closed_is_no : (schema : Schema) (tests : List Test) (tree : Tree) → All IsWordTest tests → (r : Request) → IsValid schema r → (total : ℕ → Bool) → AnswersAs tests r total → holds total tree ≡ true → (p : Proof) (path : Answers) → Closes schema tests tree p path → Completes total path → ⊥
+closed_is_no schema tests tree words r valid total answers met (split n y z) path closes completes =
+    elim (cases_Bool (total n)) [
+      | inl e ↦ closed_is_no schema tests tree words r valid total answers met y (answered path n true) closes.1 (completes_more total path n true closes.0.1 e completes)
+      | inr e ↦ closed_is_no schema tests tree words r valid total answers met z (answered path n false) closes.2 (completes_more total path n false closes.0.1 e completes)
+    ]
+closed_is_no schema tests tree words r valid total answers met by_value path closes completes = let refused = says-no path tree total completes closes in cc
+closed_is_no schema tests tree words r valid total answers met (by_slot core proof) path closes completes =
+    impossible schema tests path core proof words closes (record { request = r; valid = valid; answers = answers_path tests r total path answers completes })
+
+pub queries_are_no : ClosedQueriesAreNo
+queries_are_no schema tests tree proof words closes r valid (total, answers, met) = closed_is_no schema tests tree words r valid total answers met proof [] closes (λ n b none. absurd (cc))

@@ -1,0 +1,5 @@
+pub mod Proofs
+pub mod Closing
+pub mod Laws
+pub mod Verdicts
+pub mod Walks

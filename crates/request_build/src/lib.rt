@@ -1,0 +1,6 @@
+//! A valid request from one value for each slot that tests are on.
+#![tactic(auto)]
+
+mod request;
+
+pub use request::{SlotValues, build};

@@ -1,0 +1,4 @@
+pub mod Impossible
+pub mod Rising
+pub mod Wording
+pub mod Accepting

@@ -1,0 +1,102 @@
+//! Cores: lists of test numbers that strictly rise.
+ghost use Rattle.std.specs.Prelude.{◌≡◌, ◌<◌, ◌≤◌, ◌↔◌, ℕ, true, IfOk, IsTrue, All, Contains, length, slice_index, remove};
+ghost use Rattle.pattern_automata.specs.Closed.{rises_from};
+ghost use Rattle.slot_theory.specs.Slots.{IsWordSlot};
+ghost use Rattle.slot_theory.specs.Possible.{InRange};
+ghost use Rattle.slot_theory.specs.Cores.{IsAnsweredOn, IsCore, IsWith};
+
+use crate::outcome::Core;
+use crate::slots::is_on;
+use formula_tree::Path;
+use plain_lists::NoMemory;
+use policy_model::{Slot, Test};
+use std::alloc::Global;
+
+/// Whether the numbers strictly rise.
+fn rises(core: &[u32]) -> bool
+    ensures { result ≡ rises_from 0 core.now }
+{
+    let mut next: u64 = 0;
+    for n in core {
+        let n = u64::from(*n);
+        if n < next {
+            return false;
+        }
+        next = n + 1;
+    }
+    true
+}
+
+/// Whether the path answers the test, and the test is on the slot.
+pub fn is_answered_on(tests: &[Test], path: &Path, slot: &Slot, n: u32) -> bool
+    requires range { InRange tests.now path.now }
+    requires slot { IsWordSlot slot.now }
+    ensures { IsTrue result ↔ IsAnsweredOn tests.now path.now slot.now n }
+{
+    match path.answer(n) {
+        None => false,
+        Some(_) => is_on(slot, &tests[n as usize]),
+    }
+}
+
+/// Whether the path answers each test, and each is on the slot.
+fn all_answered_on(tests: &[Test], path: &Path, slot: &Slot, core: &[u32]) -> bool
+    requires range { InRange tests.now path.now }
+    requires slot { IsWordSlot slot.now }
+    ensures { IsTrue result ↔ All (IsAnsweredOn tests.now path.now slot.now) core.now }
+{
+    for n in core {
+        if !is_answered_on(tests, path, slot, *n) {
+            return false;
+        }
+    }
+    true
+}
+
+/// Whether the numbers are a core of the slot.
+pub fn is_core(tests: &[Test], path: &Path, slot: &Slot, core: &[u32]) -> bool
+    requires range { InRange tests.now path.now }
+    requires slot { IsWordSlot slot.now }
+    ensures { IsTrue result ↔ IsCore tests.now path.now core.now slot.now }
+{
+    if core.is_empty() || !rises(core) {
+        return false;
+    }
+    all_answered_on(tests, path, slot, core)
+}
+
+/// The place of the first number above n, or the length where there is none.
+fn place_of(core: &[u32], n: u32) -> usize
+    ensures within { result ≤ length core.now }
+    ensures before { (k : ℕ) → k < result → slice_index core.now k ≤ n }
+    ensures behind { result < length core.now → n < slice_index core.now result }
+{
+    for (i, m) in core.iter().enumerate() {
+        if *m > n {
+            return i;
+        }
+    }
+    core.len()
+}
+
+/// The core with one more test.
+pub fn with_test(alloc: Global, core: &[u32], n: u32) -> Result<Core, NoMemory>
+    requires rises { rises_from 0 core.now ≡ true }
+    requires new { Contains core.now n → ⊥ }
+    ensures { IfOk result (IsWith core.now n) }
+{
+    let place = place_of(core, n);
+    let mut numbers = Vec::from_slice(alloc, core)?;
+    numbers.insert(place, n)?;
+    Ok(Core::from_vec(numbers))
+}
+
+/// The core without the test at a place.
+pub fn without(alloc: Global, core: &[u32], place: usize) -> Result<Core, NoMemory>
+    requires { place < length core.now }
+    ensures { IfOk result (λ v. v ≡ remove core.now place) }
+{
+    let mut numbers = Vec::from_slice(alloc, core)?;
+    numbers.remove(place);
+    Ok(Core::from_vec(numbers))
+}

@@ -1,0 +1,21 @@
+//! One slot of a request at a time: a value that answers the slot's tests as a path does, or a proof
+//! that there is none.
+#![tactic(auto)]
+
+mod attempt;
+mod check;
+mod cores;
+mod laws;
+mod outcome;
+mod search;
+mod slots;
+mod wants;
+
+pub use check::accepts;
+pub use laws::accepted_cores_are_impossible;
+pub use outcome::{Core, Possible, SlotProof, SlotValue};
+pub use search::possible;
+pub use slots::slot_of;
+
+#[cfg(test)]
+mod tests;

@@ -1,0 +1,4 @@
+pub mod Nodes
+pub mod Decisions
+pub mod Words
+pub mod Steps

@@ -1,0 +1,38 @@
+//! Budgets of a search, and what it decides.
+use formula_tree::Path;
+use policy_model::{Request, Slot};
+use refute_check::Refutation;
+use std::rc::Rc;
+use wildcard_lang::TextList;
+
+/// How much a search may do.
+#[derive(Clone, Copy, Debug, PartialEq, Eq)]
+pub struct Budgets {
+    /// The most splits on a test.
+    pub splits: u32,
+    /// The most lists of places of a slot's patterns.
+    pub states: u32,
+}
+
+/// A slot whose patterns have more lists of places than there may be.
+#[derive(Drop)]
+pub struct Wide {
+    /// The path of answered tests at which they do.
+    pub path: Path,
+    pub slot: Slot,
+    /// One more text than the number of states, with pairwise different lists of places.
+    pub texts: TextList,
+}
+
+/// What a search decides of a query.
+#[derive(Drop)]
+pub enum Decided {
+    /// No valid request makes the query yes.
+    Refuted(Rc<Refutation>),
+    /// A valid request that makes the query yes.
+    Met(Request),
+    /// The plain run needs more splits.
+    OutOfSplits,
+    /// A slot needs more states.
+    OutOfStates(Wide),
+}
