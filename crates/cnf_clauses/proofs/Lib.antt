@@ -1,0 +1,9 @@
+pub mod Deciding
+pub mod Hinting
+pub mod Indexing
+pub mod Limits
+pub mod Scanning
+pub mod Settling
+pub mod Truths
+pub mod Tying
+pub mod Walking

@@ -1,0 +1,124 @@
+-- A walk over a formula, branch after branch.
+use Rattle.std.proofs.Common.{◌≡◌, ℕ, ◌<◌, ◌≤◌, ◌+◌, List, [], ◌∷◌, ◌++◌, length, take, get_or, zero, suc, Some, None, slice_get, inl, inr, refl, sym, ap, subst, ◌∙◌, arith, rules, append_assoc, Global, append-nil}
+use Rattle.std.proofs.lemmas.List.{take_more, take_all}
+use Rattle.std.proofs.lemmas.Option.{slice_get_within, get_or_from_slice_get, slice_get-get_or}
+use Rattle.std.proofs.lemmas.Bool.{cases_lt}
+use Rattle.std.specs.declared.rc.Rc.{Rc}
+use Rattle.formula_tree.specs.declared.formula.Formula.{Formula, the_lemmas}
+use Rattle.formula_tree.specs.declared.formula.Formula.TheVariants.{Test, Not, All, OneOf}
+use Rattle.formula_tree.specs.declared.formula.Branches.{Branches}
+use Rattle.formula_tree.specs.Trees.{Tree, Trees, yes, no, test, not, all, one_of, none, more, of_list, tree_of, trees_of}
+use Rattle.cnf_clauses.specs.Literals.{Clause}
+use Rattle.cnf_clauses.specs.Numbering.{nodes, nodes_in, variable_of, variables_of, node_clauses, node_clauses_in}
+use Rattle.cnf_clauses.proofs.Limits.{cut-twice}
+
+pub tree-Test : (n : ℕ) → tree_of (Test n) ≡ test n
+tree-Test n = search (rules, the_lemmas)
+
+pub tree-Not : (r : Rc Formula Global) → tree_of (Not r) ≡ not (tree_of r.value)
+tree-Not r = search (rules, the_lemmas)
+
+pub tree-All : (b : Branches) → tree_of (All b) ≡ all (of_list (trees_of b))
+tree-All b = search (rules, the_lemmas)
+
+pub tree-OneOf : (b : Branches) → tree_of (OneOf b) ≡ one_of (of_list (trees_of b))
+tree-OneOf b = search (rules, the_lemmas)
+
+-- ---- how large a tree is, for the walk to end
+
+abbrev mutual
+  pub size : Tree → ℕ
+  size yes = 0
+  size no = 0
+  size (test n) = 0
+  size (not t) = suc (size t)
+  size (all ts) = suc (size_in ts)
+  size (one_of ts) = suc (size_in ts)
+
+  pub size_in : Trees → ℕ
+  size_in none = 0
+  size_in (more t ts) = suc (size t + size_in ts)
+
+pub size-at : (ts : List Tree) (i : ℕ) (t : Tree) → Some t ≡ slice_get ts i → size t < size_in (of_list ts)
+size-at [] i t e = absurd (cc)
+size-at (x ∷ xs) zero t e = let same : t ≡ x = cc in rw same (omega arith)
+size-at (x ∷ xs) (suc i) t e = omega (arith, size-at xs i t e)
+
+pub size-Not : (r : Rc Formula Global) (f : Formula) → f ≡ Not r → size (tree_of r.value) < size (tree_of f)
+size-Not r f e = rw (e, tree-Not r) (omega arith)
+
+pub size-All : (b : Branches) (f : Formula) → f ≡ All b → size_in (of_list (trees_of b)) < size (tree_of f)
+size-All b f e = rw (e, tree-All b) (omega arith)
+
+pub size-OneOf : (b : Branches) (f : Formula) → f ≡ OneOf b → size_in (of_list (trees_of b)) < size (tree_of f)
+size-OneOf b f e = rw (e, tree-OneOf b) (omega arith)
+
+-- ---- branches, one after another
+
+take_next : (ts : List Tree) (i : ℕ) (t : Tree) → Some t ≡ slice_get ts i → take (i + 1) ts ≡ take i ts ++ t ∷ []
+take_next ts i t e =
+    let room : i < length ts = slice_get_within ts i t (sym e) in
+    take_more ts i t room ∙ ap (λ (x : Tree). take i ts ++ x ∷ []) (get_or_from_slice_get ts i t t (sym e))
+
+nodes_in-snoc : (ts : List Tree) (t : Tree) → nodes_in (of_list (ts ++ t ∷ [])) ≡ nodes_in (of_list ts) + nodes t
+nodes_in-snoc [] t = omega arith
+nodes_in-snoc (x ∷ xs) t = omega (arith, nodes_in-snoc xs t)
+
+pub nodes_in-next : (ts : List Tree) (i : ℕ) (t : Tree) → Some t ≡ slice_get ts i → nodes_in (of_list (take (i + 1) ts)) ≡ nodes_in (of_list (take i ts)) + nodes t
+nodes_in-next ts i t e = ap (λ (x : List Tree). nodes_in (of_list x)) (take_next ts i t e) ∙ nodes_in-snoc (take i ts) t
+
+nodes_in-take : (ts : List Tree) (i : ℕ) → nodes_in (of_list (take i ts)) ≤ nodes_in (of_list ts)
+nodes_in-take [] zero = omega arith
+nodes_in-take [] (suc i) = omega arith
+nodes_in-take (x ∷ xs) zero = omega arith
+nodes_in-take (x ∷ xs) (suc i) = omega (arith, nodes_in-take xs i)
+
+pub nodes_in-within : (ts : List Tree) (i : ℕ) (t : Tree) → Some t ≡ slice_get ts i → nodes_in (of_list (take i ts)) + nodes t ≤ nodes_in (of_list ts)
+nodes_in-within ts i t e = omega (arith, nodes_in-next ts i t e, nodes_in-take ts (i + 1))
+
+pub none_past : (ts : List Tree) (i : ℕ) → None ≡ slice_get ts i → length ts ≤ i
+none_past ts i e = elim (cases_lt i (length ts)) [ inl l ↦ (let some : slice_get ts i ≡ Some (get_or ts i yes) = slice_get-get_or ts i yes l in absurd (cc)) | inr g ↦ g ]
+
+variables-snoc : (n : ℕ) (ts : List Tree) (t : Tree) → variables_of n (of_list (ts ++ t ∷ [])) ≡ variables_of n (of_list ts) ++ variable_of (n + nodes_in (of_list ts)) t ∷ []
+variables-snoc n [] t = let e : n + 0 ≡ n = omega arith in rw e refl
+variables-snoc n (x ∷ xs) t =
+    let e : n + nodes x + nodes_in (of_list xs) ≡ n + (nodes x + nodes_in (of_list xs)) = omega arith in
+    ap (λ (vs : List ℕ). variable_of n x ∷ vs) (rw e at (variables-snoc (n + nodes x) xs t))
+
+pub variables-next : (n : ℕ) (ts : List Tree) (i : ℕ) (t : Tree) (vs new : List ℕ) (v next : ℕ) → Some t ≡ slice_get ts i → vs ≡ variables_of n (of_list (take i ts)) → next ≡ n + nodes_in (of_list (take i ts)) →
+    v ≡ variable_of next t → new ≡ vs ++ v ∷ [] → new ≡ variables_of n (of_list (take (i + 1) ts))
+variables-next n ts i t vs new v next e old at_next is grows =
+    let here : v ≡ variable_of (n + nodes_in (of_list (take i ts))) t = is ∙ ap (λ (x : ℕ). variable_of x t) at_next in
+    grows ∙ rw (old, here) (sym (variables-snoc n (take i ts) t)) ∙ ap (λ (x : List Tree). variables_of n (of_list x)) (sym (take_next ts i t e))
+
+clauses-snoc : (n : ℕ) (ts : List Tree) (t : Tree) → node_clauses_in n (of_list (ts ++ t ∷ [])) ≡ node_clauses_in n (of_list ts) ++ node_clauses (n + nodes_in (of_list ts)) t
+clauses-snoc n [] t = let e : n + 0 ≡ n = omega arith in rw (e, append-nil) refl
+clauses-snoc n (x ∷ xs) t =
+    let e : n + nodes x + nodes_in (of_list xs) ≡ n + (nodes x + nodes_in (of_list xs)) = omega arith in
+    ap (λ (cs : List Clause). node_clauses n x ++ cs) (rw e at (clauses-snoc (n + nodes x) xs t)) ∙
+    sym (append_assoc (node_clauses n x) (node_clauses_in (n + nodes x) (of_list xs)) (node_clauses (n + (nodes x + nodes_in (of_list xs))) t))
+
+pub clauses-next : (limit n : ℕ) (ts : List Tree) (i : ℕ) (t : Tree) (old mid new : List Clause) (next : ℕ) → Some t ≡ slice_get ts i → mid ≡ take limit (old ++ node_clauses_in n (of_list (take i ts))) →
+    next ≡ n + nodes_in (of_list (take i ts)) → new ≡ take limit (mid ++ node_clauses next t) → new ≡ take limit (old ++ node_clauses_in n (of_list (take (i + 1) ts)))
+clauses-next limit n ts i t old mid new next e was at_next is =
+    let here : new ≡ take limit (mid ++ node_clauses (n + nodes_in (of_list (take i ts))) t) = subst (λ (x : ℕ). new ≡ take limit (mid ++ node_clauses x t)) at_next is in
+    cut-twice limit old (node_clauses_in n (of_list (take i ts))) (node_clauses (n + nodes_in (of_list (take i ts))) t) mid new was here ∙
+    ap (λ (x : List Clause). take limit (old ++ x)) (sym (clauses-snoc n (take i ts) t) ∙ ap (λ (x : List Tree). node_clauses_in n (of_list x)) (sym (take_next ts i t e)))
+
+pub nodes_in-all : (ts : List Tree) (i : ℕ) → length ts ≤ i → nodes_in (of_list (take i ts)) ≡ nodes_in (of_list ts)
+nodes_in-all ts i h = ap (λ (x : List Tree). nodes_in (of_list x)) (take_all i ts h)
+
+pub variables-all : (n : ℕ) (ts : List Tree) (i : ℕ) (vs : List ℕ) → length ts ≤ i → vs ≡ variables_of n (of_list (take i ts)) → vs ≡ variables_of n (of_list ts)
+variables-all n ts i vs h e = e ∙ ap (λ (x : List Tree). variables_of n (of_list x)) (take_all i ts h)
+
+pub clauses-all : (limit n : ℕ) (ts : List Tree) (i : ℕ) (old made : List Clause) → length ts ≤ i → made ≡ take limit (old ++ node_clauses_in n (of_list (take i ts))) → made ≡ take limit (old ++ node_clauses_in n (of_list ts))
+clauses-all limit n ts i old made h e = e ∙ ap (λ (x : List Tree). take limit (old ++ node_clauses_in n (of_list x))) (take_all i ts h)
+
+pub nodes-Not : (r : Rc Formula Global) (f : Formula) → f ≡ Not r → nodes (tree_of f) ≡ nodes (tree_of r.value) + 1
+nodes-Not r f e = rw (e, tree-Not r) refl
+
+pub nodes-All : (b : Branches) (f : Formula) → f ≡ All b → nodes (tree_of f) ≡ nodes_in (of_list (trees_of b)) + 1
+nodes-All b f e = rw (e, tree-All b) refl
+
+pub nodes-OneOf : (b : Branches) (f : Formula) → f ≡ OneOf b → nodes (tree_of f) ≡ nodes_in (of_list (trees_of b)) + 1
+nodes-OneOf b f e = rw (e, tree-OneOf b) refl

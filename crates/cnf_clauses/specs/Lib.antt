@@ -1,0 +1,7 @@
+pub mod Found
+pub mod Indexes
+pub mod Literals
+pub mod Numbering
+pub mod Propagates
+pub mod Replays
+pub mod Scan

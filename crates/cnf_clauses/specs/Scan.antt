@@ -1,0 +1,20 @@
+-- One step of a look at a clause.
+use Rattle.std.specs.Prelude.{◌&&◌, Bool, true, false, Option, Some, None, if◌then◌else◌, nat_eq}
+use Rattle.cnf_clauses.specs.declared.clause.Found.{Found}
+use Rattle.cnf_clauses.specs.declared.clause.Found.TheVariants.{Refuted, Unit, Open}
+use Rattle.cnf_clauses.specs.Literals.{Literal}
+
+abbrev pub same_value : Bool → Bool → Bool
+same_value true b = b
+same_value false true = false
+same_value false false = true
+
+-- one more undecided literal
+abbrev pub noted_undecided : Found → Literal → Found
+noted_undecided Refuted l = Unit l.0 l.1
+noted_undecided (Unit v b) l = if nat_eq v l.0 && same_value b l.1 then Unit v b else Open
+noted_undecided Open l = Open
+
+abbrev pub noted : Found → Literal → Option Bool → Found
+noted found l None = noted_undecided found l
+noted found l (Some value) = if same_value value l.1 then Open else found

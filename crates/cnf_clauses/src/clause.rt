@@ -1,0 +1,74 @@
+//! A clause, and a look at it under decided variables.
+ghost use Rattle.std.specs.Prelude.{◌≡◌, ◌++◌, ◌∷◌, List, ℕ, Bool};
+ghost use Rattle.cnf_clauses.specs.Found.{Finds};
+ghost use Rattle.cnf_clauses.specs.Scan.{noted};
+
+use crate::decided::Decided;
+use plain_lists::List;
+
+// A variable, and the value at which the literal is true.
+pub(crate) type Literal = (u32, bool);
+
+// The literals of which one must be true.
+pub(crate) type Clause = List<Literal>;
+
+// What a look at a clause finds.
+#[derive(Clone, Copy)]
+pub(crate) enum Found {
+    // each literal is false
+    Refuted,
+    // one literal is undecided, and the others are false
+    Unit(u32, bool),
+    // a literal is true, or two that differ are undecided
+    Open,
+}
+
+// What one more literal makes of what was found.
+fn noted(found: Found, literal: Literal, value: Option<bool>) -> Found
+    ensures { result ≡ noted found literal value }
+{
+    match value {
+        Some(value) => {
+            if value == literal.1 {
+                Found::Open
+            } else {
+                found
+            }
+        }
+        None => match found {
+            Found::Refuted => Found::Unit(literal.0, literal.1),
+            Found::Unit(variable, value) => {
+                if variable == literal.0 && value == literal.1 {
+                    found
+                } else {
+                    Found::Open
+                }
+            }
+            Found::Open => Found::Open,
+        },
+    }
+}
+
+// Goes on looking at literals, after those of a clause for which `found` was found.
+fn scan(decided: &Decided, literals: &[Literal], found: Found) -> Found
+    ensures { (seen : List (ℕ × Bool)) → Finds decided.now seen found → Finds decided.now (seen ++ literals.now) result }
+{
+    let mut found = found;
+    'scan: for literal in literals {
+        found = noted(found, *literal, decided.value(literal.0));
+        if let Found::Open = found {
+            return Found::Open;
+        }
+    }
+    found
+}
+
+// Looks at a clause, beginning at a place of it and going round: near a literal that has just become
+// false the next ones are mostly undecided, so that the look is short.
+pub(crate) fn look(decided: &Decided, literals: &[Literal], from: usize) -> Found
+    ensures { Finds decided.now literals.now result }
+{
+    let (front, back) = literals.split_at(from.min(literals.len()));
+    let found = scan(decided, back, Found::Refuted);
+    scan(decided, front, found)
+}

@@ -1,0 +1,90 @@
+//! The clauses of a formula, as they are kept for unit propagation.
+ghost use Rattle.std.specs.Prelude.{◌≡◌, ◌≤◌, ◌^◌, ℕ, Bool, List, [], length, slice_get, slice_index_or, Contains, Some, ◌⊎◌, IfOk};
+ghost use Rattle.std.specs.Option.{option_copied};
+ghost use Rattle.cnf_clauses.specs.Indexes.{HasTwoLiterals, Names};
+
+use crate::clause::{Clause, Literal};
+use crate::index::{Index, Place, index_of};
+use plain_lists::{List, NoMemory};
+use std::alloc::Global;
+use std::marker::Model;
+
+/// Numbers of clauses, in the order in which a replay takes them.
+pub type Hints = List<u32>;
+
+/// Clauses over numbered variables. A clause is a list of literals, of which one must be true; a
+/// literal is a variable with the value at which it is true.
+#[derive(Drop)]
+pub struct Clauses {
+    clauses: Vec<Clause>,
+    index: Index,
+}
+
+impl Model for Clauses {
+    ghost use Rattle.std.specs.Prelude.{ℕ, Bool, List, length};
+
+    ghost Value = { List (List (ℕ × Bool)) };
+
+    ghost use Rattle.cnf_clauses.specs.Indexes.{AreIndexed};
+
+    ghost view = { λ c. c.clauses.items };
+
+    ghost invariant = { λ c. AreIndexed c.clauses.items c.index (length c.clauses.items) };
+}
+
+impl Clauses {
+    pub(crate) fn of(alloc: Global, clauses: Vec<Clause>) -> Result<Clauses, NoMemory>
+        requires { length clauses.items ≤ 2 ^ 32 }
+        ensures { IfOk result (λ c. c ≡ clauses.items) }
+    {
+        let index = index_of(alloc, clauses.as_slice())?;
+        Ok(Clauses { clauses, index })
+    }
+
+    /// How many clauses there are.
+    pub fn len(&self) -> usize
+        ensures { result ≡ length self.now }
+    {
+        self.clauses.len()
+    }
+
+    /// The literals of a clause, counted from 0, or none where there is no such clause.
+    pub fn get(&self, number: usize) -> Option<&[(u32, bool)]>
+        ensures { option_copied result ≡ slice_get self.now number }
+    {
+        if number < self.clauses.len() {
+            Some(self.clauses[number].as_slice())
+        } else {
+            None
+        }
+    }
+
+    // Where the literal stands, by clauses.
+    pub(crate) fn holding(&self, literal: Literal) -> &[Place]
+        ensures { (i : ℕ) (c : List (ℕ × Bool)) → slice_get self.now i ≡ Some c → Contains c literal → Names result.now i }
+    {
+        if literal.1 {
+            places_at(&self.index.yes, literal.0)
+        } else {
+            places_at(&self.index.no, literal.0)
+        }
+    }
+
+    // The clauses without two literals that differ.
+    pub(crate) fn short(&self) -> &[u32]
+        ensures { (i : ℕ) (c : List (ℕ × Bool)) → slice_get self.now i ≡ Some c → HasTwoLiterals c ⊎ Contains result.now i }
+    {
+        self.index.short.as_slice()
+    }
+}
+
+fn places_at(table: &Vec<List<Place>>, variable: u32) -> &[Place]
+    ensures { result.now ≡ slice_index_or table.now.items variable [] }
+{
+    let variable = variable as usize;
+    if variable < table.len() {
+        table[variable].as_slice()
+    } else {
+        &[]
+    }
+}

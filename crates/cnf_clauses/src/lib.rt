@@ -1,0 +1,20 @@
+//! The clauses of a formula, unit propagation over them, and the replay of its hints.
+#![tactic(auto)]
+
+mod clause;
+mod clauses;
+mod decided;
+mod index;
+mod laws;
+mod looking;
+mod making;
+mod numbering;
+mod propagation;
+mod replaying;
+
+pub use clauses::{Clauses, Hints};
+pub use laws::replayed_hints_exclude_yes;
+pub use numbering::clauses_of;
+pub use plain_lists::NoMemory;
+pub use propagation::conflict;
+pub use replaying::replay;
