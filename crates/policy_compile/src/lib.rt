@@ -15,3 +15,6 @@ pub use laws::{
     tests_of_set_queries_suit,
 };
 pub use outcome::{Query, QueryFault};
+
+#[cfg(test)]
+mod tests;
