@@ -6,6 +6,9 @@ ghost use Rattle.std.specs.Prelude.{◌≡◌, [], length, slice_get, option_map
 ghost use Rattle.std.specs.Option.{option_copied};
 ghost use Rattle.text_table.specs.Table.{item_at, with_item};
 
+#[cfg(test)]
+mod tests;
+
 use plain_lists::NoMemory;
 use std::alloc::Global;
 use std::collections::BTreeMap;
