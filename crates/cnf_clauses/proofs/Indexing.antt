@@ -1,39 +1,35 @@
 -- Indexes that grow.
-use Rattle.std.proofs.Common.{◌≡◌, ℕ, ◌<◌, ◌+◌, List, [], ◌∷◌, ◌++◌, length, take, get_or, set, Bool, true, false, Some, None, ◌⊎◌, inl, inr, refl, sym, ap, subst, ◌∙◌, arith, get_or-set_same, get_or-set_other, slice_get, Result, Ok, Err}
+use Rattle.std.proofs.Common.{◌≡◌, ℕ, ◌<◌, ◌+◌, List, [], ◌∷◌, ◌++◌, length, take, get_or, set, Bool, true, false, Some, None, ◌⊎◌, inl, inr, sym, ap, subst, ◌∙◌, arith, get_or-set_same, get_or-set_other, slice_get, Result, Ok, Err}
 use Rattle.std.specs.List.{Contains}
 use Rattle.std.specs.Prelude.{OnOk}
 use Rattle.std.proofs.lemmas.List.{take_more, get_or_default}
 use Rattle.std.proofs.lemmas.Option.{get_or_from_slice_get}
-use Rattle.std.proofs.lemmas.List.Elements.{Contains-append_left, Contains-push}
+use Rattle.std.proofs.lemmas.List.Elements.{Contains-append_left}
 use Rattle.formula_tree.proofs.AnswerLists.{cases_eq}
-use Rattle.cnf_clauses.specs.declared.index.Place.{Place}
 use Rattle.cnf_clauses.specs.declared.index.Index.{Index}
 use Rattle.cnf_clauses.specs.Literals.{Clause, Literal}
 use Rattle.cnf_clauses.specs.Found.{IsOpen}
-use Rattle.cnf_clauses.specs.Indexes.{Names, table_of, held_at, HasTwoLiterals, AreIndexed}
+use Rattle.cnf_clauses.specs.Indexes.{table_of, held_at, HasTwoLiterals, AreIndexed}
 use Rattle.cnf_clauses.proofs.Scanning.{in_more}
 
--- a list with one more place, put back into its table
-pub place-named : (table : List (List Place)) (v : ℕ) (ps : List Place) (p : Place) → v < length table → Names (get_or (set table v (ps ++ p ∷ [])) v []) p.clause
-place-named table v ps p room = (p, rw (get_or-set_same table v (ps ++ p ∷ []) [] room) (Contains-push ps p), refl)
-
-pub place-kept : (old table : List (List Place)) (v : ℕ) (ps : List Place) (p : Place) → v < length table → ((n : ℕ) → get_or table n [] ≡ get_or old n []) → ps ≡ get_or table v ps →
-    (w i : ℕ) → Names (get_or old w []) i → Names (get_or (set table v (ps ++ p ∷ [])) w []) i
-place-kept old table v ps p room same read w i (q, stands, e) =
+-- a list with one more number, put back into its table
+pub number-kept : (old table : List (List ℕ)) (v : ℕ) (ns : List ℕ) (n : ℕ) → v < length table → ((w : ℕ) → get_or table w [] ≡ get_or old w []) → ns ≡ get_or table v ns →
+    (w i : ℕ) → Contains (get_or old w []) i → Contains (get_or (set table v (ns ++ n ∷ [])) w []) i
+number-kept old table v ns n room same read w i stands =
     elim (cases_eq w v) [
       | inl here_now ↦
-          let held : get_or old w [] ≡ ps = sym (same w) ∙ ap (λ (x : ℕ). get_or table x []) here_now ∙ get_or_default table v [] ps room ∙ sym read in
-          let here : Contains ps q = subst (λ (x : List Place). Contains x q) held stands in
-          (q, rw (here_now, get_or-set_same table v (ps ++ p ∷ []) [] room) (Contains-append_left ps (p ∷ []) q here), e)
+          let held : get_or old w [] ≡ ns = sym (same w) ∙ ap (λ (x : ℕ). get_or table x []) here_now ∙ get_or_default table v [] ns room ∙ sym read in
+          let here : Contains ns i = subst (λ (x : List ℕ). Contains x i) held stands in
+          rw (here_now, get_or-set_same table v (ns ++ n ∷ []) [] room) (Contains-append_left ns (n ∷ []) i here)
       | inr ne ↦
-          let held : get_or old w [] ≡ get_or (set table v (ps ++ p ∷ [])) w [] = sym (same w) ∙ sym (get_or-set_other table v w (ps ++ p ∷ []) [] ne) in
-          (q, subst (λ (x : List Place). Contains x q) held stands, e)
+          let held : get_or old w [] ≡ get_or (set table v (ns ++ n ∷ [])) w [] = sym (same w) ∙ sym (get_or-set_other table v w (ns ++ n ∷ []) [] ne) in
+          subst (λ (x : List ℕ). Contains x i) held stands
     ]
 
 -- one more literal of a clause
 pub named-more : (before after : Index) (lits : Clause) (k number : ℕ) (dflt : Literal) → k < length lits →
-    ((m : Literal) → Contains (take k lits) m → Names (held_at before m) number) → ((m : Literal) (i : ℕ) → Names (held_at before m) i → Names (held_at after m) i) →
-    Names (held_at after (get_or lits k dflt)) number → (m : Literal) → Contains (take (k + 1) lits) m → Names (held_at after m) number
+    ((m : Literal) → Contains (take k lits) m → Contains (held_at before m) number) → ((m : Literal) (i : ℕ) → Contains (held_at before m) i → Contains (held_at after m) i) →
+    Contains (held_at after (get_or lits k dflt)) number → (m : Literal) → Contains (take (k + 1) lits) m → Contains (held_at after m) number
 named-more before after lits k number dflt h named kept here m c =
     let parts : Contains (take k lits) m ⊎ (m ≡ get_or lits k dflt) = in_more (take k lits) (get_or lits k dflt) m (rw (take_more lits k dflt h) at c) in
     elim parts [ inl a ↦ kept m number (named m a) | inr e ↦ rw e here ]
@@ -50,7 +46,7 @@ clause-same clauses i k c d e found read =
 
 -- one more clause
 pub indexed-more : (clauses : List Clause) (before after : Index) (k : ℕ) (c : Clause) → c ≡ get_or clauses k c → AreIndexed clauses before k →
-    ((m : Literal) → Contains c m → Names (held_at after m) k) → ((m : Literal) (i : ℕ) → Names (held_at before m) i → Names (held_at after m) i) →
+    ((m : Literal) → Contains c m → Contains (held_at after m) k) → ((m : Literal) (i : ℕ) → Contains (held_at before m) i → Contains (held_at after m) i) →
     HasTwoLiterals c ⊎ Contains after.short k → ((i : ℕ) → Contains before.short i → Contains after.short i) → AreIndexed clauses after (k + 1)
 indexed-more clauses before after k c read old named kept short kept_short = record {
   held = λ i d l h found stands.
@@ -70,35 +66,35 @@ on_ok (Ok x) P Q f h = f h
 on_ok (Err e) P Q f h = tt
 
 -- one of two tables has changed
-yes-kept : (at_yes at_no more : List (List Place)) → ((v i : ℕ) → Names (get_or at_yes v []) i → Names (get_or more v []) i) → (b : Bool) (v i : ℕ) → Names (get_or (table_of at_yes at_no b) v []) i → Names (get_or (table_of more at_no b) v []) i
+yes-kept : (at_yes at_no more : List (List ℕ)) → ((v i : ℕ) → Contains (get_or at_yes v []) i → Contains (get_or more v []) i) → (b : Bool) (v i : ℕ) → Contains (get_or (table_of at_yes at_no b) v []) i → Contains (get_or (table_of more at_no b) v []) i
 yes-kept at_yes at_no more kept true v i h = kept v i h
 yes-kept at_yes at_no more kept false v i h = h
 
-no-kept : (at_yes at_no more : List (List Place)) → ((v i : ℕ) → Names (get_or at_no v []) i → Names (get_or more v []) i) → (b : Bool) (v i : ℕ) → Names (get_or (table_of at_yes at_no b) v []) i → Names (get_or (table_of at_yes more b) v []) i
+no-kept : (at_yes at_no more : List (List ℕ)) → ((v i : ℕ) → Contains (get_or at_no v []) i → Contains (get_or more v []) i) → (b : Bool) (v i : ℕ) → Contains (get_or (table_of at_yes at_no b) v []) i → Contains (get_or (table_of at_yes more b) v []) i
 no-kept at_yes at_no more kept true v i h = h
 no-kept at_yes at_no more kept false v i h = kept v i h
 
-pub literal-yes : {X E : Type 0} (r : Result X E) (at_yes at_no more : List (List Place)) → OnOk r ((v i : ℕ) → Names (get_or at_yes v []) i → Names (get_or more v []) i) →
-    OnOk r ((l : Literal) (i : ℕ) → Names (get_or (table_of at_yes at_no l.1) l.0 []) i → Names (get_or (table_of more at_no l.1) l.0 []) i)
-literal-yes r at_yes at_no more h = on_ok r _ _ (λ (kept : (v i : ℕ) → Names (get_or at_yes v []) i → Names (get_or more v []) i). λ l i n. yes-kept at_yes at_no more kept l.1 l.0 i n) h
+pub literal-yes : {X E : Type 0} (r : Result X E) (at_yes at_no more : List (List ℕ)) → OnOk r ((v i : ℕ) → Contains (get_or at_yes v []) i → Contains (get_or more v []) i) →
+    OnOk r ((l : Literal) (i : ℕ) → Contains (get_or (table_of at_yes at_no l.1) l.0 []) i → Contains (get_or (table_of more at_no l.1) l.0 []) i)
+literal-yes r at_yes at_no more h = on_ok r _ _ (λ (kept : (v i : ℕ) → Contains (get_or at_yes v []) i → Contains (get_or more v []) i). λ l i n. yes-kept at_yes at_no more kept l.1 l.0 i n) h
 
-pub literal-no : {X E : Type 0} (r : Result X E) (at_yes at_no more : List (List Place)) → OnOk r ((v i : ℕ) → Names (get_or at_no v []) i → Names (get_or more v []) i) →
-    OnOk r ((l : Literal) (i : ℕ) → Names (get_or (table_of at_yes at_no l.1) l.0 []) i → Names (get_or (table_of at_yes more l.1) l.0 []) i)
-literal-no r at_yes at_no more h = on_ok r _ _ (λ (kept : (v i : ℕ) → Names (get_or at_no v []) i → Names (get_or more v []) i). λ l i n. no-kept at_yes at_no more kept l.1 l.0 i n) h
+pub literal-no : {X E : Type 0} (r : Result X E) (at_yes at_no more : List (List ℕ)) → OnOk r ((v i : ℕ) → Contains (get_or at_no v []) i → Contains (get_or more v []) i) →
+    OnOk r ((l : Literal) (i : ℕ) → Contains (get_or (table_of at_yes at_no l.1) l.0 []) i → Contains (get_or (table_of at_yes more l.1) l.0 []) i)
+literal-no r at_yes at_no more h = on_ok r _ _ (λ (kept : (v i : ℕ) → Contains (get_or at_no v []) i → Contains (get_or more v []) i). λ l i n. no-kept at_yes at_no more kept l.1 l.0 i n) h
 
-pub named-at : {X E : Type 0} (r : Result X E) (at_yes at_no : List (List Place)) (l : Literal) (b : Bool) (i : ℕ) → l.1 ≡ b → OnOk r (Names (get_or (table_of at_yes at_no b) l.0 []) i) → OnOk r (Names (get_or (table_of at_yes at_no l.1) l.0 []) i)
-named-at r at_yes at_no l b i e h = subst (λ (x : Bool). OnOk r (Names (get_or (table_of at_yes at_no x) l.0 []) i)) (sym e) h
+pub named-at : {X E : Type 0} (r : Result X E) (at_yes at_no : List (List ℕ)) (l : Literal) (b : Bool) (i : ℕ) → l.1 ≡ b → OnOk r (Contains (get_or (table_of at_yes at_no b) l.0 []) i) → OnOk r (Contains (get_or (table_of at_yes at_no l.1) l.0 []) i)
+named-at r at_yes at_no l b i e h = subst (λ (x : Bool). OnOk r (Contains (get_or (table_of at_yes at_no x) l.0 []) i)) (sym e) h
 
-pub names-at : (at_yes at_no : List (List Place)) (l : Literal) (b : Bool) (i : ℕ) (ps : List Place) → l.1 ≡ b → ps ≡ get_or (table_of at_yes at_no b) l.0 [] → Names (get_or (table_of at_yes at_no l.1) l.0 []) i → Names ps i
+pub names-at : (at_yes at_no : List (List ℕ)) (l : Literal) (b : Bool) (i : ℕ) (ps : List ℕ) → l.1 ≡ b → ps ≡ get_or (table_of at_yes at_no b) l.0 [] → Contains (get_or (table_of at_yes at_no l.1) l.0 []) i → Contains ps i
 names-at at_yes at_no l b i ps e f h =
-    let here : Names (get_or (table_of at_yes at_no b) l.0 []) i = subst (λ (x : Bool). Names (get_or (table_of at_yes at_no x) l.0 []) i) e h in
-    subst (λ (x : List Place). Names x i) (sym f) here
+    let here : Contains (get_or (table_of at_yes at_no b) l.0 []) i = subst (λ (x : Bool). Contains (get_or (table_of at_yes at_no x) l.0 []) i) e h in
+    subst (λ (x : List ℕ). Contains x i) (sym f) here
 
 pub indexed-none : (clauses : List Clause) (index : Index) → AreIndexed clauses index 0
 indexed-none clauses index = record { held = λ i c l h found stands. absurd (omega arith); short = λ i c h found. absurd (omega arith) }
 
 pub indexed-step : (clauses : List Clause) (before mid after : Index) (k : ℕ) (c lits : Clause) → c ≡ get_or clauses k c → lits ≡ c → AreIndexed clauses before k →
-    ((m : Literal) → Contains lits m → Names (held_at mid m) k) → ((m : Literal) (i : ℕ) → Names (held_at before m) i → Names (held_at mid m) i) → mid.short ≡ before.short →
+    ((m : Literal) → Contains lits m → Contains (held_at mid m) k) → ((m : Literal) (i : ℕ) → Contains (held_at before m) i → Contains (held_at mid m) i) → mid.short ≡ before.short →
     HasTwoLiterals lits ⊎ Contains after.short k → ((i : ℕ) → Contains mid.short i → Contains after.short i) → ((l : Literal) → held_at after l ≡ held_at mid l) → AreIndexed clauses after (k + 1)
 indexed-step clauses before mid after k c lits read same old named kept kept_short short more_short tables =
     indexed-more clauses before after k c read old

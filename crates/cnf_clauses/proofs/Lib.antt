@@ -1,6 +1,7 @@
 pub mod Deciding
 pub mod Hinting
 pub mod Indexing
+pub mod Keeping
 pub mod Limits
 pub mod Scanning
 pub mod Settling

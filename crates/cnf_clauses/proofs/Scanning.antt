@@ -1,10 +1,10 @@
 -- What a look at a clause finds, literal by literal.
-use Rattle.std.proofs.Common.{◌≡◌, ℕ, ◌<◌, ◌+◌, ◌≤◌, append_assoc, take-append-drop, [], ◌∷◌, ◌++◌, length, take, drop, get_or, zero, suc, Bool, true, false, not, ◌&&◌, Option, Some, None, ◌⊎◌, inl, inr, refl, sym, subst, arith, nat_eq}
+use Rattle.std.proofs.Common.{◌≡◌, ℕ, ◌<◌, ◌+◌, ◌≤◌, take-append-drop, [], ◌∷◌, ◌++◌, length, take, drop, get_or, zero, suc, Bool, true, false, not, ◌&&◌, Option, Some, None, ◌⊎◌, inl, inr, refl, sym, subst, arith, nat_eq}
 use Rattle.std.specs.List.{Contains}
 use Rattle.std.proofs.lemmas.List.{take_more, take_all}
 use Rattle.std.proofs.lemmas.Bool.{cases_Bool, and_parts}
 use Rattle.std.proofs.lemmas.Bool.Decides.{nat_tests}
-use Rattle.std.proofs.lemmas.List.Elements.{Contains-append_left, Contains-append_right, Contains-append_cases, Contains-push}
+use Rattle.std.proofs.lemmas.List.Elements.{Contains-append_left, Contains-append_cases, Contains-push}
 use Rattle.formula_tree.specs.Answers.{Answers, answer_of}
 use Rattle.cnf_clauses.specs.declared.clause.Found.{Found}
 use Rattle.cnf_clauses.specs.declared.clause.Found.TheVariants.{Refuted, Unit, Open}
@@ -109,40 +109,21 @@ noted-at d seen l found (Some value) h f = value-more d seen l found value h f
 pub noted-more : (d : Answers) (seen : Clause) (l : Literal) (found next : Found) → next ≡ noted found l (answer_of d l.0) → Finds d seen found → Finds d (seen ++ l ∷ []) next
 noted-more d seen l found next e f = rw e (noted-at d seen l found (answer_of d l.0) refl f)
 
--- the same literals in another order
-pub finds-same : (d : Answers) (xs ys : Clause) (found : Found) → ((m : Literal) → Contains xs m → Contains ys m) → ((m : Literal) → Contains ys m → Contains xs m) → Finds d xs found → Finds d ys found
-finds-same d xs ys Refuted to from f = λ m h. f m (from m h)
-finds-same d xs ys (Unit v b) to from f = record { stands = to (v, b) f.stands; undecided = f.undecided; others = λ m h. f.others m (from m h) }
-finds-same d xs ys Open to from (inl (m, h, e)) = inl (m, to m h, e)
-finds-same d xs ys Open to from (inr (m, n, h, k, e, f, ne)) = inr (m, n, to m h, to n k, e, f, ne)
-
-turned : (xs ys : Clause) (m : Literal) → Contains (ys ++ xs) m → Contains (xs ++ ys) m
-turned xs ys m h = elim (Contains-append_cases ys xs m h) [ inl a ↦ Contains-append_right xs ys m a | inr b ↦ Contains-append_left xs ys m b ]
-
-pub finds-turned : (d : Answers) (front back all : Clause) (found : Found) → all ≡ front ++ back → Finds d (back ++ front) found → Finds d all found
-finds-turned d front back all found e f = rw e (finds-same d (back ++ front) (front ++ back) found (turned front back) (turned back front) f)
-
 pub nothing-found : (d : Answers) (m : Literal) → Contains [] m → IsFalseUnder d m
 nothing-found d m (k, h, e) = absurd (omega arith)
 
 -- one step of a look over a list of literals
-pub scan-step : (d : Answers) (seen lits : Clause) (i : ℕ) (dflt : Literal) (found next : Found) (value : Option Bool) → i < length lits → value ≡ answer_of d (get_or lits i dflt).0 →
-    next ≡ noted found (get_or lits i dflt) value → Finds d (seen ++ take i lits) found → Finds d (seen ++ take (i + 1) lits) next
-scan-step d seen lits i dflt found next value h read e f =
-    rw (take_more lits i dflt h, ← (append_assoc seen (take i lits) (get_or lits i dflt ∷ [])))
-    (noted-more d (seen ++ take i lits) (get_or lits i dflt) found next (rw (← read) e) f)
+pub look-step : (d : Answers) (lits : Clause) (i : ℕ) (dflt : Literal) (found next : Found) (value : Option Bool) → i < length lits → value ≡ answer_of d (get_or lits i dflt).0 →
+    next ≡ noted found (get_or lits i dflt) value → Finds d (take i lits) found → Finds d (take (i + 1) lits) next
+look-step d lits i dflt found next value h read e f =
+    rw (take_more lits i dflt h)
+    (noted-more d (take i lits) (get_or lits i dflt) found next (rw (← read) e) f)
 
-pub scan-stop : (d : Answers) (seen lits : Clause) (i : ℕ) (found : Found) → found ≡ Open → Finds d (seen ++ take i lits) found → IsOpen d (seen ++ lits)
-scan-stop d seen lits i found e f =
-    let open_ : IsOpen d (seen ++ take i lits) = rw e at f in
-    let whole : seen ++ lits ≡ (seen ++ take i lits) ++ drop i lits = rw (append_assoc seen (take i lits) (drop i lits), take-append-drop i lits) refl in
-    rw whole (open-more d (seen ++ take i lits) (drop i lits) open_)
+pub look-stop : (d : Answers) (lits : Clause) (i : ℕ) (found : Found) → found ≡ Open → Finds d (take i lits) found → IsOpen d lits
+look-stop d lits i found e f =
+    let open_ : IsOpen d (take i lits) = rw e at f in
+    let whole : lits ≡ take i lits ++ drop i lits = sym (take-append-drop i lits) in
+    rw whole (open-more d (take i lits) (drop i lits) open_)
 
-pub scan-end : (d : Answers) (seen lits : Clause) (i : ℕ) (found : Found) → length lits ≤ i → Finds d (seen ++ take i lits) found → Finds d (seen ++ lits) found
-scan-end d seen lits i found h f = rw (take_all i lits h) at f
-
-pub look-all : (d : Answers) (lits front back : Clause) (i : ℕ) (first found : Found) → front ≡ take i lits → back ≡ drop i lits →
-    ((seen : Clause) → Finds d seen Refuted → Finds d (seen ++ back) first) → ((seen : Clause) → Finds d seen first → Finds d (seen ++ front) found) → Finds d lits found
-look-all d lits front back i first found e f scan_back scan_front =
-    let whole : lits ≡ front ++ back = rw (e, f, take-append-drop i lits) refl in
-    finds-turned d front back lits found whole (scan_front back (scan_back [] (nothing-found d)))
+pub look-end : (d : Answers) (lits : Clause) (i : ℕ) (found : Found) → length lits ≤ i → Finds d (take i lits) found → Finds d lits found
+look-end d lits i found h f = rw (take_all i lits h) at f

@@ -9,10 +9,9 @@ use Rattle.std.proofs.lemmas.List.Elements.{Contains-append_cases}
 use Rattle.formula_tree.specs.Answers.{Answers, answer_of, Contained}
 use Rattle.formula_tree.proofs.AnswerLists.{answer_of-more, answer_of-rest, answer_of-last, cases_eq}
 use Rattle.cnf_clauses.specs.declared.clause.Found.TheVariants.{Refuted, Unit}
-use Rattle.cnf_clauses.specs.declared.index.Place.{Place}
 use Rattle.cnf_clauses.specs.Literals.{Clause, Literal, IsTrueUnder, IsFalseUnder, IsUndecided, IsRefuted, IsUnit}
 use Rattle.cnf_clauses.specs.Found.{IsOpen, FindsAt}
-use Rattle.cnf_clauses.specs.Indexes.{Names, HasTwoLiterals}
+use Rattle.cnf_clauses.specs.Indexes.{HasTwoLiterals}
 use Rattle.cnf_clauses.specs.Replays.{Replays, refuted, derives}
 use Rattle.cnf_clauses.specs.Propagates.{Leads, GoesOn, Steps, IsQuiet, AreQuiet}
 use Rattle.cnf_clauses.proofs.Hinting.{true-false, undecided-false, found-refuted, found-unit, same_clause}
@@ -206,20 +205,24 @@ only y x (suc k, h, e) = absurd (omega arith)
 in_last : {X : Type 0} → (xs : List X) (y x : X) → Contains (xs ++ y ∷ []) x → Contains xs x ⊎ (x ≡ y)
 in_last xs y x h = elim (Contains-append_cases xs (y ∷ []) x h) [ inl a ↦ inl a | inr b ↦ inr (only y x b) ]
 
--- one more short clause has been looked at
-pub short-step : (cs : List Clause) (h0 h new : List ℕ) (d0 d newd : Answers) (numbers : List ℕ) (k dflt : ℕ) (met : Bool) → k < length numbers →
-    GoesOn cs h0 d0 h d × ((i : ℕ) → Contains (take k numbers) i → (c : Clause) → slice_get cs i ≡ Some c → IsQuiet [] d c) →
+-- one more clause has been looked at
+pub number-step : (cs : List Clause) (before more : Answers) (h0 h new : List ℕ) (d0 d newd : Answers) (numbers : List ℕ) (k dflt : ℕ) (met : Bool) → d0 ≡ before ++ more → k < length numbers →
+    GoesOn cs h0 d0 h d × ((i : ℕ) → Contains (take k numbers) i → (c : Clause) → slice_get cs i ≡ Some c → IsQuiet before d c) →
     Steps cs h d new newd met → met ≡ false → (met ≡ false → (c : Clause) → slice_get cs (get_or numbers k dflt) ≡ Some c → IsOpen newd c) →
-    GoesOn cs h0 d0 new newd × ((i : ℕ) → Contains (take (k + 1) numbers) i → (c : Clause) → slice_get cs i ≡ Some c → IsQuiet [] newd c)
-short-step cs h0 h new d0 d newd numbers k dflt met room old steps e settled = (
-  goes-further cs h0 h new d0 d newd met old.0 steps e,
-  λ i stands c there.
-      let (more, grows) = grown cs h new d newd met steps e in
-      elim (in_last (take k numbers) (get_or numbers k dflt) i (rw (take_more numbers k dflt room) at stands)) [
-        | inl before ↦ subst (λ (x : Answers). IsQuiet [] x c) (sym grows) (quiet-grows [] d more c (old.1 i before c there))
-        | inr now ↦ open-quiet [] newd c (settled e c (subst (λ (x : ℕ). slice_get cs x ≡ Some c) now there))
-      ],
-)
+    GoesOn cs h0 d0 new newd × ((i : ℕ) → Contains (take (k + 1) numbers) i → (c : Clause) → slice_get cs i ≡ Some c → IsQuiet before newd c)
+number-step cs before more h0 h new d0 d newd numbers k dflt met start room old steps e settled =
+    let all : GoesOn cs h0 d0 new newd = goes-further cs h0 h new d0 d newd met old.0 steps e in
+    let whole : newd ≡ before ++ (more ++ all.added) = all.grows ∙ ap (λ (x : Answers). x ++ all.added) start ∙ append_assoc before more all.added in (
+      all,
+      λ i stands c there.
+          let (step, grows) = grown cs h new d newd met steps e in
+          elim (in_last (take k numbers) (get_or numbers k dflt) i (rw (take_more numbers k dflt room) at stands)) [
+            | inl seen ↦ subst (λ (x : Answers). IsQuiet before x c) (sym grows) (quiet-grows before d step c (old.1 i seen c there))
+            | inr now ↦
+                let opened : IsOpen newd c = settled e c (subst (λ (x : ℕ). slice_get cs x ≡ Some c) now there) in
+                subst (λ (x : Answers). IsQuiet before x c) (sym whole) (open-quiet before (more ++ all.added) c (subst (λ (x : Answers). IsOpen x c) whole opened))
+          ],
+    )
 
 pub short-all : (cs : List Clause) (d : Answers) (numbers : List ℕ) (k : ℕ) → length numbers ≤ k →
     ((i : ℕ) (c : Clause) → slice_get cs i ≡ Some c → HasTwoLiterals c ⊎ Contains numbers i) →
@@ -230,31 +233,12 @@ short-all cs d numbers k past listed old i c there =
       | inr stands ↦ old i (subst (λ (x : List ℕ). Contains x i) (sym (take_all k numbers past)) stands) c there
     ]
 
--- one more place has been looked at
-pub place-step : (cs : List Clause) (h0 h new : List ℕ) (d0 d newd : Answers) (places : List Place) (k : ℕ) (dflt : Place) (met : Bool) → k < length places →
-    GoesOn cs h0 d0 h d × ((i : ℕ) → Names (take k places) i → (c : Clause) → slice_get cs i ≡ Some c → IsQuiet d0 d c) →
-    Steps cs h d new newd met → met ≡ false → (met ≡ false → (c : Clause) → slice_get cs (get_or places k dflt).clause ≡ Some c → IsOpen newd c) →
-    GoesOn cs h0 d0 new newd × ((i : ℕ) → Names (take (k + 1) places) i → (c : Clause) → slice_get cs i ≡ Some c → IsQuiet d0 newd c)
-place-step cs h0 h new d0 d newd places k dflt met room old steps e settled =
-    let all : GoesOn cs h0 d0 new newd = goes-further cs h0 h new d0 d newd met old.0 steps e in (
-      all,
-      λ i (p, stands, at_i) c there.
-          let (more, grows) = grown cs h new d newd met steps e in
-          elim (in_last (take k places) (get_or places k dflt) p (rw (take_more places k dflt room) at stands)) [
-            | inl before ↦ subst (λ (x : Answers). IsQuiet d0 x c) (sym grows) (quiet-grows d0 d more c (old.1 i (p, before, at_i) c there))
-            | inr now ↦
-                let number : i ≡ (get_or places k dflt).clause = sym at_i ∙ ap (λ (x : Place). x.clause) now in
-                let opened : IsOpen newd c = settled e c (subst (λ (x : ℕ). slice_get cs x ≡ Some c) number there) in
-                subst (λ (x : Answers). IsQuiet d0 x c) (sym all.grows) (open-quiet d0 all.added c (subst (λ (x : Answers). IsOpen x c) all.grows opened))
-          ],
-    )
-
-pub place-all : (cs : List Clause) (d0 d : Answers) (places : List Place) (k : ℕ) (l : Literal) → length places ≤ k →
-    ((i : ℕ) (c : Clause) → slice_get cs i ≡ Some c → Contains c l → Names places i) →
-    ((i : ℕ) → Names (take k places) i → (c : Clause) → slice_get cs i ≡ Some c → IsQuiet d0 d c) →
+pub held-all : (cs : List Clause) (d0 d : Answers) (numbers : List ℕ) (k : ℕ) (l : Literal) → length numbers ≤ k →
+    ((i : ℕ) (c : Clause) → slice_get cs i ≡ Some c → Contains c l → Contains numbers i) →
+    ((i : ℕ) → Contains (take k numbers) i → (c : Clause) → slice_get cs i ≡ Some c → IsQuiet d0 d c) →
     (i : ℕ) (c : Clause) → slice_get cs i ≡ Some c → Contains c l → IsQuiet d0 d c
-place-all cs d0 d places k l past listed old i c there stands =
-    old i (subst (λ (x : List Place). Names x i) (sym (take_all k places past)) (listed i c there stands)) c there
+held-all cs d0 d numbers k l past listed old i c there stands =
+    old i (subst (λ (x : List ℕ). Contains x i) (sym (take_all k numbers past)) (listed i c there stands)) c there
 
 -- one more decided variable has been followed
 take_next : (d more newd : Answers) (k v : ℕ) (b : Bool) → slice_get d k ≡ Some (v, b) → newd ≡ d ++ more → take (k + 1) newd ≡ take k d ++ (v, b) ∷ []

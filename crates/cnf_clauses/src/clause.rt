@@ -24,7 +24,7 @@ pub(crate) enum Found {
 }
 
 // What one more literal makes of what was found.
-fn noted(found: Found, literal: Literal, value: Option<bool>) -> Found
+pub(crate) fn noted(found: Found, literal: Literal, value: Option<bool>) -> Found
     ensures { result ≡ noted found literal value }
 {
     match value {
@@ -49,26 +49,16 @@ fn noted(found: Found, literal: Literal, value: Option<bool>) -> Found
     }
 }
 
-// Goes on looking at literals, after those of a clause for which `found` was found.
-fn scan(decided: &Decided, literals: &[Literal], found: Found) -> Found
-    ensures { (seen : List (ℕ × Bool)) → Finds decided.now seen found → Finds decided.now (seen ++ literals.now) result }
+// Looks at a clause.
+pub(crate) fn look(decided: &Decided, literals: &[Literal]) -> Found
+    ensures { Finds decided.now literals.now result }
 {
-    let mut found = found;
-    'scan: for literal in literals {
+    let mut found = Found::Refuted;
+    'look: for literal in literals {
         found = noted(found, *literal, decided.value(literal.0));
         if let Found::Open = found {
             return Found::Open;
         }
     }
     found
-}
-
-// Looks at a clause, beginning at a place of it and going round: near a literal that has just become
-// false the next ones are mostly undecided, so that the look is short.
-pub(crate) fn look(decided: &Decided, literals: &[Literal], from: usize) -> Found
-    ensures { Finds decided.now literals.now result }
-{
-    let (front, back) = literals.split_at(from.min(literals.len()));
-    let found = scan(decided, back, Found::Refuted);
-    scan(decided, front, found)
 }

@@ -1,10 +1,10 @@
 //! The clauses of a formula, as they are kept for unit propagation.
 ghost use Rattle.std.specs.Prelude.{◌≡◌, ◌≤◌, ◌^◌, ℕ, Bool, List, [], length, slice_get, slice_index_or, Contains, Some, ◌⊎◌, IfOk};
 ghost use Rattle.std.specs.Option.{option_copied};
-ghost use Rattle.cnf_clauses.specs.Indexes.{HasTwoLiterals, Names};
+ghost use Rattle.cnf_clauses.specs.Indexes.{HasTwoLiterals};
 
 use crate::clause::{Clause, Literal};
-use crate::index::{Index, Place, index_of};
+use crate::index::{Index, index_of};
 use plain_lists::{List, NoMemory};
 use std::alloc::Global;
 use std::marker::Model;
@@ -59,14 +59,14 @@ impl Clauses {
         }
     }
 
-    // Where the literal stands, by clauses.
-    pub(crate) fn holding(&self, literal: Literal) -> &[Place]
-        ensures { (i : ℕ) (c : List (ℕ × Bool)) → slice_get self.now i ≡ Some c → Contains c literal → Names result.now i }
+    // The clauses in which the literal stands.
+    pub(crate) fn holding(&self, literal: Literal) -> &[u32]
+        ensures { (i : ℕ) (c : List (ℕ × Bool)) → slice_get self.now i ≡ Some c → Contains c literal → Contains result.now i }
     {
         if literal.1 {
-            places_at(&self.index.yes, literal.0)
+            numbers_at(&self.index.yes, literal.0)
         } else {
-            places_at(&self.index.no, literal.0)
+            numbers_at(&self.index.no, literal.0)
         }
     }
 
@@ -78,7 +78,7 @@ impl Clauses {
     }
 }
 
-fn places_at(table: &Vec<List<Place>>, variable: u32) -> &[Place]
+fn numbers_at(table: &Vec<List<u32>>, variable: u32) -> &[u32]
     ensures { result.now ≡ slice_index_or table.now.items variable [] }
 {
     let variable = variable as usize;

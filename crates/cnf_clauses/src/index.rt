@@ -1,30 +1,24 @@
-//! The index of a list of clauses: where each literal stands, and which clauses have no two literals
+//! The index of a list of clauses: in which of them each literal stands, and which have no two literals
 //! that differ.
 ghost use Rattle.std.specs.Prelude.{◌≡◌, ◌≤◌, ◌<◌, ◌^◌, ℕ, List, [], Bool, length, slice_index_or, Contains, ◌⊎◌, OnOk, IfOk};
-ghost use Rattle.cnf_clauses.specs.Indexes.{AreIndexed, HasTwoLiterals, Names, held_at};
+ghost use Rattle.cnf_clauses.specs.Indexes.{AreIndexed, HasTwoLiterals, held_at};
 
 use crate::clause::{Clause, Found, Literal, look};
 use crate::decided::Decided;
 use plain_lists::{List, NoMemory};
 use std::alloc::Global;
 
-// A place of a literal: a clause, and the place in it.
-#[derive(Clone, Copy)]
-pub(crate) struct Place {
-    pub(crate) clause: u32,
-    pub(crate) position: usize,
-}
-
-// By variable, the places of its literals that are true at yes, and of those that are true at no.
+// By variable, the numbers of the clauses in which its literal that is true at yes stands, and of those
+// in which the other one stands.
 #[derive(Drop)]
 pub(crate) struct Index {
-    pub(crate) yes: Vec<List<Place>>,
-    pub(crate) no: Vec<List<Place>>,
+    pub(crate) yes: Vec<List<u32>>,
+    pub(crate) no: Vec<List<u32>>,
     pub(crate) short: List<u32>,
 }
 
 // Makes the table long enough to have a list for the variable, with empty lists at the new places.
-fn make_room(alloc: Global, table: &mut Vec<List<Place>>, variable: u32) -> Result<(), NoMemory>
+fn make_room(alloc: Global, table: &mut Vec<List<u32>>, variable: u32) -> Result<(), NoMemory>
     ensures same { (n : ℕ) → slice_index_or table.new.items n [] ≡ slice_index_or table.old.items n [] }
     ensures room { OnOk result (variable < length table.new.items) }
 {
@@ -34,18 +28,18 @@ fn make_room(alloc: Global, table: &mut Vec<List<Place>>, variable: u32) -> Resu
     Ok(())
 }
 
-fn add_place(
+fn add_number(
     alloc: Global,
-    table: &mut Vec<List<Place>>,
+    table: &mut Vec<List<u32>>,
     variable: u32,
-    place: Place,
+    number: u32,
 ) -> Result<(), NoMemory>
-    ensures named { OnOk result (Names (slice_index_or table.new.items variable []) place.clause) }
-    ensures kept { OnOk result ((v i : ℕ) → Names (slice_index_or table.old.items v []) i → Names (slice_index_or table.new.items v []) i) }
+    ensures named { OnOk result (Contains (slice_index_or table.new.items variable []) number) }
+    ensures kept { OnOk result ((v i : ℕ) → Contains (slice_index_or table.old.items v []) i → Contains (slice_index_or table.new.items v []) i) }
 {
     make_room(alloc, table, variable)?;
     let list = &mut table[variable as usize];
-    list.push(place)?;
+    list.push(number)?;
     Ok(())
 }
 
@@ -53,16 +47,16 @@ fn add_literal(
     alloc: Global,
     index: &mut Index,
     literal: Literal,
-    place: Place,
+    number: u32,
 ) -> Result<(), NoMemory>
-    ensures named { OnOk result (Names (held_at index.new literal) place.clause) }
-    ensures kept { OnOk result ((l : ℕ × Bool) (i : ℕ) → Names (held_at index.old l) i → Names (held_at index.new l) i) }
+    ensures named { OnOk result (Contains (held_at index.new literal) number) }
+    ensures kept { OnOk result ((l : ℕ × Bool) (i : ℕ) → Contains (held_at index.old l) i → Contains (held_at index.new l) i) }
     ensures short { index.new.short ≡ index.old.short }
 {
     if literal.1 {
-        add_place(alloc, &mut index.yes, literal.0, place)
+        add_number(alloc, &mut index.yes, literal.0, number)
     } else {
-        add_place(alloc, &mut index.no, literal.0, place)
+        add_number(alloc, &mut index.no, literal.0, number)
     }
 }
 
@@ -72,16 +66,12 @@ fn add_literals(
     literals: &[Literal],
     number: u32,
 ) -> Result<(), NoMemory>
-    ensures named { OnOk result ((l : ℕ × Bool) → Contains literals.now l → Names (held_at index.new l) number) }
-    ensures kept { OnOk result ((l : ℕ × Bool) (i : ℕ) → Names (held_at index.old l) i → Names (held_at index.new l) i) }
+    ensures named { OnOk result ((l : ℕ × Bool) → Contains literals.now l → Contains (held_at index.new l) number) }
+    ensures kept { OnOk result ((l : ℕ × Bool) (i : ℕ) → Contains (held_at index.old l) i → Contains (held_at index.new l) i) }
     ensures short { index.new.short ≡ index.old.short }
 {
-    'literals: for (position, literal) in literals.iter().enumerate() {
-        let place = Place {
-            clause: number,
-            position,
-        };
-        add_literal(alloc, index, *literal, place)?;
+    'literals: for literal in literals {
+        add_literal(alloc, index, *literal, number)?;
     }
     Ok(())
 }
@@ -98,7 +88,7 @@ fn add_short(
     ensures kept { OnOk result ((i : ℕ) → Contains index.old.short i → Contains index.new.short i) }
     ensures tables { (l : ℕ × Bool) → held_at index.new l ≡ held_at index.old l }
 {
-    match look(nothing, literals, 0) {
+    match look(nothing, literals) {
         Found::Open => Ok(()),
         _ => index.short.push(number),
     }

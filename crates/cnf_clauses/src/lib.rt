@@ -11,6 +11,7 @@ mod making;
 mod numbering;
 mod propagation;
 mod replaying;
+mod watching;
 
 pub use clauses::{Clauses, Hints};
 pub use laws::replayed_hints_exclude_yes;
@@ -18,3 +19,6 @@ pub use numbering::clauses_of;
 pub use plain_lists::NoMemory;
 pub use propagation::conflict;
 pub use replaying::replay;
+
+#[cfg(test)]
+mod tests;

@@ -1,5 +1,6 @@
 //! Unit propagation from a path. What is decided is followed in order: each clause that holds a
-//! literal that has become false is looked at again, and no other.
+//! literal that has become false is looked at again, and no other; it is read only where none of its
+//! two watched literals keeps it open.
 ghost use Rattle.std.specs.Prelude.{◌≡◌, ◌≤◌, ◌<◌, ◌^◌, ℕ, List, [], Bool, false, not, length, slice_get, Contains, Some, IfOk, IfSome, IfNone};
 ghost use Rattle.formula_tree.specs.Answers.{Answers};
 ghost use Rattle.cnf_clauses.specs.Found.{IsOpen};
@@ -10,22 +11,26 @@ use crate::clause::{Found, Literal};
 use crate::clauses::{Clauses, Hints};
 use crate::decided::Decided;
 use crate::looking::look_at;
+use crate::watching::Watches;
 use formula_tree::Path;
 use plain_lists::NoMemory;
 use std::alloc::Global;
 
-// Looks at one clause, from a place of it on, and derives what it says. Whether it is refuted.
+// Looks at one clause and derives what it says. Whether it is refuted.
 fn settle(
     clauses: &Clauses,
     decided: &mut Decided,
+    watches: &mut Watches,
     hints: &mut Hints,
     number: u32,
-    from: usize,
 ) -> Result<bool, NoMemory>
     ensures steps { IfOk result (λ met. Steps clauses.now hints.old decided.old hints.new decided.new met) }
     ensures settled { IfOk result (λ met. met ≡ false → (c : List (ℕ × Bool)) → slice_get clauses.now number ≡ Some c → IsOpen decided.new c) }
 {
-    match look_at(clauses, decided, number, from) {
+    if watches.keep_open(clauses, decided, number)? {
+        return Ok(false);
+    }
+    match look_at(clauses, decided, number) {
         Found::Refuted => {
             hints.push(number)?;
             Ok(true)
@@ -43,13 +48,14 @@ fn settle(
 fn settle_short(
     clauses: &Clauses,
     decided: &mut Decided,
+    watches: &mut Watches,
     hints: &mut Hints,
 ) -> Result<bool, NoMemory>
     ensures steps { IfOk result (λ met. Steps clauses.now hints.old decided.old hints.new decided.new met) }
     ensures quiet { IfOk result (λ met. met ≡ false → AreQuiet clauses.now [] decided.new) }
 {
     'short: for number in clauses.short() {
-        if settle(clauses, decided, hints, *number, 0)? {
+        if settle(clauses, decided, watches, hints, *number)? {
             return Ok(true);
         }
     }
@@ -60,14 +66,15 @@ fn settle_short(
 fn follow(
     clauses: &Clauses,
     decided: &mut Decided,
+    watches: &mut Watches,
     hints: &mut Hints,
     literal: Literal,
 ) -> Result<bool, NoMemory>
     ensures steps { IfOk result (λ met. Steps clauses.now hints.old decided.old hints.new decided.new met) }
     ensures quiet { IfOk result (λ met. met ≡ false → (i : ℕ) (c : List (ℕ × Bool)) → slice_get clauses.now i ≡ Some c → Contains c literal → IsQuiet decided.old decided.new c) }
 {
-    'places: for place in clauses.holding(literal) {
-        if settle(clauses, decided, hints, place.clause, place.position)? {
+    'holding: for number in clauses.holding(literal) {
+        if settle(clauses, decided, watches, hints, *number)? {
             return Ok(true);
         }
     }
@@ -75,7 +82,12 @@ fn follow(
 }
 
 // Follows what is decided, in order, until nothing is left.
-fn follow_all(clauses: &Clauses, decided: &mut Decided, hints: &mut Hints) -> Result<bool, NoMemory>
+fn follow_all(
+    clauses: &Clauses,
+    decided: &mut Decided,
+    watches: &mut Watches,
+    hints: &mut Hints,
+) -> Result<bool, NoMemory>
     requires { AreQuiet clauses.now [] decided.old }
     ensures steps { IfOk result (λ met. Steps clauses.now hints.old decided.old hints.new decided.new met) }
     ensures quiet { IfOk result (λ met. met ≡ false → AreQuiet clauses.now decided.new decided.new) }
@@ -84,7 +96,7 @@ fn follow_all(clauses: &Clauses, decided: &mut Decided, hints: &mut Hints) -> Re
         let Some((variable, value)) = decided.get(next) else {
             break;
         };
-        if follow(clauses, decided, hints, (variable, !value))? {
+        if follow(clauses, decided, watches, hints, (variable, !value))? {
             return Ok(true);
         }
     }
@@ -93,18 +105,19 @@ fn follow_all(clauses: &Clauses, decided: &mut Decided, hints: &mut Hints) -> Re
 }
 
 /// Hints that replay from the path's answers, or none exactly where no hints replay from them, which
-/// is where unit propagation from the path meets no conflict. Its cost is that of the clauses that
-/// hold a literal which becomes false.
+/// is where unit propagation from the path meets no conflict. It looks at the clauses that hold a
+/// literal which becomes false, and at no others.
 pub fn conflict(alloc: Global, clauses: &Clauses, path: &Path) -> Result<Option<Hints>, NoMemory>
     ensures hints { IfOk result (λ met. IfSome met (λ hints. Replays clauses.now path.now hints)) }
     ensures none { IfOk result (λ met. IfNone met ((hints : List ℕ) → Replays clauses.now path.now hints → ⊥)) }
 {
     let mut decided = Decided::of_path(alloc, path)?;
+    let mut watches = Watches::new(alloc);
     let mut hints = Hints::new(alloc);
-    if settle_short(clauses, &mut decided, &mut hints)? {
+    if settle_short(clauses, &mut decided, &mut watches, &mut hints)? {
         return Ok(Some(hints));
     }
-    if follow_all(clauses, &mut decided, &mut hints)? {
+    if follow_all(clauses, &mut decided, &mut watches, &mut hints)? {
         return Ok(Some(hints));
     }
     Ok(None)

@@ -24,7 +24,7 @@ pub fn replay(
 {
     let mut decided = Decided::of_path(alloc, path)?;
     'hints: for (i, hint) in hints.as_slice().iter().enumerate() {
-        match look_at(clauses, &decided, *hint, 0) {
+        match look_at(clauses, &decided, *hint) {
             Found::Refuted => return Ok(i + 1 == hints.len()),
             Found::Unit(variable, value) => decided.push(variable, value)?,
             Found::Open => return Ok(false),

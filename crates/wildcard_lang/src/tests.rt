@@ -335,3 +335,40 @@ fn writes_patterns(rt: HostRuntime) -> Result<(), Fail> {
         "*:?:${*}:::*?${$}",
     )
 }
+
+// The letters of other scripts, and those that fold to ASCII ones elsewhere, stay as they are.
+const FOLDED: [(&str, &str); 8] = [
+    ("", ""),
+    ("az", "az"),
+    ("AZ", "az"),
+    ("@AMZ[", "@amz["),
+    ("`az{", "`az{"),
+    (
+        "\u{c4}\u{130}\u{212a}\u{17f}",
+        "\u{c4}\u{130}\u{212a}\u{17f}",
+    ),
+    ("\u{3a3}X\u{1d400}Y", "\u{3a3}x\u{1d400}y"),
+    ("S3:Get*", "s3:get*"),
+];
+
+#[test]
+fn folds_and_copies_texts(rt: HostRuntime) -> Result<(), Fail> {
+    let alloc = rt.alloc();
+    for (own, expected) in FOLDED {
+        let text = Text::of(alloc, own)?;
+        assert_eq!(rt; text.folded()?.to_utf8()?.as_str(), expected);
+        assert_eq!(rt; text.copy()?.to_utf8()?.as_str(), own);
+        assert_eq!(rt; text.to_utf8()?.as_str(), own);
+    }
+    Ok(())
+}
+
+#[test]
+fn copies_patterns(rt: HostRuntime) -> Result<(), Fail> {
+    for own in PATTERNS {
+        let pattern = read_glob(rt.alloc(), own, true, false)?;
+        let copy = pattern.copy()?;
+        assert!(rt; copy.as_slice() == pattern.as_slice(), "{own}");
+    }
+    Ok(())
+}

@@ -1,8 +1,0 @@
-use Rattle.cnf_clauses.proofs.Indexing.{place-kept}
-use Rattle.cnf_clauses.proofs.index.add_place.Goals as goal
-
-pub returns-clause-kept : goal.returns-clause-kept
-returns-clause-kept c =
-    rw c.in_ok-push.ensures.ok
-    (place-kept c.args.table.now.items c.make_room.new.table.items c.args.variable c.index_mut-list.result.now c.args.place
-    c.in_ok-make_room.ensures.room c.in_ok-make_room.ensures.same c.index_mut-list.ensures.value)

@@ -1,0 +1,113 @@
+//! Two watched literals a clause. While a watched literal is true, or both are undecided and differ, the
+//! clause is open, and needn't be read.
+ghost use Rattle.std.specs.Prelude.{◌≡◌, ℕ, Bool, List, Some, IsTrue, IfOk, slice_get};
+ghost use Rattle.cnf_clauses.specs.Found.{IsOpen};
+
+use crate::clause::{Found, Literal, look, noted};
+use crate::clauses::Clauses;
+use crate::decided::Decided;
+use plain_lists::NoMemory;
+use std::alloc::Global;
+use std::collections::HashMap;
+
+// The places of two watched literals. They are tested where they are used, so nothing is asked of them.
+#[derive(Clone, Copy)]
+struct Watch {
+    first: usize,
+    second: usize,
+}
+
+// The watched literals of the clauses that were read and found open, but for clauses of two literals,
+// which are as soon read.
+#[derive(Drop)]
+pub(crate) struct Watches {
+    places: HashMap<u32, Watch>,
+}
+
+impl Watches {
+    pub(crate) fn new(alloc: Global) -> Watches {
+        Watches {
+            places: HashMap::new(alloc),
+        }
+    }
+
+    // Whether two literals keep the clause open, which are watched from then on. It may miss them.
+    pub(crate) fn keep_open(
+        &mut self,
+        clauses: &Clauses,
+        decided: &Decided,
+        number: u32,
+    ) -> Result<bool, NoMemory>
+        ensures { IfOk result (λ kept. IsTrue kept → (c : List (ℕ × Bool)) → slice_get clauses.now number ≡ Some c → IsOpen decided.now c) }
+    {
+        match clauses.get(number as usize) {
+            Some(literals) => self.keep_read_open(decided, literals, number),
+            None => Ok(false),
+        }
+    }
+
+    fn keep_read_open(
+        &mut self,
+        decided: &Decided,
+        literals: &[Literal],
+        number: u32,
+    ) -> Result<bool, NoMemory>
+        ensures { IfOk result (λ kept. IsTrue kept → IsOpen decided.now literals.now) }
+    {
+        if literals.len() < 3 {
+            return Ok(false);
+        }
+        let last = self.places.get(&number).copied();
+        if let Some(watch) = last {
+            if keeps_open(decided, literals, watch) {
+                return Ok(true);
+            }
+        }
+        let from = last.map_or(0, |watch| watch.second);
+        let next = next_watch(decided, literals, from);
+        if !keeps_open(decided, literals, next) {
+            return Ok(false);
+        }
+        self.places.insert(number, next)?;
+        Ok(true)
+    }
+}
+
+// Whether the two literals alone are open.
+fn keeps_open(decided: &Decided, literals: &[Literal], watch: Watch) -> bool
+    ensures { IsTrue result → IsOpen decided.now literals.now }
+{
+    let Some(first) = literals.get(watch.first) else {
+        return false;
+    };
+    let Some(second) = literals.get(watch.second) else {
+        return false;
+    };
+    matches!(look(decided, &[*first, *second]), Found::Open)
+}
+
+// The next two literals that may keep a clause open, from a place on and going round: the places before
+// it were passed since their literals are false, so that in all each clause is gone round few times.
+fn next_watch(decided: &Decided, literals: &[Literal], from: usize) -> Watch {
+    let mut found = Found::Refuted;
+    let mut first = from;
+    let mut place = from;
+    'round: for _ in literals {
+        if place >= literals.len() {
+            place = 0;
+        }
+        if let Found::Refuted = found {
+            first = place;
+        }
+        let literal = literals[place];
+        found = noted(found, literal, decided.value(literal.0));
+        if let Found::Open = found {
+            break;
+        }
+        place += 1;
+    }
+    Watch {
+        first,
+        second: place,
+    }
+}
