@@ -1,0 +1,39 @@
+-- What a file stands for, by what a read of its bytes says.
+use Rattle.std.proofs.Common.{◌≡◌, List, [], ℕ, Bool, true, false, Option, Some, None, Result, Ok, Err, refl, ap, sym, ◌∙◌, if◌then◌else◌}
+use Rattle.std.specs.Str.{chars, is_utf8, IsUtf8}
+use Rattle.std.proofs.lemmas.Str.{IsUtf8-from_is_utf8, is_utf8-from_IsUtf8}
+use Rattle.serde_json.specs.Data.{Data}
+use Rattle.serde_json.specs.Read.{read}
+use Rattle.policy_model.specs.declared.set.PolicySet.{PolicySet}
+use Rattle.policy_json.specs.declared.fault.PolicyFault.{PolicyFault}
+use Rattle.policy_json.specs.declared.fault.PolicyAnswer.{PolicyAnswer}
+use Rattle.policy_json.specs.declared.fault.PolicyAnswer.TheVariants.{Refused, NoMemory}
+use Rattle.policy_json.specs.declared.fault.PolicyCode.TheVariants.{P1NotJson}
+use Rattle.policy_json.specs.Checks.{IsReadOf, IsRefusal, fault_at}
+use Rattle.policy_json.specs.Json.{json_of}
+use Rattle.policy_json.specs.Sets.{IsSetOf, not_json, nowhere, set_checks, set_of, set_or, set_read}
+
+pub json_of-some : (bytes : List ℕ) (d : Data) → IsUtf8 bytes → read bytes ≡ Some d → json_of bytes ≡ Some d
+json_of-some bytes d utf8 e = rw (is_utf8-from_IsUtf8 bytes utf8) e
+
+none_if : (b : Bool) (o : Option Data) → (b ≡ true → o ≡ None) → (if b then o else None) ≡ None
+none_if true o h = h refl
+none_if false o h = refl
+
+pub json_of-none : (bytes : List ℕ) → (IsUtf8 bytes → read bytes ≡ None) → json_of bytes ≡ None
+json_of-none bytes h = none_if (is_utf8 bytes) (read bytes) (λ e. h (IsUtf8-from_is_utf8 bytes e))
+
+not_json_at : fault_at nowhere P1NotJson [] ≡ not_json
+unfolding chars
+not_json_at = refl
+
+-- a file without a reading is refused
+pub refused_file : (bytes : List ℕ) (e : PolicyAnswer) → json_of bytes ≡ None → IsRefusal (fault_at nowhere P1NotJson []) e → IsSetOf bytes (Err e)
+refused_file bytes (Refused fault) none is = ap set_read none ∙ ap (λ (f : PolicyFault). Err f) (sym (is ∙ not_json_at))
+refused_file bytes NoMemory none is = tt
+
+-- a file's set is that of the value that it is read as
+pub read_file : (bytes : List ℕ) (d : Data) (answer : Result PolicySet PolicyAnswer) → json_of bytes ≡ Some d → IsReadOf (set_checks d) (set_of d) answer → IsSetOf bytes answer
+read_file bytes d (Ok set) some is = ap set_read some ∙ ap (set_or (set_of d)) is.0 ∙ ap (λ (s : PolicySet). Ok s) (sym is.1)
+read_file bytes d (Err (Refused fault)) some is = ap set_read some ∙ ap (set_or (set_of d)) is
+read_file bytes d (Err NoMemory) some is = tt

@@ -1,0 +1,13 @@
+pub mod Answering
+pub mod Choosing
+pub mod Composing
+pub mod Files
+pub mod Items
+pub mod Lists
+pub mod Loops
+pub mod Members
+pub mod Numbering
+pub mod Naming
+pub mod Roots
+pub mod Sound
+pub mod Steps

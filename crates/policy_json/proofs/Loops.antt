@@ -1,0 +1,41 @@
+-- A loop that reads the members of a list in order, each by its own checks.
+use Rattle.std.proofs.Common.{◌≡◌, ◌≤◌, ◌<◌, ◌+◌, ℕ, List, [], ◌∷◌, ◌++◌, map, length, drop, get_or, append-nil, Some, None, ap, ◌∙◌, sym}
+use Rattle.std.proofs.lemmas.List.{append_assoc, drop_more, drop_all}
+use Rattle.std.specs.List.{flat_map}
+use Rattle.policy_json.specs.declared.fault.PolicyFault.{PolicyFault}
+use Rattle.policy_json.specs.Checks.{Check, first_fault}
+use Rattle.policy_json.proofs.Composing.{first_fault-front, first_fault-rest}
+
+-- the checks so far are passed, so that the first fault is that of the rest; and what was got so far is what was there before and
+-- what the members so far stand for
+pub record IsRead {A X : Type 0} (checks : A → List Check) (meaning : List A → List X) (before : List X) (all rest : List A) (got : List X) : Type 0 where
+  pub faults : first_fault (flat_map checks all) ≡ first_fault (flat_map checks rest)
+  pub values : before ++ meaning all ≡ got ++ meaning rest
+
+-- one member more is read
+pub one_more : {A X : Type 0} (checks : A → List Check) (meaning : List A → List X) (before : List X) (all rest next : List A) (a : A) (got more pushed : List X) →
+    IsRead checks meaning before all rest got → rest ≡ a ∷ next → first_fault (checks a) ≡ None → meaning (a ∷ next) ≡ more ++ meaning next → pushed ≡ got ++ more → IsRead checks meaning before all next pushed
+one_more checks meaning before all rest next a got more pushed so_far is passed stands grown = record {
+  faults = so_far.faults ∙ ap (λ r. first_fault (flat_map checks r)) is ∙ first_fault-rest (checks a) (flat_map checks next) passed;
+  values = so_far.values ∙ ap (λ r. got ++ meaning r) is ∙ ap (λ r. got ++ r) stands ∙ sym (append_assoc got more (meaning next)) ∙ ap (λ r. r ++ meaning next) (sym grown);
+}
+
+-- the first fault of the next member is that of all
+pub refused_next : {A X : Type 0} (checks : A → List Check) (meaning : List A → List X) (before : List X) (all rest next : List A) (a : A) (got : List X) (fault : PolicyFault) →
+    IsRead checks meaning before all rest got → rest ≡ a ∷ next → first_fault (checks a) ≡ Some fault → first_fault (flat_map checks all) ≡ Some fault
+refused_next checks meaning before all rest next a got fault so_far is refused = so_far.faults ∙ ap (λ r. first_fault (flat_map checks r)) is ∙ first_fault-front (checks a) (flat_map checks next) fault refused
+
+-- all members are read
+pub all_read : {A X : Type 0} (checks : A → List Check) (meaning : List A → List X) (before : List X) (all rest : List A) (got : List X) →
+    IsRead checks meaning before all rest got → rest ≡ [] → meaning [] ≡ [] → (first_fault (flat_map checks all) ≡ None) × (got ≡ before ++ meaning all)
+all_read checks meaning before all rest got so_far is empty = (
+  so_far.faults ∙ ap (λ r. first_fault (flat_map checks r)) is,
+  sym (so_far.values ∙ ap (λ r. got ++ meaning r) is ∙ ap (λ r. got ++ r) empty ∙ append-nil got),
+)
+
+-- the members of a slice, from a place on
+pub from_here : {A B : Type 0} (f : A → B) (xs : List A) (i : ℕ) (x : A) → i < length xs → x ≡ get_or xs i x → map f (drop i xs) ≡ f x ∷ map f (drop (i + 1) xs)
+from_here f xs i x within is = ap (map f) (drop_more xs i x within) ∙ ap (λ v. f v ∷ map f (drop (i + 1) xs)) (sym is)
+
+pub from_end : {A B : Type 0} (f : A → B) (xs : List A) (i : ℕ) → length xs ≤ i → map f (drop i xs) ≡ []
+from_end f xs i past = ap (map f) (drop_all i xs past)

@@ -1,0 +1,93 @@
+-- The entries of a principal element that passes its checks are sound.
+use Rattle.std.proofs.Common.{◌≡◌, ◌≤◌, ℕ, List, [], ◌∷◌, ◌++◌, length, Bool, true, false, if◌then◌else◌, Option, Some, None, All as Each, refl, ◌∙◌, sym}
+use Rattle.std.proofs.lemmas.Bool.{leb-true}
+use Rattle.std.proofs.lemmas.List.Elements.{All-append, All-cons, All-head, All-map, All-nil, All-tail}
+use Rattle.std.specs.List.{flat_map}
+use Rattle.serde_json.specs.Data.{Data}
+use Rattle.policy_model.specs.declared.principal.PrincipalKind.{PrincipalKind}
+use Rattle.policy_model.specs.declared.principal.PrincipalKind.TheVariants.{Aws, Service, Federated, CanonicalUser}
+use Rattle.policy_model.specs.declared.principal.Entry.{Entry}
+use Rattle.policy_model.specs.declared.principal.Entry.TheVariants.{All, Kind, Exact}
+use Rattle.policy_model.specs.Soundness.{EntryIsSound, IsAccount}
+use Rattle.policy_json.specs.declared.fault.PolicyFault.{PolicyFault}
+use Rattle.policy_json.specs.declared.place.Place.{Place}
+use Rattle.policy_json.specs.Checks.{Check, first_fault}
+use Rattle.policy_json.specs.Json.{one_or_more, pairs_in}
+use Rattle.policy_json.specs.Shapes.{is_object}
+use Rattle.policy_json.specs.Texts.{text_of}
+use Rattle.policy_json.specs.Principals.{account_of, account_or_exact, entries_of, entries_of_kind, entry_of, id_checks, is_star, kind_checks, kind_of, principal_checks}
+use Rattle.policy_json.proofs.Composing.{first_fault-rest}
+use Rattle.policy_json.proofs.Roots.{account_of-is}
+
+-- ---- checks without a fault
+
+front_passes : (b : Bool) (own : PolicyFault) (front more : Option PolicyFault) → (more ≡ None → front ≡ None) → (if b then more else Some own) ≡ None → (if b then front else Some own) ≡ None
+front_passes true own front more step e = step e
+front_passes false own front more step e = e
+
+none-front : (front rest : List Check) → first_fault (front ++ rest) ≡ None → first_fault front ≡ None
+none-front [] rest e = refl
+none-front (c ∷ cs) rest e = front_passes c.passes c.fault (first_fault cs) (first_fault (cs ++ rest)) (none-front cs rest) e
+
+none-rest : (front rest : List Check) → first_fault (front ++ rest) ≡ None → first_fault rest ≡ None
+none-rest front rest e = sym (first_fault-rest front rest (none-front front rest e)) ∙ e
+
+-- what follows from each member's checks holds of all members
+each_sound : {A : Type 0} (checks : A → List Check) (P : A → Type 0) → ((a : A) → first_fault (checks a) ≡ None → P a) → (all : List A) → first_fault (flat_map checks all) ≡ None → Each P all
+each_sound checks P sound [] e = All-nil P
+each_sound checks P sound (a ∷ all) e =
+    All-cons P a all (sound a (none-front (checks a) (flat_map checks all) e)) (each_sound checks P sound all (none-rest (checks a) (flat_map checks all) e))
+
+each_flat : {A X : Type 0} (f : A → List X) (P : X → Type 0) → (all : List A) → Each (λ a. Each P (f a)) all → Each P (flat_map f all)
+each_flat f P [] h = All-nil P
+each_flat f P (a ∷ all) h = All-append P (f a) (flat_map f all) (All-head (λ x. Each P (f x)) a all h) (each_flat f P all (All-tail (λ x. Each P (f x)) a all h))
+
+-- ---- entries
+
+either_sound : (b : Bool) (x y : Entry) → EntryIsSound x → EntryIsSound y → EntryIsSound (if b then x else y)
+either_sound true x y h k = h
+either_sound false x y h k = k
+
+account_sound : (id : List ℕ) (o : Option (List ℕ)) → ((account : List ℕ) → o ≡ Some account → IsAccount account) → length id ≤ 2048 → EntryIsSound (account_or_exact id o)
+account_sound id None is short = short
+account_sound id (Some account) is short = is account refl
+
+entry_sound : (kind : PrincipalKind) (id : List ℕ) → length id ≤ 2048 → EntryIsSound (entry_of kind id)
+entry_sound Aws id short = either_sound (is_star id) All (account_or_exact id (account_of id)) tt (account_sound id (account_of id) (account_of-is id) short)
+entry_sound Service id short = either_sound (is_star id) (Kind Service) (Exact Service id) tt short
+entry_sound Federated id short = either_sound (is_star id) (Kind Federated) (Exact Federated id) tt short
+entry_sound CanonicalUser id short = either_sound (is_star id) (Kind CanonicalUser) (Exact CanonicalUser id) tt short
+
+third_passes : (a b c : Bool) (x y z : PolicyFault) → (if a then (if b then (if c then None else Some z) else Some y) else Some x) ≡ None → c ≡ true
+third_passes true true true x y z e = refl
+third_passes true true false x y z e = cc
+third_passes true false c x y z e = cc
+third_passes false b c x y z e = cc
+
+id_sound : (place : Place) (name : List ℕ) (kind : PrincipalKind) (d : Data) → first_fault (id_checks place name d) ≡ None → EntryIsSound (entry_of kind (text_of d))
+id_sound place name kind d e = entry_sound kind (text_of d) (leb-true (length (text_of d)) 2048 (third_passes _ _ _ _ _ _ e))
+
+second_passes : (a b : Bool) (x y : PolicyFault) (rest : Option PolicyFault) → (if a then (if b then rest else Some y) else Some x) ≡ None → rest ≡ None
+second_passes true true x y rest e = e
+second_passes true false x y rest e = cc
+second_passes false b x y rest e = cc
+
+kind_sound : (place : Place) (name : List ℕ) (pair : List ℕ × Data) → first_fault (kind_checks place name pair) ≡ None → Each EntryIsSound (entries_of_kind pair)
+kind_sound place name pair e =
+    let passed : first_fault (flat_map (id_checks place name) (one_or_more pair.1)) ≡ None = second_passes _ _ _ _ _ e in
+    All-map EntryIsSound (λ (d : Data). entry_of (kind_of pair.0) (text_of d)) (one_or_more pair.1) (each_sound (id_checks place name) (λ d. EntryIsSound (entry_of (kind_of pair.0) (text_of d))) (id_sound place name (kind_of pair.0)) (one_or_more pair.1) passed)
+
+first_passes : (a : Bool) (x : PolicyFault) (rest : Option PolicyFault) → (if a then rest else Some x) ≡ None → rest ≡ None
+first_passes true x rest e = e
+first_passes false x rest e = cc
+
+either_each : (b : Bool) (xs ys : List Entry) → Each EntryIsSound xs → Each EntryIsSound ys → Each EntryIsSound (if b then xs else ys)
+either_each true xs ys h k = h
+either_each false xs ys h k = k
+
+-- the entries of an element that passes its checks
+pub entries_sound : (place : Place) (name : List ℕ) (d : Data) → first_fault (principal_checks place name (Some d)) ≡ None → Each EntryIsSound (entries_of d)
+entries_sound place name d e =
+    let passed : first_fault (flat_map (kind_checks place name) (pairs_in d)) ≡ None = first_passes _ _ _ e in
+    let each = each_sound (kind_checks place name) (λ pair. Each EntryIsSound (entries_of_kind pair)) (kind_sound place name) (pairs_in d) passed in
+    either_each (is_object d) (flat_map entries_of_kind (pairs_in d)) (All ∷ []) (each_flat entries_of_kind EntryIsSound (pairs_in d) each) (All-cons EntryIsSound All [] tt (All-nil EntryIsSound))

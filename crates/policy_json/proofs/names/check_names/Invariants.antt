@@ -1,0 +1,13 @@
+use Rattle.std.proofs.Common.{◌≡◌, map}
+use Rattle.serde_json.specs.Data.{object}
+use Rattle.serde_json.specs.View.{view, members_view}
+use Rattle.policy_json.specs.Checks.{first_fault}
+use Rattle.policy_json.specs.Shapes.{name_checks}
+use Rattle.policy_json.proofs.names.check_names.Given as goal
+
+abbrev pub invariant-loop-name : goal.invariant-loop-name
+invariant-loop-name l = record {
+  can_next : (goal.iterator-loop-name).can_next l.name-iterator;
+  is_finite : (goal.iterator-loop-name).is_finite l.name-iterator;
+  rest : first_fault (name_checks l.place (map (λ n. n.now) l.names) (view l.value)) ≡ first_fault (name_checks l.place (map (λ n. n.now) l.names) (object (members_view l.name-iterator)));
+}

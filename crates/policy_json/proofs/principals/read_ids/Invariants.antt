@@ -1,0 +1,9 @@
+use Rattle.std.proofs.Common.{map, drop}
+use Rattle.serde_json.specs.View.{view}
+use Rattle.policy_json.specs.Principals.{entry_of, id_checks}
+use Rattle.policy_json.specs.Texts.{text_of}
+use Rattle.policy_json.proofs.Loops.{IsRead}
+use Rattle.policy_json.proofs.principals.read_ids.Given as goal
+
+abbrev pub invariant-loop-value : goal.invariant-loop-value
+invariant-loop-value l = IsRead (id_checks l.place l.name) (map (λ d. entry_of l.kind (text_of d))) l.fn.entries (map view l.values) (map view (drop l.value-index l.values)) l.entries

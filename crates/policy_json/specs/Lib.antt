@@ -1,0 +1,10 @@
+pub mod Json
+pub mod Checks
+pub mod Shapes
+pub mod Texts
+pub mod Principals
+pub mod Elements
+pub mod Statements
+pub mod Documents
+pub mod Sets
+pub mod Laws

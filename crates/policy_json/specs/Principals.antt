@@ -1,0 +1,106 @@
+-- Principal elements (IAM JSON policy reference, Principal and NotPrincipal).
+use Rattle.std.specs.Prelude.{◌≡◌, ◌≢◌, ℕ, List, [], ◌∷◌, ◌++◌, length, map, take, drop, Bool, false, ◌&&◌, ◌||◌, ◌==◌, not, nat_le, Option, Some, None, option_and_then, if◌then◌else◌, codes}
+use Rattle.std.specs.List.{flat_map, list_any, list_all}
+use Rattle.std.specs.Char.{is_ascii_digit}
+use Rattle.std.specs.Str.{bytes_eq}
+use Rattle.serde_json.specs.Data.{Data}
+use Rattle.policy_model.specs.declared.principal.PrincipalKind.{PrincipalKind}
+use Rattle.policy_model.specs.declared.principal.PrincipalKind.TheVariants.{Aws, Service, Federated, CanonicalUser}
+use Rattle.policy_model.specs.declared.principal.Entry.{Entry}
+use Rattle.policy_model.specs.declared.principal.Entry.TheVariants.{All, Kind, Account, Exact}
+use Rattle.policy_model.specs.Principals.{behind_colon, behind_prefix, has_colon}
+use Rattle.policy_model.specs.Soundness.{IsAccount}
+use Rattle.policy_json.specs.declared.fault.PolicyCode.TheVariants.{P4WrongShape, P9PrincipalKind, P10PrincipalWildcard, P17Limit}
+use Rattle.policy_json.specs.declared.place.Place.{Place}
+use Rattle.policy_json.specs.Checks.{Check, check}
+use Rattle.policy_json.specs.Json.{one_or_more, pairs_in}
+use Rattle.policy_json.specs.Shapes.{are_strings, is_among, is_object, is_text}
+use Rattle.policy_json.specs.Texts.{text_of}
+
+-- ---- what is checked
+
+-- the names of the kinds
+abbrev pub kind_names : List (List ℕ)
+kind_names = codes "AWS" ∷ codes "CanonicalUser" ∷ codes "Federated" ∷ codes "Service" ∷ []
+
+-- a wildcard stands in the text
+abbrev pub has_wildcard : List ℕ → Bool
+has_wildcard text = list_any (λ c. (c == 42) || (c == 63)) text
+
+-- the text is `*` alone
+abbrev pub is_star : List ℕ → Bool
+is_star text = bytes_eq text (codes "*")
+
+-- an id isn't empty, has no wildcard unless it is `*` alone, and has at most 2,048 characters
+abbrev pub id_checks : Place → List ℕ → Data → List Check
+id_checks place name d =
+    check place (not (nat_le (length (text_of d)) 0)) P4WrongShape name ∷
+    check place (is_star (text_of d) || not (has_wildcard (text_of d))) P10PrincipalWildcard name ∷
+    check place (nat_le (length (text_of d)) 2048) P17Limit name ∷ []
+
+-- a member of a principal element has the name of a kind, its value is a string or a list of strings, and each is an id
+abbrev pub kind_checks : Place → List ℕ → List ℕ × Data → List Check
+kind_checks place name pair =
+    check place (is_among kind_names pair.0) P9PrincipalKind pair.0 ∷
+    check place (are_strings pair.1) P4WrongShape name ∷
+    flat_map (id_checks place name) (one_or_more pair.1)
+
+-- a principal element, where it is there, is the string `*` or an object, whose members are checked in the order of their names
+abbrev pub principal_checks : Place → List ℕ → Option Data → List Check
+principal_checks place name None = []
+principal_checks place name (Some d) = check place (is_text (codes "*") d || is_object d) P4WrongShape name ∷ flat_map (kind_checks place name) (pairs_in d)
+
+-- ---- what it stands for
+
+-- the id is the ARN of an account's root: `arn:`, a partition that isn't empty and has no colon, `:iam::`, the account and `:root`
+pub record IsRootOf (account id : List ℕ) : Type 0 where
+  pub account_is : IsAccount account
+  pub partition : List ℕ
+  pub some : partition ≢ []
+  pub plain : has_colon partition ≡ false
+  pub is : id ≡ codes "arn:" ++ (partition ++ 58 ∷ (codes "iam::" ++ (account ++ codes ":root")))
+
+-- the text is twelve digits
+abbrev pub is_account : List ℕ → Bool
+is_account text = list_all is_ascii_digit text && (length text == 12)
+
+-- the account at the front of a text that is `:root` behind it
+abbrev pub account_before_root : List ℕ → Option (List ℕ)
+account_before_root text = (if is_account (take 12 text) && bytes_eq (drop 12 text) (codes ":root") then Some (take 12 text) else None)
+
+-- the text, where it isn't empty and doesn't begin with a colon
+abbrev pub nonempty_part : List ℕ → Option (List ℕ)
+nonempty_part [] = None
+nonempty_part (c ∷ cs) = (if c == 58 then None else Some (c ∷ cs))
+
+-- the account whose root the id is
+abbrev pub root_account : List ℕ → Option (List ℕ)
+root_account id = option_and_then account_before_root (option_and_then (behind_prefix (codes "iam::")) (option_and_then behind_colon (option_and_then nonempty_part (behind_prefix (codes "arn:") id))))
+
+-- the account that an id stands for: twelve digits, or the ARN of its root
+abbrev pub account_of : List ℕ → Option (List ℕ)
+account_of id = (if is_account id then Some id else root_account id)
+
+-- the entry of an `AWS` id that isn't `*`
+abbrev pub account_or_exact : List ℕ → Option (List ℕ) → Entry
+account_or_exact id (Some account) = Account account
+account_or_exact id None = Exact Aws id
+
+-- the entry of an id under a kind: under `AWS` a `*` is every principal, and an account's id is the account
+abbrev pub entry_of : PrincipalKind → List ℕ → Entry
+entry_of Aws id = (if is_star id then All else account_or_exact id (account_of id))
+entry_of Service id = (if is_star id then Kind Service else Exact Service id)
+entry_of Federated id = (if is_star id then Kind Federated else Exact Federated id)
+entry_of CanonicalUser id = (if is_star id then Kind CanonicalUser else Exact CanonicalUser id)
+
+-- the kind of a name (of any other name, which no check passes, the last one)
+abbrev pub kind_of : List ℕ → PrincipalKind
+kind_of name = (if bytes_eq name (codes "AWS") then Aws else (if bytes_eq name (codes "Service") then Service else (if bytes_eq name (codes "Federated") then Federated else CanonicalUser)))
+
+-- the entries of one member of a principal element
+abbrev pub entries_of_kind : List ℕ × Data → List Entry
+entries_of_kind pair = map (λ id. entry_of (kind_of pair.0) (text_of id)) (one_or_more pair.1)
+
+-- the entries of a principal element: an object's, or every principal for the string `*`
+abbrev pub entries_of : Data → List Entry
+entries_of d = (if is_object d then flat_map entries_of_kind (pairs_in d) else All ∷ [])

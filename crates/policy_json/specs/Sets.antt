@@ -1,0 +1,104 @@
+-- Files of sets: one document, a list of documents, or a guarded set, whose guards are lists of documents. What is checked of a
+-- file, in this order, and what it stands for. Guarded sets in one file are this project's own form.
+use Rattle.std.specs.Prelude.{◌≡◌, ⊤, ℕ, ◌+◌, List, [], ◌∷◌, ◌++◌, length, map, sum_by, Bool, ◌||◌, nat_le, Option, Some, None, Result, Ok, Err, if◌then◌else◌, codes}
+use Rattle.std.specs.List.{flat_map, list_all}
+use Rattle.serde_json.specs.Data.{Data}
+use Rattle.serde_json.specs.Find.{get}
+use Rattle.policy_model.specs.declared.set.PolicySet.{PolicySet}
+use Rattle.policy_json.specs.declared.fault.PolicyFault.{PolicyFault}
+use Rattle.policy_json.specs.declared.fault.PolicyAnswer.{PolicyAnswer}
+use Rattle.policy_json.specs.declared.fault.PolicyAnswer.TheVariants.{Refused, NoMemory}
+use Rattle.policy_json.specs.declared.fault.PolicyCode.TheVariants.{P1NotJson, P2SetShape, P4WrongShape, P5MissingElement, P17Limit}
+use Rattle.policy_json.specs.declared.place.Place.{Place}
+use Rattle.policy_json.specs.Checks.{Check, check, first_fault}
+use Rattle.policy_json.specs.Json.{has, json_of, values_in}
+use Rattle.policy_json.specs.Shapes.{is_list, is_object, is_there_and, name_checks}
+use Rattle.policy_json.specs.Documents.{document_checks, document_of, statements_in}
+
+-- the file as a whole
+abbrev pub nowhere : Place
+nowhere = record { document = 0; statement = 0 }
+
+-- the file is an object with one of the names of a guarded set
+abbrev pub is_guarded : Data → Bool
+is_guarded d = has (codes "Grants") d || has (codes "Guards") d
+
+-- the list under a name
+abbrev pub list_at : Option Data → List Data
+list_at None = []
+list_at (Some d) = values_in d
+
+-- the documents of the grants
+abbrev pub granting : Data → List Data
+granting d = list_at (get (codes "Grants") d)
+
+-- the guards, each a list of documents
+abbrev pub guards_in : Data → List Data
+guards_in d = list_at (get (codes "Guards") d)
+
+-- both names of a guarded set are there, both are lists, and there are at most 16 guards, each a list
+abbrev pub list_checks : Data → List Check
+list_checks d =
+    check nowhere (has (codes "Grants") d) P5MissingElement (codes "Grants") ∷
+    check nowhere (has (codes "Guards") d) P5MissingElement (codes "Guards") ∷
+    check nowhere (is_there_and is_list (get (codes "Grants") d)) P4WrongShape (codes "Grants") ∷
+    check nowhere (is_there_and is_list (get (codes "Guards") d)) P4WrongShape (codes "Guards") ∷
+    check nowhere (nat_le (length (guards_in d)) 16) P17Limit (codes "Guards") ∷
+    check nowhere (list_all is_list (guards_in d)) P4WrongShape (codes "Guards") ∷ []
+
+-- a guarded set has no other name
+abbrev pub guarded_checks : Data → List Check
+guarded_checks d = name_checks nowhere (codes "Grants" ∷ codes "Guards" ∷ []) d ++ list_checks d
+
+-- a file without guards is an object or a list
+abbrev pub plain_checks : Data → List Check
+plain_checks d = check nowhere (is_object d || is_list d) P2SetShape [] ∷ []
+
+-- the documents of the file in order: of a guarded set the grants, and then the guards one by one
+abbrev pub documents_in : Data → List Data
+documents_in d = (if is_guarded d then granting d ++ flat_map values_in (guards_in d) else (if is_object d then d ∷ [] else values_in d))
+
+-- documents are numbered in order, and statements are counted through all documents
+abbrev pub documents_checks : ℕ → ℕ → List Data → List Check
+documents_checks number before [] = []
+documents_checks number before (d ∷ ds) = document_checks number before d ++ documents_checks (number + 1) (before + length (statements_in d)) ds
+
+-- how many statements stand in the documents
+abbrev pub statement_count : List Data → ℕ
+statement_count ds = sum_by (λ d. length (statements_in d)) ds
+
+-- all checks of a file's value
+abbrev pub set_checks : Data → List Check
+set_checks d = (if is_guarded d then guarded_checks d else plain_checks d) ++ documents_checks 1 0 (documents_in d)
+
+-- the set of these grants, and of these guards, each a list of documents
+abbrev pub set_with : List Data → List Data → PolicySet
+set_with grants guards = record { grants = map document_of grants; guards = map (λ g. map document_of (values_in g)) guards }
+
+-- what the value stands for
+abbrev pub set_of : Data → PolicySet
+set_of d = (if is_guarded d then set_with (granting d) (guards_in d) else set_with (documents_in d) [])
+
+-- ---- files
+
+-- the file has no reading as a JSON value
+abbrev pub not_json : PolicyFault
+not_json = record { code = P1NotJson; document = 0; statement = 0; element = [] }
+
+-- the set that a file stands for, or its first fault
+abbrev pub set_or : PolicySet → Option PolicyFault → Result PolicySet PolicyFault
+set_or set None = Ok set
+set_or set (Some fault) = Err fault
+
+abbrev pub set_read : Option Data → Result PolicySet PolicyFault
+set_read None = Err not_json
+set_read (Some d) = set_or (set_of d) (first_fault (set_checks d))
+
+abbrev pub set_from : List ℕ → Result PolicySet PolicyFault
+set_from bytes = set_read (json_of bytes)
+
+-- what a reader of files answers: the set, or the first fault, besides want of memory
+abbrev pub IsSetOf : List ℕ → Result PolicySet PolicyAnswer → Type 0
+IsSetOf bytes (Ok set) = set_from bytes ≡ Ok set
+IsSetOf bytes (Err (Refused fault)) = set_from bytes ≡ Err fault
+IsSetOf bytes (Err NoMemory) = ⊤

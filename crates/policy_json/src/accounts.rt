@@ -1,0 +1,85 @@
+//! Accounts that principals' ids stand for.
+ghost use Rattle.std.specs.Prelude.{◌≡◌, IfSome, option_map, Some, None, drop, length, if◌then◌else◌};
+ghost use Rattle.std.specs.List.{starts_with};
+ghost use Rattle.policy_model.specs.Principals.{behind_colon, behind_prefix};
+ghost use Rattle.policy_model.specs.Soundness.{IsAccount};
+ghost use Rattle.policy_json.specs.Principals.{account_before_root, account_of, nonempty_part, is_account, root_account};
+
+// How many digits an account has.
+const DIGITS: usize = 12;
+
+// Whether the text is twelve digits.
+fn is_account(text: &[char]) -> bool
+    ensures { result ≡ is_account text.now }
+{
+    text.iter().all(|c| c.is_ascii_digit()) && text.len() == DIGITS
+}
+
+// What follows the prefix.
+fn behind_prefix<'a>(text: &'a [char], prefix: &[char]) -> Option<&'a [char]>
+    ensures { option_map (λ s. s.now) result ≡ behind_prefix prefix.now text.now }
+{
+    if text.starts_with(prefix) {
+        return Some(&text[prefix.len()..]);
+    }
+    None
+}
+
+// What follows the first colon.
+fn behind_colon(text: &[char]) -> Option<&[char]>
+    ensures { option_map (λ s. s.now) result ≡ behind_colon text.now }
+{
+    for (i, c) in text.iter().enumerate() {
+        if *c == ':' {
+            return Some(&text[i + 1..]);
+        }
+    }
+    None
+}
+
+// The text, where it isn't empty and doesn't begin with a colon.
+fn nonempty_part(text: &[char]) -> Option<&[char]>
+    ensures { option_map (λ s. s.now) result ≡ nonempty_part text.now }
+{
+    match text {
+        [] | [':', ..] => None,
+        _ => Some(text),
+    }
+}
+
+// The account at the front, where `:root` follows and ends the text.
+fn account_before_root(text: &[char]) -> Option<&[char]>
+    ensures { option_map (λ s. s.now) result ≡ account_before_root text.now }
+{
+    let (account, rest) = text.split_at_checked(DIGITS)?;
+    match rest {
+        [':', 'r', 'o', 'o', 't'] => {
+            if is_account(account) {
+                Some(account)
+            } else {
+                None
+            }
+        }
+        _ => None,
+    }
+}
+
+// The account whose root the id is.
+fn root_account(id: &[char]) -> Option<&[char]>
+    ensures { option_map (λ s. s.now) result ≡ root_account id.now }
+{
+    let partition = nonempty_part(behind_prefix(id, &['a', 'r', 'n', ':'])?)?;
+    let service = behind_colon(partition)?;
+    account_before_root(behind_prefix(service, &['i', 'a', 'm', ':', ':'])?)
+}
+
+/// The account that an id stands for: twelve digits, or the ARN of the account's root.
+pub(crate) fn account_of(id: &[char]) -> Option<&[char]>
+    ensures { option_map (λ s. s.now) result ≡ account_of id.now }
+{
+    if is_account(id) {
+        Some(id)
+    } else {
+        root_account(id)
+    }
+}

@@ -1,0 +1,83 @@
+//! Why a file is refused as a set of policies.
+ghost use Rattle.std.specs.Prelude.{◌≡◌};
+ghost use Rattle.policy_json.specs.Checks.{IsRefusal, fault_at};
+ghost use Rattle.policy_json.specs.declared.fault.PolicyAnswer.TheVariants.{NoMemory};
+
+use crate::place::Place;
+use std::alloc::{AllocError, Global};
+use wildcard_lang::Text;
+
+/// What is wrong with a file.
+#[derive(Clone, Copy, Debug, PartialEq, Eq)]
+pub enum PolicyCode {
+    /// The statement has conditions, which aren't built yet.
+    P0NotBuilt,
+    /// The file has no reading as a JSON value (RFC 8259) by `serde_json`, which takes values nested at
+    /// most 127 deep and numbers up to the greatest float.
+    P1NotJson,
+    /// The file is neither an object nor a list, or a document isn't an object.
+    P2SetShape,
+    /// A name that the language doesn't have.
+    P3UnknownElement,
+    /// A value isn't of its form: an element, a statement, a guard, or an id of a principal that is empty.
+    P4WrongShape,
+    /// A needed element is missing.
+    P5MissingElement,
+    /// An element and its Not element stand together.
+    P6BothElements,
+    /// A version other than `2012-10-17` and `2008-10-17`.
+    P7BadVersion,
+    /// An effect other than `Allow` and `Deny`.
+    P8BadEffect,
+    /// A kind of principals that the language doesn't have.
+    P9PrincipalKind,
+    /// A wildcard in a principal's id that isn't `*` alone.
+    P10PrincipalWildcard,
+    /// A policy variable.
+    P11PolicyVariable,
+    /// More than a limit: 32 documents, 2,000 statements and 16 guards in a set, 2,048 pieces in a
+    /// pattern, 2,048 characters in a principal's id.
+    P17Limit,
+}
+
+/// A file's first fault, with the numbers of its document and of its statement there, both counted from
+/// 1, and the element. Each number is 0 where the fault lies in no document or in no statement, and the
+/// element is empty where it lies in none.
+#[derive(Drop, PartialEq, Eq)]
+pub struct PolicyFault {
+    pub code: PolicyCode,
+    pub document: u32,
+    pub statement: u32,
+    pub element: Text,
+}
+
+/// What stands in place of a set.
+#[derive(Drop)]
+pub enum PolicyAnswer {
+    /// The file's first fault.
+    Refused(PolicyFault),
+    NoMemory,
+}
+
+impl From<AllocError> for PolicyAnswer {
+    ghost from_gives = { λ _ e. e ≡ NoMemory };
+
+    fn from(_: AllocError) -> Self {
+        PolicyAnswer::NoMemory
+    }
+}
+
+/// The fault of this code at the place, in the element of this name, or want of memory.
+pub(crate) fn refusal(alloc: Global, place: Place, code: PolicyCode, name: &str) -> PolicyAnswer
+    ensures { IsRefusal (fault_at place code name.now) result }
+{
+    match Text::of(alloc, name) {
+        Err(_) => PolicyAnswer::NoMemory,
+        Ok(element) => PolicyAnswer::Refused(PolicyFault {
+            code,
+            document: place.document,
+            statement: place.statement,
+            element,
+        }),
+    }
+}

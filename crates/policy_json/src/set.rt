@@ -1,0 +1,215 @@
+//! Reads sets.
+ghost use Rattle.std.specs.Prelude.{◌≡◌, ◌+◌, ◌≤◌, ◌++◌, Err, Some, All, IfErr, IfOk, OnOk, false, true, length, map, sum_by};
+ghost use Rattle.std.specs.List.{flat_map, list_all};
+ghost use Rattle.serde_json.specs.Find.{get};
+ghost use Rattle.serde_json.specs.View.{view};
+ghost use Rattle.policy_model.specs.Soundness.{DocumentIsSound, IsSound};
+ghost use Rattle.policy_json.specs.Checks.{IsReadOf};
+ghost use Rattle.policy_json.specs.Documents.{document_of};
+ghost use Rattle.policy_json.specs.Json.{json_of, values_in};
+ghost use Rattle.policy_json.specs.Shapes.{is_list};
+ghost use Rattle.policy_json.specs.Sets.{IsSetOf, documents_checks, guarded_checks, guards_in, is_guarded, list_at, list_checks, set_checks, set_of, set_with, statement_count};
+
+use crate::counts::Counts;
+use crate::document::read_document;
+use crate::fault::{PolicyAnswer, PolicyCode, refusal};
+use crate::names::check_names;
+use crate::place::NOWHERE;
+use crate::requirement::{has, is_list, is_list_at, is_object_or_list, require};
+use crate::strings::members;
+use policy_model::{DocumentList, GuardList, List, PolicySet};
+use serde_json::Value;
+use std::alloc::Global;
+
+const MOST_GUARDS: usize = 16;
+
+// The values of a list, and none of any other value.
+fn values_in(value: &Value) -> &[Value]
+    ensures { map view result.now ≡ values_in (view value.now) }
+{
+    match value.as_array() {
+        Some(values) => values.as_slice(),
+        None => &[],
+    }
+}
+
+// The values of the list under a name.
+fn list_at<'a>(object: &'a Value, name: &str) -> &'a [Value]
+    ensures { map view result.now ≡ list_at (get name.now (view object.now)) }
+{
+    match object.get(name) {
+        Some(element) => values_in(element),
+        None => &[],
+    }
+}
+
+// Whether each of the values is a list.
+fn are_lists(values: &[Value]) -> bool
+    ensures { result ≡ list_all is_list (map view values.now) }
+{
+    for value in values {
+        if !is_list(value) {
+            return false;
+        }
+    }
+    true
+}
+
+// The value has one of the names of a guarded set.
+fn is_guarded(value: &Value) -> bool
+    ensures { result ≡ is_guarded (view value.now) }
+{
+    has(value, "Grants") || has(value, "Guards")
+}
+
+// The grants and the guards are there, and both are lists, the guards few and lists themselves.
+fn check_lists(alloc: Global, value: &Value) -> Result<(), PolicyAnswer>
+    ensures read { IsReadOf (list_checks (view value.now)) tt result }
+    ensures few { OnOk result (length (guards_in (view value.now)) ≤ 16) }
+{
+    let is_there = has(value, "Grants");
+    require(
+        alloc,
+        NOWHERE,
+        is_there,
+        PolicyCode::P5MissingElement,
+        "Grants",
+    )?;
+    let is_there = has(value, "Guards");
+    require(
+        alloc,
+        NOWHERE,
+        is_there,
+        PolicyCode::P5MissingElement,
+        "Guards",
+    )?;
+    let fits = is_list_at(value, "Grants");
+    require(alloc, NOWHERE, fits, PolicyCode::P4WrongShape, "Grants")?;
+    let fits = is_list_at(value, "Guards");
+    require(alloc, NOWHERE, fits, PolicyCode::P4WrongShape, "Guards")?;
+    let guards = list_at(value, "Guards");
+    let are_few = guards.len() <= MOST_GUARDS;
+    require(alloc, NOWHERE, are_few, PolicyCode::P17Limit, "Guards")?;
+    let fits = are_lists(guards);
+    require(alloc, NOWHERE, fits, PolicyCode::P4WrongShape, "Guards")
+}
+
+// A guarded set has no other name than these two, and then its lists are as they must be.
+fn check_guarded(alloc: Global, value: &Value) -> Result<(), PolicyAnswer>
+    ensures read { IsReadOf (guarded_checks (view value.now)) tt result }
+    ensures few { OnOk result (length (guards_in (view value.now)) ≤ 16) }
+{
+    let names = ["Grants", "Guards"];
+    check_names(alloc, NOWHERE, &names, value)?;
+    check_lists(alloc, value)
+}
+
+// Reads the documents that stand behind so many documents and statements of the set.
+fn read_documents(
+    alloc: Global,
+    counts: &mut Counts,
+    values: &[Value],
+) -> Result<DocumentList, PolicyAnswer>
+    ensures read { IsReadOf (documents_checks (counts.old.documents + 1) counts.old.statements (map view values.now)) (map document_of (map view values.now)) result }
+    ensures documents { IfOk result (λ ds. counts.new.documents ≡ counts.old.documents + length ds) }
+    ensures statements { OnOk result (counts.new.statements ≡ counts.old.statements + statement_count (map view values.now)) }
+    ensures sound { IfOk result (All DocumentIsSound) }
+{
+    let mut documents = List::new(alloc);
+    for value in values {
+        let document = read_document(alloc, counts.documents + 1, counts.statements, value)?;
+        counts.documents += 1;
+        counts.statements += document.statements.len();
+        documents.push(document)?;
+    }
+    Ok(documents)
+}
+
+// Reads the guards, whose documents stand behind so many documents and statements of the set.
+fn read_guards(
+    alloc: Global,
+    counts: &mut Counts,
+    values: &[Value],
+) -> Result<GuardList, PolicyAnswer>
+    ensures read { IsReadOf (documents_checks (counts.old.documents + 1) counts.old.statements (flat_map values_in (map view values.now))) (map (λ g. map document_of (values_in g)) (map view values.now)) result }
+    ensures documents { IfOk result (λ gs. counts.new.documents ≡ counts.old.documents + sum_by (λ g. length g) gs) }
+    ensures sound { IfOk result (All (λ g. All DocumentIsSound g)) }
+{
+    let mut guards = List::new(alloc);
+    for value in values {
+        let documents = read_documents(alloc, counts, values_in(value))?;
+        guards.push(documents)?;
+    }
+    Ok(guards)
+}
+
+// Reads the documents of the grants, and then those of the guards.
+fn read_parts(alloc: Global, grants: &[Value], guards: &[Value]) -> Result<PolicySet, PolicyAnswer>
+    requires { length guards.now ≤ 16 }
+    ensures read { IsReadOf (documents_checks 1 0 (map view grants.now ++ flat_map values_in (map view guards.now))) (set_with (map view grants.now) (map view guards.now)) result }
+    ensures sound { IfOk result IsSound }
+{
+    let mut counts = Counts {
+        documents: 0,
+        statements: 0,
+    };
+    let grants = read_documents(alloc, &mut counts, grants)?;
+    let guards = read_guards(alloc, &mut counts, guards)?;
+    Ok(PolicySet { grants, guards })
+}
+
+// Reads a file with grants and guards.
+fn read_guarded(alloc: Global, value: &Value) -> Result<PolicySet, PolicyAnswer>
+    requires { is_guarded (view value.now) ≡ true }
+    ensures read { IsReadOf (set_checks (view value.now)) (set_of (view value.now)) result }
+    ensures sound { IfOk result IsSound }
+{
+    check_guarded(alloc, value)?;
+    let grants = list_at(value, "Grants");
+    let guards = list_at(value, "Guards");
+    read_parts(alloc, grants, guards)
+}
+
+// Reads a file of one document, or of a list of documents.
+fn read_plain(alloc: Global, value: &Value) -> Result<PolicySet, PolicyAnswer>
+    requires { is_guarded (view value.now) ≡ false }
+    ensures read { IsReadOf (set_checks (view value.now)) (set_of (view value.now)) result }
+    ensures sound { IfOk result IsSound }
+{
+    let fits = is_object_or_list(value);
+    require(alloc, NOWHERE, fits, PolicyCode::P2SetShape, "")?;
+    read_parts(alloc, members(value), &[])
+}
+
+// Reads the bytes as a JSON value.
+fn read_value(alloc: Global, bytes: &[u8]) -> Result<Value, PolicyAnswer>
+    ensures ok { IfOk result (λ v. json_of bytes.now ≡ Some (view v)) }
+    ensures err { IfErr result (λ e. IsSetOf bytes.now (Err e)) }
+{
+    match Value::from_slice(alloc, bytes) {
+        Ok(value) => Ok(value),
+        Err(error) => {
+            if error.is_memory() {
+                Err(PolicyAnswer::NoMemory)
+            } else {
+                Err(refusal(alloc, NOWHERE, PolicyCode::P1NotJson, ""))
+            }
+        }
+    }
+}
+
+/// The set of policies that a file stands for: one document, a list of documents, or an object with
+/// `Grants` and `Guards`. The set is sound. `Refused` with the file's first fault exactly where it has
+/// one: first come those of its form, and then document by document those of its head and of its
+/// statements in order. `NoMemory` only where there is no memory.
+pub fn read_set(alloc: Global, bytes: &[u8]) -> Result<PolicySet, PolicyAnswer>
+    ensures value { IsSetOf bytes.now result }
+    ensures sound { IfOk result IsSound }
+{
+    let value = read_value(alloc, bytes)?;
+    if is_guarded(&value) {
+        read_guarded(alloc, &value)
+    } else {
+        read_plain(alloc, &value)
+    }
+}
