@@ -1,6 +1,7 @@
 -- What the search decides of a query says what the sets allow.
 use Rattle.std.proofs.Common.{◌<◌, ◌^◌, ℕ, Bool, true, false, List, [], length, All, MatchBool, IsTrue, ◌↔◌, refl, inl, inr, arith}
 use Rattle.std.proofs.lemmas.Bool.{cases_Bool}
+use Rattle.std.proofs.lemmas.List.Elements.{All-nil}
 use Rattle.formula_tree.specs.Trees as tree
 use Rattle.formula_tree.specs.Values.{AreBelow, holds}
 use Rattle.policy_model.specs.declared.request.Request.{Request}
@@ -12,16 +13,16 @@ use Rattle.policy_model.specs.Tests.{TestHolds}
 use Rattle.policy_compile.specs.declared.outcome.Query.{Query}
 use Rattle.policy_compile.specs.Meaning.{AnswersAs as says_as}
 use Rattle.policy_compile.specs.Numbering.{AreNumbered, IsNumbered, numbered_all, numbered_more, numbered_not}
-use Rattle.policy_compile.specs.Plans.{Plan, Plans, all, more, none, not}
+use Rattle.policy_compile.specs.Plans.{Plan, Plans, all, more, none, not, tests_in}
 use Rattle.policy_compile.specs.Queries.{IsQuery}
 use Rattle.policy_compile.specs.Sets.{query_plan, set_plan}
-use Rattle.policy_compile.proofs.Ranges.{below-numbered}
+use Rattle.policy_compile.proofs.Ranges.{All-collects, below-numbered, suit-query}
 use Rattle.policy_compile.proofs.Meanings.{holds-numbered, query-holds, set-holds}
 use Rattle.refute_check.specs.Closing.{Closes}
 use Rattle.refute_check.specs.Laws.{AnswersAs, MakesYes}
 use Rattle.refute_check.specs.Proofs.{Proof, proof_of}
 use Rattle.refute_check.proofs.Closed.{queries_are_no}
-use Rattle.slot_theory.specs.Slots.{IsWordTest}
+use Rattle.policy_model.specs.Soundness.{IsSound, SchemaFits, TestSuits}
 use Rattle.tree_search.specs.declared.outcome.Budgets.{Budgets}
 use Rattle.tree_search.specs.declared.outcome.Decided.{Decided}
 use Rattle.tree_search.specs.declared.outcome.Decided.TheVariants as decided
@@ -29,8 +30,6 @@ use Rattle.tree_search.specs.Decisions.{IsDecision}
 use Rattle.tree_search.proofs.Meeting.{makes-yes}
 use Rattle.compare_cli.specs.Comparison.{Covers, IsWitness, run_schema}
 use Rattle.compare_cli.specs.Decided.{IsComparison, answer_of}
-use Rattle.compare_cli.specs.WordSets.{IsWordSet}
-use Rattle.compare_cli.proofs.Queries.{query_word, tests_word}
 
 -- an answer to each test, said in two ways
 says : (b : Bool) (P : Type 0) → MatchBool b P (¬ P) → (IsTrue b ↔ P)
@@ -40,8 +39,11 @@ says false P h = (λ e. absurd (cc), λ p. absurd (h p))
 says_all : (tests : List Test) (r : Request) (total : ℕ → Bool) → AnswersAs tests r total → says_as total r tests
 says_all tests r total answers n t at = says (total n) (TestHolds r t) (answers n t at)
 
-pub query_tests : (first second : PolicySet) (q : Query) → IsWordSet first → IsWordSet second → IsQuery (query_plan first second) q → All IsWordTest q.tests
-query_tests first second q one two is = tests_word (query_plan first second) q.tests (query_word first second one two) is.tests
+fits : (set : PolicySet) → IsSound set → SchemaFits run_schema set
+fits set sound = record { sound = sound }
+
+pub query_tests : (first second : PolicySet) (q : Query) → IsSound first → IsSound second → IsQuery (query_plan first second) q → All (TestSuits run_schema) q.tests
+query_tests first second q one two is = All-collects (TestSuits run_schema) [] (tests_in (query_plan first second)) q.tests is.tests (All-nil (TestSuits run_schema)) (suit-query run_schema first second (fits first one) (fits second two))
 
 pub query_below : (first second : PolicySet) (q : Query) → IsQuery (query_plan first second) q → AreBelow (length q.tests) (tree.tree_of q.formula.value)
 query_below first second q is = below-numbered q.tests (query_plan first second) (tree.tree_of q.formula.value) is.tree
@@ -92,10 +94,10 @@ second_tree tests first second t h =
     not_part tests second two.part two.here
 
 -- a query that is refuted: the second set allows each valid request that the first allows
-pub covers_if_refuted : (first second : PolicySet) (q : Query) (p : Proof) → IsWordSet first → IsWordSet second → IsQuery (query_plan first second) q → Closes run_schema q.tests (tree.tree_of q.formula.value) p [] → Covers first second
+pub covers_if_refuted : (first second : PolicySet) (q : Query) (p : Proof) → IsSound first → IsSound second → IsQuery (query_plan first second) q → Closes run_schema q.tests (tree.tree_of q.formula.value) p [] → Covers first second
 covers_if_refuted first second q p one two is closes r valid allowed =
-    let words = query_tests first second q one two is in
-    let some_yes : MakesYes q.tests tree.yes r = makes-yes q.tests tree.yes [] r words (λ n b e. absurd (cc)) (λ n b t e at. absurd (cc)) refl in
+    let suit = query_tests first second q one two is in
+    let some_yes : MakesYes q.tests tree.yes r = makes-yes q.tests tree.yes [] r (λ n b e. absurd (cc)) (λ n b t e at. absurd (cc)) refl in
     let total : ℕ → Bool = some_yes.0 in
     let say : says_as total r q.tests = says_all q.tests r total some_yes.1 in
     let part = second_tree q.tests first second (tree.tree_of q.formula.value) is.tree in
@@ -106,7 +108,7 @@ covers_if_refuted first second q p one two is closes r valid allowed =
       | inr e ↦
           let not_second : Allows second r → ⊥ = λ a. let e_true = part_says.1 ((set-holds r second).1 a) in absurd (cc) in
           let met : IsTrue (holds total (tree.tree_of q.formula.value)) = whole_says.1 ((query-holds r first second).1 (allowed, not_second)) in
-          absurd (queries_are_no run_schema q.tests (tree.tree_of q.formula.value) p words closes r valid (total, some_yes.1, met))
+          absurd (queries_are_no run_schema q.tests (tree.tree_of q.formula.value) p suit closes r valid (total, some_yes.1, met))
     ]
 
 -- a request that makes the query yes is one that only the first set allows
@@ -116,7 +118,7 @@ witness_if_met first second q r is valid (total, answers, met) =
     let both = (query-holds r first second).0 (whole_says.0 met) in
     record { valid = valid; allowed = both.0; refused = both.1 }
 
-pub comparison_if_decided : (first second : PolicySet) (q : Query) (budgets : Budgets) (d : Decided) → IsWordSet first → IsWordSet second → IsQuery (query_plan first second) q → IsDecision run_schema q.tests (tree.tree_of q.formula.value) budgets.splits budgets.states d → IsComparison first second budgets (answer_of budgets d)
+pub comparison_if_decided : (first second : PolicySet) (q : Query) (budgets : Budgets) (d : Decided) → IsSound first → IsSound second → IsQuery (query_plan first second) q → IsDecision run_schema q.tests (tree.tree_of q.formula.value) budgets.splits budgets.states d → IsComparison first second budgets (answer_of budgets d)
 comparison_if_decided first second q budgets (decided.Refuted r) one two is h = covers_if_refuted first second q (proof_of r.value) one two is h
 comparison_if_decided first second q budgets (decided.Met r) one two is h = witness_if_met first second q r is h.0 h.1
 comparison_if_decided first second q budgets decided.OutOfSplits one two is h = (refl, record { query = q; is = is; needs = h })

@@ -6,10 +6,10 @@ use Rattle.policy_model.specs.declared.set.PolicySet.{PolicySet}
 use Rattle.compare_cli.specs.declared.answer.Role.TheVariants.{First, Second}
 use Rattle.compare_cli.specs.declared.answer.Answer.{Answer}
 use Rattle.compare_cli.specs.declared.answer.Answer.TheVariants as answer
-use Rattle.compare_cli.specs.declared.reader.PolicyCode.{PolicyCode}
+use Rattle.policy_json.specs.declared.fault.PolicyFault.{PolicyFault}
 use Rattle.compare_cli.specs.declared.top.Status.{Status}
 use Rattle.compare_cli.specs.declared.top.Status.TheVariants.{Holds, Fails, Refused, Undecided, Usage, ReadFault, WriteFault, NoMemory, BadProof}
-use Rattle.compare_cli.specs.Reading.{set_from}
+use Rattle.policy_json.specs.Sets.{set_from}
 use Rattle.compare_cli.specs.Answers.{IsAnswer, StandsFor}
 use Rattle.compare_cli.specs.Comparison.{FitsSplits, NeedsSplits, NeedsStates}
 use Rattle.compare_cli.specs.Files.{IsLong, IsShort}
@@ -28,11 +28,11 @@ not_long files name h (bytes, held, long) =
 same_bytes : (files : Files) (name bytes : List ℕ) (h : HoldsSet files name) → IsShort (Some files) name bytes → bytes ≡ h.bytes
 same_bytes files name bytes h short = let held = short.0 in let mine = h.held in cc
 
-not_refused : (files : Files) (name bytes : List ℕ) (code : PolicyCode) → HoldsSet files name → IsShort (Some files) name bytes → set_from bytes ≡ Err code → ⊥
-not_refused files name bytes code h short e =
+not_refused : (files : Files) (name bytes : List ℕ) (fault : PolicyFault) → HoldsSet files name → IsShort (Some files) name bytes → set_from bytes ≡ Err fault → ⊥
+not_refused files name bytes fault h short e =
     let same = same_bytes files name bytes h short in
     let stands = h.stands in
-    let mine : set_from h.bytes ≡ Err code = rw (← same) e in
+    let mine : set_from h.bytes ≡ Err fault = rw (← same) e in
     cc
 
 same_set : (files : Files) (name bytes : List ℕ) (set : PolicySet) (h : HoldsSet files name) → IsShort (Some files) name bytes → StandsFor bytes set → set ≡ h.set
@@ -60,8 +60,8 @@ answer_decided (Some files) before now last (Some asked) (answer.ReadFault First
 answer_decided (Some files) before now last (Some asked) (answer.ReadFault Second) accepted calm given = calm given.1
 answer_decided (Some files) before now last (Some asked) (answer.TooLong First) accepted calm given = not_long files asked.0 accepted.first given
 answer_decided (Some files) before now last (Some asked) (answer.TooLong Second) accepted calm given = not_long files asked.1 accepted.second given.1
-answer_decided (Some files) before now last (Some asked) (answer.Refused First code) accepted calm given = not_refused files asked.0 given.0 code accepted.first given.2 given.4
-answer_decided (Some files) before now last (Some asked) (answer.Refused Second code) accepted calm given = not_refused files asked.1 given.1 code accepted.second given.3 given.4.1
+answer_decided (Some files) before now last (Some asked) (answer.Refused First fault) accepted calm given = not_refused files asked.0 given.0 fault accepted.first given.2 given.4
+answer_decided (Some files) before now last (Some asked) (answer.Refused Second fault) accepted calm given = not_refused files asked.1 given.1 fault accepted.second given.3 given.4.1
 answer_decided (Some files) before now last (Some asked) answer.TooManyTests accepted calm given = accepted.tests (of_held files asked accepted _ given)
 answer_decided (Some files) before now last (Some asked) answer.TooManyPieces accepted calm given = accepted.pieces (of_held files asked accepted _ given)
 answer_decided (Some files) before now last (Some asked) (answer.UndecidedSplits n) accepted calm given =

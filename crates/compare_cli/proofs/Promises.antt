@@ -20,7 +20,7 @@ status_of_usage : (a : Answer) → IsUsage a → status_of a ≡ Usage
 status_of_usage answer.Usage u = refl
 status_of_usage (answer.ReadFault role) u = absurd u
 status_of_usage (answer.TooLong role) u = absurd u
-status_of_usage (answer.Refused role code) u = absurd u
+status_of_usage (answer.Refused role fault) u = absurd u
 status_of_usage answer.TooManyTests u = absurd u
 status_of_usage answer.TooManyPieces u = absurd u
 status_of_usage (answer.UndecidedSplits n) u = absurd u
@@ -43,7 +43,7 @@ not_usage : (held : Option Files) (before now : ℕ) (last : Option (List ℕ)) 
 not_usage held before now last asked answer.Usage g e = g
 not_usage held before now last asked (answer.ReadFault role) g e = cc
 not_usage held before now last asked (answer.TooLong role) g e = cc
-not_usage held before now last asked (answer.Refused role code) g e = cc
+not_usage held before now last asked (answer.Refused role fault) g e = cc
 not_usage held before now last asked answer.TooManyTests g e = cc
 not_usage held before now last asked answer.TooManyPieces g e = cc
 not_usage held before now last asked (answer.UndecidedSplits n) g e = cc
@@ -73,7 +73,7 @@ unfolding answer_text
 read_fault_of held r0 r1 last None old new answer.Usage g e w = cc
 read_fault_of held r0 r1 last None old new (answer.ReadFault role) g e w = absurd g
 read_fault_of held r0 r1 last None old new (answer.TooLong role) g e w = absurd g
-read_fault_of held r0 r1 last None old new (answer.Refused role code) g e w = absurd g
+read_fault_of held r0 r1 last None old new (answer.Refused role fault) g e w = absurd g
 read_fault_of held r0 r1 last None old new answer.TooManyTests g e w = absurd g
 read_fault_of held r0 r1 last None old new answer.TooManyPieces g e w = absurd g
 read_fault_of held r0 r1 last None old new (answer.UndecidedSplits n) g e w = absurd g
@@ -84,7 +84,7 @@ read_fault_of held r0 r1 last (Some asked) old new answer.Usage g e w = absurd g
 read_fault_of held r0 r1 last (Some asked) old new (answer.ReadFault First) g e w = (g.0, record { role = First; name = g.1; written = w })
 read_fault_of held r0 r1 last (Some asked) old new (answer.ReadFault Second) g e w = (g.1, record { role = Second; name = g.2; written = w })
 read_fault_of held r0 r1 last (Some asked) old new (answer.TooLong role) g e w = absurd (cc)
-read_fault_of held r0 r1 last (Some asked) old new (answer.Refused role code) g e w = absurd (cc)
+read_fault_of held r0 r1 last (Some asked) old new (answer.Refused role fault) g e w = absurd (cc)
 read_fault_of held r0 r1 last (Some asked) old new answer.TooManyTests g e w = absurd (cc)
 read_fault_of held r0 r1 last (Some asked) old new answer.TooManyPieces g e w = absurd (cc)
 read_fault_of held r0 r1 last (Some asked) old new (answer.UndecidedSplits n) g e w = absurd (cc)
@@ -109,7 +109,7 @@ unfolding answer_text
 refused_of held r0 r1 last None old new answer.Usage g e w = cc
 refused_of held r0 r1 last None old new (answer.ReadFault role) g e w = absurd g
 refused_of held r0 r1 last None old new (answer.TooLong role) g e w = absurd g
-refused_of held r0 r1 last None old new (answer.Refused role code) g e w = absurd g
+refused_of held r0 r1 last None old new (answer.Refused role fault) g e w = absurd g
 refused_of held r0 r1 last None old new answer.TooManyTests g e w = absurd g
 refused_of held r0 r1 last None old new answer.TooManyPieces g e w = absurd g
 refused_of held r0 r1 last None old new (answer.UndecidedSplits n) g e w = absurd g
@@ -120,8 +120,8 @@ refused_of held r0 r1 last (Some asked) old new answer.Usage g e w = absurd g
 refused_of held r0 r1 last (Some asked) old new (answer.ReadFault role) g e w = absurd (cc)
 refused_of held r0 r1 last (Some asked) old new (answer.TooLong First) g e w = (is_long First, g, w)
 refused_of held r0 r1 last (Some asked) old new (answer.TooLong Second) g e w = (is_long Second, g, w)
-refused_of held r0 r1 last (Some asked) old new (answer.Refused First code) g e w = (is_no_set First code, g, w)
-refused_of held r0 r1 last (Some asked) old new (answer.Refused Second code) g e w = let (first, second, one, two, ((set, stands), fault)) = g in (is_no_set Second code, (first, second, set, one, two, stands, fault), w)
+refused_of held r0 r1 last (Some asked) old new (answer.Refused First fault) g e w = (is_no_set First fault, g, w)
+refused_of held r0 r1 last (Some asked) old new (answer.Refused Second fault) g e w = let (first, second, one, two, ((set, stands), found)) = g in (is_no_set Second fault, (first, second, set, one, two, stands, found), w)
 refused_of held r0 r1 last (Some asked) old new answer.TooManyTests g e w = (has_tests, g, w)
 refused_of held r0 r1 last (Some asked) old new answer.TooManyPieces g e w = (has_pieces, g, w)
 refused_of held r0 r1 last (Some asked) old new (answer.UndecidedSplits n) g e w = absurd (cc)
@@ -141,7 +141,7 @@ unfolding answer_text
 undecided_of held r0 r1 last None old new answer.Usage g e w = cc
 undecided_of held r0 r1 last None old new (answer.ReadFault role) g e w = absurd g
 undecided_of held r0 r1 last None old new (answer.TooLong role) g e w = absurd g
-undecided_of held r0 r1 last None old new (answer.Refused role code) g e w = absurd g
+undecided_of held r0 r1 last None old new (answer.Refused role fault) g e w = absurd g
 undecided_of held r0 r1 last None old new answer.TooManyTests g e w = absurd g
 undecided_of held r0 r1 last None old new answer.TooManyPieces g e w = absurd g
 undecided_of held r0 r1 last None old new (answer.UndecidedSplits n) g e w = absurd g
@@ -151,7 +151,7 @@ undecided_of held r0 r1 last None old new (answer.More q) g e w = absurd g
 undecided_of held r0 r1 last (Some asked) old new answer.Usage g e w = absurd g
 undecided_of held r0 r1 last (Some asked) old new (answer.ReadFault role) g e w = absurd (cc)
 undecided_of held r0 r1 last (Some asked) old new (answer.TooLong role) g e w = absurd (cc)
-undecided_of held r0 r1 last (Some asked) old new (answer.Refused role code) g e w = absurd (cc)
+undecided_of held r0 r1 last (Some asked) old new (answer.Refused role fault) g e w = absurd (cc)
 undecided_of held r0 r1 last (Some asked) old new answer.TooManyTests g e w = absurd (cc)
 undecided_of held r0 r1 last (Some asked) old new answer.TooManyPieces g e w = absurd (cc)
 undecided_of held r0 r1 last (Some asked) old new (answer.UndecidedSplits n) g e w = let (first, second, one, two, (is, sets)) = g in (of_splits, (first, second, one, two, subst (λ (k : ℕ). OfSets first second (λ a b. NeedsSplits a b k)) is sets), subst (λ (k : ℕ). Appends old (codes "undecided: splits " ++ decimal k ++ codes "\n") new) is w)
@@ -171,7 +171,7 @@ unfolding answer_text
 not_more_of held r0 r1 last None old new answer.Usage g e w = cc
 not_more_of held r0 r1 last None old new (answer.ReadFault role) g e w = absurd g
 not_more_of held r0 r1 last None old new (answer.TooLong role) g e w = absurd g
-not_more_of held r0 r1 last None old new (answer.Refused role code) g e w = absurd g
+not_more_of held r0 r1 last None old new (answer.Refused role fault) g e w = absurd g
 not_more_of held r0 r1 last None old new answer.TooManyTests g e w = absurd g
 not_more_of held r0 r1 last None old new answer.TooManyPieces g e w = absurd g
 not_more_of held r0 r1 last None old new (answer.UndecidedSplits n) g e w = absurd g
@@ -181,7 +181,7 @@ not_more_of held r0 r1 last None old new (answer.More q) g e w = absurd g
 not_more_of held r0 r1 last (Some asked) old new answer.Usage g e w = absurd g
 not_more_of held r0 r1 last (Some asked) old new (answer.ReadFault role) g e w = absurd (cc)
 not_more_of held r0 r1 last (Some asked) old new (answer.TooLong role) g e w = absurd (cc)
-not_more_of held r0 r1 last (Some asked) old new (answer.Refused role code) g e w = absurd (cc)
+not_more_of held r0 r1 last (Some asked) old new (answer.Refused role fault) g e w = absurd (cc)
 not_more_of held r0 r1 last (Some asked) old new answer.TooManyTests g e w = absurd (cc)
 not_more_of held r0 r1 last (Some asked) old new answer.TooManyPieces g e w = absurd (cc)
 not_more_of held r0 r1 last (Some asked) old new (answer.UndecidedSplits n) g e w = absurd (cc)
@@ -199,7 +199,7 @@ unfolding answer_text
 more_of held r0 r1 last None old new answer.Usage g e w = cc
 more_of held r0 r1 last None old new (answer.ReadFault role) g e w = absurd g
 more_of held r0 r1 last None old new (answer.TooLong role) g e w = absurd g
-more_of held r0 r1 last None old new (answer.Refused role code) g e w = absurd g
+more_of held r0 r1 last None old new (answer.Refused role fault) g e w = absurd g
 more_of held r0 r1 last None old new answer.TooManyTests g e w = absurd g
 more_of held r0 r1 last None old new answer.TooManyPieces g e w = absurd g
 more_of held r0 r1 last None old new (answer.UndecidedSplits n) g e w = absurd g
@@ -209,7 +209,7 @@ more_of held r0 r1 last None old new (answer.More q) g e w = absurd g
 more_of held r0 r1 last (Some asked) old new answer.Usage g e w = absurd g
 more_of held r0 r1 last (Some asked) old new (answer.ReadFault role) g e w = absurd (cc)
 more_of held r0 r1 last (Some asked) old new (answer.TooLong role) g e w = absurd (cc)
-more_of held r0 r1 last (Some asked) old new (answer.Refused role code) g e w = absurd (cc)
+more_of held r0 r1 last (Some asked) old new (answer.Refused role fault) g e w = absurd (cc)
 more_of held r0 r1 last (Some asked) old new answer.TooManyTests g e w = absurd (cc)
 more_of held r0 r1 last (Some asked) old new answer.TooManyPieces g e w = absurd (cc)
 more_of held r0 r1 last (Some asked) old new (answer.UndecidedSplits n) g e w = absurd (cc)

@@ -14,7 +14,7 @@ pub IsAnswerTo-verdict : (held : Option Files) (before now : ℕ) (last : Option
 IsAnswerTo-verdict held before now last asked one two first second answer.Usage v = v
 IsAnswerTo-verdict held before now last asked one two first second (answer.ReadFault role) v = absurd v
 IsAnswerTo-verdict held before now last asked one two first second (answer.TooLong role) v = absurd v
-IsAnswerTo-verdict held before now last asked one two first second (answer.Refused role code) v = (one, two, first, second, v)
+IsAnswerTo-verdict held before now last asked one two first second (answer.Refused role fault) v = (one, two, first, second, v)
 IsAnswerTo-verdict held before now last asked one two first second answer.TooManyTests v = (one, two, first, second, v)
 IsAnswerTo-verdict held before now last asked one two first second answer.TooManyPieces v = (one, two, first, second, v)
 IsAnswerTo-verdict held before now last asked one two first second (answer.UndecidedSplits n) v = (one, two, first, second, v)
@@ -27,7 +27,7 @@ pub IsVerdict-comparison : (first second : List ℕ) (budgets : Budgets) (one tw
 IsVerdict-comparison first second budgets one two s1 s2 answer.Usage v = absurd v
 IsVerdict-comparison first second budgets one two s1 s2 (answer.ReadFault role) v = absurd v
 IsVerdict-comparison first second budgets one two s1 s2 (answer.TooLong role) v = absurd v
-IsVerdict-comparison first second budgets one two s1 s2 (answer.Refused role code) v = absurd v
+IsVerdict-comparison first second budgets one two s1 s2 (answer.Refused role fault) v = absurd v
 IsVerdict-comparison first second budgets one two s1 s2 answer.TooManyTests v = record { one = one; two = two; first_stands = s1; second_stands = s2; holds = v }
 IsVerdict-comparison first second budgets one two s1 s2 answer.TooManyPieces v = record { one = one; two = two; first_stands = s1; second_stands = s2; holds = v }
 IsVerdict-comparison first second budgets one two s1 s2 (answer.UndecidedSplits n) v = (v.0, record { one = one; two = two; first_stands = s1; second_stands = s2; holds = v.1 })

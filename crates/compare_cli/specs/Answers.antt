@@ -11,7 +11,7 @@ use Rattle.compare_cli.specs.declared.answer.Role.TheVariants.{First, Second}
 use Rattle.compare_cli.specs.declared.answer.Answer.{Answer}
 use Rattle.compare_cli.specs.declared.answer.Answer.TheVariants.{Usage, ReadFault, TooLong, Refused, TooManyTests as too_many_tests, TooManyPieces as too_many_pieces, UndecidedSplits, UndecidedStates, NotMore, More}
 use Rattle.compare_cli.specs.Files.{IsShort, IsLong}
-use Rattle.compare_cli.specs.Reading.{set_from}
+use Rattle.policy_json.specs.Sets.{set_from}
 use Rattle.compare_cli.specs.Comparison.{Covers, IsWitness, NeedsSplits, NeedsStates, TooManyPieces, TooManyTests}
 use Rattle.tree_search.specs.declared.outcome.Budgets.{Budgets}
 
@@ -30,8 +30,8 @@ pub record OfSets (first second : List ℕ) (P : PolicySet → PolicySet → Typ
 -- what two files that were read may be answered: the first refusal in their order, a limit of the query, a budget that is too
 -- small, or a comparison of their sets
 abbrev pub IsVerdict : List ℕ → List ℕ → Budgets → Answer → Type 0
-IsVerdict first second budgets (Refused First code) = set_from first ≡ Err code
-IsVerdict first second budgets (Refused Second code) = ((set : PolicySet) × StandsFor first set) × (set_from second ≡ Err code)
+IsVerdict first second budgets (Refused First fault) = set_from first ≡ Err fault
+IsVerdict first second budgets (Refused Second fault) = ((set : PolicySet) × StandsFor first set) × (set_from second ≡ Err fault)
 IsVerdict first second budgets too_many_tests = OfSets first second TooManyTests
 IsVerdict first second budgets too_many_pieces = OfSets first second TooManyPieces
 IsVerdict first second budgets (UndecidedSplits n) = (n ≡ budgets.splits) × OfSets first second (λ one two. NeedsSplits one two n)
@@ -53,7 +53,7 @@ IsAnswerTo held before now last asked (ReadFault First) = Rose before now × (la
 IsAnswerTo held before now last asked (ReadFault Second) = ((first : List ℕ) × IsShort held asked.0 first) × Rose before now × (last ≡ Some asked.1)
 IsAnswerTo held before now last asked (TooLong First) = IsLong held asked.0
 IsAnswerTo held before now last asked (TooLong Second) = ((first : List ℕ) × IsShort held asked.0 first) × IsLong held asked.1
-IsAnswerTo held before now last asked (Refused role code) = BothRead held asked (Refused role code)
+IsAnswerTo held before now last asked (Refused role fault) = BothRead held asked (Refused role fault)
 IsAnswerTo held before now last asked too_many_tests = BothRead held asked too_many_tests
 IsAnswerTo held before now last asked too_many_pieces = BothRead held asked too_many_pieces
 IsAnswerTo held before now last asked (UndecidedSplits n) = BothRead held asked (UndecidedSplits n)

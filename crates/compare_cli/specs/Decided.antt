@@ -22,7 +22,7 @@ IsComparison one two budgets (More q) = IsWitness one two q
 IsComparison one two budgets Usage = ⊥
 IsComparison one two budgets (ReadFault role) = ⊥
 IsComparison one two budgets (TooLong role) = ⊥
-IsComparison one two budgets (Refused role code) = ⊥
+IsComparison one two budgets (Refused role fault) = ⊥
 
 -- a limit that the query is past
 abbrev pub IsPastLimit : PolicySet → PolicySet → Answer → Type 0

@@ -4,8 +4,6 @@ pub mod Complete
 pub mod Decided
 pub mod Files
 pub mod Promises
-pub mod Reading
 pub mod Runs
 pub mod Texts
-pub mod WordSets
 pub mod Words

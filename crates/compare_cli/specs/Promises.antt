@@ -9,14 +9,14 @@ use Rattle.policy_model.specs.declared.test.Slot.{Slot}
 use Rattle.tree_search.specs.declared.outcome.Budgets.{Budgets}
 use Rattle.compare_cli.specs.declared.answer.Role.{Role}
 use Rattle.compare_cli.specs.declared.answer.Role.TheVariants.{First, Second}
-use Rattle.compare_cli.specs.declared.reader.PolicyCode.{PolicyCode}
+use Rattle.policy_json.specs.declared.fault.PolicyFault.{PolicyFault}
 use Rattle.compare_cli.specs.declared.top.Status.{Status}
 use Rattle.compare_cli.specs.declared.top.Status.TheVariants.{Usage, WriteFault, NoMemory}
 use Rattle.compare_cli.specs.Files.{IsShort, IsLong}
-use Rattle.compare_cli.specs.Reading.{set_from}
+use Rattle.policy_json.specs.Sets.{set_from}
 use Rattle.compare_cli.specs.Answers.{OfSets, StandsFor}
 use Rattle.compare_cli.specs.Comparison.{Covers, IsWitness, NeedsSplits, NeedsStates, TooManyPieces, TooManyTests}
-use Rattle.compare_cli.specs.Texts.{request_text, role_word, code_word, slot_word}
+use Rattle.compare_cli.specs.Texts.{fault_text, request_text, role_word, slot_word}
 
 -- what the words ask: the names of two files, and the budgets
 abbrev pub Asked : Type 0
@@ -94,14 +94,14 @@ UndecidedByNeed held (Some asked) old new = (s : Shortage) × ReadSets held aske
 -- why something is refused: a file is longer than its limit, or stands for no set; or the query is too large
 pub data Cause : Type 0 where
   is_long : Role → Cause
-  is_no_set : Role → PolicyCode → Cause
+  is_no_set : Role → PolicyFault → Cause
   has_tests : Cause
   has_pieces : Cause
 
 -- the line of a refusal
 abbrev pub refusal_line : Cause → List ℕ
 refusal_line (is_long role) = codes "refused: " ++ role_word role ++ codes ": file longer than 1048576 bytes\n"
-refusal_line (is_no_set role code) = codes "refused: " ++ role_word role ++ codes ": " ++ code_word code ++ codes ": document 0, statement 0, \"\"\n"
+refusal_line (is_no_set role fault) = codes "refused: " ++ role_word role ++ codes ": " ++ fault_text fault ++ codes "\n"
 refusal_line has_tests = codes "refused: query: P17 Limit: document 0, statement 0, \"tests\"\n"
 refusal_line has_pieces = codes "refused: query: P17 Limit: document 0, statement 0, \"pieces\"\n"
 
@@ -109,8 +109,8 @@ refusal_line has_pieces = codes "refused: query: P17 Limit: document 0, statemen
 abbrev pub IsFirstCause : Option Files → Asked → Cause → Type 0
 IsFirstCause held asked (is_long First) = IsLong held asked.0
 IsFirstCause held asked (is_long Second) = ((first : List ℕ) × IsShort held asked.0 first) × IsLong held asked.1
-IsFirstCause held asked (is_no_set First code) = (first : List ℕ) × (second : List ℕ) × IsShort held asked.0 first × IsShort held asked.1 second × (set_from first ≡ Err code)
-IsFirstCause held asked (is_no_set Second code) = (first : List ℕ) × (second : List ℕ) × (set : PolicySet) × IsShort held asked.0 first × IsShort held asked.1 second × StandsFor first set × (set_from second ≡ Err code)
+IsFirstCause held asked (is_no_set First fault) = (first : List ℕ) × (second : List ℕ) × IsShort held asked.0 first × IsShort held asked.1 second × (set_from first ≡ Err fault)
+IsFirstCause held asked (is_no_set Second fault) = (first : List ℕ) × (second : List ℕ) × (set : PolicySet) × IsShort held asked.0 first × IsShort held asked.1 second × StandsFor first set × (set_from second ≡ Err fault)
 IsFirstCause held asked has_tests = ReadSets held asked TooManyTests
 IsFirstCause held asked has_pieces = ReadSets held asked TooManyPieces
 

@@ -13,7 +13,7 @@ abbrev pub status_of : Answer → Status
 status_of answer.Usage = Usage
 status_of (answer.ReadFault role) = ReadFault
 status_of (answer.TooLong role) = Refused
-status_of (answer.Refused role code) = Refused
+status_of (answer.Refused role fault) = Refused
 status_of answer.TooManyTests = Refused
 status_of answer.TooManyPieces = Refused
 status_of (answer.UndecidedSplits n) = Undecided

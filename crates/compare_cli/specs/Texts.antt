@@ -12,8 +12,9 @@ use Rattle.compare_cli.specs.declared.answer.Role.{Role}
 use Rattle.compare_cli.specs.declared.answer.Role.TheVariants.{First, Second}
 use Rattle.compare_cli.specs.declared.answer.Answer.{Answer}
 use Rattle.compare_cli.specs.declared.answer.Answer.TheVariants.{Usage, ReadFault, TooLong, Refused, TooManyTests, TooManyPieces, UndecidedSplits, UndecidedStates, NotMore, More}
-use Rattle.compare_cli.specs.declared.reader.PolicyCode.{PolicyCode}
-use Rattle.compare_cli.specs.declared.reader.PolicyCode.TheVariants.{P0NotBuilt, P1NotJson}
+use Rattle.policy_json.specs.declared.fault.PolicyFault.{PolicyFault}
+use Rattle.policy_json.specs.declared.fault.PolicyCode.{PolicyCode}
+use Rattle.policy_json.specs.declared.fault.PolicyCode.TheVariants.{P0NotBuilt, P1NotJson, P2SetShape, P3UnknownElement, P4WrongShape, P5MissingElement, P6BothElements, P7BadVersion, P8BadEffect, P9PrincipalKind, P10PrincipalWildcard, P11PolicyVariable, P17Limit}
 
 abbrev pub role_word : Role → List ℕ
 role_word First = codes "first"
@@ -22,6 +23,33 @@ role_word Second = codes "second"
 abbrev pub code_word : PolicyCode → List ℕ
 code_word P0NotBuilt = codes "P0 NotBuilt"
 code_word P1NotJson = codes "P1 NotJson"
+code_word P2SetShape = codes "P2 SetShape"
+code_word P3UnknownElement = codes "P3 UnknownElement"
+code_word P4WrongShape = codes "P4 WrongShape"
+code_word P5MissingElement = codes "P5 MissingElement"
+code_word P6BothElements = codes "P6 BothElements"
+code_word P7BadVersion = codes "P7 BadVersion"
+code_word P8BadEffect = codes "P8 BadEffect"
+code_word P9PrincipalKind = codes "P9 PrincipalKind"
+code_word P10PrincipalWildcard = codes "P10 PrincipalWildcard"
+code_word P11PolicyVariable = codes "P11 PolicyVariable"
+code_word P17Limit = codes "P17 Limit"
+
+-- an element's name as JSON
+abbrev pub element_text : List ℕ → List ℕ
+element_text element = compact_text (string (encode_utf8_all element))
+
+-- the statement of a fault, and its element
+unfoldable pub statement_end : PolicyFault → List ℕ
+statement_end fault = codes ", statement " ++ decimal fault.statement ++ codes ", " ++ element_text fault.element
+
+-- the document of a fault, and what is behind it
+unfoldable pub document_end : PolicyFault → List ℕ
+document_end fault = codes ": document " ++ decimal fault.document ++ statement_end fault
+
+-- a fault with its place
+abbrev pub fault_text : PolicyFault → List ℕ
+fault_text fault = code_word fault.code ++ document_end fault
 
 -- the name of a kind of principals in a policy and in a request
 abbrev pub kind_word : PrincipalKind → List ℕ
@@ -53,7 +81,7 @@ unfoldable pub answer_text : Answer → List ℕ
 answer_text Usage = codes "usage: compare FIRST SECOND | summary SET DIMENSION.. | check FIRST SECOND PROOF | eval SET REQUEST | load N\n"
 answer_text (ReadFault role) = codes "read fault: " ++ role_word role ++ codes "\n"
 answer_text (TooLong role) = codes "refused: " ++ role_word role ++ codes ": file longer than 1048576 bytes\n"
-answer_text (Refused role code) = codes "refused: " ++ role_word role ++ codes ": " ++ code_word code ++ codes ": document 0, statement 0, \"\"\n"
+answer_text (Refused role fault) = codes "refused: " ++ role_word role ++ codes ": " ++ fault_text fault ++ codes "\n"
 answer_text TooManyTests = codes "refused: query: P17 Limit: document 0, statement 0, \"tests\"\n"
 answer_text TooManyPieces = codes "refused: query: P17 Limit: document 0, statement 0, \"pieces\"\n"
 answer_text (UndecidedSplits splits) = codes "undecided: splits " ++ decimal splits ++ codes "\n"

@@ -1,12 +1,13 @@
 //! The answers, and their texts.
 ghost use Rattle.std.specs.Prelude.{◌≡◌, ◌++◌, IfOk, codes, decimal, string_bytes};
 ghost use Rattle.serde_json.specs.View.{view};
-ghost use Rattle.compare_cli.specs.Texts.{answer_text, code_word, principal_data, request_data, request_text, role_word, slot_word};
+ghost use Rattle.compare_cli.specs.Texts.{answer_text, code_word, document_end, element_text, fault_text, statement_end, principal_data, request_data, request_text, role_word, slot_word};
 
-use crate::reader::PolicyCode;
+use policy_json::{PolicyCode, PolicyFault};
 use policy_model::{PrincipalKind, Request, Slot};
 use serde_json::{Value, json};
 use std::alloc::{AllocError, Global};
+use wildcard_lang::Text;
 
 /// What a file is for.
 #[derive(Clone, Copy, Debug, PartialEq, Eq)]
@@ -25,7 +26,7 @@ pub enum Answer {
     /// A file has more than 1,048,576 bytes.
     TooLong(Role),
     /// A file is refused as a set of policies.
-    Refused(Role, PolicyCode),
+    Refused(Role, PolicyFault),
     /// The query has more than 1,000 different tests.
     TooManyTests,
     /// The patterns of the query's tests have more than 65,536 pieces together.
@@ -58,6 +59,17 @@ fn code_word(code: PolicyCode) -> &'static str
     match code {
         PolicyCode::P0NotBuilt => "P0 NotBuilt",
         PolicyCode::P1NotJson => "P1 NotJson",
+        PolicyCode::P2SetShape => "P2 SetShape",
+        PolicyCode::P3UnknownElement => "P3 UnknownElement",
+        PolicyCode::P4WrongShape => "P4 WrongShape",
+        PolicyCode::P5MissingElement => "P5 MissingElement",
+        PolicyCode::P6BothElements => "P6 BothElements",
+        PolicyCode::P7BadVersion => "P7 BadVersion",
+        PolicyCode::P8BadEffect => "P8 BadEffect",
+        PolicyCode::P9PrincipalKind => "P9 PrincipalKind",
+        PolicyCode::P10PrincipalWildcard => "P10 PrincipalWildcard",
+        PolicyCode::P11PolicyVariable => "P11 PolicyVariable",
+        PolicyCode::P17Limit => "P17 Limit",
     }
 }
 
@@ -123,6 +135,56 @@ fn states_text(alloc: Global, states: u32, slot: &Slot) -> Result<String, AllocE
     format!(in alloc; "undecided: states {states}{end}")
 }
 
+// The element of a fault as JSON (RFC 8259).
+fn element_text(alloc: Global, element: &Text) -> Result<String, AllocError>
+    ensures { IfOk result (λ s. string_bytes s ≡ element_text element.now) }
+{
+    let element = element.to_utf8()?;
+    Value::String(element).to_string(alloc)
+}
+
+// The element of a fault, at the end of its line.
+fn element_end(alloc: Global, element: &Text) -> Result<String, AllocError>
+    ensures { IfOk result (λ s. string_bytes s ≡ codes ", " ++ element_text element.now) }
+{
+    let element = element_text(alloc, element)?;
+    format!(in alloc; ", {element}")
+}
+
+// The statement of a fault, and its element.
+#[tactic(auto, unfolding(crate::specs::Texts::statement_end))]
+fn statement_end(alloc: Global, fault: &PolicyFault) -> Result<String, AllocError>
+    ensures { IfOk result (λ s. string_bytes s ≡ statement_end fault.now) }
+{
+    let end = element_end(alloc, &fault.element)?;
+    let statement = number_text(alloc, fault.statement)?;
+    let statement = statement.as_str();
+    let end = end.as_str();
+    format!(in alloc; ", statement {statement}{end}")
+}
+
+// The document of a fault, and what is behind it.
+#[tactic(auto, unfolding(crate::specs::Texts::document_end))]
+fn document_end(alloc: Global, fault: &PolicyFault) -> Result<String, AllocError>
+    ensures { IfOk result (λ s. string_bytes s ≡ document_end fault.now) }
+{
+    let end = statement_end(alloc, fault)?;
+    let document = number_text(alloc, fault.document)?;
+    let document = document.as_str();
+    let end = end.as_str();
+    format!(in alloc; ": document {document}{end}")
+}
+
+// A fault with its place.
+fn fault_text(alloc: Global, fault: &PolicyFault) -> Result<String, AllocError>
+    ensures { IfOk result (λ s. string_bytes s ≡ fault_text fault.now) }
+{
+    let code = code_word(fault.code);
+    let end = document_end(alloc, fault)?;
+    let end = end.as_str();
+    format!(in alloc; "{code}{end}")
+}
+
 // A request as one line of JSON (RFC 8259), its names in the order of their bytes.
 fn write_request(alloc: Global, request: &Request) -> Result<String, AllocError>
     ensures { IfOk result (λ s. string_bytes s ≡ request_text request.now) }
@@ -145,10 +207,11 @@ pub fn answer_text(alloc: Global, answer: &Answer) -> Result<String, AllocError>
             let role = role_word(*role);
             format!(in alloc; "refused: {role}: file longer than 1048576 bytes\n")
         }
-        Answer::Refused(role, code) => {
+        Answer::Refused(role, fault) => {
             let role = role_word(*role);
-            let code = code_word(*code);
-            format!(in alloc; "refused: {role}: {code}: document 0, statement 0, \"\"\n")
+            let fault = fault_text(alloc, fault)?;
+            let fault = fault.as_str();
+            format!(in alloc; "refused: {role}: {fault}\n")
         }
         Answer::TooManyTests => String::from_str(
             alloc,

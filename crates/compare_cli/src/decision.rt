@@ -1,7 +1,7 @@
 //! Compares two sets by the search.
 ghost use Rattle.std.specs.Prelude.{◌≡◌, ◌≤◌, IfOk};
+ghost use Rattle.policy_model.specs.Soundness.{IsSound};
 ghost use Rattle.compare_cli.specs.Decided.{IsComparison, IsQueried, answer_of};
-ghost use Rattle.compare_cli.specs.WordSets.{IsWordSet};
 
 use crate::answer::Answer;
 use policy_compile::{Query, QueryFault, query};
@@ -45,8 +45,8 @@ pub fn compare(
     second: &PolicySet,
     budgets: Budgets,
 ) -> Result<Answer, AllocError>
-    requires first_words { IsWordSet first.now }
-    requires second_words { IsWordSet second.now }
+    requires first_sound { IsSound first.now }
+    requires second_sound { IsSound second.now }
     requires splits { 1 ≤ budgets.splits }
     requires states { 1 ≤ budgets.states }
     ensures { IfOk result (IsComparison first.now second.now budgets) }

@@ -5,13 +5,13 @@
 mod answer;
 mod decision;
 mod files;
-mod reader;
 mod top;
 mod words;
 
 pub use answer::{Answer, Role};
-pub use reader::PolicyCode;
 pub use top::{Status, run};
 
+#[cfg(test)]
+mod small_sets;
 #[cfg(test)]
 mod tests;

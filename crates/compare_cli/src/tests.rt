@@ -140,38 +140,185 @@ fn a_request_is_written_as_json(rt: HostRuntime) -> Result<(), Fail> {
     )
 }
 
-const NOT_BUILT: &str = "refused: first: P0 NotBuilt: document 0, statement 0, \"\"\n";
-
 const NOT_JSON: &str = "refused: first: P1 NotJson: document 0, statement 0, \"\"\n";
 
-fn is_not_built(rt: &(impl Abort + AllocGlobal), first: &str) -> Result<(), Fail> {
-    compares(rt, first, X_Y, Status::Refused, NOT_BUILT)
+fn is_refused(rt: &(impl Abort + AllocGlobal), first: &str, text: &str) -> Result<(), Fail> {
+    compares(rt, first, X_Y, Status::Refused, text)
 }
 
 #[test]
-fn other_forms_are_not_built(rt: HostRuntime) -> Result<(), Fail> {
-    is_not_built(
+fn the_first_fault_of_a_file_is_named(rt: HostRuntime) -> Result<(), Fail> {
+    is_refused(
         &rt,
-        "{\"Statement\":{\"Effect\":\"Allow\",\"Action\":\"x\",\"Resource\":\"a${aws:username}\"}}",
+        "{\"Version\":\"2012-10-17\",\"Statement\":{\"Effect\":\"Allow\",\"Action\":\"*\",\"Resource\":\"arn:aws:s3:::b/${aws:username}\"}}",
+        "refused: first: P11 PolicyVariable: document 1, statement 1, \"Resource\"\n",
     )?;
-    is_not_built(
+    is_refused(
         &rt,
-        "{\"Statement\":{\"Effect\":\"allow\",\"Action\":\"x\",\"Resource\":\"y\"}}",
+        "{\"Statement\":[{\"Effect\":\"Allow\",\"Action\":\"x\",\"NotAction\":\"y\"},{\"Effect\":\"Allow\",\"Action\":\"x\",\"Condition\":{\"StringIs\":{}}}]}",
+        "refused: first: P6 BothElements: document 1, statement 1, \"Action\"\n",
     )?;
-    is_not_built(
+    is_refused(
         &rt,
-        "{\"Statement\":{\"Effect\":\"Allow\",\"Action\":[\"x\",1],\"Resource\":\"y\"}}",
+        "{\"Statement\":{\"Effect\":\"Allow\",\"Principal\":{\"AWS\":\"arn:aws:iam::111122223333:user/*\"},\"Action\":\"x\"}}",
+        "refused: first: P10 PrincipalWildcard: document 1, statement 1, \"Principal\"\n",
     )?;
-    is_not_built(
+    is_refused(
         &rt,
-        "{\"Statement\":{\"Effect\":\"Allow\",\"Action\":\"x\",\"Resource\":\"y\",\"Sid\":\"s\"}}",
+        "{\"Statement\":{\"Effect\":\"Allow\",\"Principal\":{\"Robot\":\"x\"},\"Action\":\"x\"}}",
+        "refused: first: P9 PrincipalKind: document 1, statement 1, \"Robot\"\n",
     )?;
-    is_not_built(&rt, "{\"Version\":\"2008-10-17\",\"Statement\":[]}")?;
-    is_not_built(&rt, "{\"Version\":\"2012-10-17\"}")?;
-    is_not_built(&rt, "{\"Id\":\"i\",\"Statement\":[]}")?;
-    is_not_built(&rt, "{\"Statement\":\"x\"}")?;
-    is_not_built(&rt, "[]")?;
-    is_not_built(&rt, "1")
+    is_refused(
+        &rt,
+        "[{\"Statement\":[]},{\"Statement\":[{\"Effect\":\"Deny\",\"Action\":[]},{\"Effect\":\"Allow\",\"Action\":\"x\",\"Condition\":{}}]}]",
+        "refused: first: P0 NotBuilt: document 2, statement 2, \"Condition\"\n",
+    )?;
+    is_refused(
+        &rt,
+        "{\"Grants\":[]}",
+        "refused: first: P5 MissingElement: document 0, statement 0, \"Guards\"\n",
+    )?;
+    is_refused(
+        &rt,
+        "{\"Grants\":[],\"Guards\":[],\"Version\":\"2012-10-17\"}",
+        "refused: first: P3 UnknownElement: document 0, statement 0, \"Version\"\n",
+    )?;
+    is_refused(
+        &rt,
+        "{\"Statement\":[],\"a\\\"\\u00e9\":1}",
+        "refused: first: P3 UnknownElement: document 1, statement 0, \"a\\\"\u{e9}\"\n",
+    )
+}
+
+#[test]
+fn too_many_documents_or_statements_are_refused(rt: HostRuntime) -> Result<(), Fail> {
+    let alloc = rt.alloc();
+    let documents = list_of(alloc, "{\"Statement\":[]}", 33)?;
+    is_refused(
+        &rt,
+        documents.as_str(),
+        "refused: first: P17 Limit: document 33, statement 0, \"\"\n",
+    )?;
+    let few = list_of(alloc, "{\"Statement\":[]}", 32)?;
+    compares(&rt, few.as_str(), few.as_str(), Status::Holds, NOT_MORE)?;
+    let statement = "{\"Effect\":\"Allow\",\"Action\":\"x\",\"Resource\":\"y\"}";
+    let statements = list_of(alloc, statement, 2001)?;
+    let statements = statements.as_str();
+    let document = format!(in alloc; "{{\"Statement\":{statements}}}")?;
+    is_refused(
+        &rt,
+        document.as_str(),
+        "refused: first: P17 Limit: document 1, statement 2001, \"Statement\"\n",
+    )
+}
+
+// A JSON list of so many of these values.
+fn list_of(alloc: Global, value: &str, count: usize) -> Result<String, Fail> {
+    let mut text = String::from_str(alloc, "[")?;
+    for i in 0..count {
+        if i > 0 {
+            text.push_str(",")?;
+        }
+        text.push_str(value)?;
+    }
+    text.push_str("]")?;
+    Ok(text)
+}
+
+const ACCOUNT: &str =
+    "{\"Statement\":{\"Effect\":\"Allow\",\"Principal\":{\"AWS\":\"111122223333\"},\"Action\":\"*\",\"Resource\":\"*\"}}";
+
+const ROOT: &str =
+    "{\"Statement\":{\"Effect\":\"Allow\",\"Principal\":{\"AWS\":\"arn:aws:iam::111122223333:root\"},\"Action\":\"*\",\"Resource\":\"*\"}}";
+
+const ANN: &str =
+    "{\"Statement\":{\"Effect\":\"Allow\",\"Principal\":{\"AWS\":\"arn:aws:iam::111122223333:user/ann\"},\"Action\":\"*\",\"Resource\":\"*\"}}";
+
+const SERVICES: &str =
+    "{\"Statement\":{\"Effect\":\"Allow\",\"Principal\":{\"Service\":\"*\"},\"Action\":\"*\",\"Resource\":\"*\"}}";
+
+const EVERYBODY: &str =
+    "{\"Statement\":{\"Effect\":\"Allow\",\"Principal\":{\"AWS\":\"*\"},\"Action\":\"*\",\"Resource\":\"*\"}}";
+
+const NOT_NOTHING: &str =
+    "{\"Statement\":{\"Effect\":\"Allow\",\"NotAction\":[],\"Resource\":\"*\"}}";
+
+const ANYTHING: &str = "{\"Statement\":{\"Effect\":\"Allow\",\"Action\":\"*\",\"Resource\":\"*\"}}";
+
+fn agree(rt: &(impl Abort + AllocGlobal), first: &str, second: &str) -> Result<(), Fail> {
+    compares(rt, first, second, Status::Holds, NOT_MORE)?;
+    compares(rt, second, first, Status::Holds, NOT_MORE)
+}
+
+#[test]
+fn principals_are_compared_by_kind_account_and_id(rt: HostRuntime) -> Result<(), Fail> {
+    agree(&rt, ACCOUNT, ROOT)?;
+    compares(&rt, ANN, ACCOUNT, Status::Holds, NOT_MORE)?;
+    compares(&rt, SERVICES, EVERYBODY, Status::Holds, NOT_MORE)?;
+    fails(&rt, ACCOUNT, ANN, "{\"AWS\":\"arn:")?;
+    fails(&rt, EVERYBODY, SERVICES, "{\"AWS\":")?;
+    agree(&rt, EVERYBODY, ANYTHING)
+}
+
+#[test]
+fn a_not_element_with_an_empty_list_matches_everything(rt: HostRuntime) -> Result<(), Fail> {
+    agree(&rt, NOT_NOTHING, ANYTHING)
+}
+
+// The first set allows a request that the second doesn't, and its principal is written so at its front.
+fn fails(
+    rt: &(impl Abort + AllocGlobal),
+    first: &str,
+    second: &str,
+    principal: &str,
+) -> Result<(), Fail> {
+    let alloc = rt.alloc();
+    let mut folder = MemoryFolder::new(alloc);
+    folder.hold("first", first.as_bytes())?;
+    folder.hold("second", second.as_bytes())?;
+    let mut sink = MemorySink::new(alloc, 1000, 7)?;
+    let words = words_of(alloc, &["compare", "first", "second"])?;
+    let answer = run(alloc, words.as_slice(), &mut folder, &mut sink);
+    assert_eq!(rt; answer, Status::Fails, "of {principal}");
+    let text = String::from_utf8_lossy(alloc, sink.written())?;
+    assert!(rt; text.contains(principal), "of {principal}");
+    Ok(())
+}
+
+const GUARDED: &str =
+    "{\"Grants\":[{\"Statement\":{\"Effect\":\"Allow\",\"Action\":\"*\",\"Resource\":\"*\"}}],\"Guards\":[[{\"Statement\":{\"Effect\":\"Allow\",\"Action\":\"s3:*\",\"Resource\":\"*\"}}]]}";
+
+const STORAGE: &str =
+    "{\"Statement\":{\"Effect\":\"Allow\",\"Action\":\"s3:*\",\"Resource\":\"*\"}}";
+
+const EMPTY_GUARD: &str =
+    "{\"Grants\":[{\"Statement\":{\"Effect\":\"Allow\",\"Action\":\"*\",\"Resource\":\"*\"}}],\"Guards\":[[]]}";
+
+const GUARD_DENIES: &str =
+    "{\"Grants\":[{\"Statement\":{\"Effect\":\"Allow\",\"Action\":\"s3:*\",\"Resource\":\"*\"}}],\"Guards\":[[{\"Statement\":[{\"Effect\":\"Allow\",\"Action\":\"*\",\"Resource\":\"*\"},{\"Effect\":\"Deny\",\"Action\":\"s3:Delete*\",\"Resource\":\"*\"}]}]]}";
+
+#[test]
+fn each_guard_has_to_allow_and_denies(rt: HostRuntime) -> Result<(), Fail> {
+    agree(&rt, GUARDED, STORAGE)?;
+    agree(&rt, EMPTY_GUARD, NOBODY)?;
+    compares(&rt, GUARD_DENIES, STORAGE, Status::Holds, NOT_MORE)?;
+    fails(&rt, STORAGE, GUARD_DENIES, "{\"Action\":\"s3:delete")
+}
+
+const OLD_VARIABLE: &str =
+    "{\"Version\":\"2008-10-17\",\"Statement\":{\"Effect\":\"Allow\",\"Action\":\"*\",\"Resource\":\"arn:aws:s3:::b/${aws:username}\"}}";
+
+const STAR: &str =
+    "{\"Version\":\"2012-10-17\",\"Statement\":{\"Effect\":\"Allow\",\"Action\":\"*\",\"Resource\":\"${*}\"}}";
+
+const ANY_ONE: &str =
+    "{\"Version\":\"2012-10-17\",\"Statement\":{\"Effect\":\"Allow\",\"Action\":\"*\",\"Resource\":\"?\"}}";
+
+#[test]
+fn escapes_stand_for_plain_characters_in_the_newer_version(rt: HostRuntime) -> Result<(), Fail> {
+    agree(&rt, OLD_VARIABLE, OLD_VARIABLE)?;
+    compares(&rt, STAR, ANY_ONE, Status::Holds, NOT_MORE)?;
+    fails(&rt, ANY_ONE, STAR, "\"Resource\":\"")
 }
 
 #[test]

@@ -10,9 +10,9 @@ ghost use Rattle.compare_cli.specs.Complete.{IsAccepted, IsDecided};
 use crate::answer::{Answer, Role, answer_text};
 use crate::decision::compare;
 use crate::files::read_file;
-use crate::reader::{PolicyAnswer, read_set};
 use crate::words::asked;
 use pol_outside::{Folder, Sink, TakeFault, put_all};
+use policy_json::{PolicyAnswer, read_set};
 use std::alloc::{AllocError, Global};
 use tree_search::Budgets;
 
@@ -52,12 +52,12 @@ fn verdict(
 {
     let one = match read_set(alloc, first) {
         Ok(set) => set,
-        Err(PolicyAnswer::Refused(code)) => return Ok(Answer::Refused(Role::First, code)),
+        Err(PolicyAnswer::Refused(fault)) => return Ok(Answer::Refused(Role::First, fault)),
         Err(PolicyAnswer::NoMemory) => return Err(AllocError),
     };
     let two = match read_set(alloc, second) {
         Ok(set) => set,
-        Err(PolicyAnswer::Refused(code)) => return Ok(Answer::Refused(Role::Second, code)),
+        Err(PolicyAnswer::Refused(fault)) => return Ok(Answer::Refused(Role::Second, fault)),
         Err(PolicyAnswer::NoMemory) => return Err(AllocError),
     };
     compare(alloc, &one, &two, budgets)

@@ -1,6 +1,7 @@
 -- Which principals an entry names (IAM JSON policy reference, Principal).
 use Rattle.std.specs.Prelude.{◌≡◌, ⊤, ℕ, List, [], ◌∷◌, ◌++◌, Bool, false, ◌==◌, Option, Some, None, codes, if◌then◌else◌, option_and_then}
 use Rattle.std.specs.List.{list_any}
+use Rattle.policy_model.specs.declared.principal.PrincipalKind.{PrincipalKind}
 use Rattle.policy_model.specs.declared.principal.PrincipalKind.TheVariants.{Aws}
 use Rattle.policy_model.specs.declared.principal.Entry.{Entry}
 use Rattle.policy_model.specs.declared.principal.Entry.TheVariants.{All, Kind, Account, Exact}
@@ -21,12 +22,16 @@ pub record IsOfAccount (account id : List ℕ) : Type 0 where
   pub plain_region : has_colon region ≡ false
   pub is : id ≡ codes "arn:" ++ (partition ++ 58 ∷ (service ++ 58 ∷ (region ++ 58 ∷ (account ++ 58 ∷ rest))))
 
+-- the principal of this kind and id is one of the entry
+abbrev pub EntryNames : PrincipalKind → List ℕ → Entry → Type 0
+EntryNames k t All = ⊤
+EntryNames k t (Kind kind) = k ≡ kind
+EntryNames k t (Account account) = (k ≡ Aws) × IsOfAccount account t
+EntryNames k t (Exact kind id) = (k ≡ kind) × (t ≡ id)
+
 -- the request's principal is one of the entry
 abbrev pub EntryHolds : Request → Entry → Type 0
-EntryHolds r All = ⊤
-EntryHolds r (Kind kind) = r.kind ≡ kind
-EntryHolds r (Account account) = (r.kind ≡ Aws) × IsOfAccount account r.id
-EntryHolds r (Exact kind id) = (r.kind ≡ kind) × (r.id ≡ id)
+EntryHolds r entry = EntryNames r.kind r.id entry
 
 -- what follows the first colon
 abbrev pub behind_colon : List ℕ → Option (List ℕ)

@@ -17,12 +17,12 @@ mod value;
 pub use context::Context;
 pub use matcher::Matcher;
 pub use plain_lists::{List, NoMemory};
-pub use principal::{Entry, EntryList, PrincipalKind, entry_holds};
+pub use principal::{Entry, EntryList, PrincipalKind, entry_holds, entry_names};
 pub use request::Request;
 pub use schema::{KeyRule, KeyRules, Schema, Shapes};
 pub use set::{
     Document, DocumentList, GuardList, PolicySet, Statement, StatementList, StatementName,
 };
 pub use test::{Slot, SlotList, Test, TestList, test_holds};
-pub use validity::valid;
+pub use validity::{shape_of, valid};
 pub use value::{Kind, Value, ValueList};

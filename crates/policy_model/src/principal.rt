@@ -1,6 +1,6 @@
 //! Principals of requests, and the entries of a policy that name them.
 ghost use Rattle.std.specs.Prelude.{◌≡◌, ◌↔◌, IfOk, IsTrue, option_map};
-ghost use Rattle.policy_model.specs.Principals.{EntryHolds, IsOfAccount, behind_colon, behind_prefix, account_test};
+ghost use Rattle.policy_model.specs.Principals.{EntryHolds, EntryNames, IsOfAccount, behind_colon, behind_prefix, account_test};
 
 use crate::request::Request;
 use plain_lists::{List, NoMemory};
@@ -105,16 +105,21 @@ fn is_of_account(account: &Text, id: &Text) -> bool
     account_test(account.as_slice(), id.as_slice())
 }
 
-/// Whether the request's principal is one of the entry.
-pub fn entry_holds(entry: &Entry, request: &Request) -> bool
-    ensures { IsTrue result ↔ EntryHolds request.now entry.now }
+/// Whether the principal of this kind and id is one of the entry. It takes no memory.
+pub fn entry_names(entry: &Entry, kind: PrincipalKind, id: &Text) -> bool
+    ensures { IsTrue result ↔ EntryNames kind id.now entry.now }
 {
     match entry {
         Entry::All => true,
-        Entry::Kind(kind) => request.kind == *kind,
-        Entry::Account(account) => {
-            request.kind == PrincipalKind::Aws && is_of_account(account, &request.id)
-        }
-        Entry::Exact(kind, id) => request.kind == *kind && request.id == *id,
+        Entry::Kind(named) => kind == *named,
+        Entry::Account(account) => kind == PrincipalKind::Aws && is_of_account(account, id),
+        Entry::Exact(named, own) => kind == *named && *id == *own,
     }
+}
+
+/// Whether the request's principal is one of the entry. It takes no memory.
+pub fn entry_holds(entry: &Entry, request: &Request) -> bool
+    ensures { IsTrue result ↔ EntryHolds request.now entry.now }
+{
+    entry_names(entry, request.kind, &request.id)
 }

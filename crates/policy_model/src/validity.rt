@@ -25,7 +25,8 @@ fn is_word(shape: &Option<Pattern>, text: &Text) -> bool
     !text.is_empty() && fits_shape(shape, text)
 }
 
-fn shape_of(shapes: &Shapes, kind: PrincipalKind) -> &Option<Pattern>
+/// The shape of the ids of this kind of principals, where one is given.
+pub fn shape_of(shapes: &Shapes, kind: PrincipalKind) -> &Option<Pattern>
     ensures { result.now ≡ shape_of shapes.now kind }
 {
     match kind {

@@ -11,9 +11,9 @@ use Rattle.policy_model.specs.declared.request.Request.{Request}
 use Rattle.policy_model.specs.declared.schema.Schema.{Schema}
 use Rattle.policy_model.specs.declared.test.Test.{Test}
 use Rattle.policy_model.specs.Requests.{IsValid}
+use Rattle.policy_model.specs.Soundness.{TestSuits}
 use Rattle.policy_model.specs.Tests.{TestHolds}
 use Rattle.slot_theory.specs.Possible.{AnswersPath}
-use Rattle.slot_theory.specs.Slots.{IsWordTest}
 use Rattle.slot_theory.proofs.Impossible.{impossible}
 use Rattle.refute_check.specs.Closing.{Closes}
 use Rattle.refute_check.specs.Laws.{AnswersAs, ClosedQueriesAreNo}
@@ -33,15 +33,15 @@ completes_more total path n b new is before m c here =
 answers_path : (tests : List Test) (r : Request) (total : ℕ → Bool) (path : Answers) → AnswersAs tests r total → Completes total path → AnswersPath tests path r
 answers_path tests r total path answers completes n b t answered is = subst (λ (x : Bool). MatchBool x (TestHolds r t) (¬ TestHolds r t)) (completes n b answered) (answers n t is)
 
-closed_is_no : (schema : Schema) (tests : List Test) (tree : Tree) → All IsWordTest tests → (r : Request) → IsValid schema r → (total : ℕ → Bool) → AnswersAs tests r total → holds total tree ≡ true → (p : Proof) (path : Answers) → Closes schema tests tree p path → Completes total path → ⊥
-closed_is_no schema tests tree words r valid total answers met (split n y z) path closes completes =
+closed_is_no : (schema : Schema) (tests : List Test) (tree : Tree) → All (TestSuits schema) tests → (r : Request) → IsValid schema r → (total : ℕ → Bool) → AnswersAs tests r total → holds total tree ≡ true → (p : Proof) (path : Answers) → Closes schema tests tree p path → Completes total path → ⊥
+closed_is_no schema tests tree suit r valid total answers met (split n y z) path closes completes =
     elim (cases_Bool (total n)) [
-      | inl e ↦ closed_is_no schema tests tree words r valid total answers met y (answered path n true) closes.1 (completes_more total path n true closes.0.1 e completes)
-      | inr e ↦ closed_is_no schema tests tree words r valid total answers met z (answered path n false) closes.2 (completes_more total path n false closes.0.1 e completes)
+      | inl e ↦ closed_is_no schema tests tree suit r valid total answers met y (answered path n true) closes.1 (completes_more total path n true closes.0.1 e completes)
+      | inr e ↦ closed_is_no schema tests tree suit r valid total answers met z (answered path n false) closes.2 (completes_more total path n false closes.0.1 e completes)
     ]
-closed_is_no schema tests tree words r valid total answers met by_value path closes completes = let refused = says-no path tree total completes closes in cc
-closed_is_no schema tests tree words r valid total answers met (by_slot core proof) path closes completes =
-    impossible schema tests path core proof words closes (record { request = r; valid = valid; answers = answers_path tests r total path answers completes })
+closed_is_no schema tests tree suit r valid total answers met by_value path closes completes = let refused = says-no path tree total completes closes in cc
+closed_is_no schema tests tree suit r valid total answers met (by_slot core proof) path closes completes =
+    impossible schema tests path core proof suit closes (record { request = r; valid = valid; answers = answers_path tests r total path answers completes })
 
 pub queries_are_no : ClosedQueriesAreNo
-queries_are_no schema tests tree proof words closes r valid (total, answers, met) = closed_is_no schema tests tree words r valid total answers met proof [] closes (λ n b none. absurd (cc))
+queries_are_no schema tests tree proof suit closes r valid (total, answers, met) = closed_is_no schema tests tree suit r valid total answers met proof [] closes (λ n b none. absurd (cc))

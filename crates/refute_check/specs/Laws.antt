@@ -6,8 +6,8 @@ use Rattle.policy_model.specs.declared.request.Request.{Request}
 use Rattle.policy_model.specs.declared.schema.Schema.{Schema}
 use Rattle.policy_model.specs.declared.test.Test.{Test}
 use Rattle.policy_model.specs.Requests.{IsValid}
+use Rattle.policy_model.specs.Soundness.{TestSuits}
 use Rattle.policy_model.specs.Tests.{TestHolds}
-use Rattle.slot_theory.specs.Slots.{IsWordTest}
 use Rattle.refute_check.specs.Closing.{Closes}
 use Rattle.refute_check.specs.Proofs.{Proof}
 
@@ -19,6 +19,7 @@ AnswersAs tests r total = (n : ℕ) (t : Test) → slice_get tests n ≡ Some t 
 abbrev pub MakesYes : List Test → Tree → Request → Type 0
 MakesYes tests tree r = (total : ℕ → Bool) × AnswersAs tests r total × (holds total tree ≡ true)
 
--- where a refutation closes the query under the empty path, no valid request makes the query yes, whoever wrote it
+-- where the tests suit the schema and a refutation closes the query under the empty path, no valid request makes the query yes,
+-- whoever wrote it
 abbrev pub ClosedQueriesAreNo : Type 0
-ClosedQueriesAreNo = (schema : Schema) (tests : List Test) (tree : Tree) (proof : Proof) → All IsWordTest tests → Closes schema tests tree proof [] → (r : Request) → IsValid schema r → MakesYes tests tree r → ⊥
+ClosedQueriesAreNo = (schema : Schema) (tests : List Test) (tree : Tree) (proof : Proof) → All (TestSuits schema) tests → Closes schema tests tree proof [] → (r : Request) → IsValid schema r → MakesYes tests tree r → ⊥

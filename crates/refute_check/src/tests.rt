@@ -1,13 +1,15 @@
 ghost use Rattle.std.specs.Prelude.{◌≡◌, ◌∷◌, ◌<◌, ◌^◌, ◌+◌, [], List, IfOk};
 ghost use Rattle.wildcard_lang.specs.declared.piece.Piece.{Piece};
-ghost use Rattle.policy_model.specs.declared.test.Test.TheVariants.{Action};
+ghost use Rattle.policy_model.specs.declared.principal.Entry.TheVariants.{All as Everyone, Kind};
+ghost use Rattle.policy_model.specs.declared.principal.PrincipalKind.TheVariants.{Aws, Service};
+ghost use Rattle.policy_model.specs.declared.test.Test.TheVariants.{Action, Principal};
 ghost use Rattle.refute_check.specs.Proofs.{proof_of, size};
 
 use crate::{Refutation, Verdict, check, closed_queries_are_no};
 use formula_tree::{Branches, Formula, Path};
 use policy_compile::Query;
-use policy_model::{Schema, Slot, Test, TestList};
-use slot_theory::{Core, Possible, SlotProof, possible};
+use policy_model::{Entry, PrincipalKind, Schema, Slot, Test, TestList};
+use slot_theory::{Core, KindProof, Possible, SlotProof, possible};
 use std::alloc::Global;
 use std::process::Abort;
 use std::rc::Rc;
@@ -27,10 +29,10 @@ fn tests_of(alloc: Global) -> Result<TestList, Fail>
 }
 
 // Both tests hold.
-fn both(alloc: Global) -> Result<Rc<Formula>, Fail> {
+fn both(alloc: Global, first: u32, second: u32) -> Result<Rc<Formula>, Fail> {
     let mut branches = Branches::new(alloc);
-    branches.push(Rc::new(alloc, Formula::Test(0))?)?;
-    branches.push(Rc::new(alloc, Formula::Test(1))?)?;
+    branches.push(Rc::new(alloc, Formula::Test(first))?)?;
+    branches.push(Rc::new(alloc, Formula::Test(second))?)?;
     Ok(Rc::new(alloc, Formula::All(branches))?)
 }
 
@@ -85,7 +87,7 @@ fn answers(
 {
     let alloc = rt.alloc();
     let query = Query {
-        formula: both(alloc)?,
+        formula: both(alloc, 0, 1)?,
         tests: tests_of(alloc)?,
     };
     assert_eq!(rt;
@@ -131,4 +133,75 @@ fn failing_nodes(rt: HostRuntime) -> Result<(), Fail> {
     answers(&rt, &*twice, Verdict::Fails { node: 4 })?;
     let same = split(alloc, 0, &one, &one)?;
     answers(&rt, &*same, Verdict::Fails { node: 5 })
+}
+
+// The tests that the principal is any, that it is an `AWS` one, and that it is a service.
+fn principal_tests(alloc: Global) -> Result<TestList, Fail>
+    ensures { IfOk result (λ v. v ≡ Principal Everyone ∷ Principal (Kind Aws) ∷ Principal (Kind Service) ∷ []) }
+{
+    let mut tests = TestList::new(alloc);
+    tests.push(Test::Principal(Entry::All))?;
+    tests.push(Test::Principal(Entry::Kind(PrincipalKind::Aws)))?;
+    tests.push(Test::Principal(Entry::Kind(PrincipalKind::Service)))?;
+    Ok(tests)
+}
+
+// The core contradicts what its tests answer to each kind.
+fn of_kinds(alloc: Global, core: &[u32]) -> Result<Shared, Fail>
+    ensures { IfOk result (λ r. size (proof_of r.value) ≡ 1) }
+{
+    let core = Core::from_vec(Vec::from_slice(alloc, core)?);
+    let proof = SlotProof::Kinds(
+        KindProof::Never,
+        KindProof::Never,
+        KindProof::Never,
+        KindProof::Never,
+    );
+    of_slot(alloc, core, proof)
+}
+
+// What the check of a query on principals answers.
+fn refutes(
+    rt: &(impl Abort + AllocGlobal),
+    formula: Rc<Formula>,
+    refutation: &Refutation,
+    verdict: Verdict,
+) -> Result<(), Fail>
+    requires { size (proof_of refutation.now) < 2 ^ 32 }
+{
+    let alloc = rt.alloc();
+    let query = Query {
+        formula,
+        tests: principal_tests(alloc)?,
+    };
+    assert_eq!(rt;
+        check(alloc, &Schema::new(alloc), &query, refutation)?,
+        verdict
+    );
+    Ok(())
+}
+
+// The test doesn't hold.
+fn not(alloc: Global, test: u32) -> Result<Rc<Formula>, Fail> {
+    Ok(Rc::new(alloc, Formula::Not(Rc::new(alloc, Formula::Test(test))?))?)
+}
+
+#[test]
+fn principals_of_each_kind(rt: HostRuntime) -> Result<(), Fail> {
+    let alloc = rt.alloc();
+    let value = no_value(alloc)?;
+    // Each principal is any.
+    let any = split(alloc, 0, &value, &of_kinds(alloc, &[0])?)?;
+    refutes(&rt, not(alloc, 0)?, &*any, Verdict::Closes)?;
+    // Some aren't `AWS` ones.
+    let aws = split(alloc, 1, &value, &of_kinds(alloc, &[1])?)?;
+    refutes(&rt, not(alloc, 1)?, &*aws, Verdict::Fails { node: 2 })?;
+    // None is an `AWS` one and a service.
+    let service = split(alloc, 2, &of_kinds(alloc, &[1, 2])?, &value)?;
+    let kinds = split(alloc, 1, &service, &value)?;
+    refutes(&rt, both(alloc, 1, 2)?, &*kinds, Verdict::Closes)?;
+    // Some are services.
+    let one = split(alloc, 2, &of_kinds(alloc, &[2])?, &value)?;
+    let fewer = split(alloc, 1, &one, &value)?;
+    refutes(&rt, both(alloc, 1, 2)?, &*fewer, Verdict::Fails { node: 2 })
 }

@@ -3,8 +3,8 @@ ghost use Rattle.std.specs.Prelude.{◌≡◌, ◌<◌, ◌^◌, ◌↔◌, None
 ghost use Rattle.formula_tree.specs.Trees.{tree_of};
 ghost use Rattle.formula_tree.specs.Answers.{answer_of};
 ghost use Rattle.formula_tree.specs.Runs.{answered};
+ghost use Rattle.policy_model.specs.Soundness.{TestSuits};
 ghost use Rattle.slot_theory.specs.Possible.{InRange};
-ghost use Rattle.slot_theory.specs.Slots.{IsWordTest};
 ghost use Rattle.refute_check.specs.Proofs.{proof_of, size};
 ghost use Rattle.refute_check.specs.Verdicts.{IsVerdict};
 ghost use Rattle.refute_check.specs.Walks.{IsWalked};
@@ -50,7 +50,7 @@ fn walk(
     part: &Refutation,
     path: &mut Path,
 ) -> Result<Walked, NoMemory>
-    requires words { All IsWordTest query.now.tests }
+    requires suit { All (TestSuits schema.now) query.now.tests }
     requires count { length query.now.tests < 2 ^ 32 }
     requires range { InRange query.now.tests path.old }
     requires nodes { size (proof_of part.now) < 2 ^ 32 }
@@ -102,7 +102,7 @@ pub fn check(
     query: &Query,
     refutation: &Refutation,
 ) -> Result<Verdict, NoMemory>
-    requires words { All IsWordTest query.now.tests }
+    requires suit { All (TestSuits schema.now) query.now.tests }
     requires count { length query.now.tests < 2 ^ 32 }
     requires nodes { size (proof_of refutation.now) < 2 ^ 32 }
     ensures { IfOk result (IsVerdict schema.now query.now.tests (tree_of query.now.formula.value) (proof_of refutation.now)) }

@@ -1,12 +1,10 @@
--- A request joined from slot values is valid and answers the path.
-use Rattle.std.proofs.Common.{◌≡◌, ◌≢◌, ℕ, ◌+◌, ◌<◌, Bool, List, [], ◌∷◌, length, get_or, slice_get, slice_index_or, Option, Some, None, All, MatchBool, codes, refl, sym, ap, ◌∙◌, subst, zero, suc, arith, inl, inr, ◌⊎◌, IsSome}
+-- The request that is joined from slot values is valid and answers the path.
+use Rattle.std.proofs.Common.{◌≡◌, ◌≢◌, ℕ, zero, suc, Bool, List, [], ◌∷◌, slice_get, Some, None, All, Contains, MatchBool, refl, sym, ap, subst, inl, inr, ◌⊎◌, arith}
 use Rattle.std.specs.List.{Any}
-use Rattle.std.proofs.lemmas.List.Elements.{All-head, All-tail}
+use Rattle.std.proofs.lemmas.List.Elements.{All-nil, All-cons, All-head, All-tail, All-contains}
 use Rattle.formula_tree.specs.Answers.{Answers, answer_of}
-use Rattle.wildcard_lang.specs.declared.piece.Piece.{Piece}
-use Rattle.wildcard_lang.specs.Matching.{Matches}
+use Rattle.policy_model.specs.declared.principal.PrincipalKind.{PrincipalKind}
 use Rattle.policy_model.specs.declared.principal.PrincipalKind.TheVariants.{Aws}
-use Rattle.policy_model.specs.declared.request.Request.{Request}
 use Rattle.policy_model.specs.declared.schema.Schema.{Schema}
 use Rattle.policy_model.specs.declared.schema.Shapes.{Shapes}
 use Rattle.policy_model.specs.declared.test.Slot.{Slot}
@@ -14,151 +12,174 @@ use Rattle.policy_model.specs.declared.test.Slot.TheVariants as slot
 use Rattle.policy_model.specs.declared.test.Test.{Test}
 use Rattle.policy_model.specs.declared.test.Test.TheVariants.{Principal, Action, Resource}
 use Rattle.policy_model.specs.declared.value.Value.{Value}
-use Rattle.policy_model.specs.Keys.{no_shapes}
 use Rattle.text_table.specs.Table.{Entries}
-use Rattle.policy_model.specs.Requests.{IsValid, IsWord}
+use Rattle.policy_model.specs.Requests.{EntryIsValid, IsThere, IsValid, IsWord}
 use Rattle.policy_model.specs.Tests.{TestHolds}
 use Rattle.slot_theory.specs.declared.outcome.SlotValue.{SlotValue}
 use Rattle.slot_theory.specs.declared.outcome.SlotValue.TheVariants as value
-use Rattle.slot_theory.specs.Cores.{HasTest, IsAnsweredOn, test_at}
-use Rattle.slot_theory.specs.Slots.{AnswersSlot, IsWordTest, Permits, ValueMeets, pattern_of, slot_of}
-use Rattle.slot_theory.specs.Possible.{AnswersPath, InRange}
+use Rattle.slot_theory.specs.Cores.{HasTest}
+use Rattle.slot_theory.specs.Slots.{AnswersSlot, Permits, slot_of}
+use Rattle.slot_theory.specs.Possible.{AnswersPath, IsPossible}
+use Rattle.slot_theory.proofs.Wording.{at-test}
 use Rattle.request_build.specs.Built.{AreSlotValues, IsPlainSchema, IsSlotValue}
-use Rattle.request_build.specs.Words.{action_in, action_or, resource_in, resource_or, stated_word, word_or}
+use Rattle.request_build.specs.Taken.{action_in, action_or, joined, principal_in, principal_or, resource_in, resource_or, stated_word}
 
--- ---- the words are words
+abbrev Values : Type 0
+Values = List (Slot × SlotValue)
 
-stated_is_word : IsWord None stated_word
-stated_is_word = record { text = refl; some = λ bad. cc; fits = tt }
+-- ---- the tests that a path answers
 
-action_word : (schema : Schema) (tests : List Test) (path : Answers) (s : Slot) (v : SlotValue) (rest : List ℕ) → schema.shapes ≡ no_shapes → Permits schema s v → IsWord None rest → IsWord None (action_or s v rest)
-action_word schema tests path slot.Action (value.Word t) rest plain permitted rest_is = subst (λ (x : Shapes). IsWord x.action t) plain permitted
-action_word schema tests path slot.Action (value.Principal kind id) rest plain permitted rest_is = rest_is
-action_word schema tests path slot.Principal v rest plain permitted rest_is = rest_is
-action_word schema tests path slot.Resource v rest plain permitted rest_is = rest_is
-action_word schema tests path (slot.Key name) v rest plain permitted rest_is = rest_is
+-- the path answers a test of the slot of each test that it answers
+pub asked-by : (tests : List Test) (path : Answers) (n : ℕ) (b : Bool) (t : Test) → answer_of path n ≡ Some b → slice_get tests n ≡ Some t → HasTest tests path (slot_of t)
+asked-by tests path n b t answered at = record { number = n; is = record { answered = rw answered refl; on_slot = ap slot_of (at-test tests n t at) } }
 
-resource_word : (schema : Schema) (tests : List Test) (path : Answers) (s : Slot) (v : SlotValue) (rest : List ℕ) → schema.shapes ≡ no_shapes → Permits schema s v → IsWord None rest → IsWord None (resource_or s v rest)
-resource_word schema tests path slot.Resource (value.Word t) rest plain permitted rest_is = subst (λ (x : Shapes). IsWord x.resource t) plain permitted
-resource_word schema tests path slot.Resource (value.Principal kind id) rest plain permitted rest_is = rest_is
-resource_word schema tests path slot.Principal v rest plain permitted rest_is = rest_is
-resource_word schema tests path slot.Action v rest plain permitted rest_is = rest_is
-resource_word schema tests path (slot.Key name) v rest plain permitted rest_is = rest_is
+-- ---- what is taken for a slot
 
-pub action_is_word : (schema : Schema) (tests : List Test) (path : Answers) (values : List (Slot × SlotValue)) → schema.shapes ≡ no_shapes → All (IsSlotValue schema tests path) values → IsWord None (action_in values)
-action_is_word schema tests path [] plain each = stated_is_word
-action_is_word schema tests path (p ∷ ps) plain each =
-    let here : IsSlotValue schema tests path p = All-head (IsSlotValue schema tests path) p ps each in
-    action_word schema tests path p.0 p.1 (action_in ps) plain here.0 (action_is_word schema tests path ps plain (All-tail (IsSlotValue schema tests path) p ps each))
+-- the value of the slot among these, or the stated one where the slot has none
+abbrev IsTaken : Values → Slot → SlotValue → SlotValue → Type 0
+IsTaken values s stated v = Contains values (s, v) ⊎ ((v ≡ stated) × All (λ (p : Slot × SlotValue). p.0 ≢ s) values)
 
-pub resource_is_word : (schema : Schema) (tests : List Test) (path : Answers) (values : List (Slot × SlotValue)) → schema.shapes ≡ no_shapes → All (IsSlotValue schema tests path) values → IsWord None (resource_in values)
-resource_is_word schema tests path [] plain each = stated_is_word
-resource_is_word schema tests path (p ∷ ps) plain each =
-    let here : IsSlotValue schema tests path p = All-head (IsSlotValue schema tests path) p ps each in
-    resource_word schema tests path p.0 p.1 (resource_in ps) plain here.0 (resource_is_word schema tests path ps plain (All-tail (IsSlotValue schema tests path) p ps each))
+taken-first : (s : Slot) (stated v : SlotValue) (ps : Values) → IsTaken ((s, v) ∷ ps) s stated v
+taken-first s stated v ps = inl (zero, omega arith, refl)
 
-pub joined_is_valid : (schema : Schema) (tests : List Test) (path : Answers) (values : List (Slot × SlotValue)) (id action resource : List ℕ) (context : Entries (List Value)) → IsPlainSchema schema → All (IsSlotValue schema tests path) values → id ≡ stated_word → action ≡ action_in values → resource ≡ resource_in values → context ≡ [] → IsValid schema (record { kind = Aws; id = id; action = action; resource = resource; context = context })
-joined_is_valid schema tests path values id action resource context plain each id_is action_is resource_is context_is = record {
-  words = record {
-    id = subst (λ (x : Shapes). IsWord x.aws id) (sym plain.shapes) (subst (λ (w : List ℕ). IsWord None w) (sym id_is) stated_is_word);
-    action = subst (λ (x : Shapes). IsWord x.action action) (sym plain.shapes) (subst (λ (w : List ℕ). IsWord None w) (sym action_is) (action_is_word schema tests path values plain.shapes each));
-    resource = subst (λ (x : Shapes). IsWord x.resource resource) (sym plain.shapes) (subst (λ (w : List ℕ). IsWord None w) (sym resource_is) (resource_is_word schema tests path values plain.shapes each));
-  };
-  keys = record {
-    each = λ k d lt. absurd (let none : k < 0 = subst (λ n. k < n) (ap length context_is) lt in omega arith);
-    required = λ k d lt. absurd (let none : k < 0 = subst (λ n. k < n) (ap length plain.keys) lt in omega arith);
-  };
-}
+taken-later : (s other : Slot) (stated v u : SlotValue) (ps : Values) → other ≢ s → IsTaken ps s stated v → IsTaken ((other, u) ∷ ps) s stated v
+taken-later s other stated v u ps differs (inl among) = inl (suc among.0, omega (arith, among.1), among.2)
+taken-later s other stated v u ps differs (inr (same, none)) = inr (same, All-cons (λ (p : Slot × SlotValue). p.0 ≢ s) (other, u) ps differs none)
 
--- ---- the words answer the path
+taken-none : (s : Slot) (stated : SlotValue) → IsTaken [] s stated stated
+taken-none s stated = inr (refl, All-nil (λ (p : Slot × SlotValue). p.0 ≢ s))
 
--- the test of a number, read in two ways
-test_of : (tests : List Test) (n : ℕ) (t : Test) → slice_get tests n ≡ Some t → test_at tests n ≡ t
-test_of [] n t is = absurd (cc)
-test_of (x ∷ xs) zero t is = cc
-test_of (x ∷ xs) (suc n) t is = test_of xs n t is
+-- ---- what is taken for each slot
 
-answered_some : (o : Option Bool) (b : Bool) → o ≡ Some b → IsSome o
-answered_some o b is = subst (λ (x : Option Bool). IsSome x) (sym is) refl
+abbrev principal_of : PrincipalKind × List ℕ → SlotValue
+principal_of p = value.Principal p.0 p.1
 
-has_test : (tests : List Test) (path : Answers) (n : ℕ) (b : Bool) (t : Test) → answer_of path n ≡ Some b → slice_get tests n ≡ Some t → HasTest tests path (slot_of t)
-has_test tests path n b t answered is = record { number = n; is = record { answered = answered_some (answer_of path n) b answered; on_slot = ap slot_of (test_of tests n t is) } }
+module _ (schema : Schema) (tests : List Test) (path : Answers) where
+  abbrev Each : Values → Type 0
+  Each values = All (IsSlotValue schema tests path) values
 
--- a word that the schema permits in the slot and that answers its tests
-record Answering (schema : Schema) (tests : List Test) (path : Answers) (s : Slot) (w : List ℕ) : Type 0 where
-  permits : Permits schema s (value.Word w)
-  answers : AnswersSlot tests path s (value.Word w)
+  principal-step : (s : Slot) (v stated : SlotValue) (ps : Values) (rest : PrincipalKind × List ℕ) → Permits schema s v → IsTaken ps slot.Principal stated (principal_of rest) → IsTaken ((s, v) ∷ ps) slot.Principal stated (principal_of (principal_or s v rest))
+  principal-step slot.Principal (value.Principal kind id) stated ps rest h taken = taken-first slot.Principal stated (value.Principal kind id) ps
+  principal-step slot.Principal (value.Word t) stated ps rest h taken = absurd h
+  principal-step slot.Action v stated ps rest h taken = taken-later slot.Principal slot.Action stated (principal_of rest) v ps (λ e. absurd (cc)) taken
+  principal-step slot.Resource v stated ps rest h taken = taken-later slot.Principal slot.Resource stated (principal_of rest) v ps (λ e. absurd (cc)) taken
+  principal-step (slot.Key name) v stated ps rest h taken = absurd h
 
-not_first : (wanted s : Slot) (v : SlotValue) (ps : List (Slot × SlotValue)) → (s ≡ wanted → ⊥) → Any (λ q. q.0 ≡ wanted) ((s, v) ∷ ps) → Any (λ q. q.0 ≡ wanted) ps
-not_first wanted s v ps other (zero, x, lt, at, e) = absurd (other (ap (λ (q : Slot × SlotValue). q.0) at ∙ e))
-not_first wanted s v ps other (suc k, x, lt, at, e) = (k, x, omega arith, at, e)
+  action-step : (s : Slot) (v stated : SlotValue) (ps : Values) (rest : List ℕ) → Permits schema s v → IsTaken ps slot.Action stated (value.Word rest) → IsTaken ((s, v) ∷ ps) slot.Action stated (value.Word (action_or s v rest))
+  action-step slot.Action (value.Word t) stated ps rest h taken = taken-first slot.Action stated (value.Word t) ps
+  action-step slot.Action (value.Principal kind id) stated ps rest h taken = absurd h
+  action-step slot.Principal v stated ps rest h taken = taken-later slot.Action slot.Principal stated (value.Word rest) v ps (λ e. absurd (cc)) taken
+  action-step slot.Resource v stated ps rest h taken = taken-later slot.Action slot.Resource stated (value.Word rest) v ps (λ e. absurd (cc)) taken
+  action-step (slot.Key name) v stated ps rest h taken = absurd h
 
-action_from : (schema : Schema) (tests : List Test) (path : Answers) (s : Slot) (v : SlotValue) (ps : List (Slot × SlotValue)) → IsSlotValue schema tests path (s, v) → (Any (λ q. q.0 ≡ slot.Action) ps → Answering schema tests path slot.Action (action_in ps)) → Any (λ q. q.0 ≡ slot.Action) ((s, v) ∷ ps) → Answering schema tests path slot.Action (action_or s v (action_in ps))
-action_from schema tests path slot.Action (value.Word t) ps here later any = record { permits = here.0; answers = here.1 }
-action_from schema tests path slot.Action (value.Principal kind id) ps here later any = absurd here.0
-action_from schema tests path slot.Principal v ps here later any = later (not_first slot.Action slot.Principal v ps (λ e. cc) any)
-action_from schema tests path slot.Resource v ps here later any = later (not_first slot.Action slot.Resource v ps (λ e. cc) any)
-action_from schema tests path (slot.Key name) v ps here later any = absurd here.0
+  resource-step : (s : Slot) (v stated : SlotValue) (ps : Values) (rest : List ℕ) → Permits schema s v → IsTaken ps slot.Resource stated (value.Word rest) → IsTaken ((s, v) ∷ ps) slot.Resource stated (value.Word (resource_or s v rest))
+  resource-step slot.Resource (value.Word t) stated ps rest h taken = taken-first slot.Resource stated (value.Word t) ps
+  resource-step slot.Resource (value.Principal kind id) stated ps rest h taken = absurd h
+  resource-step slot.Principal v stated ps rest h taken = taken-later slot.Resource slot.Principal stated (value.Word rest) v ps (λ e. absurd (cc)) taken
+  resource-step slot.Action v stated ps rest h taken = taken-later slot.Resource slot.Action stated (value.Word rest) v ps (λ e. absurd (cc)) taken
+  resource-step (slot.Key name) v stated ps rest h taken = absurd h
 
-resource_from : (schema : Schema) (tests : List Test) (path : Answers) (s : Slot) (v : SlotValue) (ps : List (Slot × SlotValue)) → IsSlotValue schema tests path (s, v) → (Any (λ q. q.0 ≡ slot.Resource) ps → Answering schema tests path slot.Resource (resource_in ps)) → Any (λ q. q.0 ≡ slot.Resource) ((s, v) ∷ ps) → Answering schema tests path slot.Resource (resource_or s v (resource_in ps))
-resource_from schema tests path slot.Resource (value.Word t) ps here later any = record { permits = here.0; answers = here.1 }
-resource_from schema tests path slot.Resource (value.Principal kind id) ps here later any = absurd here.0
-resource_from schema tests path slot.Principal v ps here later any = later (not_first slot.Resource slot.Principal v ps (λ e. cc) any)
-resource_from schema tests path slot.Action v ps here later any = later (not_first slot.Resource slot.Action v ps (λ e. cc) any)
-resource_from schema tests path (slot.Key name) v ps here later any = absurd here.0
+  principal-taken : (values : Values) → Each values → IsTaken values slot.Principal (value.Principal Aws stated_word) (principal_of (principal_in values))
+  principal-taken [] each = taken-none slot.Principal (value.Principal Aws stated_word)
+  principal-taken (p ∷ ps) each =
+      let here : IsSlotValue schema tests path p = All-head (IsSlotValue schema tests path) p ps each in
+      principal-step p.0 p.1 (value.Principal Aws stated_word) ps (principal_in ps) here.0 (principal-taken ps (All-tail (IsSlotValue schema tests path) p ps each))
 
-none_there : (wanted : Slot) → Any (λ (q : Slot × SlotValue). q.0 ≡ wanted) [] → ⊥
-none_there wanted (k, x, lt, at, e) = omega arith
+  action-taken : (values : Values) → Each values → IsTaken values slot.Action (value.Word stated_word) (value.Word (action_in values))
+  action-taken [] each = taken-none slot.Action (value.Word stated_word)
+  action-taken (p ∷ ps) each =
+      let here : IsSlotValue schema tests path p = All-head (IsSlotValue schema tests path) p ps each in
+      action-step p.0 p.1 (value.Word stated_word) ps (action_in ps) here.0 (action-taken ps (All-tail (IsSlotValue schema tests path) p ps each))
 
-action_answers : (schema : Schema) (tests : List Test) (path : Answers) (values : List (Slot × SlotValue)) → All (IsSlotValue schema tests path) values → Any (λ q. q.0 ≡ slot.Action) values → Answering schema tests path slot.Action (action_in values)
-action_answers schema tests path [] each any = absurd (none_there slot.Action any)
-action_answers schema tests path (p ∷ ps) each any =
-    action_from schema tests path p.0 p.1 ps (All-head (IsSlotValue schema tests path) p ps each) (action_answers schema tests path ps (All-tail (IsSlotValue schema tests path) p ps each)) any
+  resource-taken : (values : Values) → Each values → IsTaken values slot.Resource (value.Word stated_word) (value.Word (resource_in values))
+  resource-taken [] each = taken-none slot.Resource (value.Word stated_word)
+  resource-taken (p ∷ ps) each =
+      let here : IsSlotValue schema tests path p = All-head (IsSlotValue schema tests path) p ps each in
+      resource-step p.0 p.1 (value.Word stated_word) ps (resource_in ps) here.0 (resource-taken ps (All-tail (IsSlotValue schema tests path) p ps each))
 
-resource_answers : (schema : Schema) (tests : List Test) (path : Answers) (values : List (Slot × SlotValue)) → All (IsSlotValue schema tests path) values → Any (λ q. q.0 ≡ slot.Resource) values → Answering schema tests path slot.Resource (resource_in values)
-resource_answers schema tests path [] each any = absurd (none_there slot.Resource any)
-resource_answers schema tests path (p ∷ ps) each any =
-    resource_from schema tests path p.0 p.1 ps (All-head (IsSlotValue schema tests path) p ps each) (resource_answers schema tests path ps (All-tail (IsSlotValue schema tests path) p ps each)) any
+  -- ---- what is taken is permitted, answers the slot's tests, and is the stated value where the slot has none
 
--- the test at a number is on a word
-word_test : (tests : List Test) (n : ℕ) (t : Test) → All IsWordTest tests → slice_get tests n ≡ Some t → IsWordTest t
-word_test [] n t words is = absurd (cc)
-word_test (x ∷ xs) zero t words is = let same : x ≡ t = cc in subst IsWordTest same (All-head IsWordTest x xs words)
-word_test (x ∷ xs) (suc n) t words is = word_test xs n t (All-tail IsWordTest x xs words) is
+  taken-permits : (values : Values) (s : Slot) (stated v : SlotValue) → Each values → Permits schema s stated → IsTaken values s stated v → Permits schema s v
+  taken-permits values s stated v each h (inl among) = (All-contains (IsSlotValue schema tests path) values (s, v) each among).0
+  taken-permits values s stated v each h (inr (same, none)) = subst (λ (u : SlotValue). Permits schema s u) (sym same) h
 
-test_answered : (schema : Schema) (tests : List Test) (path : Answers) (values : List (Slot × SlotValue)) (r : Request) → AreSlotValues schema tests path values → r.action ≡ action_in values → r.resource ≡ resource_in values → (n : ℕ) (b : Bool) (t : Test) → IsWordTest t → answer_of path n ≡ Some b → slice_get tests n ≡ Some t → MatchBool b (TestHolds r t) (¬ TestHolds r t)
-test_answered schema tests path values r are action resource n b (Principal entry) word answered is = absurd word
-test_answered schema tests path values r are action resource n b (Action p) word answered is =
-    let found = action_answers schema tests path values are.each (are.there slot.Action (has_test tests path n b (Action p) answered is)) in
-    subst (λ (w : List ℕ). MatchBool b (Matches p w) (¬ Matches p w)) (sym action) (found.answers n b (Action p) answered is refl)
-test_answered schema tests path values r are action resource n b (Resource p) word answered is =
-    let found = resource_answers schema tests path values are.each (are.there slot.Resource (has_test tests path n b (Resource p) answered is)) in
-    subst (λ (w : List ℕ). MatchBool b (Matches p w) (¬ Matches p w)) (sym resource) (found.answers n b (Resource p) answered is refl)
+  none-there : (values : Values) (s : Slot) → All (λ (p : Slot × SlotValue). p.0 ≢ s) values → Any (λ (p : Slot × SlotValue). p.0 ≡ s) values → ⊥
+  none-there values s none (k, p, within, at, same) = All-contains (λ (q : Slot × SlotValue). q.0 ≢ s) values p none (k, within, at) same
 
-pub joined_answers : (schema : Schema) (tests : List Test) (path : Answers) (values : List (Slot × SlotValue)) (r : Request) → All IsWordTest tests → AreSlotValues schema tests path values → r.action ≡ action_in values → r.resource ≡ resource_in values → AnswersPath tests path r
-joined_answers schema tests path values r words are action resource n b t answered is =
-    test_answered schema tests path values r are action resource n b t (word_test tests n t words is) answered is
+  taken-answers : (values : Values) (s : Slot) (stated v : SlotValue) → AreSlotValues schema tests path values → IsTaken values s stated v → HasTest tests path s → AnswersSlot tests path s v
+  taken-answers values s stated v are (inl among) asked = (All-contains (IsSlotValue schema tests path) values (s, v) are.each among).1
+  taken-answers values s stated v are (inr (same, none)) asked = absurd (none-there values s none (are.there s asked))
 
--- ---- the words of slots without tests
+  taken-stated : (values : Values) (s : Slot) (stated v : SlotValue) → All (λ (p : Slot × SlotValue). HasTest tests path p.0) values → IsTaken values s stated v → (HasTest tests path s → ⊥) → v ≡ stated
+  taken-stated values s stated v needed (inl among) none = absurd (none (All-contains (λ (p : Slot × SlotValue). HasTest tests path p.0) values (s, v) needed among))
+  taken-stated values s stated v needed (inr (same, others)) none = same
 
-action_stated : (tests : List Test) (path : Answers) (s : Slot) (v : SlotValue) (rest : List ℕ) → HasTest tests path s → (HasTest tests path slot.Action → ⊥) → rest ≡ stated_word → action_or s v rest ≡ stated_word
-action_stated tests path slot.Action v rest has none is = absurd (none has)
-action_stated tests path slot.Principal v rest has none is = is
-action_stated tests path slot.Resource v rest has none is = is
-action_stated tests path (slot.Key name) v rest has none is = is
+  -- ---- the joined request
 
-resource_stated : (tests : List Test) (path : Answers) (s : Slot) (v : SlotValue) (rest : List ℕ) → HasTest tests path s → (HasTest tests path slot.Resource → ⊥) → rest ≡ stated_word → resource_or s v rest ≡ stated_word
-resource_stated tests path slot.Resource v rest has none is = absurd (none has)
-resource_stated tests path slot.Principal v rest has none is = is
-resource_stated tests path slot.Action v rest has none is = is
-resource_stated tests path (slot.Key name) v rest has none is = is
+  stated-is-word : (w : List ℕ) → w ≡ stated_word → IsWord None w
+  stated-is-word w same = rw same (record { text = refl; some = λ bad. absurd (cc); fits = tt })
 
-pub action_in-stated : (tests : List Test) (path : Answers) (values : List (Slot × SlotValue)) → All (λ p. HasTest tests path p.0) values → (HasTest tests path slot.Action → ⊥) → action_in values ≡ stated_word
-action_in-stated tests path [] needed none = refl
-action_in-stated tests path (p ∷ ps) needed none =
-    action_stated tests path p.0 p.1 (action_in ps) (All-head (λ (q : Slot × SlotValue). HasTest tests path q.0) p ps needed) none (action_in-stated tests path ps (All-tail (λ (q : Slot × SlotValue). HasTest tests path q.0) p ps needed) none)
+  -- where no shape is given, the stated values are permitted
+  principal-permits : IsPlainSchema schema → Permits schema slot.Principal (value.Principal Aws stated_word)
+  principal-permits plain = subst (λ (x : Shapes). IsWord x.aws stated_word) (sym plain.shapes) (stated-is-word stated_word refl)
 
-pub resource_in-stated : (tests : List Test) (path : Answers) (values : List (Slot × SlotValue)) → All (λ p. HasTest tests path p.0) values → (HasTest tests path slot.Resource → ⊥) → resource_in values ≡ stated_word
-resource_in-stated tests path [] needed none = refl
-resource_in-stated tests path (p ∷ ps) needed none =
-    resource_stated tests path p.0 p.1 (resource_in ps) (All-head (λ (q : Slot × SlotValue). HasTest tests path q.0) p ps needed) none (resource_in-stated tests path ps (All-tail (λ (q : Slot × SlotValue). HasTest tests path q.0) p ps needed) none)
+  action-permits : IsPlainSchema schema → Permits schema slot.Action (value.Word stated_word)
+  action-permits plain = subst (λ (x : Shapes). IsWord x.action stated_word) (sym plain.shapes) (stated-is-word stated_word refl)
+
+  resource-permits : IsPlainSchema schema → Permits schema slot.Resource (value.Word stated_word)
+  resource-permits plain = subst (λ (x : Shapes). IsWord x.resource stated_word) (sym plain.shapes) (stated-is-word stated_word refl)
+
+  module _ (values : Values) where
+    pub joined-valid : IsPlainSchema schema → Each values → IsValid schema (joined values)
+    joined-valid plain each = record {
+      words = record {
+        id = taken-permits values slot.Principal (value.Principal Aws stated_word) (principal_of (principal_in values)) each (principal-permits plain) (principal-taken values each);
+        action = taken-permits values slot.Action (value.Word stated_word) (value.Word (action_in values)) each (action-permits plain) (action-taken values each);
+        resource = taken-permits values slot.Resource (value.Word stated_word) (value.Word (resource_in values)) each (resource-permits plain) (resource-taken values each);
+      };
+      keys = record {
+        each = All-nil (EntryIsValid schema.keys);
+        required = rw plain.keys (All-nil (IsThere []));
+      };
+    }
+
+    -- a test holds on the request as its slot's value meets it
+    test-answers : AreSlotValues schema tests path values → (n : ℕ) (b : Bool) (t : Test) → HasTest tests path (slot_of t) → answer_of path n ≡ Some b → slice_get tests n ≡ Some t → MatchBool b (TestHolds (joined values) t) (¬ TestHolds (joined values) t)
+    test-answers are n b (Principal entry) asked answered at =
+        taken-answers values slot.Principal (value.Principal Aws stated_word) (principal_of (principal_in values)) are (principal-taken values are.each) asked n b (Principal entry) answered at refl
+    test-answers are n b (Action pattern) asked answered at =
+        taken-answers values slot.Action (value.Word stated_word) (value.Word (action_in values)) are (action-taken values are.each) asked n b (Action pattern) answered at refl
+    test-answers are n b (Resource pattern) asked answered at =
+        taken-answers values slot.Resource (value.Word stated_word) (value.Word (resource_in values)) are (resource-taken values are.each) asked n b (Resource pattern) answered at refl
+
+    pub joined-answers : AreSlotValues schema tests path values → AnswersPath tests path (joined values)
+    joined-answers are n b t answered at = test-answers are n b t (asked-by tests path n b t answered at) answered at
+
+    -- a path whose slots have values is possible
+    pub joined-possible : IsPlainSchema schema → AreSlotValues schema tests path values → IsPossible schema tests path
+    joined-possible plain are = record { request = joined values; valid = joined-valid plain are.each; answers = joined-answers are }
+
+    -- ---- slots without a test
+
+    pub principal-stated : AreSlotValues schema tests path values → (HasTest tests path slot.Principal → ⊥) → ((principal_in values).0 ≡ Aws) × ((principal_in values).1 ≡ stated_word)
+    principal-stated are none =
+        let same : principal_of (principal_in values) ≡ value.Principal Aws stated_word = taken-stated values slot.Principal (value.Principal Aws stated_word) (principal_of (principal_in values)) are.needed (principal-taken values are.each) none in
+        (cc, cc)
+
+    pub action-stated : AreSlotValues schema tests path values → (HasTest tests path slot.Action → ⊥) → action_in values ≡ stated_word
+    action-stated are none =
+        let same : value.Word (action_in values) ≡ value.Word stated_word = taken-stated values slot.Action (value.Word stated_word) (value.Word (action_in values)) are.needed (action-taken values are.each) none in
+        cc
+
+    pub resource-stated : AreSlotValues schema tests path values → (HasTest tests path slot.Resource → ⊥) → resource_in values ≡ stated_word
+    resource-stated are none =
+        let same : value.Word (resource_in values) ≡ value.Word stated_word = taken-stated values slot.Resource (value.Word stated_word) (value.Word (resource_in values)) are.needed (resource-taken values are.each) none in
+        cc
+
+-- the request is the joined one where its parts are
+pub joined-is : (values : Values) (kind : PrincipalKind) (id action resource : List ℕ) (context : Entries (List Value)) → (kind, id) ≡ principal_in values → action ≡ action_in values → resource ≡ resource_in values → context ≡ [] →
+    record { kind = kind; id = id; action = action; resource = resource; context = context } ≡ joined values
+joined-is values kind id action resource context p a r none =
+    let first : kind ≡ (principal_in values).0 = ap (λ (q : PrincipalKind × List ℕ). q.0) p in
+    let second : id ≡ (principal_in values).1 = ap (λ (q : PrincipalKind × List ℕ). q.1) p in
+    cc

@@ -4,3 +4,6 @@
 mod request;
 
 pub use request::{SlotValues, build};
+
+#[cfg(test)]
+mod tests;

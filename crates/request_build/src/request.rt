@@ -1,13 +1,13 @@
 //! Builds requests.
 ghost use Rattle.std.specs.Prelude.{◌≡◌, [], IfOk, All, codes};
 ghost use Rattle.policy_model.specs.Requests.{IsValid};
+ghost use Rattle.policy_model.specs.Soundness.{TestSuits};
 ghost use Rattle.policy_model.specs.declared.principal.PrincipalKind.TheVariants.{Aws};
 ghost use Rattle.policy_model.specs.declared.test.Slot.TheVariants as slot;
-ghost use Rattle.slot_theory.specs.Slots.{IsWordTest};
 ghost use Rattle.slot_theory.specs.Cores.{HasTest};
 ghost use Rattle.slot_theory.specs.Possible.{AnswersPath, InRange};
 ghost use Rattle.request_build.specs.Built.{AreSlotValues, IsPlainSchema};
-ghost use Rattle.request_build.specs.Words.{action_in, resource_in, stated_word};
+ghost use Rattle.request_build.specs.Taken.{action_in, principal_in, resource_in, stated_word};
 
 use formula_tree::Path;
 use plain_lists::{List, NoMemory};
@@ -24,6 +24,20 @@ fn stated_word(alloc: Global) -> Result<Text, NoMemory>
     ensures { IfOk result (λ t. t ≡ stated_word) }
 {
     Text::of(alloc, "x")
+}
+
+// The kind and the id of the first value of the principal, or the stated ones.
+fn principal_in(
+    alloc: Global,
+    values: &[(Slot, SlotValue)],
+) -> Result<(PrincipalKind, Text), NoMemory>
+    ensures { IfOk result (λ p. p ≡ principal_in values.now) }
+{
+    match values {
+        [] => Ok((PrincipalKind::Aws, stated_word(alloc)?)),
+        [(Slot::Principal, SlotValue::Principal(kind, id)), ..] => Ok((*kind, id.copy()?)),
+        [_, rest @ ..] => principal_in(alloc, rest),
+    }
 }
 
 // The word of the first value of the action, or the stated one.
@@ -58,19 +72,20 @@ pub fn build(
     values: &SlotValues,
 ) -> Result<Request, NoMemory>
     requires schema { IsPlainSchema _schema.now }
-    requires words { All IsWordTest _tests.now }
+    requires suit { All (TestSuits _schema.now) _tests.now }
     requires range { InRange _tests.now _path.now }
     requires values { AreSlotValues _schema.now _tests.now _path.now values.now }
     ensures valid { IfOk result (IsValid _schema.now) }
     ensures answers { IfOk result (AnswersPath _tests.now _path.now) }
     ensures context { IfOk result (λ r. r.context ≡ []) }
-    ensures principal { IfOk result (λ r. (r.kind ≡ Aws) × (r.id ≡ codes "x")) }
+    ensures principal { IfOk result (λ r. ¬ HasTest _tests.now _path.now slot.Principal → (r.kind ≡ Aws) × (r.id ≡ codes "x")) }
     ensures action { IfOk result (λ r. ¬ HasTest _tests.now _path.now slot.Action → r.action ≡ codes "x") }
     ensures resource { IfOk result (λ r. ¬ HasTest _tests.now _path.now slot.Resource → r.resource ≡ codes "x") }
 {
+    let (kind, id) = principal_in(alloc, values.as_slice())?;
     Ok(Request {
-        kind: PrincipalKind::Aws,
-        id: stated_word(alloc)?,
+        kind,
+        id,
         action: action_in(alloc, values.as_slice())?,
         resource: resource_in(alloc, values.as_slice())?,
         context: Context::new(alloc),

@@ -2,35 +2,20 @@
 use Rattle.std.proofs.Common.{◌≡◌, ℕ, ◌<◌, ◌↔◌, IsTrue, List, [], ◌∷◌, length, get_or, slice_get, Bool, Some, None, Result, Ok, Err, IfOk, refl, sym, ap, ◌∙◌, subst, arith}
 use Rattle.std.proofs.lemmas.Option.{slice_get-get_or}
 use Rattle.formula_tree.specs.Answers.{Answers}
-use Rattle.pattern_automata.specs.declared.wants.Wants.{Wants}
-use Rattle.pattern_automata.specs.Closed.{InRange, IsClosed}
 use Rattle.policy_model.specs.declared.schema.Schema.{Schema}
 use Rattle.policy_model.specs.declared.test.Slot.{Slot}
 use Rattle.policy_model.specs.declared.test.Test.{Test}
 use Rattle.policy_model.specs.declared.test.Test.TheVariants.{Action}
 use Rattle.slot_theory.specs.declared.outcome.SlotProof.{SlotProof}
-use Rattle.slot_theory.specs.declared.outcome.SlotProof.TheVariants.{Word}
-use Rattle.slot_theory.specs.Slots.{IsWordSlot, slot_of}
-use Rattle.slot_theory.specs.Cores.{IsCore, IsWants, Shows, Accepts, core_patterns, test_at}
-use Rattle.slot_theory.proofs.Impossible.{in-range}
+use Rattle.slot_theory.specs.Slots.{slot_of, test_at}
+use Rattle.slot_theory.specs.Cores.{IsCore, Shows, Accepts}
 use Rattle.slot_theory.proofs.Wording.{at-test}
 
 pub if-ok : {X E : Type 0} (r : Result X E) (P Q : X → Type 0) → ((x : X) → P x → Q x) → IfOk r P → IfOk r Q
 if-ok (Ok x) P Q f h = f x h
 if-ok (Err e) P Q f h = tt
 
-pub range-wants : (schema : Schema) (tests : List Test) (path : Answers) (core : List ℕ) (s : Slot) (wants : Wants) → IsWants schema tests path core s wants → InRange (length wants.patterns) wants.clauses
-range-wants schema tests path core s wants wanted = rw (wanted.patterns, wanted.clauses) (in-range schema tests path s (core_patterns schema tests core s) core 0 refl)
-
 module _ (schema : Schema) (tests : List Test) (path : Answers) (core : List ℕ) where
-  pub closed-shows : (s : Slot) (proof : SlotProof) (closed : List (List (List ℕ))) (wants : Wants) (ok : Bool) → proof ≡ Word closed → IsWordSlot s → IsCore tests path core s → IsWants schema tests path core s wants →
-      (IsTrue ok ↔ IsClosed wants.patterns wants.clauses closed) → IsTrue ok ↔ (IsCore tests path core s × Shows schema tests path core s proof)
-  closed-shows s proof closed wants ok same h is wanted says =
-      rw same (
-        λ t. (is, (h, rw (← wanted.patterns, ← wanted.clauses) (says.0 t))),
-        λ w. says.1 (rw (wanted.patterns, wanted.clauses) w.1.1),
-      )
-
   first-is : (xs : List ℕ) (first d : ℕ) → slice_get xs 0 ≡ Some first → (get_or xs 0 d ≡ first) × (0 < length xs)
   first-is [] first d e = absurd (cc)
   first-is (x ∷ xs) first d e = (cc, omega arith)
@@ -65,3 +50,10 @@ module _ (schema : Schema) (tests : List Test) (path : Answers) (core : List ℕ
       let within : first < length tests = subst (λ (n : ℕ). n < length tests) f.0 (a.core_is.within 0 0 f.1) in
       let some : slice_get tests first ≡ Some (get_or tests first (Action [])) = slice_get-get_or tests first (Action []) within in
       absurd (cc)
+
+-- what is left to show is what is shown, where the rest is known
+pub both-show : (A B : Type 0) (ok : Bool) → A → IsTrue ok ↔ B → IsTrue ok ↔ (A × B)
+both-show A B ok a says = (λ t. (a, says.0 t), λ w. says.1 w.1)
+
+pub all-show : (A B C D E : Type 0) (ok : Bool) → A → B → C → D → IsTrue ok ↔ E → IsTrue ok ↔ (A × B × C × D × E)
+all-show A B C D E ok a b c d says = (λ t. (a, b, c, d, says.0 t), λ w. says.1 w.4)

@@ -1,4 +1,10 @@
-pub mod Impossible
-pub mod Rising
+pub mod Wanting
+pub mod Naming
+pub mod Spelling
 pub mod Wording
+pub mod Rising
+pub mod Answering
+pub mod Contradicted
+pub mod Products
 pub mod Accepting
+pub mod Impossible

@@ -10,8 +10,8 @@ use Rattle.pattern_automata.specs.Closed.{rises_from}
 use Rattle.formula_tree.specs.Answers.{Answers, answer_of}
 use Rattle.policy_model.specs.declared.test.Slot.{Slot}
 use Rattle.policy_model.specs.declared.test.Test.{Test}
-use Rattle.slot_theory.specs.Slots.{slot_of}
-use Rattle.slot_theory.specs.Cores.{IsCore, IsAnsweredOn, IsWith, test_at}
+use Rattle.slot_theory.specs.Slots.{slot_of, test_at}
+use Rattle.slot_theory.specs.Cores.{IsCore, IsAnsweredOn, IsWith}
 
 le-test : (a b : ℕ) → a ≤ b → nat_le a b ≡ true
 le-test a b h = grind (arith, nat_tests)

@@ -1,15 +1,20 @@
 -- The slots of a request, the tests on each of them, and the values that answer them.
-use Rattle.std.specs.Prelude.{◌≡◌, ⊤, ℕ, ◌+◌, ◌&&◌, List, [], ◌∷◌, ◌++◌, Bool, true, false, Option, Some, None, is_some, slice_get, MatchBool, if◌then◌else◌}
+use Rattle.std.specs.Prelude.{◌≡◌, ⊤, ℕ, ◌+◌, ◌&&◌, List, [], ◌∷◌, ◌++◌, Bool, true, false, Option, Some, None, is_some, unwrap_or, slice_get, slice_index_or, MatchBool, if◌then◌else◌}
+use Rattle.std.specs.Option.{option_to_list}
 use Rattle.wildcard_lang.specs.declared.piece.Piece.{Piece}
 use Rattle.wildcard_lang.specs.declared.piece.Piece.TheVariants.{One, Many}
 use Rattle.wildcard_lang.specs.Matching.{Matches}
 use Rattle.formula_tree.specs.Answers.{Answers, answer_of}
+use Rattle.policy_model.specs.declared.principal.PrincipalKind.{PrincipalKind}
+use Rattle.policy_model.specs.declared.schema.Shapes.{Shapes}
 use Rattle.policy_model.specs.declared.schema.Schema.{Schema}
 use Rattle.policy_model.specs.declared.test.Slot.{Slot}
 use Rattle.policy_model.specs.declared.test.Slot.TheVariants as slot
 use Rattle.policy_model.specs.declared.test.Test.{Test}
 use Rattle.policy_model.specs.declared.test.Test.TheVariants.{Principal, Action, Resource}
+use Rattle.policy_model.specs.Principals.{EntryNames}
 use Rattle.policy_model.specs.Requests.{IsWord, shape_of}
+use Rattle.slot_theory.specs.Entries.{entry_pattern, fixed_answer}
 use Rattle.slot_theory.specs.declared.outcome.SlotValue.{SlotValue}
 use Rattle.slot_theory.specs.declared.outcome.SlotValue.TheVariants as value
 
@@ -19,12 +24,6 @@ slot_of (Principal entry) = slot.Principal
 slot_of (Action pattern) = slot.Action
 slot_of (Resource pattern) = slot.Resource
 
--- the test is on the action or on the resource
-abbrev pub IsWordTest : Test → Type 0
-IsWordTest (Principal entry) = ⊥
-IsWordTest (Action pattern) = ⊤
-IsWordTest (Resource pattern) = ⊤
-
 -- the slot is the action or the resource
 abbrev pub IsWordSlot : Slot → Type 0
 IsWordSlot slot.Principal = ⊥
@@ -32,22 +31,41 @@ IsWordSlot slot.Action = ⊤
 IsWordSlot slot.Resource = ⊤
 IsWordSlot (slot.Key name) = ⊥
 
--- the pattern of a test on a word
+-- the slot is one that every request fills: the principal, the action or the resource
+abbrev pub IsBuiltSlot : Slot → Type 0
+IsBuiltSlot slot.Principal = ⊤
+IsBuiltSlot slot.Action = ⊤
+IsBuiltSlot slot.Resource = ⊤
+IsBuiltSlot (slot.Key name) = ⊥
+
+-- the test of a number
+abbrev pub test_at : List Test → ℕ → Test
+test_at tests n = slice_index_or tests n (Action [])
+
+-- whether the test is on the slot
+abbrev pub is_on : Slot → Test → Bool
+is_on slot.Principal (Principal entry) = true
+is_on slot.Action (Action pattern) = true
+is_on slot.Resource (Resource pattern) = true
+is_on s t = false
+
+-- the answer of the test to every principal of the kind, where it is the same for all of them
+abbrev pub fixed_at : PrincipalKind → Test → Option Bool
+fixed_at k (Principal entry) = fixed_answer k entry
+fixed_at k (Action pattern) = None
+fixed_at k (Resource pattern) = None
+
+-- the patterns of a test: a test on a word has one, a test on the principal at most one
+abbrev pub test_patterns : Test → List (List Piece)
+test_patterns (Principal entry) = option_to_list (entry_pattern entry)
+test_patterns (Action pattern) = pattern ∷ []
+test_patterns (Resource pattern) = pattern ∷ []
+
+-- the pattern of a test that has one
 abbrev pub pattern_of : Test → List Piece
-pattern_of (Principal entry) = []
+pattern_of (Principal entry) = unwrap_or (entry_pattern entry) []
 pattern_of (Action pattern) = pattern
 pattern_of (Resource pattern) = pattern
-
--- whether the test is on the word slot
-abbrev pub is_on : Slot → Test → Bool
-is_on slot.Principal t = false
-is_on slot.Action (Principal entry) = false
-is_on slot.Action (Action pattern) = true
-is_on slot.Action (Resource pattern) = false
-is_on slot.Resource (Principal entry) = false
-is_on slot.Resource (Action pattern) = false
-is_on slot.Resource (Resource pattern) = true
-is_on (slot.Key name) t = false
 
 -- `?*`, which every text that isn't empty matches
 abbrev pub some_word : List Piece
@@ -60,19 +78,23 @@ shape_at schema slot.Action = schema.shapes.action
 shape_at schema slot.Resource = schema.shapes.resource
 shape_at schema (slot.Key name) = None
 
--- the shape as a list of at most one pattern
-abbrev pub shape_patterns : Option (List Piece) → List (List Piece)
-shape_patterns None = []
-shape_patterns (Some shape) = shape ∷ []
+-- the shapes of the ids of principals, in the order of the kinds
+abbrev pub id_shapes : Shapes → List (List Piece)
+id_shapes shapes = option_to_list shapes.aws ++ (option_to_list shapes.service ++ (option_to_list shapes.federated ++ option_to_list shapes.canonical_user))
+
+-- the shapes that the schema gives the values of the slot
+abbrev pub shapes_at : Schema → Slot → List (List Piece)
+shapes_at schema slot.Principal = id_shapes schema.shapes
+shapes_at schema s = option_to_list (shape_at schema s)
 
 -- the patterns of the answered tests of the slot among these, which are numbered from n on
 abbrev pub answered_patterns : List Test → Answers → Slot → ℕ → List (List Piece)
 answered_patterns [] path s n = []
-answered_patterns (t ∷ ts) path s n = (if is_on s t && is_some (answer_of path n) then pattern_of t ∷ answered_patterns ts path s (n + 1) else answered_patterns ts path s (n + 1))
+answered_patterns (t ∷ ts) path s n = (if is_on s t && is_some (answer_of path n) then test_patterns t ++ answered_patterns ts path s (n + 1) else answered_patterns ts path s (n + 1))
 
--- the patterns of a word slot at a path: those of its answered tests in the order of their numbers, then `?*`, then the shape
+-- the patterns of a slot at a path: those of its answered tests in the order of their numbers, then `?*`, then the shapes
 abbrev pub patterns_at : Schema → List Test → Answers → Slot → List (List Piece)
-patterns_at schema tests path s = answered_patterns tests path s 0 ++ some_word ∷ shape_patterns (shape_at schema s)
+patterns_at schema tests path s = answered_patterns tests path s 0 ++ some_word ∷ shapes_at schema s
 
 -- the schema permits the value in the slot
 abbrev pub Permits : Schema → Slot → SlotValue → Type 0
@@ -84,10 +106,14 @@ Permits schema slot.Action (value.Principal kind id) = ⊥
 Permits schema slot.Resource (value.Principal kind id) = ⊥
 Permits schema (slot.Key name) v = ⊥
 
--- the value meets a test on a word
+-- the value meets the test, which is on a slot of its form
 abbrev pub ValueMeets : SlotValue → Test → Type 0
-ValueMeets (value.Word t) test = Matches (pattern_of test) t
-ValueMeets (value.Principal kind id) test = ⊥
+ValueMeets (value.Principal kind id) (Principal entry) = EntryNames kind id entry
+ValueMeets (value.Principal kind id) (Action pattern) = ⊥
+ValueMeets (value.Principal kind id) (Resource pattern) = ⊥
+ValueMeets (value.Word t) (Principal entry) = ⊥
+ValueMeets (value.Word t) (Action pattern) = Matches pattern t
+ValueMeets (value.Word t) (Resource pattern) = Matches pattern t
 
 -- the value answers each answered test of the slot as the path does
 abbrev pub AnswersSlot : List Test → Answers → Slot → SlotValue → Type 0

@@ -1,27 +1,124 @@
 //! The check of cores and their proofs.
 ghost use Rattle.std.specs.Prelude.{◌≡◌, ◌<◌, ◌^◌, ◌↔◌, IfOk, IsTrue, All, length};
+ghost use Rattle.policy_model.specs.declared.test.Slot.TheVariants.{Principal};
+ghost use Rattle.policy_model.specs.Soundness.{TestSuits};
 ghost use Rattle.slot_theory.specs.declared.outcome.SlotProof.TheVariants.{Word};
-ghost use Rattle.slot_theory.specs.Slots.{IsWordSlot, IsWordTest};
+ghost use Rattle.slot_theory.specs.Slots.{IsWordSlot};
 ghost use Rattle.slot_theory.specs.Possible.{InRange};
-ghost use Rattle.slot_theory.specs.Cores.{Accepts, IsCore, Shows};
+ghost use Rattle.slot_theory.specs.Cores.{Accepts, IsCore, KindShows, Shows};
 
 use crate::cores::is_core;
-use crate::outcome::{Core, SlotProof};
-use crate::slots::slot_of;
-use crate::wants::wants_of;
+use crate::kinds::{is_contradicted, open_tests};
+use crate::outcome::{Core, KindProof, SlotProof};
+use crate::slots::{shape_at, slot_of};
+use crate::wants::is_closed_for;
 use formula_tree::Path;
-use pattern_automata::{Closed, is_closed};
+use pattern_automata::Closed;
 use plain_lists::NoMemory;
-use policy_model::{Schema, Slot, Test, TestList};
+use policy_model::PrincipalKind::{self, Aws, CanonicalUser, Federated, Service};
+use policy_model::{Schema, Slot, Test, TestList, shape_of};
 use std::alloc::Global;
 
-/// The closed set of the proof.
-fn closed_of(proof: &SlotProof) -> &Closed
-    ensures { proof.now ≡ Word result.now }
+/// Whether the slot is the action or the resource.
+fn is_word_slot(slot: &Slot) -> bool
+    ensures { IsTrue result ↔ IsWordSlot slot.now }
+{
+    match slot {
+        Slot::Action | Slot::Resource => true,
+        _ => false,
+    }
+}
+
+/// Whether the slot is the principal.
+fn is_principal(slot: &Slot) -> bool
+    ensures { IsTrue result ↔ (slot.now ≡ Principal) }
+{
+    match slot {
+        Slot::Principal => true,
+        _ => false,
+    }
+}
+
+/// Whether the slot is that of words, and the set is closed for what the core wants of a word.
+fn word_shows(
+    alloc: Global,
+    schema: &Schema,
+    tests: &[Test],
+    path: &Path,
+    core: &[u32],
+    slot: &Slot,
+    closed: &Closed,
+) -> Result<bool, NoMemory>
+    requires suit { All (TestSuits schema.now) tests.now }
+    requires core { IsCore tests.now path.now core.now slot.now }
+    ensures { IfOk result (λ yes. IsTrue yes ↔ Shows schema.now tests.now path.now core.now slot.now (Word closed.now)) }
+{
+    if !is_word_slot(slot) {
+        return Ok(false);
+    }
+    let shape = shape_at(schema, slot);
+    is_closed_for(alloc, tests, path, core, shape, closed)
+}
+
+/// Whether the proof shows that no principal of the kind answers the core as the path does.
+fn kind_shows(
+    alloc: Global,
+    schema: &Schema,
+    tests: &[Test],
+    path: &Path,
+    core: &[u32],
+    kind: PrincipalKind,
+    proof: &KindProof,
+) -> Result<bool, NoMemory>
+    requires suit { All (TestSuits schema.now) tests.now }
+    requires core { IsCore tests.now path.now core.now Principal }
+    ensures { IfOk result (λ yes. IsTrue yes ↔ KindShows schema.now tests.now path.now core.now kind proof.now) }
 {
     match proof {
-        SlotProof::Word(closed) => closed,
+        KindProof::Never => Ok(is_contradicted(tests, path, core, kind)),
+        KindProof::Closed(closed) => {
+            let open = open_tests(alloc, tests, core, kind)?;
+            let shape = shape_of(&schema.shapes, kind);
+            is_closed_for(alloc, tests, path, open.as_slice(), shape, closed)
+        }
     }
+}
+
+/// Whether the proof shows that no value of the slot answers the core as the path does.
+fn shows(
+    alloc: Global,
+    schema: &Schema,
+    tests: &[Test],
+    path: &Path,
+    core: &[u32],
+    slot: &Slot,
+    proof: &SlotProof,
+) -> Result<bool, NoMemory>
+    requires suit { All (TestSuits schema.now) tests.now }
+    requires core { IsCore tests.now path.now core.now slot.now }
+    ensures { IfOk result (λ yes. IsTrue yes ↔ Shows schema.now tests.now path.now core.now slot.now proof.now) }
+{
+    let (aws, service, federated, canonical) = match proof {
+        SlotProof::Word(closed) => {
+            return word_shows(alloc, schema, tests, path, core, slot, closed);
+        }
+        SlotProof::Kinds(aws, service, federated, canonical) => {
+            (aws, service, federated, canonical)
+        }
+    };
+    if !is_principal(slot) {
+        return Ok(false);
+    }
+    if !kind_shows(alloc, schema, tests, path, core, Aws, aws)? {
+        return Ok(false);
+    }
+    if !kind_shows(alloc, schema, tests, path, core, Service, service)? {
+        return Ok(false);
+    }
+    if !kind_shows(alloc, schema, tests, path, core, Federated, federated)? {
+        return Ok(false);
+    }
+    kind_shows(alloc, schema, tests, path, core, CanonicalUser, canonical)
 }
 
 /// Whether the core is one of the slot, and the proof shows that no value answers it as the path does.
@@ -34,23 +131,25 @@ fn accepts_on(
     slot: &Slot,
     proof: &SlotProof,
 ) -> Result<bool, NoMemory>
-    requires words { All IsWordTest tests.now }
+    requires suit { All (TestSuits schema.now) tests.now }
     requires range { InRange tests.now path.now }
-    requires slot { IsWordSlot slot.now }
     ensures { IfOk result (λ yes. IsTrue yes ↔ (IsCore tests.now path.now core.now slot.now × Shows schema.now tests.now path.now core.now slot.now proof.now)) }
 {
     if !is_core(tests, path, slot, core) {
         return Ok(false);
     }
-    let wants = wants_of(alloc, schema, tests, path, core, slot)?;
-    is_closed(alloc, &wants, closed_of(proof))
+    shows(alloc, schema, tests, path, core, slot, proof)
 }
 
 /// Whether the core and its proof are accepted under the path: the core has a test, its numbers
-/// strictly rise, the path answers each of its tests, all are on one slot, and the proof's set is
-/// closed for what the core, `?*` and the slot's shape want of a word.
+/// strictly rise, the path answers each of its tests, all are on one slot, and the proof shows that no
+/// value of the slot answers them so.
 ///
-/// The path's tests are in range. The only error is want of memory.
+/// For the action and the resource the proof's set is closed for what the core, `?*` and the slot's
+/// shape want of a word. For the principal it shows kind by kind that none answers so: a test with a
+/// fixed answer for the kind that isn't the path's, or a closed set for the tests without one.
+///
+/// The tests suit the schema, and the path's are in range. The only error is want of memory.
 pub fn accepts(
     alloc: Global,
     schema: &Schema,
@@ -59,7 +158,7 @@ pub fn accepts(
     core: &Core,
     proof: &SlotProof,
 ) -> Result<bool, NoMemory>
-    requires words { All IsWordTest tests.now }
+    requires suit { All (TestSuits schema.now) tests.now }
     requires count { length tests.now < 2 ^ 32 }
     requires range { InRange tests.now path.now }
     ensures { IfOk result (λ yes. IsTrue yes ↔ Accepts schema.now tests.now path.now core.now proof.now) }

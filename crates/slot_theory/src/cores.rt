@@ -1,7 +1,6 @@
 //! Cores: lists of test numbers that strictly rise.
 ghost use Rattle.std.specs.Prelude.{◌≡◌, ◌<◌, ◌≤◌, ◌↔◌, ℕ, true, IfOk, IsTrue, All, Contains, length, slice_index, remove};
 ghost use Rattle.pattern_automata.specs.Closed.{rises_from};
-ghost use Rattle.slot_theory.specs.Slots.{IsWordSlot};
 ghost use Rattle.slot_theory.specs.Possible.{InRange};
 ghost use Rattle.slot_theory.specs.Cores.{IsAnsweredOn, IsCore, IsWith};
 
@@ -28,9 +27,8 @@ fn rises(core: &[u32]) -> bool
 }
 
 /// Whether the path answers the test, and the test is on the slot.
-pub fn is_answered_on(tests: &[Test], path: &Path, slot: &Slot, n: u32) -> bool
+fn is_answered_on(tests: &[Test], path: &Path, slot: &Slot, n: u32) -> bool
     requires range { InRange tests.now path.now }
-    requires slot { IsWordSlot slot.now }
     ensures { IsTrue result ↔ IsAnsweredOn tests.now path.now slot.now n }
 {
     match path.answer(n) {
@@ -42,7 +40,6 @@ pub fn is_answered_on(tests: &[Test], path: &Path, slot: &Slot, n: u32) -> bool
 /// Whether the path answers each test, and each is on the slot.
 fn all_answered_on(tests: &[Test], path: &Path, slot: &Slot, core: &[u32]) -> bool
     requires range { InRange tests.now path.now }
-    requires slot { IsWordSlot slot.now }
     ensures { IsTrue result ↔ All (IsAnsweredOn tests.now path.now slot.now) core.now }
 {
     for n in core {
@@ -56,7 +53,6 @@ fn all_answered_on(tests: &[Test], path: &Path, slot: &Slot, core: &[u32]) -> bo
 /// Whether the numbers are a core of the slot.
 pub fn is_core(tests: &[Test], path: &Path, slot: &Slot, core: &[u32]) -> bool
     requires range { InRange tests.now path.now }
-    requires slot { IsWordSlot slot.now }
     ensures { IsTrue result ↔ IsCore tests.now path.now core.now slot.now }
 {
     if core.is_empty() || !rises(core) {

@@ -5,17 +5,21 @@
 mod attempt;
 mod check;
 mod cores;
+mod entries;
+mod kinds;
 mod laws;
 mod outcome;
 mod search;
 mod slots;
+mod steps;
+mod trial;
 mod wants;
 
 pub use check::accepts;
 pub use laws::accepted_cores_are_impossible;
-pub use outcome::{Core, Possible, SlotProof, SlotValue};
+pub use outcome::{Core, KindProof, Possible, SlotProof, SlotValue};
 pub use search::possible;
-pub use slots::slot_of;
+pub use slots::{meets, slot_of};
 
 #[cfg(test)]
 mod tests;

@@ -13,11 +13,25 @@ pub enum SlotValue {
     Word(Text),
 }
 
+/// Why no principal of one kind answers the tests of a core as a path does.
+#[derive(Drop)]
+pub enum KindProof {
+    /// Some test of the core has the same answer for all principals of the kind, and the path has
+    /// the other one.
+    Never,
+    /// No id does: a closed set of lists of places for the patterns of the core's tests on which the
+    /// answer depends on the id.
+    Closed(Closed),
+}
+
 /// Why the tests of a core can't be answered as a path answers them.
 #[derive(Drop)]
 pub enum SlotProof {
     /// No word does: a closed set of lists of places for the core's patterns.
     Word(Closed),
+    /// No principal does: of the kinds `Aws`, `Service`, `Federated` and `CanonicalUser`, in this
+    /// order.
+    Kinds(KindProof, KindProof, KindProof, KindProof),
 }
 
 /// Test numbers, in strictly rising order.

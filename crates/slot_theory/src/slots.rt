@@ -1,14 +1,16 @@
-//! The slots that tests are on, and what the schema and a test ask of a word.
-ghost use Rattle.std.specs.Prelude.{◌≡◌, ◌↔◌, List, IfOk, IsTrue, option_map};
-ghost use Rattle.wildcard_lang.specs.declared.piece.Piece.{Piece};
-ghost use Rattle.policy_model.specs.declared.test.Test.TheVariants.{Action, Resource};
-ghost use Rattle.wildcard_lang.specs.Matching.{Matches};
-ghost use Rattle.slot_theory.specs.Slots.{IsWordTest, is_on, pattern_of, shape_at, slot_of};
+//! The slots that tests are on, the values that meet them, and what the schema and a test ask of a
+//! value.
+ghost use Rattle.std.specs.Prelude.{◌≡◌, ◌↔◌, IfOk, IsTrue};
+ghost use Rattle.policy_model.specs.declared.schema.Schema.{Schema};
+ghost use Rattle.policy_model.specs.Soundness.{TestSuits};
+ghost use Rattle.slot_theory.specs.Slots.{IsWordSlot, ValueMeets, fixed_at, is_on, pattern_of, shape_at, slot_of};
 
+use crate::entries::{entry_pattern, fixed_answer};
+use crate::outcome::SlotValue;
 use plain_lists::NoMemory;
-use policy_model::{Schema, Slot, Test};
+use policy_model::{PrincipalKind, Schema, Slot, Test, entry_names};
 use std::alloc::Global;
-use wildcard_lang::{Pattern, Text, matches};
+use wildcard_lang::{Pattern, matches};
 
 /// The slot that the test is on.
 pub fn slot_of(_alloc: Global, test: &Test) -> Result<Slot, NoMemory>
@@ -21,68 +23,60 @@ pub fn slot_of(_alloc: Global, test: &Test) -> Result<Slot, NoMemory>
     }
 }
 
-/// Whether the slot is the action.
-fn is_action(slot: &Slot) -> bool
-    ensures { (p : List Piece) → result ≡ is_on slot.now (Action p) }
-{
-    match slot {
-        Slot::Action => true,
-        _ => false,
-    }
-}
-
-/// Whether the slot is the resource.
-fn is_resource(slot: &Slot) -> bool
-    ensures { (p : List Piece) → result ≡ is_on slot.now (Resource p) }
-{
-    match slot {
-        Slot::Resource => true,
-        _ => false,
-    }
-}
-
-/// Whether the test is on the word slot.
+/// Whether the test is on the slot.
 pub fn is_on(slot: &Slot, test: &Test) -> bool
     ensures { result ≡ is_on slot.now test.now }
 {
-    match test {
-        Test::Principal(_) => false,
-        Test::Action(_) => is_action(slot),
-        Test::Resource(_) => is_resource(slot),
+    match (slot, test) {
+        (Slot::Principal, Test::Principal(_)) => true,
+        (Slot::Action, Test::Action(_)) => true,
+        (Slot::Resource, Test::Resource(_)) => true,
+        _ => false,
     }
 }
 
-/// Whether the word meets the test.
-pub fn meets(test: &Test, text: &Text) -> bool
-    requires { IsWordTest test.now }
-    ensures { IsTrue result ↔ Matches (pattern_of test.now) text.now }
+/// Whether the value meets the test.
+pub fn meets(value: &SlotValue, test: &Test) -> bool
+    ensures { IsTrue result ↔ ValueMeets value.now test.now }
+{
+    match (value, test) {
+        (SlotValue::Principal(kind, id), Test::Principal(entry)) => entry_names(entry, *kind, id),
+        (SlotValue::Word(text), Test::Action(pattern)) => matches(pattern, text),
+        (SlotValue::Word(text), Test::Resource(pattern)) => matches(pattern, text),
+        _ => false,
+    }
+}
+
+/// The answer of the test to every principal of the kind, where it is the same for all of them.
+pub fn fixed_at(test: &Test, kind: PrincipalKind) -> Option<bool>
+    ensures { result ≡ fixed_at kind test.now }
 {
     match test {
-        Test::Principal(_) => unreachable!(),
-        Test::Action(pattern) => matches(pattern, text),
-        Test::Resource(pattern) => matches(pattern, text),
+        Test::Principal(entry) => fixed_answer(entry, kind),
+        _ => None,
     }
 }
 
-/// A copy of the test's pattern.
-pub fn pattern_of(test: &Test) -> Result<Pattern, NoMemory>
-    requires { IsWordTest test.now }
+/// A copy of the test's pattern; of a test that has none, the pattern without pieces.
+pub fn pattern_of(alloc: Global, test: &Test) -> Result<Pattern, NoMemory>
+    requires { (schema : Schema) × TestSuits schema test.now }
     ensures { IfOk result (λ p. p ≡ pattern_of test.now) }
 {
     match test {
-        Test::Principal(_) => unreachable!(),
+        Test::Principal(entry) => entry_pattern(alloc, entry),
         Test::Action(pattern) => pattern.copy(),
         Test::Resource(pattern) => pattern.copy(),
     }
 }
 
-/// The shape that the schema gives the words of the slot.
-pub fn shape_at<'a>(schema: &'a Schema, slot: &Slot) -> Option<&'a Pattern>
-    ensures { option_map (λ p. p.now) result ≡ shape_at schema.now slot.now }
+/// The shape that the schema gives the words of the slot, where one is given.
+pub fn shape_at<'a>(schema: &'a Schema, slot: &Slot) -> &'a Option<Pattern>
+    requires { IsWordSlot slot.now }
+    ensures { result.now ≡ shape_at schema.now slot.now }
 {
     match slot {
-        Slot::Action => schema.shapes.action.as_ref(),
-        Slot::Resource => schema.shapes.resource.as_ref(),
-        _ => None,
+        Slot::Action => &schema.shapes.action,
+        Slot::Resource => &schema.shapes.resource,
+        _ => unreachable!(),
     }
 }

@@ -1,13 +1,19 @@
-//! What is wanted of a word by the tests of a core, by `?*` and by the slot's shape.
-ghost use Rattle.std.specs.Prelude.{◌≡◌, ◌++◌, ◌<◌, IfOk, OnOk, All, length, map};
-ghost use Rattle.slot_theory.specs.Slots.{IsWordTest, pattern_of, shape_at, shape_patterns, some_word};
-ghost use Rattle.slot_theory.specs.Cores.{test_at, core_patterns, core_clauses, shape_clauses, wanted, IsWants};
+//! What tests want of a word or of an id, with `?*` and a shape, and products for that.
+ghost use Rattle.std.specs.Prelude.{◌≡◌, ◌++◌, ◌≤◌, ◌<◌, ◌↔◌, IfOk, OnOk, IsTrue, All, length, map};
+ghost use Rattle.std.specs.Option.{option_to_list};
+ghost use Rattle.pattern_automata.specs.Answer.{IsProduct};
+ghost use Rattle.policy_model.specs.declared.schema.Schema.{Schema};
+ghost use Rattle.policy_model.specs.Soundness.{TestSuits};
+ghost use Rattle.slot_theory.specs.Slots.{pattern_of, some_word, test_at};
+ghost use Rattle.slot_theory.specs.Wants.{IsClosedFor, IsWants, shape_clauses, wanted, wanted_clauses, wanted_patterns};
 
-use crate::slots::{pattern_of, shape_at};
+use crate::slots::pattern_of;
 use formula_tree::Path;
-use pattern_automata::{ClauseList, Literal, LiteralList, Wants};
+use pattern_automata::{
+    ClauseList, Closed, Literal, LiteralList, Product, Wants, is_closed, product,
+};
 use plain_lists::NoMemory;
-use policy_model::{Schema, Slot, Test};
+use policy_model::Test;
 use std::alloc::{AllocError, Global};
 use wildcard_lang::{Pattern, PatternList, read_glob};
 
@@ -21,24 +27,24 @@ fn some_word(alloc: Global) -> Result<Pattern, NoMemory>
     }
 }
 
-/// The patterns of the core's tests, in order.
-fn test_patterns(alloc: Global, tests: &[Test], core: &[u32]) -> Result<PatternList, NoMemory>
-    requires words { All IsWordTest tests.now }
-    requires within { All (λ n. n < length tests.now) core.now }
-    ensures { IfOk result (λ v. v ≡ map (λ n. pattern_of (test_at tests.now n)) core.now) }
+/// The patterns of the tests of these numbers, in order.
+fn test_patterns(alloc: Global, tests: &[Test], numbers: &[u32]) -> Result<PatternList, NoMemory>
+    requires suit { (schema : Schema) × All (TestSuits schema) tests.now }
+    requires within { All (λ n. n < length tests.now) numbers.now }
+    ensures { IfOk result (λ v. v ≡ map (λ n. pattern_of (test_at tests.now n)) numbers.now) }
 {
     let mut patterns = PatternList::new(alloc);
-    for n in core {
-        patterns.push(pattern_of(&tests[*n as usize])?)?;
+    for n in numbers {
+        patterns.push(pattern_of(alloc, &tests[*n as usize])?)?;
     }
     Ok(patterns)
 }
 
-/// Adds the slot's shape, where one is given.
-fn push_shape(schema: &Schema, slot: &Slot, patterns: &mut PatternList) -> Result<(), NoMemory>
-    ensures { OnOk result (patterns.new ≡ patterns.old ++ shape_patterns (shape_at schema.now slot.now)) }
+/// Adds the shape, where one is given.
+fn push_shape(shape: &Option<Pattern>, patterns: &mut PatternList) -> Result<(), NoMemory>
+    ensures { OnOk result (patterns.new ≡ patterns.old ++ option_to_list shape.now) }
 {
-    match shape_at(schema, slot) {
+    match shape {
         None => Ok(()),
         Some(shape) => patterns.push(shape.copy()?),
     }
@@ -60,55 +66,88 @@ fn wanted(alloc: Global, number: usize, holds: bool) -> Result<LiteralList, NoMe
 /// Adds the clause that the shape matches, where one is given.
 fn push_shape_clause(
     alloc: Global,
-    schema: &Schema,
-    slot: &Slot,
+    shape: &Option<Pattern>,
     number: usize,
     clauses: &mut ClauseList,
 ) -> Result<(), NoMemory>
-    ensures { OnOk result (clauses.new ≡ clauses.old ++ shape_clauses (shape_at schema.now slot.now) number) }
+    ensures { OnOk result (clauses.new ≡ clauses.old ++ shape_clauses shape.now number) }
 {
-    match shape_at(schema, slot) {
+    match shape {
         None => Ok(()),
         Some(_) => clauses.push(wanted(alloc, number, true)?),
     }
 }
 
-/// The clauses of the core's tests, of `?*` and of the shape.
+/// The clauses of the tests, of `?*` and of the shape.
 fn clauses_of(
     alloc: Global,
-    schema: &Schema,
     path: &Path,
-    core: &[u32],
-    slot: &Slot,
+    numbers: &[u32],
+    shape: &Option<Pattern>,
 ) -> Result<ClauseList, NoMemory>
-    ensures { IfOk result (λ v. v ≡ core_clauses schema.now path.now core.now slot.now 0) }
+    ensures { IfOk result (λ v. v ≡ wanted_clauses path.now numbers.now shape.now 0) }
 {
     let mut clauses = ClauseList::new(alloc);
-    for i in 0..core.len() {
-        let holds = path.answer(core[i]).unwrap_or(false);
+    for i in 0..numbers.len() {
+        let holds = path.answer(numbers[i]).unwrap_or(false);
         clauses.push(wanted(alloc, i, holds)?)?;
     }
-    clauses.push(wanted(alloc, core.len(), true)?)?;
-    push_shape_clause(alloc, schema, slot, core.len() + 1, &mut clauses)?;
+    clauses.push(wanted(alloc, numbers.len(), true)?)?;
+    push_shape_clause(alloc, shape, numbers.len() + 1, &mut clauses)?;
     Ok(clauses)
 }
 
-/// What is wanted of a word by the core.
-pub fn wants_of(
+/// What is wanted by the tests of these numbers.
+fn wants_of(
     alloc: Global,
-    schema: &Schema,
     tests: &[Test],
     path: &Path,
-    core: &[u32],
-    slot: &Slot,
+    numbers: &[u32],
+    shape: &Option<Pattern>,
 ) -> Result<Wants, NoMemory>
-    requires words { All IsWordTest tests.now }
-    requires within { All (λ n. n < length tests.now) core.now }
-    ensures { IfOk result (IsWants schema.now tests.now path.now core.now slot.now) }
+    requires suit { (schema : Schema) × All (TestSuits schema) tests.now }
+    requires within { All (λ n. n < length tests.now) numbers.now }
+    ensures { IfOk result (IsWants tests.now path.now numbers.now shape.now) }
 {
-    let mut patterns = test_patterns(alloc, tests, core)?;
+    let mut patterns = test_patterns(alloc, tests, numbers)?;
     patterns.push(some_word(alloc)?)?;
-    push_shape(schema, slot, &mut patterns)?;
-    let clauses = clauses_of(alloc, schema, path, core, slot)?;
+    push_shape(shape, &mut patterns)?;
+    let clauses = clauses_of(alloc, path, numbers, shape)?;
     Ok(Wants { patterns, clauses })
+}
+
+/// A text that meets what the tests of these numbers want, or what shows that there is none, or too
+/// many lists of places.
+pub fn solve(
+    alloc: Global,
+    tests: &[Test],
+    path: &Path,
+    numbers: &[u32],
+    shape: &Option<Pattern>,
+    states: u32,
+) -> Result<Product, NoMemory>
+    requires suit { (schema : Schema) × All (TestSuits schema) tests.now }
+    requires within { All (λ n. n < length tests.now) numbers.now }
+    requires some { 1 ≤ states }
+    ensures { IfOk result (IsProduct (wanted_patterns tests.now numbers.now shape.now) (wanted_clauses path.now numbers.now shape.now 0) states) }
+{
+    let wants = wants_of(alloc, tests, path, numbers, shape)?;
+    product(alloc, &wants, states)
+}
+
+/// Whether the set is closed for what the tests of these numbers want.
+pub fn is_closed_for(
+    alloc: Global,
+    tests: &[Test],
+    path: &Path,
+    numbers: &[u32],
+    shape: &Option<Pattern>,
+    closed: &Closed,
+) -> Result<bool, NoMemory>
+    requires suit { (schema : Schema) × All (TestSuits schema) tests.now }
+    requires within { All (λ n. n < length tests.now) numbers.now }
+    ensures { IfOk result (λ yes. IsTrue yes ↔ IsClosedFor tests.now path.now numbers.now shape.now closed.now) }
+{
+    let wants = wants_of(alloc, tests, path, numbers, shape)?;
+    is_closed(alloc, &wants, closed)
 }

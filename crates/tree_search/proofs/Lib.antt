@@ -1,3 +1,4 @@
-pub mod Wording
+pub mod Deciding
+pub mod Renewing
 pub mod Meeting
 pub mod Searching

@@ -1,52 +1,33 @@
--- The request of a path's words: it is valid, it answers the path, and it makes a tree yes whose value is yes.
-use Rattle.std.proofs.Common.{◌≡◌, ◌≢◌, ℕ, ◌<◌, List, [], ◌∷◌, ◌++◌, length, slice_get, Bool, true, false, Option, Some, None, unwrap_or, All, AllPairs, Any, MatchBool, Decides, refl, sym, ap, subst, arith, codes}
-use Rattle.std.proofs.lemmas.List.Elements.{All-nil, All-cons, All-append}
+-- The entries of a path's values, and what a request that answers the path says of a tree.
+use Rattle.std.proofs.Common.{◌≡◌, ◌≢◌, ℕ, List, [], ◌++◌, Bool, true, false, Option, Some, None, All, AllPairs, Any, MatchBool, refl, sym, subst, arith}
+use Rattle.std.proofs.lemmas.List.Elements.{All-nil, All-cons, All-append, Contains-append_left, Contains-append_right}
 use Rattle.std.proofs.lemmas.List.Kept.{AllPairs-cons}
-use Rattle.std.proofs.lemmas.Option.{slice_get-get_or, slice_get_within}
-use Rattle.wildcard_lang.specs.declared.piece.Piece.{Piece}
-use Rattle.wildcard_lang.specs.Accepts.{accepts}
-use Rattle.wildcard_lang.specs.Matching.{Matches}
-use Rattle.wildcard_lang.proofs.Accept.{Decides-accepts}
-use Rattle.formula_tree.specs.Answers.{Answers, answer_of, Completes}
+use Rattle.std.proofs.lemmas.Option.{slice_get-get_or}
+use Rattle.formula_tree.specs.Answers.{Answers, Completes}
 use Rattle.formula_tree.specs.Trees.{Tree}
 use Rattle.formula_tree.specs.Values.{value}
 use Rattle.formula_tree.specs.declared.value.Three.TheVariants.{Yes}
 use Rattle.formula_tree.proofs.Keeping.{says-yes}
-use Rattle.policy_model.specs.declared.principal.PrincipalKind.TheVariants.{Aws}
 use Rattle.policy_model.specs.declared.request.Request.{Request}
 use Rattle.policy_model.specs.declared.schema.Schema.{Schema}
 use Rattle.policy_model.specs.declared.test.Slot.{Slot}
 use Rattle.policy_model.specs.declared.test.Slot.TheVariants as slot
 use Rattle.policy_model.specs.declared.test.Test.{Test}
-use Rattle.policy_model.specs.declared.test.Test.TheVariants.{Principal, Action, Resource}
-use Rattle.policy_model.specs.Requests.{IsWord, EntryIsValid, IsThere}
+use Rattle.policy_model.specs.declared.test.Test.TheVariants.{Action}
 use Rattle.policy_model.specs.Tests.{TestHolds}
 use Rattle.slot_theory.specs.declared.outcome.SlotValue.{SlotValue}
-use Rattle.slot_theory.specs.declared.outcome.SlotValue.TheVariants.{Word}
-use Rattle.slot_theory.specs.Slots.{IsWordTest, slot_of}
+use Rattle.slot_theory.specs.Slots.{test_at}
 use Rattle.slot_theory.specs.Possible.{AnswersPath, InRange, IsPossible}
-use Rattle.slot_theory.specs.Cores.{HasTest, test_at}
-use Rattle.slot_theory.proofs.Wording.{at-test, on-within}
+use Rattle.slot_theory.specs.Cores.{HasTest}
+use Rattle.slot_theory.proofs.Wording.{at-test}
 use Rattle.request_build.specs.Built.{AreSlotValues, IsPlainSchema, IsSlotValue}
+use Rattle.request_build.proofs.Joining.{joined-possible}
 use Rattle.refute_check.specs.Laws.{MakesYes}
-use Rattle.tree_search.specs.declared.words.Words.{Words}
-use Rattle.tree_search.specs.Words.{AreWords, IsWordAt, values_of, entry_of}
+use Rattle.tree_search.specs.declared.values.Values.{Values}
+use Rattle.tree_search.specs.Values.{AreValues, IsValueAt, entries_of, entry_of, value_in}
+use Rattle.tree_search.proofs.Deciding.{holds_on, test-decided}
 
--- ---- tests on words
-
-pub word-got : (tests : List Test) (n : ℕ) (t : Test) → All IsWordTest tests → n < length tests → slice_get tests n ≡ Some t → IsWordTest t
-word-got tests n t words within at = subst (λ (x : Test). IsWordTest x) (at-test tests n t at) (words n (Action []) within)
-
-pub asked-by : (tests : List Test) (path : Answers) (n : ℕ) (b : Bool) (t : Test) → answer_of path n ≡ Some b → slice_get tests n ≡ Some t → HasTest tests path (slot_of t)
-asked-by tests path n b t e at = record { number = n; is = record { answered = rw e refl; on_slot = ap slot_of (at-test tests n t at) } }
-
--- ---- the request of the words
-
-x-word : (shape : Option (List Piece)) → shape ≡ None → IsWord shape (codes "x")
-x-word shape e = rw e (record { text = refl; some = λ bad. absurd (cc); fits = tt })
-
-abbrev request_of : Words → Request
-request_of words = record { kind = Aws; id = codes "x"; action = unwrap_or words.action (codes "x"); resource = unwrap_or words.resource (codes "x"); context = [] }
+-- ---- no slot stands twice
 
 abbrev Differ : Slot × SlotValue → Slot × SlotValue → Type 0
 Differ p q = p.0 ≢ q.0
@@ -54,96 +35,87 @@ Differ p q = p.0 ≢ q.0
 none-differ : AllPairs Differ []
 none-differ i j d l m = absurd (omega arith)
 
-one-differs : (p : Slot × SlotValue) → AllPairs Differ (p ∷ [])
-one-differs p = AllPairs-cons Differ p [] (All-nil (Differ p)) none-differ
+entry-apart : (s other : Slot) (v : SlotValue) (o : Option SlotValue) → s ≢ other → All (Differ (s, v)) (entry_of other o)
+entry-apart s other v None differs = All-nil (Differ (s, v))
+entry-apart s other v (Some u) differs = All-cons (Differ (s, v)) (other, u) [] differs (All-nil (Differ (s, v)))
 
-entries-once : (a b : Option (List ℕ)) → AllPairs Differ (entry_of slot.Action a ++ entry_of slot.Resource b)
-entries-once None None = none-differ
-entries-once None (Some w) = one-differs (slot.Resource, Word w)
-entries-once (Some v) None = one-differs (slot.Action, Word v)
-entries-once (Some v) (Some w) =
-    let other : slot.Action ≢ slot.Resource = λ e. absurd (cc) in
-    AllPairs-cons Differ (slot.Action, Word v) ((slot.Resource, Word w) ∷ [])
-    (All-cons (Differ (slot.Action, Word v)) (slot.Resource, Word w) [] other (All-nil (Differ (slot.Action, Word v)))) (one-differs (slot.Resource, Word w))
+entry-once : (s : Slot) (o : Option SlotValue) (rest : List (Slot × SlotValue)) → ((v : SlotValue) → All (Differ (s, v)) rest) → AllPairs Differ rest → AllPairs Differ (entry_of s o ++ rest)
+entry-once s None rest apart once = once
+entry-once s (Some v) rest apart once = AllPairs-cons Differ (s, v) rest (apart v) once
 
-module _ (schema : Schema) (tests : List Test) (path : Answers) (words : Words) where
-  action-word : (o : Option (List ℕ)) → schema.shapes.action ≡ None → IsWordAt schema tests path slot.Action o → IsWord schema.shapes.action (unwrap_or o (codes "x"))
-  action-word None e h = x-word schema.shapes.action e
-  action-word (Some w) e h = h.permits
+entry-alone : (s : Slot) (o : Option SlotValue) → AllPairs Differ (entry_of s o)
+entry-alone s None = none-differ
+entry-alone s (Some v) = AllPairs-cons Differ (s, v) [] (All-nil (Differ (s, v))) none-differ
 
-  resource-word : (o : Option (List ℕ)) → schema.shapes.resource ≡ None → IsWordAt schema tests path slot.Resource o → IsWord schema.shapes.resource (unwrap_or o (codes "x"))
-  resource-word None e h = x-word schema.shapes.resource e
-  resource-word (Some w) e h = h.permits
+entries-once : (values : Values) → AllPairs Differ (entries_of values)
+entries-once values =
+    let action = entry_of slot.Action values.action in
+    let resource = entry_of slot.Resource values.resource in
+    entry-once slot.Principal values.principal (action ++ resource)
+    (λ v. All-append (Differ (slot.Principal, v)) action resource (entry-apart slot.Principal slot.Action v values.action (λ e. absurd (cc))) (entry-apart slot.Principal slot.Resource v values.resource (λ e. absurd (cc))))
+    (entry-once slot.Action values.action resource (λ v. entry-apart slot.Action slot.Resource v values.resource (λ e. absurd (cc))) (entry-alone slot.Resource values.resource))
 
-  action-answers : (o : Option (List ℕ)) (n : ℕ) (b : Bool) (p : List Piece) → IsWordAt schema tests path slot.Action o → answer_of path n ≡ Some b → slice_get tests n ≡ Some (Action p) → MatchBool b (Matches p (unwrap_or o (codes "x"))) (¬ Matches p (unwrap_or o (codes "x")))
-  action-answers None n b p h e at = absurd (h (asked-by tests path n b (Action p) e at))
-  action-answers (Some w) n b p h e at = h.answers n b (Action p) e at refl
+-- ---- the entries are values of their slots
 
-  resource-answers : (o : Option (List ℕ)) (n : ℕ) (b : Bool) (p : List Piece) → IsWordAt schema tests path slot.Resource o → answer_of path n ≡ Some b → slice_get tests n ≡ Some (Resource p) → MatchBool b (Matches p (unwrap_or o (codes "x"))) (¬ Matches p (unwrap_or o (codes "x")))
-  resource-answers None n b p h e at = absurd (h (asked-by tests path n b (Resource p) e at))
-  resource-answers (Some w) n b p h e at = h.answers n b (Resource p) e at refl
+module _ (P : Slot × SlotValue → Type 0) where
+  entry-each : (s : Slot) (o : Option SlotValue) → ((v : SlotValue) → o ≡ Some v → P (s, v)) → All P (entry_of s o)
+  entry-each s None each = All-nil P
+  entry-each s (Some v) each = All-cons P (s, v) [] (each v refl) (All-nil P)
 
-  test-answers : (n : ℕ) (b : Bool) (t : Test) → IsWordTest t → AreWords schema tests path words → answer_of path n ≡ Some b → slice_get tests n ≡ Some t → MatchBool b (TestHolds (request_of words) t) (¬ TestHolds (request_of words) t)
-  test-answers n b (Principal entry) h are e at = absurd h
-  test-answers n b (Action p) h are e at = action-answers words.action n b p are.action e at
-  test-answers n b (Resource p) h are e at = resource-answers words.resource n b p are.resource e at
+  entries-each : (values : Values) → ((s : Slot) (v : SlotValue) → value_in s values ≡ Some v → P (s, v)) → All P (entries_of values)
+  entries-each values each =
+      let action = entry_of slot.Action values.action in
+      let resource = entry_of slot.Resource values.resource in
+      All-append P (entry_of slot.Principal values.principal) (action ++ resource) (entry-each slot.Principal values.principal (each slot.Principal))
+      (All-append P action resource (entry-each slot.Action values.action (each slot.Action)) (entry-each slot.Resource values.resource (each slot.Resource)))
 
-  -- a path that words answer is possible
-  pub words-possible : IsPlainSchema schema → All IsWordTest tests → InRange tests path → AreWords schema tests path words → IsPossible schema tests path
-  words-possible plain on_words range are = record {
-    request = request_of words;
-    valid = record {
-      words = record {
-        id = x-word schema.shapes.aws (ap (λ s. s.aws) plain.shapes);
-        action = action-word words.action (ap (λ s. s.action) plain.shapes) are.action;
-        resource = resource-word words.resource (ap (λ s. s.resource) plain.shapes) are.resource;
-      };
-      keys = record {
-        each = All-nil (EntryIsValid schema.keys);
-        required = rw plain.keys (All-nil (IsThere []));
-      };
-    };
-    answers = λ n b t e at. test-answers n b t (word-got tests n t on_words (range n b e) at) are e at;
-  }
+abbrev IsOn : Slot → Slot × SlotValue → Type 0
+IsOn s p = p.0 ≡ s
 
-  -- ---- the values of the words
+any-left : (s : Slot) (ps qs : List (Slot × SlotValue)) → Any (IsOn s) ps → Any (IsOn s) (ps ++ qs)
+any-left s ps qs (k, p, within, at, on) = let among = Contains-append_left ps qs p (k, within, at) in (among.0, p, among.1, among.2, on)
 
-  entry-each : (s : Slot) (o : Option (List ℕ)) → IsWordAt schema tests path s o → All (IsSlotValue schema tests path) (entry_of s o)
-  entry-each s None h = All-nil (IsSlotValue schema tests path)
-  entry-each s (Some w) h = All-cons (IsSlotValue schema tests path) (s, Word w) [] (h.permits, h.answers) (All-nil (IsSlotValue schema tests path))
+any-right : (s : Slot) (ps qs : List (Slot × SlotValue)) → Any (IsOn s) qs → Any (IsOn s) (ps ++ qs)
+any-right s ps qs (k, p, within, at, on) = let among = Contains-append_right ps qs p (k, within, at) in (among.0, p, among.1, among.2, on)
 
-  entry-needed : (s : Slot) (o : Option (List ℕ)) → IsWordAt schema tests path s o → All (λ p. HasTest tests path p.0) (entry_of s o)
-  entry-needed s None h = All-nil (λ p. HasTest tests path p.0)
-  entry-needed s (Some w) h = All-cons (λ p. HasTest tests path p.0) (s, Word w) [] h.asked (All-nil (λ p. HasTest tests path p.0))
+module _ (schema : Schema) (tests : List Test) (path : Answers) where
+  value-permits : (s : Slot) (o : Option SlotValue) (v : SlotValue) → o ≡ Some v → IsValueAt schema tests path s o → IsSlotValue schema tests path (s, v)
+  value-permits s None v e is = absurd (cc)
+  value-permits s (Some u) v e is = let same : u ≡ v = cc in subst (λ (x : SlotValue). IsSlotValue schema tests path (s, x)) same (is.permits, is.answers)
 
-  action-there : (a b : Option (List ℕ)) → IsWordAt schema tests path slot.Action a → HasTest tests path slot.Action → Any (λ (p : Slot × SlotValue). p.0 ≡ slot.Action) (entry_of slot.Action a ++ entry_of slot.Resource b)
-  action-there None b is h = absurd (is h)
-  action-there (Some v) b is h = (0, (slot.Action, Word v), omega arith, refl, refl)
+  value-asked : (s : Slot) (o : Option SlotValue) (v : SlotValue) → o ≡ Some v → IsValueAt schema tests path s o → HasTest tests path s
+  value-asked s None v e is = absurd (cc)
+  value-asked s (Some u) v e is = is.asked
 
-  resource-there : (a b : Option (List ℕ)) → IsWordAt schema tests path slot.Resource b → HasTest tests path slot.Resource → Any (λ (p : Slot × SlotValue). p.0 ≡ slot.Resource) (entry_of slot.Action a ++ entry_of slot.Resource b)
-  resource-there a None is h = absurd (is h)
-  resource-there None (Some w) is h = (0, (slot.Resource, Word w), omega arith, refl, refl)
-  resource-there (Some v) (Some w) is h = (1, (slot.Resource, Word w), omega arith, refl, refl)
+  entry-there : (s : Slot) (o : Option SlotValue) → IsValueAt schema tests path s o → HasTest tests path s → Any (IsOn s) (entry_of s o)
+  entry-there s None is asked = absurd (is asked)
+  entry-there s (Some v) is asked = (0, (s, v), omega arith, refl, refl)
 
-  slot-there : (t : Test) (s : Slot) → IsWordTest t → slot_of t ≡ s → AreWords schema tests path words → HasTest tests path s → Any (λ (p : Slot × SlotValue). p.0 ≡ s) (values_of words)
-  slot-there (Principal entry) s h e are asked = absurd h
-  slot-there (Action p) s h e are asked = subst (λ (x : Slot). Any (λ (q : Slot × SlotValue). q.0 ≡ x) (values_of words)) e (action-there words.action words.resource are.action (subst (HasTest tests path) (sym e) asked))
-  slot-there (Resource p) s h e are asked = subst (λ (x : Slot). Any (λ (q : Slot × SlotValue). q.0 ≡ x) (values_of words)) e (resource-there words.action words.resource are.resource (subst (HasTest tests path) (sym e) asked))
+  module _ (values : Values) (are : AreValues schema tests path values) where
+    entries-there : (s : Slot) → HasTest tests path s → Any (IsOn s) (entries_of values)
+    entries-there slot.Principal asked =
+        any-left slot.Principal (entry_of slot.Principal values.principal) (entry_of slot.Action values.action ++ entry_of slot.Resource values.resource) (entry-there slot.Principal values.principal (are slot.Principal) asked)
+    entries-there slot.Action asked =
+        any-right slot.Action (entry_of slot.Principal values.principal) (entry_of slot.Action values.action ++ entry_of slot.Resource values.resource)
+        (any-left slot.Action (entry_of slot.Action values.action) (entry_of slot.Resource values.resource) (entry-there slot.Action values.action (are slot.Action) asked))
+    entries-there slot.Resource asked =
+        any-right slot.Resource (entry_of slot.Principal values.principal) (entry_of slot.Action values.action ++ entry_of slot.Resource values.resource)
+        (any-right slot.Resource (entry_of slot.Action values.action) (entry_of slot.Resource values.resource) (entry-there slot.Resource values.resource (are slot.Resource) asked))
+    entries-there (slot.Key name) asked = absurd (are (slot.Key name) asked)
 
-  pub are-values : All IsWordTest tests → InRange tests path → AreWords schema tests path words → AreSlotValues schema tests path (values_of words)
-  are-values on_words range are = record {
-    each = All-append (IsSlotValue schema tests path) (entry_of slot.Action words.action) (entry_of slot.Resource words.resource) (entry-each slot.Action words.action are.action) (entry-each slot.Resource words.resource are.resource);
-    needed = All-append (λ p. HasTest tests path p.0) (entry_of slot.Action words.action) (entry_of slot.Resource words.resource) (entry-needed slot.Action words.action are.action) (entry-needed slot.Resource words.resource are.resource);
-    there = λ s h. slot-there (test_at tests h.number) s (on_words h.number (Action []) (on-within tests path s h.number range h.is)) h.is.on_slot are h;
-    once = entries-once words.action words.resource;
-  }
+    pub are-entries : AreSlotValues schema tests path (entries_of values)
+    are-entries = record {
+      each = entries-each (IsSlotValue schema tests path) values (λ s v e. value-permits s (value_in s values) v e (are s));
+      needed = entries-each (λ (p : Slot × SlotValue). HasTest tests path p.0) values (λ s v e. value-asked s (value_in s values) v e (are s));
+      there = entries-there;
+      once = entries-once values;
+    }
+
+    -- a path that values answer is possible
+    pub values-possible : IsPlainSchema schema → IsPossible schema tests path
+    values-possible plain = joined-possible schema tests path (entries_of values) plain are-entries
 
 -- ---- what the request says of a tree
-
-abbrev holds_on : Request → Test → Bool
-holds_on r (Principal entry) = false
-holds_on r (Action p) = accepts p r.action
-holds_on r (Resource p) = accepts p r.resource
 
 same-answer : (a b : Bool) (A : Type 0) → MatchBool a A (¬ A) → MatchBool b A (¬ A) → a ≡ b
 same-answer true true A h g = refl
@@ -151,24 +123,14 @@ same-answer true false A h g = absurd (g h)
 same-answer false true A h g = absurd (h g)
 same-answer false false A h g = refl
 
-decided : (b : Bool) (A : Type 0) → Decides b A → MatchBool b A (¬ A)
-decided true A d = d.0 refl
-decided false A d = λ h. let bad : false ≡ true = d.1 h in absurd (cc)
-
-test-decided : (r : Request) (t : Test) → IsWordTest t → MatchBool (holds_on r t) (TestHolds r t) (¬ TestHolds r t)
-test-decided r (Principal entry) h = absurd h
-test-decided r (Action p) h = decided (accepts p r.action) (Matches p r.action) (Decides-accepts p r.action)
-test-decided r (Resource p) h = decided (accepts p r.resource) (Matches p r.resource) (Decides-accepts p r.resource)
-
-pub makes-yes : (tests : List Test) (tree : Tree) (path : Answers) (q : Request) → All IsWordTest tests → InRange tests path → AnswersPath tests path q → value path tree ≡ Yes → MakesYes tests tree q
-makes-yes tests tree path q words range says made =
+pub makes-yes : (tests : List Test) (tree : Tree) (path : Answers) (q : Request) → InRange tests path → AnswersPath tests path q → value path tree ≡ Yes → MakesYes tests tree q
+makes-yes tests tree path q range says made =
     let total : ℕ → Bool = λ n. holds_on q (test_at tests n) in
     let completes : Completes total path =
     λ n b e.
     let t = test_at tests n in
-    let within : n < length tests = range n b e in
-    same-answer (total n) b (TestHolds q t) (test-decided q t (words n (Action []) within)) (says n b t e (slice_get-get_or tests n (Action []) within)) in (
+    same-answer (total n) b (TestHolds q t) (test-decided q t) (says n b t e (slice_get-get_or tests n (Action []) (range n b e))) in (
       total,
-      λ n t at. subst (λ (x : Test). MatchBool (holds_on q x) (TestHolds q t) (¬ TestHolds q t)) (sym (at-test tests n t at)) (test-decided q t (word-got tests n t words (slice_get_within tests n t at) at)),
+      λ n t at. subst (λ (x : Test). MatchBool (holds_on q x) (TestHolds q t) (¬ TestHolds q t)) (sym (at-test tests n t at)) (test-decided q t),
       says-yes path tree total completes made,
     )

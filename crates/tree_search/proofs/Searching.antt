@@ -10,13 +10,14 @@ use Rattle.formula_tree.proofs.Running.{same_run}
 use Rattle.policy_model.specs.declared.schema.Schema.{Schema}
 use Rattle.policy_model.specs.declared.test.Slot.{Slot}
 use Rattle.policy_model.specs.declared.test.Test.{Test}
+use Rattle.policy_model.specs.Soundness.{TestSuits}
 use Rattle.slot_theory.specs.Possible.{IsPossible}
 use Rattle.slot_theory.specs.declared.outcome.SlotProof.{SlotProof}
-use Rattle.slot_theory.specs.Slots.{IsWordSlot, IsWordTest, patterns_at, slot_of}
-use Rattle.slot_theory.proofs.Wording.{word-slot}
+use Rattle.slot_theory.specs.Slots.{IsBuiltSlot, patterns_at, slot_of}
 use Rattle.wildcard_lang.specs.Places.{ShowWider}
 use Rattle.slot_theory.specs.Cores.{Accepts}
 use Rattle.slot_theory.proofs.Impossible.{impossible}
+use Rattle.slot_theory.proofs.Wording.{built-slot}
 use Rattle.refute_check.specs.Proofs.{Proof, split, by_value, by_slot}
 use Rattle.tree_search.specs.declared.outcome.Wide.{Wide}
 use Rattle.tree_search.specs.Nodes.{IsNode, NeedsMore, at_start, in_yes, in_no}
@@ -90,11 +91,11 @@ module _ (schema : Schema) (tests : List Test) (tree : Tree) where
 -- ---- at the node itself
 
 module _ (schema : Schema) (tests : List Test) (tree : Tree) (states : ℕ) (path : Answers) where
-  pub wide-here : (copy : Answers) (s : Slot) (t : Test) (texts : List (List ℕ)) → copy ≡ path → s ≡ slot_of t → IsWordTest t → ShowWider (patterns_at schema tests path s) states texts →
+  pub wide-here : (copy : Answers) (s : Slot) (t : Test) (texts : List (List ℕ)) → copy ≡ path → s ≡ slot_of t → ShowWider (patterns_at schema tests path s) states texts →
       IsWideFrom schema tests tree states path (record { path = copy; slot = s; texts = texts })
-  wide-here copy s t texts same on word wide = record {
+  wide-here copy s t texts same on wide = record {
     node = subst (λ (q : Answers). IsNode (IsPossible schema tests) tree path q) (sym same) (at_start path);
-    slot = subst (λ (x : Slot). IsWordSlot x) (sym on) (word-slot t word);
+    slot = subst (λ (x : Slot). IsBuiltSlot x) (sym on) (built-slot t);
     texts = subst (λ (q : Answers). ShowWider (patterns_at schema tests q s) states texts) (sym same) wide;
   }
 
@@ -106,9 +107,9 @@ module _ (schema : Schema) (tests : List Test) (tree : Tree) (path : Answers) (l
     within = omega arith;
   }
 
-  pub slot-closed : (r : Proof) (core : List ℕ) (proof : SlotProof) → r ≡ by_slot core proof → All IsWordTest tests → Accepts schema tests path core proof → IsClosed schema tests tree path left r 0
-  slot-closed r core proof is words accepted = record {
+  pub slot-closed : (r : Proof) (core : List ℕ) (proof : SlotProof) → r ≡ by_slot core proof → All (TestSuits schema) tests → Accepts schema tests path core proof → IsClosed schema tests tree path left r 0
+  slot-closed r core proof is suit accepted = record {
     closes = rw is accepted;
-    run = closed_by_path path (impossible schema tests path core proof words accepted);
+    run = closed_by_path path (impossible schema tests path core proof suit accepted);
     within = omega arith;
   }

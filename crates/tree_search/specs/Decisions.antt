@@ -6,7 +6,7 @@ use Rattle.policy_model.specs.declared.schema.Schema.{Schema}
 use Rattle.policy_model.specs.declared.test.Test.{Test}
 use Rattle.policy_model.specs.Requests.{IsValid}
 use Rattle.slot_theory.specs.Possible.{IsPossible}
-use Rattle.slot_theory.specs.Slots.{IsWordSlot, patterns_at}
+use Rattle.slot_theory.specs.Slots.{IsBuiltSlot, patterns_at}
 use Rattle.refute_check.specs.Proofs.{proof_of}
 use Rattle.refute_check.specs.Closing.{Closes}
 use Rattle.refute_check.specs.Laws.{MakesYes}
@@ -18,7 +18,7 @@ use Rattle.tree_search.specs.Nodes.{IsNode, NeedsMore}
 -- the kept path is a node of the plain run, and the kept texts show the patterns of the slot there wider than the states
 pub record IsWide (schema : Schema) (tests : List Test) (tree : Tree) (states : ℕ) (w : Wide) : Type 0 where
   pub node : IsNode (IsPossible schema tests) tree [] w.path
-  pub slot : IsWordSlot w.slot
+  pub slot : IsBuiltSlot w.slot
   pub texts : ShowWider (patterns_at schema tests w.path w.slot) states w.texts
 
 -- a refutation that closes the query under the empty path; a valid request that makes the query yes; more splits needed than

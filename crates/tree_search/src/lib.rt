@@ -6,7 +6,10 @@ mod outcome;
 mod renewal;
 mod search;
 mod step;
-mod words;
+mod values;
 
 pub use outcome::{Budgets, Decided, Wide};
 pub use search::decide;
+
+#[cfg(test)]
+mod tests;

@@ -5,19 +5,19 @@ ghost use Rattle.formula_tree.specs.Runs.{answered};
 ghost use Rattle.formula_tree.specs.Trees.{tree_of};
 ghost use Rattle.formula_tree.specs.Values.{AreBelow, value};
 ghost use Rattle.formula_tree.specs.declared.value.Three.TheVariants.{No};
-ghost use Rattle.slot_theory.specs.Slots.{IsWordTest};
+ghost use Rattle.policy_model.specs.Soundness.{TestSuits};
 ghost use Rattle.slot_theory.specs.Possible.{InRange};
 ghost use Rattle.refute_check.specs.Proofs.{by_slot, by_value, proof_of, split};
 ghost use Rattle.request_build.specs.Built.{IsPlainSchema};
 ghost use Rattle.tree_search.specs.Decisions.{IsDecision};
 ghost use Rattle.tree_search.specs.Steps.{IsAsked, IsFound};
-ghost use Rattle.tree_search.specs.Words.{AreWords, IsNext};
+ghost use Rattle.tree_search.specs.Values.{AreValues, IsNext};
 
 use crate::met::met;
 use crate::outcome::{Budgets, Decided, Wide};
 use crate::renewal::renew;
 use crate::step::{Found, Renewed};
-use crate::words::Words;
+use crate::values::Values;
 use formula_tree::{Path, Three, pick, value3};
 use plain_lists::NoMemory;
 use policy_compile::Query;
@@ -53,7 +53,7 @@ fn by_slot(alloc: Global, core: Core, proof: SlotProof) -> Result<Rc<Refutation>
     Ok(Rc::new(alloc, Refutation::BySlot { core, proof })?)
 }
 
-/// The search from a path whose tests the words answer, and under which the query isn't no.
+/// The search from a path whose tests the values answer, and under which the query isn't no.
 #[cycle(search)]
 fn search(
     alloc: Global,
@@ -61,18 +61,18 @@ fn search(
     query: &Query,
     states: u32,
     path: &mut Path,
-    words: &Words,
+    values: &Values,
     left: u32,
 ) -> Result<Found, NoMemory>
     requires asked { IsAsked schema.now query.now.tests (tree_of query.now.formula.value) states }
     requires range { InRange query.now.tests path.old }
-    requires words { AreWords schema.now query.now.tests path.old words.now }
+    requires values { AreValues schema.now query.now.tests path.old values.now }
     requires open { value path.old (tree_of query.now.formula.value) ≢ No }
     ensures found { IfOk result (IsFound schema.now query.now.tests (tree_of query.now.formula.value) states path.old left) }
     ensures path { OnOk result (path.new ≡ path.old) }
 {
     let Some(test) = pick(&query.formula, path) else {
-        return Ok(Found::Met(met(alloc, schema, query, path, words)?));
+        return Ok(Found::Met(met(alloc, schema, query, path, values)?));
     };
     if left == 0 {
         return Ok(Found::OutOfSplits);
@@ -83,14 +83,16 @@ fn search(
         query,
         states,
         path,
-        words,
+        values,
         test,
         true,
         left - 1,
     )? {
         Found::Closed(yes, used) => {
             let rest = left - 1 - used;
-            match side(alloc, schema, query, states, path, words, test, false, rest)? {
+            match side(
+                alloc, schema, query, states, path, values, test, false, rest,
+            )? {
                 Found::Closed(no, more) => {
                     let refutation = split(alloc, test, yes, no)?;
                     Ok(Found::Closed(refutation, used + more + 1))
@@ -114,14 +116,14 @@ fn side(
     query: &Query,
     states: u32,
     path: &mut Path,
-    words: &Words,
+    values: &Values,
     test: u32,
     answer: bool,
     left: u32,
 ) -> Result<Found, NoMemory>
     requires asked { IsAsked schema.now query.now.tests (tree_of query.now.formula.value) states }
     requires range { InRange query.now.tests path.old }
-    requires words { AreWords schema.now query.now.tests path.old words.now }
+    requires values { AreValues schema.now query.now.tests path.old values.now }
     requires within { test < length query.now.tests }
     requires new { answer_of path.old test ≡ None }
     ensures found { IfOk result (IsFound schema.now query.now.tests (tree_of query.now.formula.value) states (answered path.old test answer) left) }
@@ -129,13 +131,13 @@ fn side(
 {
     path.push(test, answer)?;
     let found = enter(
-        alloc, schema, query, states, path, words, test, answer, left,
+        alloc, schema, query, states, path, values, test, answer, left,
     )?;
     path.pop();
     Ok(found)
 }
 
-/// The search from a path whose tests but the last the words answer.
+/// The search from a path whose tests but the last the values answer.
 #[cycle(search)]
 fn enter(
     alloc: Global,
@@ -143,7 +145,7 @@ fn enter(
     query: &Query,
     states: u32,
     path: &mut Path,
-    words: &Words,
+    values: &Values,
     test: u32,
     answer: bool,
     left: u32,
@@ -151,7 +153,7 @@ fn enter(
     requires asked { IsAsked schema.now query.now.tests (tree_of query.now.formula.value) states }
     requires range { InRange query.now.tests path.old }
     requires within { test < length query.now.tests }
-    requires next { IsNext schema.now query.now.tests path.old test answer words.now }
+    requires next { IsNext schema.now query.now.tests path.old test answer values.now }
     ensures found { IfOk result (IsFound schema.now query.now.tests (tree_of query.now.formula.value) states path.old left) }
     ensures path { OnOk result (path.new ≡ path.old) }
 {
@@ -160,9 +162,10 @@ fn enter(
     }
     let slot = slot_of(alloc, &query.tests.as_slice()[test as usize])?;
     match renew(
-        alloc, schema, query, states, path, test, answer, &slot, words,
+        alloc, schema, query, states, path, test, answer, &slot, values,
     )? {
-        Renewed::Kept(renewed) => search(alloc, schema, query, states, path, &renewed, left),
+        Renewed::Kept => search(alloc, schema, query, states, path, values, left),
+        Renewed::Changed(values) => search(alloc, schema, query, states, path, &values, left),
         Renewed::Conflict(core, proof) => {
             let refutation = by_slot(alloc, core, proof)?;
             Ok(Found::Closed(refutation, 0))
@@ -182,7 +185,7 @@ pub fn decide(
     budgets: Budgets,
 ) -> Result<Decided, NoMemory>
     requires schema { IsPlainSchema schema.now }
-    requires words { All IsWordTest query.now.tests }
+    requires suit { All (TestSuits schema.now) query.now.tests }
     requires count { length query.now.tests < 2 ^ 32 }
     requires below { AreBelow (length query.now.tests) (tree_of query.now.formula.value) }
     requires splits { 1 ≤ budgets.splits }
@@ -193,14 +196,14 @@ pub fn decide(
     if let Three::No = value3(&query.formula, &path) {
         return Ok(Decided::Refuted(by_value(alloc)?));
     }
-    let words = Words::none();
+    let values = Values::none();
     match search(
         alloc,
         schema,
         query,
         budgets.states,
         &mut path,
-        &words,
+        &values,
         budgets.splits,
     )? {
         Found::Closed(refutation, _) => Ok(Decided::Refuted(refutation)),

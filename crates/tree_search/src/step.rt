@@ -1,6 +1,6 @@
 //! What a search finds at a path, inside.
 use crate::outcome::Wide;
-use crate::words::Words;
+use crate::values::Values;
 use policy_model::Request;
 use refute_check::Refutation;
 use slot_theory::{Core, SlotProof};
@@ -20,12 +20,14 @@ pub enum Found {
     OutOfStates(Wide),
 }
 
-/// What becomes of a path's words where it answers one more test.
+/// What becomes of a path's values where it answers one more test.
 #[derive(Drop)]
 pub enum Renewed {
-    /// Words that answer that test too.
-    Kept(Words),
-    /// Tests of its slot that no word answers.
+    /// They answer that test too.
+    Kept,
+    /// Values that do, of which one is new.
+    Changed(Values),
+    /// Tests of its slot that no value answers.
     Conflict(Core, SlotProof),
     /// Its slot needs more states.
     TooMany(TextList),

@@ -11,10 +11,10 @@ use Rattle.compare_cli.specs.Decided.{IsComparison, IsQueried}
 use Rattle.compare_cli.proofs.Comparing.{comparison_if_decided, query_below, query_tests}
 use Rattle.compare_cli.proofs.decision.compare.Goals as goal
 
-pub decide-requires-clause-words : goal.decide-requires-clause-words
-decide-requires-clause-words c =
+pub decide-requires-clause-suit : goal.decide-requires-clause-suit
+decide-requires-clause-suit c =
     let is : IsQuery (query_plan c.args.first.now c.args.second.now) c.in-Ok.query = subst (λ (r : Result Query Answer). IsQueried c.args.first.now c.args.second.now r) c.in-Ok.is c.in_ok-query.ensures in
-    query_tests c.args.first.now c.args.second.now c.in-Ok.query c.requires.first_words c.requires.second_words is
+    query_tests c.args.first.now c.args.second.now c.in-Ok.query c.requires.first_sound c.requires.second_sound is
 
 pub decide-requires-clause-below : goal.decide-requires-clause-below
 decide-requires-clause-below c =
@@ -26,4 +26,4 @@ returns c =
     let is : IsQuery (query_plan c.args.first.now c.args.second.now) c.in-Ok.query = subst (λ (r : Result Query Answer). IsQueried c.args.first.now c.args.second.now r) c.in-Ok.is c.in_ok-query.ensures in
     let same : c.new-schema.result ≡ run_schema = search rules in
     let decided : IsDecision run_schema c.in-Ok.query.tests (tree_of c.in-Ok.query.formula.value) c.args.budgets.splits c.args.budgets.states c.in_ok-decided.decided = subst (λ (s : Schema). IsDecision s c.in-Ok.query.tests (tree_of c.in-Ok.query.formula.value) c.args.budgets.splits c.args.budgets.states c.in_ok-decided.decided) same c.in_ok-decided.ensures in
-    subst (λ (a : Answer). IsComparison c.args.first.now c.args.second.now c.args.budgets a) (sym c.answer_of.ensures) (comparison_if_decided c.args.first.now c.args.second.now c.in-Ok.query c.args.budgets c.in_ok-decided.decided c.requires.first_words c.requires.second_words is decided)
+    subst (λ (a : Answer). IsComparison c.args.first.now c.args.second.now c.args.budgets a) (sym c.answer_of.ensures) (comparison_if_decided c.args.first.now c.args.second.now c.in-Ok.query c.args.budgets c.in_ok-decided.decided c.requires.first_sound c.requires.second_sound is decided)

@@ -20,7 +20,7 @@ walk-requires t c =
     let own : (c.in-Split.test < length c.args.query.now.tests) × (answer_of c.args.path.now c.in-Split.test ≡ None) = c.may_split.ensures.0 c.if-not-may_split.false in
     let small = sides_smaller c.in-Split.test (proof_of c.in-Split.yes.value) (proof_of c.in-Split.no.value) (proof_of c.args.part.now) form in
     let e = ap proof_of c.deref-in-Split.ensures in
-    (rw e (omega (arith, small.0, c.decreases)), (c.requires.words, (c.requires.count, (rw c.in_ok-push-in-Split.ensures.ok (range_more c.args.query.now.tests c.args.path.now c.in-Split.test true c.requires.range own.0), rw e (omega (arith, small.0, c.requires.nodes))))))
+    (rw e (omega (arith, small.0, c.decreases)), (c.requires.suit, (c.requires.count, (rw c.in_ok-push-in-Split.ensures.ok (range_more c.args.query.now.tests c.args.path.now c.in-Split.test true c.requires.range own.0), rw e (omega (arith, small.0, c.requires.nodes))))))
 
 pub returns-in-Failed-clause-walked : goal.returns-in-Failed-clause-walked
 returns-in-Failed-clause-walked t c =
@@ -37,7 +37,7 @@ walk-requires-in-Split t c =
     let small = sides_smaller c.in-Split.test (proof_of c.in-Split.yes.value) (proof_of c.in-Split.no.value) (proof_of c.args.part.now) form in
     let e = ap proof_of c.deref-in-Split-2.ensures in
     let back = popped c.args.path.now c.in-Split.test true c.walk.new.path c.pop.new.self c.pop.result (c.in_ok-first-in-Split.ensures.path ∙ c.in_ok-push-in-Split.ensures.ok) c.pop.ensures.last c.pop.ensures.some in
-    (rw e (omega (arith, small.1, c.decreases)), (c.requires.words, (c.requires.count, (rw (c.in_ok-push-in-Split-2.ensures.ok, back) (range_more c.args.query.now.tests c.args.path.now c.in-Split.test false c.requires.range own.0), rw e (omega (arith, small.1, c.requires.nodes))))))
+    (rw e (omega (arith, small.1, c.decreases)), (c.requires.suit, (c.requires.count, (rw (c.in_ok-push-in-Split-2.ensures.ok, back) (range_more c.args.query.now.tests c.args.path.now c.in-Split.test false c.requires.range own.0), rw e (omega (arith, small.1, c.requires.nodes))))))
 
 pub returns-else-eq-clause-walked : goal.returns-else-eq-clause-walked
 returns-else-eq-clause-walked t c =

@@ -12,7 +12,7 @@ returns-then-is_on c =
 
 pub loop-i-preserved : goal.loop-i-preserved
 loop-i-preserved c =
-    last-more c.args.tests.now c.args.answers.now c.args.slot.now c.requires.range c.requires.distinct c.loop-i.i (0, false) c.index-tests-n.result c.requires.slot c.loop-i-test.true c.loop-i.auto.i c.index-tests-n.is
+    last-more c.args.tests.now c.args.answers.now c.args.slot.now c.requires.range c.requires.distinct c.loop-i.i (0, false) c.index-tests-n.result c.loop-i-test.true c.loop-i.auto.i c.index-tests-n.is
     (sym c.is_on.ensures ∙ c.if-is_on.false) c.loop-i.invariant
 
 pub unreachable-requires : goal.unreachable-requires

@@ -1,6 +1,5 @@
 use Rattle.std.proofs.Common.{◌≢◌, ◌<◌, ◌≤◌, ℕ, Bool, length, get_or}
-use Rattle.slot_theory.specs.Slots.{slot_of}
-use Rattle.slot_theory.specs.Cores.{test_at}
+use Rattle.slot_theory.specs.Slots.{slot_of, test_at}
 use Rattle.slot_theory.proofs.search.last_on.Given as goal
 
 abbrev pub invariant-loop-i : goal.invariant-loop-i

@@ -1,6 +1,6 @@
 use Rattle.std.proofs.Common.{◌≡◌, ◌++◌, drop}
-use Rattle.slot_theory.specs.Cores.{core_clauses}
+use Rattle.slot_theory.specs.Wants.{wanted_clauses}
 use Rattle.slot_theory.proofs.wants.clauses_of.Given as goal
 
 abbrev pub invariant-loop-i : goal.invariant-loop-i
-invariant-loop-i l = core_clauses l.schema l.path l.core l.slot 0 ≡ l.clauses ++ core_clauses l.schema l.path (drop l.i l.core) l.slot l.i
+invariant-loop-i l = wanted_clauses l.path l.numbers l.shape 0 ≡ l.clauses ++ wanted_clauses l.path (drop l.i l.numbers) l.shape l.i

@@ -1,8 +1,0 @@
-use Rattle.std.proofs.Common.{◌≡◌, ◌<◌, ℕ, Bool, get_or}
-use Rattle.slot_theory.specs.Slots.{slot_of}
-use Rattle.slot_theory.specs.Cores.{test_at}
-use Rattle.slot_theory.specs.Steps.{AnswersTest}
-use Rattle.slot_theory.proofs.search.first_wrong.Given as goal
-
-abbrev pub invariant-loop-i : goal.invariant-loop-i
-invariant-loop-i l = (k : ℕ) (d : ℕ × Bool) → k < l.i → slot_of (test_at l.tests (get_or l.answers k d).0) ≡ l.slot → AnswersTest l.text (test_at l.tests (get_or l.answers k d).0) (get_or l.answers k d).1

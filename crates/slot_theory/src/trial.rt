@@ -1,0 +1,40 @@
+//! A value is tried on all answered tests of its slot.
+ghost use Rattle.std.specs.Prelude.{◌≡◌, MatchBool, MatchOption};
+ghost use Rattle.formula_tree.specs.Answers.{IsDistinct};
+ghost use Rattle.slot_theory.specs.Slots.{AnswersSlot, slot_of};
+ghost use Rattle.slot_theory.specs.Possible.{InRange};
+ghost use Rattle.slot_theory.specs.Steps.{AnswersTest, IsOtherwise, IsWrong};
+
+use crate::outcome::SlotValue;
+use crate::slots::{is_on, meets};
+use policy_model::{Slot, Test};
+
+/// Whether the test is on the slot and the value answers it otherwise.
+fn is_wrong(slot: &Slot, test: &Test, value: &SlotValue, holds: bool) -> bool
+    ensures { MatchBool result (IsOtherwise slot.now value.now test.now holds) (slot_of test.now ≡ slot.now → AnswersTest value.now test.now holds) }
+{
+    if !is_on(slot, test) {
+        return false;
+    }
+    meets(value, test) != holds
+}
+
+/// The first answered test of the slot that the value answers otherwise.
+pub fn first_wrong(
+    tests: &[Test],
+    answers: &[(u32, bool)],
+    slot: &Slot,
+    value: &SlotValue,
+) -> Option<u32>
+    requires range { InRange tests.now answers.now }
+    requires distinct { IsDistinct answers.now }
+    ensures { MatchOption result (AnswersSlot tests.now answers.now slot.now value.now) (IsWrong tests.now answers.now slot.now value.now) }
+{
+    for i in 0..answers.len() {
+        let (n, holds) = answers[i];
+        if is_wrong(slot, &tests[n as usize], value, holds) {
+            return Some(n);
+        }
+    }
+    None
+}

@@ -1,0 +1,56 @@
+-- Each test is decided on each request.
+use Rattle.std.proofs.Common.{◌≡◌, ℕ, List, Bool, true, false, ◌&&◌, Decides, MatchBool, refl}
+use Rattle.std.proofs.lemmas.Bool.Decides.{Decides-and}
+use Rattle.std.proofs.lemmas.Slice.Eq.{bytes_eq-Decides}
+use Rattle.std.specs.Str.{bytes_eq}
+use Rattle.wildcard_lang.specs.Accepts.{accepts}
+use Rattle.wildcard_lang.proofs.Accept.{Decides-accepts}
+use Rattle.policy_model.specs.declared.principal.Entry.{Entry}
+use Rattle.policy_model.specs.declared.principal.Entry.TheVariants.{All, Kind, Account, Exact}
+use Rattle.policy_model.specs.declared.principal.PrincipalKind.{PrincipalKind}
+use Rattle.policy_model.specs.declared.principal.PrincipalKind.TheVariants.{Aws}
+use Rattle.policy_model.specs.declared.request.Request.{Request}
+use Rattle.policy_model.specs.declared.test.Test.{Test}
+use Rattle.policy_model.specs.declared.test.Test.TheVariants.{Principal, Action, Resource}
+use Rattle.policy_model.specs.Principals.{EntryNames, IsOfAccount, account_test}
+use Rattle.policy_model.specs.Tests.{TestHolds}
+use Rattle.policy_model.proofs.Accounts.{account_test-is, account_test-of}
+use Rattle.slot_theory.specs.Entries.{is_kind}
+use Rattle.slot_theory.proofs.Naming.{kind-same, same-kind}
+
+Decides-kind : (j k : PrincipalKind) → Decides (is_kind j k) (j ≡ k)
+Decides-kind j k = (same-kind j k, kind-same j k)
+
+Decides-account : (account id : List ℕ) → Decides (account_test account id) (IsOfAccount account id)
+Decides-account account id = (account_test-is account id, account_test-of account id)
+
+-- whether the principal of this kind and id is one of the entry
+abbrev is_named : PrincipalKind → List ℕ → Entry → Bool
+is_named kind id All = true
+is_named kind id (Kind own) = is_kind kind own
+is_named kind id (Account account) = is_kind kind Aws && account_test account id
+is_named kind id (Exact own text) = is_kind kind own && bytes_eq id text
+
+Decides-named : (kind : PrincipalKind) (id : List ℕ) (entry : Entry) → Decides (is_named kind id entry) (EntryNames kind id entry)
+Decides-named kind id All = (λ e. tt, λ h. refl)
+Decides-named kind id (Kind own) = Decides-kind kind own
+Decides-named kind id (Account account) = Decides-and (is_kind kind Aws) (account_test account id) (Decides-kind kind Aws) (Decides-account account id)
+Decides-named kind id (Exact own text) = Decides-and (is_kind kind own) (bytes_eq id text) (Decides-kind kind own) (bytes_eq-Decides id text)
+
+-- whether the test holds on the request
+abbrev pub holds_on : Request → Test → Bool
+holds_on r (Principal entry) = is_named r.kind r.id entry
+holds_on r (Action pattern) = accepts pattern r.action
+holds_on r (Resource pattern) = accepts pattern r.resource
+
+Decides-test : (r : Request) (t : Test) → Decides (holds_on r t) (TestHolds r t)
+Decides-test r (Principal entry) = Decides-named r.kind r.id entry
+Decides-test r (Action pattern) = Decides-accepts pattern r.action
+Decides-test r (Resource pattern) = Decides-accepts pattern r.resource
+
+decided : (b : Bool) (A : Type 0) → Decides b A → MatchBool b A (¬ A)
+decided true A d = d.0 refl
+decided false A d = λ h. let bad : false ≡ true = d.1 h in absurd (cc)
+
+pub test-decided : (r : Request) (t : Test) → MatchBool (holds_on r t) (TestHolds r t) (¬ TestHolds r t)
+test-decided r t = decided (holds_on r t) (TestHolds r t) (Decides-test r t)
