@@ -21,17 +21,17 @@ use plain_lists::NoMemory;
 use std::alloc::Global;
 use wildcard_lang::Pattern;
 
-/// Whether the places strictly rise.
-fn rises(places: &[u32]) -> bool
-    ensures { result ≡ rises_from 0 places.now }
+/// Whether each number is greater than the one before it. It takes no memory.
+pub fn rises(numbers: &[u32]) -> bool
+    ensures { result ≡ rises_from 0 numbers.now }
 {
     let mut next: u64 = 0;
-    for place in places {
-        let place = u64::from(*place);
-        if place < next {
+    for number in numbers {
+        let number = u64::from(*number);
+        if number < next {
             return false;
         }
-        next = place + 1;
+        next = number + 1;
     }
     true
 }

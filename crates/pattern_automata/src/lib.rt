@@ -16,7 +16,7 @@ mod tree;
 mod wants;
 mod words;
 
-pub use check::is_closed;
+pub use check::{is_closed, rises};
 pub use laws::{
     closed_sets_are_empty, lists_meet_as_texts, meets_is_tested, scalars_step_as_representatives,
 };

@@ -1,15 +1,23 @@
--- Which sets are sound, which schemas fit a set, and which tests suit a schema: the bounds that this project sets to what policies say.
-use Rattle.std.specs.Prelude.{◌≡◌, ◌≤◌, ◌+◌, ⊤, ℕ, List, length, sum_by, Option, Some, None, All as Each}
+-- Which sets and schemas are sound, which schemas fit a set, and which tests suit a schema: the bounds that this project sets to
+-- what policies and schemas say.
+use Rattle.std.specs.Prelude.{◌≡◌, ◌≢◌, ◌≤◌, ◌+◌, ⊤, ℕ, List, [], length, sum_by, Option, Some, None, All as Each}
 use Rattle.std.specs.Char.{IsAsciiDigit}
 use Rattle.policy_model.specs.declared.principal.Entry.{Entry}
 use Rattle.policy_model.specs.declared.principal.Entry.TheVariants.{All, Kind, Account, Exact}
 use Rattle.policy_model.specs.declared.matcher.Matcher.{Matcher}
+use Rattle.wildcard_lang.specs.declared.piece.Piece.{Piece}
+use Rattle.policy_model.specs.declared.value.Kind.TheVariants.{Text}
+use Rattle.policy_model.specs.declared.value.Value.{Value}
+use Rattle.policy_model.specs.declared.value.Value.TheVariants.{Word, Truth}
+use Rattle.policy_model.specs.declared.schema.KeyRule.{KeyRule}
+use Rattle.policy_model.specs.declared.schema.Shapes.{Shapes}
 use Rattle.policy_model.specs.declared.schema.Schema.{Schema}
 use Rattle.policy_model.specs.declared.set.Statement.{Statement}
 use Rattle.policy_model.specs.declared.set.Document.{Document}
 use Rattle.policy_model.specs.declared.set.PolicySet.{PolicySet}
 use Rattle.policy_model.specs.declared.test.Test.{Test}
 use Rattle.policy_model.specs.declared.test.Test.TheVariants.{Principal, Action, Resource}
+use Rattle.policy_model.specs.Requests.{IsOfKind}
 
 -- twelve ASCII digits
 pub record IsAccount (account : List ℕ) : Type 0 where
@@ -41,6 +49,39 @@ pub record IsSound (set : PolicySet) : Type 0 where
   pub guards : length set.guards ≤ 4294967295
   pub granting : Each DocumentIsSound set.grants
   pub guarding : Each (λ g. Each DocumentIsSound g) set.guards
+
+-- a listed text has at most 2,048 characters
+abbrev pub IsShortValue : Value → Type 0
+IsShortValue (Word t) = length t ≤ 2048
+IsShortValue (Truth b) = ⊤
+
+-- listed values: there is one, and each is of the kind
+abbrev pub ListIsSound : Option (List Value) → KeyRule → Type 0
+ListIsSound None rule = ⊤
+ListIsSound (Some listed) rule = (listed ≢ []) × Each (IsOfKind rule.kind) listed × Each IsShortValue listed
+
+-- a shape is given to keys of texts alone, and not beside listed values
+abbrev pub ShapeIsSound : Option (List Piece) → KeyRule → Type 0
+ShapeIsSound None rule = ⊤
+ShapeIsSound (Some shape) rule = (rule.kind ≡ Text) × (rule.among ≡ None)
+
+pub record RuleIsSound (rule : KeyRule) : Type 0 where
+  pub listed : ListIsSound rule.among rule
+  pub shape : ShapeIsSound rule.shape rule
+
+-- the shapes of words, none of which are empty, aren't the empty pattern
+pub record ShapesAreSound (shapes : Shapes) : Type 0 where
+  pub action : shapes.action ≢ Some []
+  pub resource : shapes.resource ≢ Some []
+  pub aws : shapes.aws ≢ Some []
+  pub service : shapes.service ≢ Some []
+  pub federated : shapes.federated ≢ Some []
+  pub canonical_user : shapes.canonical_user ≢ Some []
+
+-- under a sound schema there is always a valid request
+pub record SchemaIsSound (schema : Schema) : Type 0 where
+  pub rules : Each (λ entry. RuleIsSound entry.1) schema.keys
+  pub shapes : ShapesAreSound schema.shapes
 
 -- the schema can answer for the set
 pub record SchemaFits (schema : Schema) (set : PolicySet) : Type 0 where

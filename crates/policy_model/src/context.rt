@@ -1,7 +1,7 @@
 //! The condition keys of a request.
-ghost use Rattle.std.specs.Prelude.{◌≡◌, ◌≢◌, [], length, slice_get, option_map, OnOk, OnErr};
+ghost use Rattle.std.specs.Prelude.{◌≡◌, ◌≢◌, [], length, slice_get, option_map, IfSome, OnOk, OnErr};
 ghost use Rattle.std.specs.Option.{option_copied};
-ghost use Rattle.text_table.specs.Table.{item_at, with_item};
+ghost use Rattle.text_table.specs.Table.{IsInOrder, item_at, with_item};
 ghost use Rattle.policy_model.specs.Keys.{IsFolded};
 
 use crate::value::ValueList;
@@ -21,11 +21,14 @@ pub struct Context {
 impl Model for Context {
     ghost use Rattle.std.specs.Prelude.{List};
     ghost use Rattle.text_table.specs.Table.{Entries};
+    ghost use Rattle.policy_model.specs.Keys.{AllHaveValues, AreFolded};
     ghost use Rattle.policy_model.specs.declared.value.Value.{Value as KeyValue};
 
     ghost Value = { Entries (List KeyValue) };
 
     ghost view = { λ c. c.entries };
+
+    ghost invariant = { λ c. AreFolded c.entries × AllHaveValues c.entries };
 }
 
 impl Context {
@@ -40,7 +43,8 @@ impl Context {
 
     /// How many keys there are.
     pub fn len(&self) -> usize
-        ensures { result ≡ length self.now }
+        ensures value { result ≡ length self.now }
+        ensures ordered { IsInOrder self.now }
     {
         self.entries.len()
     }
@@ -55,7 +59,9 @@ impl Context {
     /// The key at a place in the order of keys, counted from 0, with its values, or none where there is
     /// no such place.
     pub fn at(&self, i: usize) -> Option<(&Text, &ValueList)>
-        ensures { option_map (λ p. (p.0.now, p.1.now)) result ≡ slice_get self.now i }
+        ensures entry { option_map (λ p. (p.0.now, p.1.now)) result ≡ slice_get self.now i }
+        ensures folded { IfSome result (λ p. IsFolded p.0.now) }
+        ensures some { IfSome result (λ p. p.1.now ≢ []) }
     {
         self.entries.at(i)
     }

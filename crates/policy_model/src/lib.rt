@@ -4,6 +4,7 @@
 
 mod context;
 mod matcher;
+mod parts;
 mod principal;
 mod request;
 mod schema;
@@ -16,6 +17,7 @@ mod value;
 
 pub use context::Context;
 pub use matcher::Matcher;
+pub use parts::{behind_colon, behind_prefix};
 pub use plain_lists::{List, NoMemory};
 pub use principal::{Entry, EntryList, PrincipalKind, entry_holds, entry_names};
 pub use request::Request;

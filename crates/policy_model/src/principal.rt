@@ -1,7 +1,8 @@
 //! Principals of requests, and the entries of a policy that name them.
-ghost use Rattle.std.specs.Prelude.{◌≡◌, ◌↔◌, IfOk, IsTrue, option_map};
-ghost use Rattle.policy_model.specs.Principals.{EntryHolds, EntryNames, IsOfAccount, behind_colon, behind_prefix, account_test};
+ghost use Rattle.std.specs.Prelude.{◌≡◌, ◌↔◌, IfOk, IsTrue};
+ghost use Rattle.policy_model.specs.Principals.{EntryHolds, EntryNames, IsOfAccount, account_test};
 
+use crate::parts::{behind_colon, behind_prefix};
 use crate::request::Request;
 use plain_lists::{List, NoMemory};
 use wildcard_lang::Text;
@@ -44,37 +45,6 @@ impl Entry {
 
 /// A list of principal entries.
 pub type EntryList = List<Entry>;
-
-// What follows the first colon.
-fn behind_colon(chars: &[char]) -> Option<&[char]>
-    ensures { option_map (λ s. s.now) result ≡ behind_colon chars.now }
-{
-    for (i, c) in chars.iter().enumerate() {
-        if *c == ':' {
-            return Some(&chars[i + 1..]);
-        }
-    }
-    None
-}
-
-// What follows the prefix, or none where the characters don't begin with it.
-fn behind_prefix<'a>(chars: &'a [char], prefix: &[char]) -> Option<&'a [char]>
-    ensures { option_map (λ s. s.now) result ≡ behind_prefix prefix.now chars.now }
-{
-    match prefix {
-        [] => Some(chars),
-        [wanted, more @ ..] => match chars {
-            [] => None,
-            [first, rest @ ..] => {
-                if *first == *wanted {
-                    behind_prefix(rest, more)
-                } else {
-                    None
-                }
-            }
-        },
-    }
-}
 
 // Whether the id has the form of an account's principal.
 fn account_test(account: &[char], id: &[char]) -> bool

@@ -1,7 +1,7 @@
 //! Schemas: the condition keys that requests may have, and the shapes of their words.
-ghost use Rattle.std.specs.Prelude.{◌≡◌, [], None, length, slice_get, option_map, OnOk, OnErr};
+ghost use Rattle.std.specs.Prelude.{◌≡◌, [], None, length, slice_get, option_map, IfSome, OnOk, OnErr};
 ghost use Rattle.std.specs.Option.{option_copied};
-ghost use Rattle.text_table.specs.Table.{item_at, with_item};
+ghost use Rattle.text_table.specs.Table.{IsInOrder, item_at, with_item};
 ghost use Rattle.policy_model.specs.Keys.{IsFolded, no_shapes};
 
 use crate::value::{Kind, ValueList};
@@ -33,11 +33,14 @@ pub struct KeyRules {
 
 impl Model for KeyRules {
     ghost use Rattle.text_table.specs.Table.{Entries};
+    ghost use Rattle.policy_model.specs.Keys.{AreFolded};
     ghost use Rattle.policy_model.specs.declared.schema.KeyRule.{KeyRule};
 
     ghost Value = { Entries KeyRule };
 
     ghost view = { λ r. r.entries };
+
+    ghost invariant = { λ r. AreFolded r.entries };
 }
 
 /// What the words of a request match, where a shape is given: its action, its resource, and its
@@ -73,7 +76,8 @@ impl KeyRules {
 
     /// How many keys there are.
     pub fn len(&self) -> usize
-        ensures { result ≡ length self.now }
+        ensures value { result ≡ length self.now }
+        ensures ordered { IsInOrder self.now }
     {
         self.entries.len()
     }
@@ -88,7 +92,8 @@ impl KeyRules {
     /// The key at a place in the order of keys, counted from 0, with its rule, or none where there is
     /// no such place.
     pub fn at(&self, i: usize) -> Option<(&Text, &KeyRule)>
-        ensures { option_map (λ p. (p.0.now, p.1.now)) result ≡ slice_get self.now i }
+        ensures entry { option_map (λ p. (p.0.now, p.1.now)) result ≡ slice_get self.now i }
+        ensures folded { IfSome result (λ p. IsFolded p.0.now) }
     {
         self.entries.at(i)
     }
@@ -127,7 +132,8 @@ impl Schema {
 
     /// How many keys there are.
     pub fn len(&self) -> usize
-        ensures { result ≡ length self.now.keys }
+        ensures value { result ≡ length self.now.keys }
+        ensures ordered { IsInOrder self.now.keys }
     {
         self.keys.len()
     }
@@ -142,7 +148,8 @@ impl Schema {
     /// The key at a place in the order of keys, counted from 0, with its rule, or none where there is
     /// no such place.
     pub fn at(&self, i: usize) -> Option<(&Text, &KeyRule)>
-        ensures { option_map (λ p. (p.0.now, p.1.now)) result ≡ slice_get self.now.keys i }
+        ensures entry { option_map (λ p. (p.0.now, p.1.now)) result ≡ slice_get self.now.keys i }
+        ensures folded { IfSome result (λ p. IsFolded p.0.now) }
     {
         self.keys.at(i)
     }

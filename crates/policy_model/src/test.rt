@@ -8,7 +8,7 @@ use plain_lists::{List, NoMemory};
 use wildcard_lang::{Pattern, Text, matches};
 
 /// A test of a request.
-#[derive(Drop)]
+#[derive(Drop, PartialEq, Eq, Hash)]
 pub enum Test {
     /// The principal is one of the entry.
     Principal(Entry),

@@ -1,5 +1,7 @@
 //! Values of condition keys.
-use plain_lists::List;
+ghost use Rattle.std.specs.Prelude.{◌≡◌, IfOk};
+
+use plain_lists::{List, NoMemory};
 use wildcard_lang::Text;
 
 /// The kinds of values that a condition key may have.
@@ -14,6 +16,18 @@ pub enum Kind {
 pub enum Value {
     Word(Text),
     Truth(bool),
+}
+
+impl Value {
+    /// An equal value.
+    pub fn copy(&self) -> Result<Value, NoMemory>
+        ensures { IfOk result (λ v. v ≡ self.now) }
+    {
+        match self {
+            Value::Word(text) => Ok(Value::Word(text.copy()?)),
+            Value::Truth(truth) => Ok(Value::Truth(*truth)),
+        }
+    }
 }
 
 /// A list of values.

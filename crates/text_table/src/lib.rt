@@ -4,7 +4,7 @@
 
 ghost use Rattle.std.specs.Prelude.{◌≡◌, [], length, slice_get, option_map, OnOk, OnErr};
 ghost use Rattle.std.specs.Option.{option_copied};
-ghost use Rattle.text_table.specs.Table.{item_at, with_item};
+ghost use Rattle.text_table.specs.Table.{IsInOrder, item_at, with_item};
 
 #[cfg(test)]
 mod tests;
@@ -42,7 +42,8 @@ impl<V> Table<V> {
 
     /// How many keys there are.
     pub fn len(&self) -> usize
-        ensures { result ≡ length self.now }
+        ensures value { result ≡ length self.now }
+        ensures ordered { IsInOrder self.now }
     {
         self.entries.len()
     }

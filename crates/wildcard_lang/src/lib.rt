@@ -2,6 +2,7 @@
 #![tactic(auto)]
 
 mod arn;
+mod equal;
 mod fault;
 mod laws;
 mod matching;

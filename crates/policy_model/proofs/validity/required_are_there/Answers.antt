@@ -6,8 +6,8 @@ use Rattle.policy_model.proofs.validity.required_are_there.Goals.{in-Some+else-n
 
 pub loop-i-preserved : goal.loop-i-preserved
 loop-i-preserved c = elim c.match-at.branch [
-  | in-Some+else-not-is_there w ↦ All-next (IsThere c.args.context.now) c.args.keys.now c.loop-i.i (w.in-Some.key.now, w.in-Some.rule.now) (sym w.in-Some.ensures) c.loop-i.invariant (w.is_there.ensures.0 w.if-not-is_there.false)
-  | in_default w ↦ absurd (slice_get-some c.args.keys.now c.loop-i.i (omega arith) (sym w.in_default.ensures))
+  | in-Some+else-not-is_there w ↦ All-next (IsThere c.args.context.now) c.args.keys.now c.loop-i.i (w.in-Some.key.now, w.in-Some.rule.now) (sym w.in-Some.ensures.entry) c.loop-i.invariant (w.is_there.ensures.0 w.if-not-is_there.false)
+  | in_default w ↦ absurd (slice_get-some c.args.keys.now c.loop-i.i (omega arith) (sym w.in_default.ensures.entry))
 ]
 
 pub returns : goal.returns

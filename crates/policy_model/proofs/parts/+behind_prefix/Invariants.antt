@@ -1,5 +1,5 @@
 use Rattle.std.proofs.Common.{length}
-use Rattle.policy_model.proofs.principal.+behind_prefix.Given as goal
+use Rattle.policy_model.proofs.parts.+behind_prefix.Given as goal
 
 abbrev pub decreases-behind_prefix : goal.decreases-behind_prefix
 decreases-behind_prefix l = length l.chars.now
