@@ -14,17 +14,6 @@ use Rattle.policy_model.specs.Principals.{behind_colon, behind_prefix, has_colon
 use Rattle.policy_model.specs.Soundness.{IsAccount}
 use Rattle.policy_json.specs.Principals.{IsRootOf, account_before_root, account_of, nonempty_part, is_account, root_account}
 
--- a text that begins with the prefix goes on behind it
-pub behind_prefix-starts : (p t : List ℕ) → starts_with nat_eq t p ≡ true → behind_prefix p t ≡ Some (drop (length p) t)
-behind_prefix-starts [] t e = refl
-behind_prefix-starts (c ∷ p) [] e = cc
-behind_prefix-starts (c ∷ p) (d ∷ t) e = grind (arith, behind_prefix-starts p t)
-
-pub behind_prefix-differs : (p t : List ℕ) → starts_with nat_eq t p ≡ false → behind_prefix p t ≡ None
-behind_prefix-differs [] t e = cc
-behind_prefix-differs (c ∷ p) [] e = refl
-behind_prefix-differs (c ∷ p) (d ∷ t) e = grind (arith, behind_prefix-differs p t)
-
 digit-is : (c : ℕ) → is_ascii_digit c ≡ true → IsAsciiDigit c
 digit-is c e = grind arith
 

@@ -1,9 +1,9 @@
 //! Accounts that principals' ids stand for.
-ghost use Rattle.std.specs.Prelude.{◌≡◌, IfSome, option_map, Some, None, drop, length, if◌then◌else◌};
-ghost use Rattle.std.specs.List.{starts_with};
-ghost use Rattle.policy_model.specs.Principals.{behind_colon, behind_prefix};
+ghost use Rattle.std.specs.Prelude.{◌≡◌, IfSome, option_map};
 ghost use Rattle.policy_model.specs.Soundness.{IsAccount};
 ghost use Rattle.policy_json.specs.Principals.{account_before_root, account_of, nonempty_part, is_account, root_account};
+
+use policy_model::{behind_colon, behind_prefix};
 
 // How many digits an account has.
 const DIGITS: usize = 12;
@@ -13,28 +13,6 @@ fn is_account(text: &[char]) -> bool
     ensures { result ≡ is_account text.now }
 {
     text.iter().all(|c| c.is_ascii_digit()) && text.len() == DIGITS
-}
-
-// What follows the prefix.
-fn behind_prefix<'a>(text: &'a [char], prefix: &[char]) -> Option<&'a [char]>
-    ensures { option_map (λ s. s.now) result ≡ behind_prefix prefix.now text.now }
-{
-    if text.starts_with(prefix) {
-        return Some(&text[prefix.len()..]);
-    }
-    None
-}
-
-// What follows the first colon.
-fn behind_colon(text: &[char]) -> Option<&[char]>
-    ensures { option_map (λ s. s.now) result ≡ behind_colon text.now }
-{
-    for (i, c) in text.iter().enumerate() {
-        if *c == ':' {
-            return Some(&text[i + 1..]);
-        }
-    }
-    None
 }
 
 // The text, where it isn't empty and doesn't begin with a colon.
