@@ -3,7 +3,7 @@ use Rattle.std.proofs.Common.{◌≡◌, ◌≤◌, ◌<◌, ◌+◌, ℕ, List,
 use mathlib.Core.Bool.{beq}
 use mathlib.Core.Bool.{not as opposite}
 use Rattle.std.specs.List.{flat_map}
-use Rattle.std.proofs.lemmas.List.{append_assoc, append-nil, take_more, take_all}
+use Rattle.std.proofs.lemmas.List.{append_assoc, append-nil, map_push, take_more, take_all}
 use Rattle.std.proofs.Common.{Option, None}
 use Rattle.policy_model.specs.declared.principal.Entry.{Entry}
 use Rattle.wildcard_lang.specs.declared.piece.Piece.{Piece}
@@ -14,6 +14,7 @@ use Rattle.policy_compile.specs.Plans.{Plan, yes, not, all, one_of, of_plans, te
 use Rattle.policy_compile.specs.Sets.{turned, where_same, principal_plan, resource_plan}
 use Rattle.policy_compile.specs.Numbering.{Collects, nothing, AreNumbered, HasTooMany, numbered_yes, numbered_not, numbered_all, numbered_one_of, numbered_none, numbered_more}
 use Rattle.policy_compile.specs.Building.{Built, built, built_none, built_too_many, Added, added, added_none, added_too_many, turned_tree}
+use Rattle.policy_compile.specs.Shapes.{tests_of}
 use Rattle.policy_compile.proofs.Collecting.{Collects-append, Collects-begins, AreNumbered-along, AreNumbered-append, tests_in_each-append, HasTooMany-more, HasTooMany-behind}
 
 -- nothing was added yet
@@ -163,3 +164,7 @@ where_same-same true true ps h = refl
 where_same-same true false ps h = absurd (cc)
 where_same-same false true ps h = absurd (cc)
 where_same-same false false ps h = refl
+
+-- the number of one more test
+pub numbers-push : (old new : List ℕ) (n : ℕ) → new ≡ old ++ n ∷ [] → tests_of new ≡ tests_of old ++ tree.test n ∷ []
+numbers-push old new n is = ap tests_of is ∙ map_push (λ k. tree.test k) old n

@@ -6,7 +6,7 @@ ghost use Rattle.policy_compile.specs.Plans.{Plan};
 ghost use Rattle.policy_compile.specs.Queries.{IsAnswer, test_pieces};
 ghost use Rattle.policy_compile.specs.Sets.{query_plan, set_plan};
 
-use crate::numbers::Numbers;
+use crate::builder::Builder;
 use crate::outcome::{Query, QueryFault};
 use crate::sets::{pair_formula, set_formula};
 use formula_tree::Formula;
@@ -45,19 +45,17 @@ fn are_small(tests: &[Test]) -> bool
     true
 }
 
-fn finished(numbers: Numbers, formula: Rc<Formula>) -> Result<Query, QueryFault>
-    ensures { (plan : Plan) → Built [] false numbers.tests numbers.full plan (tree_of formula.value) → IsAnswer plan result }
+fn finished(alloc: Global, builder: Builder, formula: Rc<Formula>) -> Result<Query, QueryFault>
+    ensures { (plan : Plan) → Built [] false builder.tests.keys builder.full plan (tree_of formula.value) → IsAnswer plan result }
 {
-    if numbers.full {
+    if builder.full {
         return Err(QueryFault::TooManyTests);
     }
-    if !are_small(numbers.tests.as_slice()) {
+    if !are_small(builder.tests.as_slice()) {
         return Err(QueryFault::TooManyPieces);
     }
-    Ok(Query {
-        formula,
-        tests: numbers.tests,
-    })
+    let tests = builder.into_tests(alloc)?;
+    Ok(Query { formula, tests })
 }
 
 /// The query 'the first set allows the request and the second doesn't'. `TooManyTests` comes exactly
@@ -72,16 +70,16 @@ pub fn query(
 ) -> Result<Query, QueryFault>
     ensures { IsAnswer (query_plan first.now second.now) result }
 {
-    let mut numbers = Numbers::new(alloc);
-    let formula = pair_formula(alloc, &mut numbers, first, second)?;
-    finished(numbers, formula)
+    let mut builder = Builder::new(alloc);
+    let formula = pair_formula(alloc, &mut builder, first, second)?;
+    finished(alloc, builder, formula)
 }
 
 /// The query 'the set allows the request', with the limits of `query`.
 pub fn set_query(alloc: Global, _schema: &Schema, set: &PolicySet) -> Result<Query, QueryFault>
     ensures { IsAnswer (set_plan set.now) result }
 {
-    let mut numbers = Numbers::new(alloc);
-    let formula = set_formula(alloc, &mut numbers, set)?;
-    finished(numbers, formula)
+    let mut builder = Builder::new(alloc);
+    let formula = set_formula(alloc, &mut builder, set)?;
+    finished(alloc, builder, formula)
 }

@@ -1,44 +1,39 @@
 //! The formulas of statements and their elements.
 ghost use Rattle.std.specs.Prelude.{◌≡◌, [], ◌∷◌, IfOk, OnOk};
-ghost use Rattle.formula_tree.specs.Trees.{tree_of, trees_of};
+ghost use Rattle.formula_tree.specs.Trees.{tree_of};
 ghost use Rattle.policy_model.specs.declared.test.Test.TheVariants.{Principal};
-ghost use Rattle.policy_compile.specs.Building.{Added, Built};
+ghost use Rattle.policy_compile.specs.Building.{Added, Built, turned_tree};
 ghost use Rattle.policy_compile.specs.Plans.{ask};
 ghost use Rattle.policy_compile.specs.Sets.{entries_plan, entry_plans, pattern_plans, pattern_test, patterns_plan, principal_plan, resource_plan, statement_plan};
+ghost use Rattle.policy_compile.specs.Shapes.{element_tree, tests_of};
 
-use crate::formulas::{all_of, always, some_branch};
-use crate::numbers::Numbers;
-use formula_tree::{Branches, Formula};
-use plain_lists::NoMemory;
+use crate::builder::Builder;
+use crate::shapes::{Element, Elements, Numbers};
+use formula_tree::Formula;
+use plain_lists::{List, NoMemory};
 use policy_model::{Entry, Matcher, Statement, Test};
 use std::alloc::Global;
 use std::rc::Rc;
 use wildcard_lang::Pattern;
 
-fn add_entry(
-    alloc: Global,
-    numbers: &mut Numbers,
-    branches: &mut Branches,
-    item: &Entry,
-) -> Result<(), NoMemory>
-    ensures { OnOk result (Added numbers.old.tests numbers.old.full numbers.new.tests numbers.new.full (ask (Principal item.now) ∷ []) (trees_of branches.old) (trees_of branches.new)) }
+fn add_entry(builder: &mut Builder, numbers: &mut Numbers, item: &Entry) -> Result<(), NoMemory>
+    ensures { OnOk result (Added builder.old.tests.keys builder.old.full builder.new.tests.keys builder.new.full (ask (Principal item.now) ∷ []) (tests_of numbers.old) (tests_of numbers.new)) }
 {
     let test = Test::Principal(item.copy()?);
-    let formula = numbers.ask(alloc, test)?;
-    branches.push(formula)?;
+    let number = builder.number(test)?;
+    numbers.push(number)?;
     Ok(())
 }
 
 fn add_entries(
-    alloc: Global,
+    builder: &mut Builder,
     numbers: &mut Numbers,
-    branches: &mut Branches,
     items: &[Entry],
 ) -> Result<(), NoMemory>
-    ensures { OnOk result (Added numbers.old.tests numbers.old.full numbers.new.tests numbers.new.full (entry_plans items.now) (trees_of branches.old) (trees_of branches.new)) }
+    ensures { OnOk result (Added builder.old.tests.keys builder.old.full builder.new.tests.keys builder.new.full (entry_plans items.now) (tests_of numbers.old) (tests_of numbers.new)) }
 {
     for item in items {
-        add_entry(alloc, numbers, branches, item)?;
+        add_entry(builder, numbers, item)?;
     }
     Ok(())
 }
@@ -54,117 +49,111 @@ fn pattern_test(of_resource: bool, pattern: Pattern) -> Test
 }
 
 fn add_pattern(
-    alloc: Global,
+    builder: &mut Builder,
     numbers: &mut Numbers,
-    branches: &mut Branches,
     of_resource: bool,
     item: &Pattern,
 ) -> Result<(), NoMemory>
-    ensures { OnOk result (Added numbers.old.tests numbers.old.full numbers.new.tests numbers.new.full (ask (pattern_test of_resource item.now) ∷ []) (trees_of branches.old) (trees_of branches.new)) }
+    ensures { OnOk result (Added builder.old.tests.keys builder.old.full builder.new.tests.keys builder.new.full (ask (pattern_test of_resource item.now) ∷ []) (tests_of numbers.old) (tests_of numbers.new)) }
 {
     let test = pattern_test(of_resource, item.copy()?);
-    let formula = numbers.ask(alloc, test)?;
-    branches.push(formula)?;
+    let number = builder.number(test)?;
+    numbers.push(number)?;
     Ok(())
 }
 
 fn add_patterns(
-    alloc: Global,
+    builder: &mut Builder,
     numbers: &mut Numbers,
-    branches: &mut Branches,
     of_resource: bool,
     items: &[Pattern],
 ) -> Result<(), NoMemory>
-    ensures { OnOk result (Added numbers.old.tests numbers.old.full numbers.new.tests numbers.new.full (pattern_plans of_resource items.now) (trees_of branches.old) (trees_of branches.new)) }
+    ensures { OnOk result (Added builder.old.tests.keys builder.old.full builder.new.tests.keys builder.new.full (pattern_plans of_resource items.now) (tests_of numbers.old) (tests_of numbers.new)) }
 {
     for item in items {
-        add_pattern(alloc, numbers, branches, of_resource, item)?;
+        add_pattern(builder, numbers, of_resource, item)?;
     }
     Ok(())
 }
 
+// The element of these tests, or its Not element.
+fn element(not: bool, numbers: Numbers) -> Element
+    ensures { element_tree result ≡ turned_tree not (tests_of numbers) }
+{
+    if not {
+        Element::NoneOf(numbers)
+    } else {
+        Element::SomeOf(numbers)
+    }
+}
+
 fn entries(
     alloc: Global,
-    numbers: &mut Numbers,
+    builder: &mut Builder,
     matcher: &Matcher<Entry>,
-) -> Result<Rc<Formula>, NoMemory>
-    ensures { IfOk result (λ f. Built numbers.old.tests numbers.old.full numbers.new.tests numbers.new.full (entries_plan matcher.now) (tree_of f.value)) }
+) -> Result<Element, NoMemory>
+    ensures { IfOk result (λ e. Built builder.old.tests.keys builder.old.full builder.new.tests.keys builder.new.full (entries_plan matcher.now) (element_tree e)) }
 {
-    let mut branches = Branches::new(alloc);
-    add_entries(alloc, numbers, &mut branches, matcher.items.as_slice())?;
-    let formula = some_branch(alloc, matcher.not, branches)?;
-    Ok(formula)
+    let mut numbers = List::new(alloc);
+    add_entries(builder, &mut numbers, matcher.items.as_slice())?;
+    Ok(element(matcher.not, numbers))
 }
 
 fn patterns(
     alloc: Global,
-    numbers: &mut Numbers,
+    builder: &mut Builder,
     of_resource: bool,
     matcher: &Matcher<Pattern>,
-) -> Result<Rc<Formula>, NoMemory>
-    ensures { IfOk result (λ f. Built numbers.old.tests numbers.old.full numbers.new.tests numbers.new.full (patterns_plan of_resource matcher.now) (tree_of f.value)) }
+) -> Result<Element, NoMemory>
+    ensures { IfOk result (λ e. Built builder.old.tests.keys builder.old.full builder.new.tests.keys builder.new.full (patterns_plan of_resource matcher.now) (element_tree e)) }
 {
-    let mut branches = Branches::new(alloc);
-    add_patterns(
-        alloc,
-        numbers,
-        &mut branches,
-        of_resource,
-        matcher.items.as_slice(),
-    )?;
-    let formula = some_branch(alloc, matcher.not, branches)?;
-    Ok(formula)
+    let mut numbers = List::new(alloc);
+    add_patterns(builder, &mut numbers, of_resource, matcher.items.as_slice())?;
+    Ok(element(matcher.not, numbers))
 }
 
 fn principal(
     alloc: Global,
-    numbers: &mut Numbers,
+    builder: &mut Builder,
     matcher: &Option<Matcher<Entry>>,
-) -> Result<Rc<Formula>, NoMemory>
-    ensures { IfOk result (λ f. Built numbers.old.tests numbers.old.full numbers.new.tests numbers.new.full (principal_plan matcher.now) (tree_of f.value)) }
+) -> Result<Element, NoMemory>
+    ensures { IfOk result (λ e. Built builder.old.tests.keys builder.old.full builder.new.tests.keys builder.new.full (principal_plan matcher.now) (element_tree e)) }
 {
     match matcher {
-        None => {
-            let formula = always(alloc)?;
-            Ok(formula)
-        }
-        Some(matcher) => entries(alloc, numbers, matcher),
+        None => Ok(Element::Absent),
+        Some(matcher) => entries(alloc, builder, matcher),
     }
 }
 
 fn resource(
     alloc: Global,
-    numbers: &mut Numbers,
+    builder: &mut Builder,
     matcher: &Option<Matcher<Pattern>>,
-) -> Result<Rc<Formula>, NoMemory>
-    ensures { IfOk result (λ f. Built numbers.old.tests numbers.old.full numbers.new.tests numbers.new.full (resource_plan matcher.now) (tree_of f.value)) }
+) -> Result<Element, NoMemory>
+    ensures { IfOk result (λ e. Built builder.old.tests.keys builder.old.full builder.new.tests.keys builder.new.full (resource_plan matcher.now) (element_tree e)) }
 {
     match matcher {
-        None => {
-            let formula = always(alloc)?;
-            Ok(formula)
-        }
-        Some(matcher) => patterns(alloc, numbers, true, matcher),
+        None => Ok(Element::Absent),
+        Some(matcher) => patterns(alloc, builder, true, matcher),
     }
 }
 
 // The statement's principal, action, resource and conditions all hold.
 pub(crate) fn statement(
     alloc: Global,
-    numbers: &mut Numbers,
+    builder: &mut Builder,
     statement: &Statement,
 ) -> Result<Rc<Formula>, NoMemory>
-    ensures { IfOk result (λ f. Built numbers.old.tests numbers.old.full numbers.new.tests numbers.new.full (statement_plan statement.now) (tree_of f.value)) }
+    ensures { IfOk result (λ f. Built builder.old.tests.keys builder.old.full builder.new.tests.keys builder.new.full (statement_plan statement.now) (tree_of f.value)) }
 {
-    let mut parts = Branches::new(alloc);
-    let principal = principal(alloc, numbers, &statement.principal)?;
-    parts.push(principal)?;
-    let action = patterns(alloc, numbers, false, &statement.action)?;
-    parts.push(action)?;
-    let resource = resource(alloc, numbers, &statement.resource)?;
-    parts.push(resource)?;
-    let conditions = all_of(alloc, Branches::new(alloc))?;
-    parts.push(conditions)?;
-    let formula = all_of(alloc, parts)?;
+    let principal = principal(alloc, builder, &statement.principal)?;
+    let action = patterns(alloc, builder, false, &statement.action)?;
+    let resource = resource(alloc, builder, &statement.resource)?;
+    let elements = Elements {
+        principal,
+        action,
+        resource,
+    };
+    let formula = builder.table.statement(alloc, elements)?;
     Ok(formula)
 }

@@ -1,19 +1,11 @@
 //! Formulas of one level.
 ghost use Rattle.std.specs.Prelude.{◌≡◌, IfOk};
-ghost use Rattle.formula_tree.specs.Trees.{all, not, of_list, one_of, tree_of, trees_of, yes};
-ghost use Rattle.policy_compile.specs.Building.{turned_tree};
+ghost use Rattle.formula_tree.specs.Trees.{all, not, of_list, one_of, tree_of, trees_of};
 
 use formula_tree::{Branches, Formula};
 use plain_lists::NoMemory;
 use std::alloc::Global;
 use std::rc::Rc;
-
-// Always holds.
-pub(crate) fn always(alloc: Global) -> Result<Rc<Formula>, NoMemory>
-    ensures { IfOk result (λ f. tree_of f.value ≡ yes) }
-{
-    Ok(Rc::new(alloc, Formula::Yes)?)
-}
 
 // Each branch holds.
 pub(crate) fn all_of(alloc: Global, branches: Branches) -> Result<Rc<Formula>, NoMemory>
@@ -34,16 +26,4 @@ pub(crate) fn not_of(alloc: Global, inner: Rc<Formula>) -> Result<Rc<Formula>, N
     ensures { IfOk result (λ f. tree_of f.value ≡ not (tree_of inner.value)) }
 {
     Ok(Rc::new(alloc, Formula::Not(inner))?)
-}
-
-// Some branch holds, or with `not` none does.
-pub(crate) fn some_branch(
-    alloc: Global,
-    not: bool,
-    branches: Branches,
-) -> Result<Rc<Formula>, NoMemory>
-    ensures { IfOk result (λ f. tree_of f.value ≡ turned_tree not (trees_of branches)) }
-{
-    let some = some_of(alloc, branches)?;
-    if not { not_of(alloc, some) } else { Ok(some) }
 }

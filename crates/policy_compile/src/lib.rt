@@ -1,13 +1,15 @@
 //! Queries: what sets of policies ask of a request, as a tree over numbered tests.
 #![tactic(auto)]
 
+mod builder;
 mod compile;
 mod elements;
 mod formulas;
 mod laws;
-mod numbers;
 mod outcome;
 mod sets;
+mod shapes;
+mod table;
 
 pub use compile::{query, set_query};
 pub use laws::{

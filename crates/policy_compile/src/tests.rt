@@ -1,36 +1,51 @@
 //! Worked examples of queries.
 use crate::{Query, QueryFault, query, set_query};
-use formula_tree::{Path, Three, value3};
+use formula_tree::{Formula, Path, Three, value3};
 use policy_model::{Document, List, Matcher, PolicySet, Schema, Statement, Test};
 use std::alloc::Global;
 use std::process::Abort;
+use std::rc::Rc;
 use std::test::Fail;
 use wildcard_lang::{Pattern, PatternFault, read_arn, read_glob};
 
-// The set of one Allow statement on these actions and this resource.
-fn allowing(alloc: Global, actions: List<Pattern>, resource: &str) -> Result<PolicySet, Fail> {
+// A statement on these actions, or with `not` on every other, and on this resource.
+fn statement(
+    alloc: Global,
+    not: bool,
+    actions: List<Pattern>,
+    resource: &str,
+) -> Result<Statement, Fail> {
     let read: Result<Pattern, PatternFault> = read_arn(alloc, resource, false);
     let mut resources = List::new(alloc);
     resources.push(read?)?;
-    let mut statements = List::new(alloc);
-    statements.push(Statement {
+    Ok(Statement {
         allow: true,
         principal: None,
         action: Matcher {
-            not: false,
+            not,
             items: actions,
         },
         resource: Some(Matcher {
             not: false,
             items: resources,
         }),
-    })?;
+    })
+}
+
+fn granting(alloc: Global, statements: List<Statement>) -> Result<PolicySet, Fail> {
     let mut grants = List::new(alloc);
     grants.push(Document { statements })?;
     Ok(PolicySet {
         grants,
         guards: List::new(alloc),
     })
+}
+
+// The set of one Allow statement on these actions and this resource.
+fn allowing(alloc: Global, actions: List<Pattern>, resource: &str) -> Result<PolicySet, Fail> {
+    let mut statements = List::new(alloc);
+    statements.push(statement(alloc, false, actions, resource)?)?;
+    granting(alloc, statements)
 }
 
 fn action(alloc: Global, text: &str) -> Result<List<Pattern>, Fail> {
@@ -98,5 +113,52 @@ fn a_thousand_tests_are_the_most(rt: HostRuntime) -> Result<(), Fail> {
         Ok(_) => assert!(rt; false, "1,001 tests"),
         Err(fault) => assert_eq!(rt; fault, QueryFault::TooManyTests),
     }
+    Ok(())
+}
+
+// The branch of the formula at a place; of a negation the formula inside.
+fn branch(formula: &Rc<Formula>, i: usize) -> Result<&Rc<Formula>, Fail> {
+    match &**formula {
+        Formula::All(branches) | Formula::OneOf(branches) => {
+            Ok(branches.get(i).ok_or("no such branch")?)
+        }
+        Formula::Not(inner) => Ok(inner),
+        _ => Err(Fail::from("no branches")),
+    }
+}
+
+// Three statements: the last is like the first, and the one between has the Not element of its action.
+fn repeating(alloc: Global) -> Result<PolicySet, Fail> {
+    let mut statements = List::new(alloc);
+    for not in [false, true, false] {
+        let actions = action(alloc, "s3:GetObject")?;
+        statements.push(statement(alloc, not, actions, "arn:aws:s3:::b/k")?)?;
+    }
+    granting(alloc, statements)
+}
+
+#[test]
+fn equal_parts_are_shared(rt: HostRuntime) -> Result<(), Fail> {
+    let alloc = rt.alloc();
+    let asked: Result<Query, QueryFault> = set_query(
+        alloc,
+        &Schema::new(alloc),
+        &repeating(alloc)?,
+    );
+    let asked = asked?;
+    assert_eq!(rt; asked.tests.len(), 2);
+    let allows = branch(&asked.formula, 0)?;
+    let (first, negated, last) = (branch(allows, 0)?, branch(allows, 1)?, branch(allows, 2)?);
+    assert!(rt; Rc::ptr_eq(first, last));
+    assert!(rt; !Rc::ptr_eq(first, negated));
+    for i in [0, 2, 3] {
+        assert!(rt;
+            Rc::ptr_eq(branch(first, i)?, branch(negated, i)?),
+            "part {i}"
+        );
+    }
+    let (plain, other) = (branch(first, 1)?, branch(negated, 1)?);
+    assert!(rt; !Rc::ptr_eq(plain, other));
+    assert!(rt; Rc::ptr_eq(plain, branch(other, 0)?));
     Ok(())
 }

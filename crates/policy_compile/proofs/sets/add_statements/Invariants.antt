@@ -6,4 +6,4 @@ use Rattle.policy_compile.proofs.sets.add_statements.Given as goal
 
 -- the trees of the items so far are added
 abbrev pub invariant-loop-item : goal.invariant-loop-item
-invariant-loop-item l = Added l.initial.numbers.tests l.initial.numbers.full l.numbers.tests l.numbers.full (statement_plans l.allow (take l.item-index l.items)) (trees_of l.initial.branches) (trees_of l.branches)
+invariant-loop-item l = Added l.initial.builder.tests.keys l.initial.builder.full l.builder.tests.keys l.builder.full (statement_plans l.allow (take l.item-index l.items)) (trees_of l.initial.branches) (trees_of l.branches)
