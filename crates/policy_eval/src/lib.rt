@@ -3,10 +3,12 @@
 
 mod eval;
 mod first;
+mod laws;
 mod outcome;
 
 pub use eval::allows;
 pub use first::decider;
+pub use laws::deciders_are_equal;
 pub use outcome::Decider;
 
 #[cfg(test)]
