@@ -1,5 +1,5 @@
 -- A refutation that closes under a path leaves no valid request that answers the path and makes the tree met.
-use Rattle.std.proofs.Common.{◌≡◌, ℕ, Bool, true, false, List, [], Some, None, MatchBool, All, sym, ◌∙◌, subst, inl, inr}
+use Rattle.std.proofs.Common.{◌≡◌, ◌↔◌, ℕ, Bool, true, false, List, [], Some, None, MatchBool, IsTrue, All, refl, sym, ◌∙◌, subst, inl, inr}
 use Rattle.std.proofs.lemmas.Bool.{cases_Bool}
 use Rattle.formula_tree.specs.Answers.{Answers, Completes, answer_of}
 use Rattle.formula_tree.specs.Runs.{answered}
@@ -13,10 +13,11 @@ use Rattle.policy_model.specs.declared.test.Test.{Test}
 use Rattle.policy_model.specs.Requests.{IsValid}
 use Rattle.policy_model.specs.Soundness.{TestSuits}
 use Rattle.policy_model.specs.Tests.{TestHolds}
+use Rattle.policy_compile.specs.Meaning.{AnswersAs}
 use Rattle.slot_theory.specs.Possible.{AnswersPath}
-use Rattle.slot_theory.proofs.Impossible.{impossible}
+use Rattle.slot_theory.proofs.Impossible.{core_impossible, path-core}
 use Rattle.refute_check.specs.Closing.{Closes}
-use Rattle.refute_check.specs.Laws.{AnswersAs, ClosedQueriesAreNo}
+use Rattle.refute_check.specs.Laws.{ClosedQueriesAreNo}
 use Rattle.refute_check.specs.Proofs.{Proof, by_slot, by_value, split}
 
 -- one more answer that the request gives
@@ -30,18 +31,22 @@ completes_more total path n b new is before m c here =
       | inr other ↦ before m c (sym (answer_of-besides path n b m other) ∙ here)
     ]
 
-answers_path : (tests : List Test) (r : Request) (total : ℕ → Bool) (path : Answers) → AnswersAs tests r total → Completes total path → AnswersPath tests path r
-answers_path tests r total path answers completes n b t answered is = subst (λ (x : Bool). MatchBool x (TestHolds r t) (¬ TestHolds r t)) (completes n b answered) (answers n t is)
+by_answer : (b : Bool) (A : Type 0) → IsTrue b ↔ A → MatchBool b A (¬ A)
+by_answer true A says = says.0 refl
+by_answer false A says = λ a. let yes : false ≡ true = says.1 a in absurd (cc)
 
-closed_is_no : (schema : Schema) (tests : List Test) (tree : Tree) → All (TestSuits schema) tests → (r : Request) → IsValid schema r → (total : ℕ → Bool) → AnswersAs tests r total → holds total tree ≡ true → (p : Proof) (path : Answers) → Closes schema tests tree p path → Completes total path → ⊥
-closed_is_no schema tests tree suit r valid total answers met (split n y z) path closes completes =
+answers_path : (tests : List Test) (r : Request) (total : ℕ → Bool) (path : Answers) → AnswersAs total r tests → Completes total path → AnswersPath tests path r
+answers_path tests r total path answers completes n b t answered is = subst (λ (x : Bool). MatchBool x (TestHolds r t) (¬ TestHolds r t)) (completes n b answered) (by_answer (total n) (TestHolds r t) (answers n t is))
+
+closed_is_no : (schema : Schema) (tests : List Test) (tree : Tree) → (r : Request) → IsValid schema r → (total : ℕ → Bool) → AnswersAs total r tests → holds total tree ≡ true → (p : Proof) (path : Answers) → Closes schema tests tree p path → Completes total path → ⊥
+closed_is_no schema tests tree r valid total answers met (split n y z) path closes completes =
     elim (cases_Bool (total n)) [
-      | inl e ↦ closed_is_no schema tests tree suit r valid total answers met y (answered path n true) closes.1 (completes_more total path n true closes.0.1 e completes)
-      | inr e ↦ closed_is_no schema tests tree suit r valid total answers met z (answered path n false) closes.2 (completes_more total path n false closes.0.1 e completes)
+      | inl e ↦ closed_is_no schema tests tree r valid total answers met y (answered path n true) closes.1 (completes_more total path n true closes.0.1 e completes)
+      | inr e ↦ closed_is_no schema tests tree r valid total answers met z (answered path n false) closes.2 (completes_more total path n false closes.0.1 e completes)
     ]
-closed_is_no schema tests tree suit r valid total answers met by_value path closes completes = let refused = says-no path tree total completes closes in cc
-closed_is_no schema tests tree suit r valid total answers met (by_slot core proof) path closes completes =
-    impossible schema tests path core proof suit closes (record { request = r; valid = valid; answers = answers_path tests r total path answers completes })
+closed_is_no schema tests tree r valid total answers met by_value path closes completes = let refused = says-no path tree total completes closes in cc
+closed_is_no schema tests tree r valid total answers met (by_slot core proof) path closes completes =
+    core_impossible schema tests path core proof closes r valid (path-core tests path core r (answers_path tests r total path answers completes))
 
 pub queries_are_no : ClosedQueriesAreNo
-queries_are_no schema tests tree proof suit closes r valid (total, answers, met) = closed_is_no schema tests tree suit r valid total answers met proof [] closes (λ n b none. absurd (cc))
+queries_are_no schema tests tree proof suit closes r valid (total, answers, met) = closed_is_no schema tests tree r valid total answers met proof [] closes (λ n b none. absurd (cc))

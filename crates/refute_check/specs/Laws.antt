@@ -1,5 +1,5 @@
 -- What a refutation that closes says of all requests.
-use Rattle.std.specs.Prelude.{◌≡◌, ℕ, List, [], Bool, true, Some, All, slice_get, MatchBool}
+use Rattle.std.specs.Prelude.{ℕ, List, [], Bool, All, IsTrue}
 use Rattle.formula_tree.specs.Trees.{Tree}
 use Rattle.formula_tree.specs.Values.{holds}
 use Rattle.policy_model.specs.declared.request.Request.{Request}
@@ -7,17 +7,13 @@ use Rattle.policy_model.specs.declared.schema.Schema.{Schema}
 use Rattle.policy_model.specs.declared.test.Test.{Test}
 use Rattle.policy_model.specs.Requests.{IsValid}
 use Rattle.policy_model.specs.Soundness.{TestSuits}
-use Rattle.policy_model.specs.Tests.{TestHolds}
+use Rattle.policy_compile.specs.Meaning.{AnswersAs}
 use Rattle.refute_check.specs.Closing.{Closes}
 use Rattle.refute_check.specs.Proofs.{Proof}
 
--- the answer to each test on the request
-abbrev pub AnswersAs : List Test → Request → (ℕ → Bool) → Type 0
-AnswersAs tests r total = (n : ℕ) (t : Test) → slice_get tests n ≡ Some t → MatchBool (total n) (TestHolds r t) (¬ TestHolds r t)
-
 -- the tree holds under the tests' answers on the request
 abbrev pub MakesYes : List Test → Tree → Request → Type 0
-MakesYes tests tree r = (total : ℕ → Bool) × AnswersAs tests r total × (holds total tree ≡ true)
+MakesYes tests tree r = (answers : ℕ → Bool) × AnswersAs answers r tests × IsTrue (holds answers tree)
 
 -- where the tests suit the schema and a refutation closes the query under the empty path, no valid request makes the query yes,
 -- whoever wrote it

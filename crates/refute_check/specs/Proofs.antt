@@ -1,5 +1,5 @@
 -- Refutations as plain trees.
-use Rattle.std.specs.Prelude.{ℕ, ◌+◌, List}
+use Rattle.std.specs.Prelude.{ℕ, ◌+◌, max, List}
 use Rattle.refute_check.specs.declared.refutation.Refutation.{Refutation, fold-Refutation}
 use Rattle.refute_check.specs.declared.refutation.Refutation.TheOpen.{Refutation-F}
 use Rattle.slot_theory.specs.declared.outcome.SlotProof.{SlotProof}
@@ -25,3 +25,9 @@ abbrev pub size : Proof → ℕ
 size (split n y z) = size y + size z + 1
 size by_value = 1
 size (by_slot core proof) = 1
+
+-- how deep its splits nest
+abbrev pub depth : Proof → ℕ
+depth (split n y z) = max (depth y) (depth z) + 1
+depth by_value = 0
+depth (by_slot core proof) = 0

@@ -54,6 +54,3 @@ module _ (schema : Schema) (tests : List Test) (path : Answers) (core : List ℕ
 -- what is left to show is what is shown, where the rest is known
 pub both-show : (A B : Type 0) (ok : Bool) → A → IsTrue ok ↔ B → IsTrue ok ↔ (A × B)
 both-show A B ok a says = (λ t. (a, says.0 t), λ w. says.1 w.1)
-
-pub all-show : (A B C D E : Type 0) (ok : Bool) → A → B → C → D → IsTrue ok ↔ E → IsTrue ok ↔ (A × B × C × D × E)
-all-show A B C D E ok a b c d says = (λ t. (a, b, c, d, says.0 t), λ w. says.1 w.4)

@@ -14,20 +14,20 @@ use Rattle.policy_model.specs.declared.test.Slot.TheVariants as slot
 use Rattle.policy_model.specs.declared.test.Test.{Test}
 use Rattle.policy_model.specs.declared.test.Test.TheVariants.{Principal, Action, Resource}
 use Rattle.slot_theory.specs.declared.outcome.SlotValue.TheVariants as value
-use Rattle.slot_theory.specs.Slots.{IsWordSlot, ValueMeets, fixed_at, pattern_of, slot_of, test_at}
+use Rattle.slot_theory.specs.Slots.{IsWordSlot, ValueMeets, fixed_at, slot_of, test_at, AnswersTest}
 use Rattle.slot_theory.specs.Cores.{IsContradicted, open_tests}
-use Rattle.slot_theory.specs.Steps.{AnswersTest, IsRight}
-use Rattle.slot_theory.proofs.Wanting.{IsMatchedSo}
+use Rattle.slot_theory.specs.Steps.{IsRight}
+use Rattle.slot_theory.proofs.Wanting.{IsMatchedSo, own_pattern}
 use Rattle.slot_theory.proofs.Naming.{fixed-names, open-names}
 
 -- ---- one test
 
-word-meets : (w : List ℕ) (t : Test) (s : Slot) → IsWordSlot s → slot_of t ≡ s → ValueMeets (value.Word w) t ≡ Matches (pattern_of t) w
+word-meets : (w : List ℕ) (t : Test) (s : Slot) → IsWordSlot s → slot_of t ≡ s → ValueMeets (value.Word w) t ≡ Matches (own_pattern t) w
 word-meets w (Principal entry) s h e = absurd (subst IsWordSlot (sym e) h)
 word-meets w (Action pattern) s h e = refl
 word-meets w (Resource pattern) s h e = refl
 
-id-meets : (k : PrincipalKind) (id : List ℕ) (t : Test) → slot_of t ≡ slot.Principal → fixed_at k t ≡ None → ValueMeets (value.Principal k id) t ↔ Matches (pattern_of t) id
+id-meets : (k : PrincipalKind) (id : List ℕ) (t : Test) → slot_of t ≡ slot.Principal → fixed_at k t ≡ None → ValueMeets (value.Principal k id) t ↔ Matches (own_pattern t) id
 id-meets k id (Principal entry) on e = open-names k id entry e
 id-meets k id (Action pattern) on e = absurd (cc)
 id-meets k id (Resource pattern) on e = absurd (cc)
@@ -120,7 +120,7 @@ module _ (tests : List Test) (path : Answers) (core : List ℕ) where
     pub open-so : All Right core → All (IsMatchedSo tests path id) (open_tests tests kind core)
     open-so right = filtered is_open (IsMatchedSo tests path id) core (λ k d l free.
         let n = get_or core k d in
-        so-iff (holds n) (ValueMeets (value.Principal kind id) (own n)) (Matches (pattern_of (own n)) id) (id-meets kind id (own n) (on k d l) (none-is (fixed_at kind (own n)) free)) (right k d l))
+        so-iff (holds n) (ValueMeets (value.Principal kind id) (own n)) (Matches (own_pattern (own n)) id) (id-meets kind id (own n) (on k d l) (none-is (fixed_at kind (own n)) free)) (right k d l))
 
     -- a fixed answer that the path contradicts is no principal's
     pub never-right : All (λ n. IsSome (answer_of path n)) core → Any (IsContradicted tests path kind) core → All Right core → ⊥
@@ -136,7 +136,7 @@ module _ (tests : List Test) (path : Answers) (core : List ℕ) where
     right-one : (n : ℕ) (o : Option Bool) → fixed_at kind (own n) ≡ o → slot_of (own n) ≡ slot.Principal → (IsContradicted tests path kind n → ⊥) → (is_open n ≡ true → IsMatchedSo tests path id n) → Right n
     right-one n None e here none so =
         let meets = id-meets kind id (own n) here e in
-        so-iff (holds n) (Matches (pattern_of (own n)) id) (ValueMeets (value.Principal kind id) (own n)) (meets.1, meets.0) (so (rw e refl))
+        so-iff (holds n) (Matches (own_pattern (own n)) id) (ValueMeets (value.Principal kind id) (own n)) (meets.1, meets.0) (so (rw e refl))
     right-one n (Some b) e here none so =
         let same : holds n ≡ b = not-other (answer_of path n) b (λ differs. none (and-some (fixed_at kind (own n)) (λ x. answer_of path n ≢ Some x) b e differs)) in
         subst (λ (x : Bool). So x (ValueMeets (value.Principal kind id) (own n))) (sym same) (id-fixed kind id (own n) b here e)

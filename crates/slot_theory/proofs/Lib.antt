@@ -8,3 +8,4 @@ pub mod Contradicted
 pub mod Products
 pub mod Accepting
 pub mod Impossible
+pub mod Sampling

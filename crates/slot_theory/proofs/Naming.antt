@@ -15,8 +15,7 @@ use Rattle.policy_model.specs.declared.principal.Entry.TheVariants.{All, Kind, A
 use Rattle.policy_model.specs.declared.test.Test.TheVariants.{Principal}
 use Rattle.policy_model.specs.Principals.{EntryNames, IsOfAccount, has_colon}
 use Rattle.slot_theory.specs.Entries.{is_kind, fixed_answer, any_part, account_pattern}
-use Rattle.slot_theory.specs.Slots.{pattern_of}
-use Rattle.slot_theory.proofs.Wanting.{many-all}
+use Rattle.slot_theory.proofs.Wanting.{many-all, own_pattern}
 
 -- ---- kinds
 
@@ -143,7 +142,7 @@ open-kind : (j k : PrincipalKind) → (if is_kind j k then None else Some false)
 open-kind j k = cond_both (is_kind j k) None (Some false) (λ (o : Option Bool). o ≡ None → j ≡ k) (λ h e. same-kind j k h) (λ h e. absurd (cc))
 
 -- and where there is none, as its pattern matches
-pub open-names : (k : PrincipalKind) (id : List ℕ) (entry : Entry) → fixed_answer k entry ≡ None → EntryNames k id entry ↔ Matches (pattern_of (Principal entry)) id
+pub open-names : (k : PrincipalKind) (id : List ℕ) (entry : Entry) → fixed_answer k entry ≡ None → EntryNames k id entry ↔ Matches (own_pattern (Principal entry)) id
 open-names k id All e = absurd (cc)
 open-names k id (Kind kind) e = absurd (cc)
 open-names k id (Account account) e = (λ n. account-matches account id n.1, λ m. (open-kind k Aws e, account-matched account id m))

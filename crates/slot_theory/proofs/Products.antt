@@ -1,6 +1,6 @@
 -- What a product for a core says of the slot: its patterns are among the slot's, a text that meets what the core wants is a
 -- value that the schema permits, and a test that this value answers otherwise isn't in the core.
-use Rattle.std.proofs.Common.{◌≡◌, ℕ, zero, suc, ◌+◌, ◌<◌, List, [], ◌∷◌, ◌++◌, length, map, get_or, Bool, true, false, ◌&&◌, is_some, Option, Some, None, if◌then◌else◌, IsSome, All, Any, Contains, refl, sym, subst, arith}
+use Rattle.std.proofs.Common.{◌≡◌, ℕ, zero, suc, ◌+◌, ◌<◌, List, [], ◌∷◌, ◌++◌, length, map, get_or, Bool, true, false, ◌&&◌, is_some, Option, Some, None, unwrap_or, if◌then◌else◌, IsSome, All, Any, Contains, refl, sym, subst, arith}
 use Rattle.std.specs.Option.{is_none, option_to_list}
 use Rattle.std.proofs.lemmas.List.Elements.{All-cons, All-append, All-map, All-contains, All-filter, filter_passes, Contains-append_left, Contains-append_right, All-contains_itself}
 use Rattle.wildcard_lang.specs.declared.piece.Piece.{Piece}
@@ -21,12 +21,15 @@ use Rattle.policy_model.specs.declared.test.Slot.TheVariants as slot
 use Rattle.policy_model.specs.declared.test.Test.{Test}
 use Rattle.policy_model.specs.declared.test.Test.TheVariants.{Principal, Action, Resource}
 use Rattle.policy_model.specs.Requests.{IsWord, shape_of}
+use Rattle.slot_theory.specs.declared.outcome.SlotValue.{SlotValue}
 use Rattle.slot_theory.specs.declared.outcome.SlotValue.TheVariants as value
-use Rattle.slot_theory.specs.Slots.{IsWordSlot, Permits, answered_patterns, fixed_at, id_shapes, is_on, pattern_of, patterns_at, shape_at, shapes_at, slot_of, some_word, test_at, test_patterns}
+use Rattle.slot_theory.specs.declared.steps.Attempt.{Attempt}
+use Rattle.slot_theory.specs.declared.steps.Attempt.TheVariants as attempt
+use Rattle.slot_theory.specs.Slots.{HasPattern, IsWordSlot, Permits, answered_patterns, fixed_at, id_shapes, is_on, pattern_of, patterns_at, shape_at, shapes_at, slot_of, some_word, test_at}
 use Rattle.slot_theory.specs.Wants.{wanted_clauses, wanted_patterns}
 use Rattle.slot_theory.specs.Cores.{IsContradicted, IsCore, open_tests}
-use Rattle.slot_theory.specs.Steps.{IsRight, IsWrong}
-use Rattle.slot_theory.proofs.Wanting.{met-so, met-word}
+use Rattle.slot_theory.specs.Steps.{IsAttempt, IsRight, IsTried, IsWrong}
+use Rattle.slot_theory.proofs.Wanting.{met-so, met-word, own_pattern, same-patterns}
 use Rattle.slot_theory.proofs.Wording.{slot-on}
 use Rattle.slot_theory.proofs.Answering.{none-is, open-right, words-right}
 
@@ -45,38 +48,51 @@ some-is_some None h = absurd (cc)
 some-is_some (Some b) h = refl
 
 -- the test has the pattern
-abbrev HasPattern : Test → Type 0
-HasPattern t = Contains (test_patterns t) (pattern_of t)
+abbrev HasOwn : Test → Type 0
+HasOwn t = Contains (option_to_list (pattern_of t)) (own_pattern t)
 
-word-pattern : (s : Slot) (t : Test) → IsWordSlot s → slot_of t ≡ s → HasPattern t
+has-own : (o : Option (List Piece)) → IsSome o → Contains (option_to_list o) (unwrap_or o [])
+has-own None h = absurd (cc)
+has-own (Some p) h = (zero, omega arith, refl)
+
+word-pattern : (s : Slot) (t : Test) → IsWordSlot s → slot_of t ≡ s → IsSome (pattern_of t)
 word-pattern s (Principal entry) h e = absurd (subst IsWordSlot (sym e) h)
-word-pattern s (Action pattern) h e = (zero, omega arith, refl)
-word-pattern s (Resource pattern) h e = (zero, omega arith, refl)
+word-pattern s (Action pattern) h e = refl
+word-pattern s (Resource pattern) h e = refl
 
-open-pattern : (k : PrincipalKind) (t : Test) → slot_of t ≡ slot.Principal → fixed_at k t ≡ None → HasPattern t
+open-pattern : (k : PrincipalKind) (t : Test) → slot_of t ≡ slot.Principal → fixed_at k t ≡ None → IsSome (pattern_of t)
 open-pattern k (Principal entry.All) on e = absurd (cc)
 open-pattern k (Principal (entry.Kind kind)) on e = absurd (cc)
-open-pattern k (Principal (entry.Account account)) on e = (zero, omega arith, refl)
-open-pattern k (Principal (entry.Exact kind id)) on e = (zero, omega arith, refl)
+open-pattern k (Principal (entry.Account account)) on e = refl
+open-pattern k (Principal (entry.Exact kind id)) on e = refl
 open-pattern k (Action pattern) on e = absurd (cc)
 open-pattern k (Resource pattern) on e = absurd (cc)
 
-among-answered : (path : Answers) (s : Slot) (tests : List Test) (i k : ℕ) → k < length tests → IsSome (answer_of path (i + k)) → slot_of (test_at tests k) ≡ s → HasPattern (test_at tests k) → Contains (answered_patterns tests path s i) (pattern_of (test_at tests k))
+-- each test of a core on words has a pattern, and each of a core on principals that has no fixed answer for a kind
+pub words-have : (tests : List Test) (s : Slot) (core : List ℕ) → IsWordSlot s → All (λ n. slot_of (test_at tests n) ≡ s) core → All (HasPattern tests) core
+words-have tests s core word on k d l = word-pattern s (test_at tests (get_or core k d)) word (on k d l)
+
+pub open-have : (tests : List Test) (kind : PrincipalKind) (core : List ℕ) → All (λ n. slot_of (test_at tests n) ≡ slot.Principal) core → All (HasPattern tests) (open_tests tests kind core)
+open-have tests kind core on k d l =
+    let is_free : ℕ → Bool = λ n. is_none (fixed_at kind (test_at tests n)) in
+    open-pattern kind (test_at tests (get_or (open_tests tests kind core) k d)) (All-filter is_free (λ n. slot_of (test_at tests n) ≡ slot.Principal) core on k d l) (none-is _ (filter_passes is_free core k d l))
+
+among-answered : (path : Answers) (s : Slot) (tests : List Test) (i k : ℕ) → k < length tests → IsSome (answer_of path (i + k)) → slot_of (test_at tests k) ≡ s → HasOwn (test_at tests k) → Contains (answered_patterns tests path s i) (own_pattern (test_at tests k))
 among-answered path s [] i k l a on has = absurd (omega arith)
 among-answered path s (t ∷ ts) i zero l a on has =
     let here : i + 0 ≡ i = omega arith in
     let some : is_some (answer_of path i) ≡ true = some-is_some _ (rw here at a) in
-    among-first (pattern_of t) (is_on s t && is_some (answer_of path i)) (test_patterns t) (answered_patterns ts path s (i + 1)) (rw (slot-on s t on, some) refl) has
+    among-first (own_pattern t) (is_on s t && is_some (answer_of path i)) (option_to_list (pattern_of t)) (answered_patterns ts path s (i + 1)) (rw (slot-on s t on, some) refl) has
 among-answered path s (t ∷ ts) i (suc k) l a on has =
     let here : i + suc k ≡ i + 1 + k = omega arith in
-    among-more (pattern_of (test_at ts k)) (is_on s t && is_some (answer_of path i)) (test_patterns t) (answered_patterns ts path s (i + 1)) (among-answered path s ts (i + 1) k (omega arith) (rw here at a) on has)
+    among-more (own_pattern (test_at ts k)) (is_on s t && is_some (answer_of path i)) (option_to_list (pattern_of t)) (answered_patterns ts path s (i + 1)) (among-answered path s ts (i + 1) k (omega arith) (rw here at a) on has)
 
 -- the tests of these numbers are answered, on the slot, and have patterns
 record AreAsked (tests : List Test) (path : Answers) (s : Slot) (numbers : List ℕ) : Type 0 where
   pub within : All (λ n. n < length tests) numbers
   pub answered : All (λ n. IsSome (answer_of path n)) numbers
   pub on_slot : All (λ n. slot_of (test_at tests n) ≡ s) numbers
-  pub patterns : All (λ n. HasPattern (test_at tests n)) numbers
+  pub patterns : All (HasPattern tests) numbers
 
 widths : (schema : Schema) (tests : List Test) (path : Answers) (s : Slot) (numbers : List ℕ) (shape : Option (List Piece)) (states : ℕ) (texts : List (List ℕ)) → AreAsked tests path s numbers → All (Contains (shapes_at schema s)) (option_to_list shape) →
     ShowWider (wanted_patterns tests numbers shape) states texts → ShowWider (patterns_at schema tests path s) states texts
@@ -84,14 +100,15 @@ widths schema tests path s numbers shape states texts asked shaped wide =
     let own = answered_patterns tests path s 0 in
     let rest = some_word ∷ shapes_at schema s in
     let all = patterns_at schema tests path s in
-    let tested : All (Contains all) (map (λ n. pattern_of (test_at tests n)) numbers) = All-map (Contains all) (λ n. pattern_of (test_at tests n)) numbers (λ k d l.
+    let tested : All (Contains all) (map (λ n. own_pattern (test_at tests n)) numbers) = All-map (Contains all) (λ n. own_pattern (test_at tests n)) numbers (λ k d l.
     let n = get_or numbers k d in
     let same : 0 + n ≡ n = omega arith in
-    Contains-append_left own rest (pattern_of (test_at tests n)) (among-answered path s tests 0 n (asked.within k d l) (rw same (asked.answered k d l)) (asked.on_slot k d l) (asked.patterns k d l))) in
+    Contains-append_left own rest (own_pattern (test_at tests n)) (among-answered path s tests 0 n (asked.within k d l) (rw same (asked.answered k d l)) (asked.on_slot k d l) (has-own (pattern_of (test_at tests n)) (asked.patterns k d l)))) in
     let behind : All (Contains all) (some_word ∷ option_to_list shape) =
     All-cons (Contains all) some_word (option_to_list shape) (Contains-append_right own rest some_word (zero, omega arith, refl))
     (λ k d l. Contains-append_right own rest _ (Contains-append_right (some_word ∷ []) (shapes_at schema s) _ (shaped k d l))) in
-    widths-grow (wanted_patterns tests numbers shape) all states texts (All-append (Contains all) (map (λ n. pattern_of (test_at tests n)) numbers) (some_word ∷ option_to_list shape) tested behind) wide
+    let wanted : All (Contains all) (wanted_patterns tests numbers shape) = subst (λ (ps : List (List Piece)). All (Contains all) ps) (sym (same-patterns tests path shape numbers asked.patterns)) (All-append (Contains all) (map (λ n. own_pattern (test_at tests n)) numbers) (some_word ∷ option_to_list shape) tested behind) in
+    widths-grow (wanted_patterns tests numbers shape) all states texts wanted wide
 
 -- ---- the shapes
 
@@ -137,20 +154,27 @@ product-at tests path states ns ms a b p q same shape is h =
     (subst (λ (xs : List ℕ). IsProduct (wanted_patterns tests xs a) (wanted_clauses path xs a 0) states p) same h))
 
 module _ (schema : Schema) (tests : List Test) (path : Answers) (core : List ℕ) where
+  -- a value that the schema permits and that answers the core, tried on all answered tests of the slot
+  pub tried-attempt : (s : Slot) (states : ℕ) (v : SlotValue) (a : Attempt) → Permits schema s v → ((n : ℕ) → IsWrong tests path s v n → Contains core n → ⊥) → IsTried tests path s v a → IsAttempt schema tests path s states core a
+  tried-attempt s states v (attempt.Empty proof) permits new is = absurd is
+  tried-attempt s states v (attempt.Full texts) permits new is = absurd is
+  tried-attempt s states v (attempt.Right w) permits new is = rw is.0 (permits, is.1)
+  tried-attempt s states v (attempt.Wrong n) permits new is = (is.on, new n is)
+
   module _ (s : Slot) (word : IsWordSlot s) (is : IsCore tests path core s) where
     abbrev shape : Option (List Piece)
     shape = shape_at schema s
 
     pub word-wider : (states : ℕ) (texts : List (List ℕ)) → ShowWider (wanted_patterns tests core shape) states texts → ShowWider (patterns_at schema tests path s) states texts
     word-wider states texts =
-        widths schema tests path s core shape states texts (record { within = is.within; answered = is.answered; on_slot = is.on_slot; patterns = λ k d l. word-pattern s (test_at tests (get_or core k d)) word (is.on_slot k d l) }) (word-shape schema s word)
+        widths schema tests path s core shape states texts (record { within = is.within; answered = is.answered; on_slot = is.on_slot; patterns = words-have tests s core word is.on_slot }) (word-shape schema s word)
 
     pub word-permitted : (w : List ℕ) → Meets (wanted_patterns tests core shape) (wanted_clauses path core shape 0) w × IsText w → Permits schema s (value.Word w)
-    word-permitted w met = permits-word schema s w word (met-word tests path shape core w met.1 met.0)
+    word-permitted w met = permits-word schema s w word (met-word tests path shape core (words-have tests s core word is.on_slot) w met.1 met.0)
 
     pub word-new : (w : List ℕ) (n : ℕ) → Meets (wanted_patterns tests core shape) (wanted_clauses path core shape 0) w → IsWrong tests path s (value.Word w) n → Contains core n → ⊥
     word-new w n met wrong among =
-        wrong.wrong (All-contains (IsRight tests path (value.Word w)) core n (words-right tests path core s w word is.on_slot (met-so tests path shape core w met)) among)
+        wrong.wrong (All-contains (IsRight tests path (value.Word w)) core n (words-right tests path core s w word is.on_slot (met-so tests path shape core (words-have tests s core word is.on_slot) w met)) among)
 
   module _ (k : PrincipalKind) (is : IsCore tests path core slot.Principal) where
     abbrev open_numbers : List ℕ
@@ -167,17 +191,16 @@ module _ (schema : Schema) (tests : List Test) (path : Answers) (core : List ℕ
 
     pub kind-wider : (states : ℕ) (texts : List (List ℕ)) → ShowWider (wanted_patterns tests open_numbers id_shape) states texts → ShowWider (patterns_at schema tests path slot.Principal) states texts
     kind-wider states texts =
-        let on = All-filter is_open (λ n. slot_of (test_at tests n) ≡ slot.Principal) core is.on_slot in
         widths schema tests path slot.Principal open_numbers id_shape states texts (record {
           within = open-within;
           answered = All-filter is_open (λ n. IsSome (answer_of path n)) core is.answered;
-          on_slot = on;
-          patterns = λ i d l. open-pattern k (test_at tests (get_or open_numbers i d)) (on i d l) (none-is _ (filter_passes is_open core i d l));
+          on_slot = All-filter is_open (λ n. slot_of (test_at tests n) ≡ slot.Principal) core is.on_slot;
+          patterns = open-have tests k core is.on_slot;
         }) (kind-shape schema.shapes k)
 
     pub id-permitted : (id : List ℕ) → Meets (wanted_patterns tests open_numbers id_shape) (wanted_clauses path open_numbers id_shape 0) id × IsText id → Permits schema slot.Principal (value.Principal k id)
-    id-permitted id met = met-word tests path id_shape open_numbers id met.1 met.0
+    id-permitted id met = met-word tests path id_shape open_numbers (open-have tests k core is.on_slot) id met.1 met.0
 
     pub id-new : (id : List ℕ) (n : ℕ) → (Any (IsContradicted tests path k) core → ⊥) → Meets (wanted_patterns tests open_numbers id_shape) (wanted_clauses path open_numbers id_shape 0) id → IsWrong tests path slot.Principal (value.Principal k id) n → Contains core n → ⊥
     id-new id n none met wrong among =
-        wrong.wrong (All-contains (IsRight tests path (value.Principal k id)) core n (open-right tests path core k id is.on_slot none (met-so tests path id_shape open_numbers id met)) among)
+        wrong.wrong (All-contains (IsRight tests path (value.Principal k id)) core n (open-right tests path core k id is.on_slot none (met-so tests path id_shape open_numbers (open-have tests k core is.on_slot) id met)) among)

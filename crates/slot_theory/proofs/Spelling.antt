@@ -1,5 +1,5 @@
 -- The texts from which the patterns of ids are read.
-use Rattle.std.proofs.Common.{◌≡◌, ℕ, List, [], ◌∷◌, ◌++◌, map, false, Some, All, codes, refl, sym, ap, ◌∙◌, arith}
+use Rattle.std.proofs.Common.{◌≡◌, ℕ, List, [], ◌∷◌, ◌++◌, map, false, Option, Some, Result, Ok, All, codes, refl, sym, ap, ◌∙◌, subst, arith}
 use Rattle.std.specs.Char.{IsAsciiDigit}
 use Rattle.std.specs.Str.{chars}
 use Rattle.std.specs.Str.{IsUtf8, encode_utf8_all}
@@ -9,9 +9,20 @@ use Rattle.std.proofs.lemmas.List.Elements.{All-head, All-tail}
 use Rattle.wildcard_lang.specs.declared.piece.Piece.{Piece}
 use Rattle.wildcard_lang.specs.declared.piece.Piece.TheVariants.{Lit}
 use Rattle.wildcard_lang.specs.declared.symbol.Symbol.TheVariants.{Written}
-use Rattle.wildcard_lang.specs.Reading.{literals, wildcard_of}
-use Rattle.wildcard_lang.specs.Arns.{narrowed, left_behind}
+use Rattle.wildcard_lang.specs.declared.fault.PatternFault.{PatternFault}
+use Rattle.wildcard_lang.specs.Reading.{IsPlainRead, literals, wildcard_of}
+use Rattle.wildcard_lang.specs.Arns.{IsArnRead, narrowed, left_behind}
 use Rattle.slot_theory.specs.Entries.{account_pattern}
+
+-- ---- what was read
+
+pub plain-read : (piece : ℕ → Piece) (cs : List ℕ) (read : Result (List Piece) PatternFault) (p : List Piece) → read ≡ Ok p → IsPlainRead piece cs read → p ≡ map piece cs
+plain-read piece cs read p is says = let here : IsPlainRead piece cs (Ok p) = subst (λ (r : Result (List Piece) PatternFault). IsPlainRead piece cs r) is says in here.0
+
+pub arn-read : (pieces : Option (List Piece)) (read : Result (List Piece) PatternFault) (p : List Piece) → read ≡ Ok p → IsArnRead pieces read → pieces ≡ Some p
+arn-read pieces read p is says = let here : IsArnRead pieces (Ok p) = subst (λ (r : Result (List Piece) PatternFault). IsArnRead pieces r) is says in here.0
+
+-- ---- the pattern of an account
 
 abbrev read : List ℕ → List Piece
 read cs = map (wildcard_of false) (map Written cs)

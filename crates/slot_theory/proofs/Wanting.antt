@@ -1,5 +1,5 @@
 -- The texts that meet what tests want, and the texts that their patterns match as the path answers.
-use Rattle.std.proofs.Common.{◌≡◌, ◌≢◌, ℕ, zero, suc, ◌+◌, ◌<◌, List, [], ◌∷◌, length, drop, get_or, Bool, true, false, Option, Some, None, unwrap_or, All, Any, MatchBool, refl, sym, ap, ◌∙◌, subst, arith}
+use Rattle.std.proofs.Common.{◌≡◌, ◌≢◌, ℕ, zero, suc, ◌+◌, ◌<◌, List, [], ◌∷◌, ◌++◌, length, drop, map, flat_map, get_or, Bool, true, false, Option, Some, None, unwrap_or, IsSome, All, Any, MatchBool, refl, sym, ap, ◌∙◌, subst, arith}
 use Rattle.std.specs.Option.{option_to_list}
 use Rattle.std.proofs.lemmas.List.Elements.{All-nil, All-cons, All-head, All-tail}
 use Rattle.wildcard_lang.specs.declared.piece.Piece.{Piece}
@@ -9,11 +9,11 @@ use Rattle.wildcard_lang.specs.Matching.{Matches, no_pieces, takes_one, is_done,
 use Rattle.formula_tree.specs.Answers.{Answers, answer_of}
 use Rattle.pattern_automata.specs.declared.wants.Literal.{Literal}
 use Rattle.pattern_automata.specs.declared.wants.Wants.{Wants}
-use Rattle.pattern_automata.specs.Closed.{InRange, IsLiteralMet, Meets}
+use Rattle.pattern_automata.specs.Closed.{InRange, IsClosed, IsLiteralMet, Meets}
 use Rattle.pattern_automata.proofs.Empty.{closed_sets_are_empty}
 use Rattle.policy_model.specs.declared.test.Test.{Test}
 use Rattle.policy_model.specs.Requests.{FitsShape, IsWord}
-use Rattle.slot_theory.specs.Slots.{pattern_of, some_word, test_at}
+use Rattle.slot_theory.specs.Slots.{HasPattern, pattern_of, some_word, test_at}
 use Rattle.slot_theory.specs.Wants.{IsClosedFor, IsWants, shape_clauses, wanted, wanted_clauses, wanted_patterns}
 
 -- ---- patterns by their numbers
@@ -63,19 +63,27 @@ some-is t (takes_more a b m) e = absurd (cc)
 abbrev pub MatchesSo : List Piece → List ℕ → Bool → Type 0
 MatchesSo p w holds = MatchBool holds (Matches p w) (Matches p w → ⊥)
 
+-- the pattern of a test that has one
+abbrev pub own_pattern : Test → List Piece
+own_pattern t = unwrap_or (pattern_of t) []
+
 -- the pattern of the test matches the text as the path answers the test
 abbrev pub IsMatchedSo : List Test → Answers → List ℕ → ℕ → Type 0
-IsMatchedSo tests path w n = MatchesSo (pattern_of (test_at tests n)) w (unwrap_or (answer_of path n) false)
+IsMatchedSo tests path w n = MatchesSo (own_pattern (test_at tests n)) w (unwrap_or (answer_of path n) false)
+
+one-pattern : (o : Option (List Piece)) (xs ys rest : List (List Piece)) → IsSome o → xs ++ rest ≡ ys → (option_to_list o ++ xs) ++ rest ≡ unwrap_or o [] ∷ ys
+one-pattern None xs ys rest h e = absurd (cc)
+one-pattern (Some p) xs ys rest h e = ap (λ (zs : List (List Piece)). p ∷ zs) e
 
 module _ (tests : List Test) (path : Answers) (shape : Option (List Piece)) where
   abbrev own : ℕ → List Piece
-  own n = pattern_of (test_at tests n)
+  own n = own_pattern (test_at tests n)
 
   abbrev holds : ℕ → Bool
   holds n = unwrap_or (answer_of path n) false
 
   abbrev all : List ℕ → List (List Piece)
-  all numbers = wanted_patterns tests numbers shape
+  all numbers = map own numbers ++ some_word ∷ option_to_list shape
 
   abbrev clauses : List ℕ → ℕ → List (List Literal)
   clauses numbers i = wanted_clauses path numbers shape i
@@ -85,6 +93,13 @@ module _ (tests : List Test) (path : Answers) (shape : Option (List Piece)) wher
 
   abbrev shapes : List (List Piece)
   shapes = option_to_list shape
+
+  -- the wanted patterns are one for each of the tests, where each has one
+  pub same-patterns : (numbers : List ℕ) → All (HasPattern tests) numbers → wanted_patterns tests numbers shape ≡ all numbers
+  same-patterns [] has = refl
+  same-patterns (n ∷ numbers) has =
+      one-pattern (pattern_of (test_at tests n)) (flat_map (λ m. option_to_list (pattern_of (test_at tests m))) numbers) (all numbers) (some_word ∷ shapes) (All-head (HasPattern tests) n numbers has)
+      (same-patterns numbers (All-tail (HasPattern tests) n numbers has))
 
   module _ (patterns : List (List Piece)) where
     abbrev R : List Literal → Type 0
@@ -147,22 +162,26 @@ module _ (tests : List Test) (path : Answers) (shape : Option (List Piece)) wher
       all-fits [] i e m = shape-met shape (i + 1) (drop-tail patterns i some_word shapes e) (All-tail M (wanted i true) (last i) m)
       all-fits (n ∷ numbers) i e m = all-fits numbers (i + 1) (drop-tail patterns i (own n) (all numbers) e) (All-tail M (wanted i (holds n)) (clauses numbers (i + 1)) m)
 
-  module _ (numbers : List ℕ) where
+  module _ (numbers : List ℕ) (has : All (HasPattern tests) numbers) where
     -- the literals of what is wanted name its patterns
     wanted-range : InRange (length (all numbers)) (clauses numbers 0)
     wanted-range = in-range (all numbers) numbers 0 refl
 
     pub wants-range : (wants : Wants) → IsWants tests path numbers shape wants → InRange (length wants.patterns) wants.clauses
-    wants-range wants is = rw (is.patterns, is.clauses) wanted-range
+    wants-range wants is = let patterns : wants.patterns ≡ all numbers = is.patterns ∙ same-patterns numbers has in rw (patterns, is.clauses) wanted-range
+
+    met-all : (w : List ℕ) → Meets (wanted_patterns tests numbers shape) (clauses numbers 0) w → Meets (all numbers) (clauses numbers 0) w
+    met-all w m = subst (λ (ps : List (List Piece)). Meets ps (clauses numbers 0) w) (same-patterns numbers has) m
 
     -- a text that meets what is wanted is a word of the shape, which the patterns match so
-    pub met-word : (w : List ℕ) → IsText w → Meets (all numbers) (clauses numbers 0) w → IsWord shape w
-    met-word w text m = record { text = text; some = some-is w (all-some (all numbers) w numbers 0 refl m); fits = all-fits (all numbers) w numbers 0 refl m }
+    pub met-word : (w : List ℕ) → IsText w → Meets (wanted_patterns tests numbers shape) (clauses numbers 0) w → IsWord shape w
+    met-word w text met = let m = met-all w met in record { text = text; some = some-is w (all-some (all numbers) w numbers 0 refl m); fits = all-fits (all numbers) w numbers 0 refl m }
 
-    pub met-so : (w : List ℕ) → Meets (all numbers) (clauses numbers 0) w → All (IsMatchedSo tests path w) numbers
-    met-so w m = all-so (all numbers) w numbers 0 refl m
+    pub met-so : (w : List ℕ) → Meets (wanted_patterns tests numbers shape) (clauses numbers 0) w → All (IsMatchedSo tests path w) numbers
+    met-so w met = all-so (all numbers) w numbers 0 refl (met-all w met)
 
     -- a closed set has no such word
     pub closed-none : (closed : List (List (List ℕ))) (w : List ℕ) → IsClosedFor tests path numbers shape closed → IsWord shape w → All (IsMatchedSo tests path w) numbers → ⊥
     closed-none closed w set is so =
-        closed_sets_are_empty (all numbers) (clauses numbers 0) closed wanted-range set w is.text (meets-all (all numbers) w numbers 0 refl so (some-matches w is.some) is.fits)
+        let own_set : IsClosed (all numbers) (clauses numbers 0) closed = subst (λ (ps : List (List Piece)). IsClosed ps (clauses numbers 0) closed) (same-patterns numbers has) set in
+        closed_sets_are_empty (all numbers) (clauses numbers 0) closed wanted-range own_set w is.text (meets-all (all numbers) w numbers 0 refl so (some-matches w is.some) is.fits)

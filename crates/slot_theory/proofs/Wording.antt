@@ -9,10 +9,10 @@ use Rattle.policy_model.specs.declared.test.Slot.TheVariants as slot
 use Rattle.policy_model.specs.declared.test.Test.{Test}
 use Rattle.policy_model.specs.declared.test.Test.TheVariants.{Principal, Action, Resource}
 use Rattle.slot_theory.specs.declared.outcome.SlotValue.{SlotValue}
-use Rattle.slot_theory.specs.Slots.{IsBuiltSlot, AnswersSlot, is_on, slot_of, test_at}
+use Rattle.slot_theory.specs.Slots.{IsBuiltSlot, AnswersSlot, is_on, slot_of, test_at, AnswersTest}
 use Rattle.slot_theory.specs.Possible.{InRange}
 use Rattle.slot_theory.specs.Cores.{HasTest, IsAnsweredOn}
-use Rattle.slot_theory.specs.Steps.{AnswersTest, IsOtherwise, IsWrong}
+use Rattle.slot_theory.specs.Steps.{IsOtherwise, IsWrong}
 
 -- ---- answers by their places
 

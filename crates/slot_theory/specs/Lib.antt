@@ -4,5 +4,6 @@ pub mod Possible
 pub mod Wants
 pub mod Cores
 pub mod Outcome
+pub mod Unasked
 pub mod Steps
 pub mod Laws

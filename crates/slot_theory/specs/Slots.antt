@@ -1,5 +1,5 @@
 -- The slots of a request, the tests on each of them, and the values that answer them.
-use Rattle.std.specs.Prelude.{◌≡◌, ⊤, ℕ, ◌+◌, ◌&&◌, List, [], ◌∷◌, ◌++◌, Bool, true, false, Option, Some, None, is_some, unwrap_or, slice_get, slice_index_or, MatchBool, if◌then◌else◌}
+use Rattle.std.specs.Prelude.{◌≡◌, ⊤, ℕ, ◌+◌, ◌&&◌, List, [], ◌∷◌, ◌++◌, Bool, true, false, Option, Some, None, is_some, IsSome, slice_get, slice_index_or, MatchBool, if◌then◌else◌}
 use Rattle.std.specs.Option.{option_to_list}
 use Rattle.wildcard_lang.specs.declared.piece.Piece.{Piece}
 use Rattle.wildcard_lang.specs.declared.piece.Piece.TheVariants.{One, Many}
@@ -55,17 +55,15 @@ fixed_at k (Principal entry) = fixed_answer k entry
 fixed_at k (Action pattern) = None
 fixed_at k (Resource pattern) = None
 
--- the patterns of a test: a test on a word has one, a test on the principal at most one
-abbrev pub test_patterns : Test → List (List Piece)
-test_patterns (Principal entry) = option_to_list (entry_pattern entry)
-test_patterns (Action pattern) = pattern ∷ []
-test_patterns (Resource pattern) = pattern ∷ []
+-- the pattern of a test: a test on a word has one, a test on the principal may have none
+abbrev pub pattern_of : Test → Option (List Piece)
+pattern_of (Principal entry) = entry_pattern entry
+pattern_of (Action pattern) = Some pattern
+pattern_of (Resource pattern) = Some pattern
 
--- the pattern of a test that has one
-abbrev pub pattern_of : Test → List Piece
-pattern_of (Principal entry) = unwrap_or (entry_pattern entry) []
-pattern_of (Action pattern) = pattern
-pattern_of (Resource pattern) = pattern
+-- the test of the number has a pattern
+abbrev pub HasPattern : List Test → ℕ → Type 0
+HasPattern tests n = IsSome (pattern_of (test_at tests n))
 
 -- `?*`, which every text that isn't empty matches
 abbrev pub some_word : List Piece
@@ -90,7 +88,7 @@ shapes_at schema s = option_to_list (shape_at schema s)
 -- the patterns of the answered tests of the slot among these, which are numbered from n on
 abbrev pub answered_patterns : List Test → Answers → Slot → ℕ → List (List Piece)
 answered_patterns [] path s n = []
-answered_patterns (t ∷ ts) path s n = (if is_on s t && is_some (answer_of path n) then test_patterns t ++ answered_patterns ts path s (n + 1) else answered_patterns ts path s (n + 1))
+answered_patterns (t ∷ ts) path s n = (if is_on s t && is_some (answer_of path n) then option_to_list (pattern_of t) ++ answered_patterns ts path s (n + 1) else answered_patterns ts path s (n + 1))
 
 -- the patterns of a slot at a path: those of its answered tests in the order of their numbers, then `?*`, then the shapes
 abbrev pub patterns_at : Schema → List Test → Answers → Slot → List (List Piece)
@@ -115,6 +113,14 @@ ValueMeets (value.Word t) (Principal entry) = ⊥
 ValueMeets (value.Word t) (Action pattern) = Matches pattern t
 ValueMeets (value.Word t) (Resource pattern) = Matches pattern t
 
+-- the value answers the test so
+abbrev pub AnswersTest : SlotValue → Test → Bool → Type 0
+AnswersTest v t answer = MatchBool answer (ValueMeets v t) (¬ ValueMeets v t)
+
 -- the value answers each answered test of the slot as the path does
 abbrev pub AnswersSlot : List Test → Answers → Slot → SlotValue → Type 0
-AnswersSlot tests path s v = (n : ℕ) (b : Bool) (t : Test) → answer_of path n ≡ Some b → slice_get tests n ≡ Some t → slot_of t ≡ s → MatchBool b (ValueMeets v t) (¬ ValueMeets v t)
+AnswersSlot tests path s v = (n : ℕ) (b : Bool) (t : Test) → answer_of path n ≡ Some b → slice_get tests n ≡ Some t → slot_of t ≡ s → AnswersTest v t b
+
+-- a value of the slot at the path: the schema permits it, and it answers the slot's tests as the path does
+abbrev pub IsSlotValue : Schema → List Test → Answers → Slot → SlotValue → Type 0
+IsSlotValue schema tests path s v = Permits schema s v × AnswersSlot tests path s v

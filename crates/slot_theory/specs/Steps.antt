@@ -1,5 +1,5 @@
 -- The steps of a search for a value: a value for a core is tried on all answered tests of the slot.
-use Rattle.std.specs.Prelude.{◌≡◌, ℕ, List, Contains, MatchBool, Bool, unwrap_or, false}
+use Rattle.std.specs.Prelude.{◌≡◌, ℕ, List, Contains, Bool, unwrap_or, false}
 use Rattle.wildcard_lang.specs.Places.{ShowWider}
 use Rattle.formula_tree.specs.Answers.{Answers, answer_of}
 use Rattle.policy_model.specs.declared.principal.PrincipalKind.{PrincipalKind}
@@ -13,12 +13,8 @@ use Rattle.slot_theory.specs.declared.steps.KindAttempt.{KindAttempt}
 use Rattle.slot_theory.specs.declared.steps.KindAttempt.TheVariants as kind_attempt
 use Rattle.slot_theory.specs.declared.steps.Kept.{Kept}
 use Rattle.slot_theory.specs.declared.outcome.SlotValue.{SlotValue}
-use Rattle.slot_theory.specs.Slots.{AnswersSlot, Permits, ValueMeets, patterns_at, slot_of, test_at}
+use Rattle.slot_theory.specs.Slots.{AnswersSlot, AnswersTest, IsSlotValue, patterns_at, slot_of, test_at}
 use Rattle.slot_theory.specs.Cores.{IsAnsweredOn, IsCore, KindShows, Shows}
-
--- the value answers the test so
-abbrev pub AnswersTest : SlotValue → Test → Bool → Type 0
-AnswersTest v t holds = MatchBool holds (ValueMeets v t) (ValueMeets v t → ⊥)
 
 -- the test is on the slot and the value answers it otherwise
 abbrev pub IsOtherwise : Slot → SlotValue → Test → Bool → Type 0
@@ -33,11 +29,18 @@ pub record IsWrong (tests : List Test) (path : Answers) (s : Slot) (v : SlotValu
   pub on : IsAnsweredOn tests path s n
   pub wrong : IsRight tests path v n → ⊥
 
+-- what a value comes to that is tried on all answered tests of the slot
+abbrev pub IsTried : List Test → Answers → Slot → SlotValue → Attempt → Type 0
+IsTried tests path s v (attempt.Empty proof) = ⊥
+IsTried tests path s v (attempt.Full texts) = ⊥
+IsTried tests path s v (attempt.Right w) = (w ≡ v) × AnswersSlot tests path s v
+IsTried tests path s v (attempt.Wrong n) = IsWrong tests path s v n
+
 -- what an attempt may answer
 abbrev pub IsAttempt : Schema → List Test → Answers → Slot → ℕ → List ℕ → Attempt → Type 0
 IsAttempt schema tests path s states core (attempt.Empty proof) = Shows schema tests path core s proof
 IsAttempt schema tests path s states core (attempt.Full texts) = ShowWider (patterns_at schema tests path s) states texts
-IsAttempt schema tests path s states core (attempt.Right v) = Permits schema s v × AnswersSlot tests path s v
+IsAttempt schema tests path s states core (attempt.Right v) = IsSlotValue schema tests path s v
 IsAttempt schema tests path s states core (attempt.Wrong n) = IsAnsweredOn tests path s n × (Contains core n → ⊥)
 
 -- what an attempt at the principals of one kind may answer

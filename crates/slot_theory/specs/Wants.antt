@@ -1,5 +1,5 @@
 -- What tests of a slot want of a word or of the id of a principal, with `?*` and the slot's shape.
-use Rattle.std.specs.Prelude.{◌≡◌, ℕ, ◌+◌, List, [], ◌∷◌, ◌++◌, map, Bool, true, false, Option, Some, None, unwrap_or}
+use Rattle.std.specs.Prelude.{◌≡◌, ℕ, ◌+◌, List, [], ◌∷◌, ◌++◌, flat_map, Bool, true, false, Option, Some, None, unwrap_or}
 use Rattle.std.specs.Option.{option_to_list}
 use Rattle.wildcard_lang.specs.declared.piece.Piece.{Piece}
 use Rattle.formula_tree.specs.Answers.{Answers, answer_of}
@@ -11,7 +11,7 @@ use Rattle.slot_theory.specs.Slots.{pattern_of, some_word, test_at}
 
 -- the patterns of the tests of these numbers in their order, then `?*`, then the shape, where one is given
 abbrev pub wanted_patterns : List Test → List ℕ → Option (List Piece) → List (List Piece)
-wanted_patterns tests numbers shape = map (λ n. pattern_of (test_at tests n)) numbers ++ some_word ∷ option_to_list shape
+wanted_patterns tests numbers shape = flat_map (λ n. option_to_list (pattern_of (test_at tests n))) numbers ++ some_word ∷ option_to_list shape
 
 -- the clause that the pattern of this number matches or not
 abbrev pub wanted : ℕ → Bool → List Literal

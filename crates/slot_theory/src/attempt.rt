@@ -2,7 +2,7 @@
 ghost use Rattle.std.specs.Prelude.{◌≡◌, ◌≤◌, IfOk, All};
 ghost use Rattle.policy_model.specs.Soundness.{TestSuits};
 ghost use Rattle.policy_model.specs.declared.test.Slot.TheVariants.{Principal};
-ghost use Rattle.slot_theory.specs.Slots.{IsBuiltSlot, IsWordSlot};
+ghost use Rattle.slot_theory.specs.Slots.{IsWordSlot};
 ghost use Rattle.slot_theory.specs.Possible.{InRange};
 ghost use Rattle.slot_theory.specs.Cores.{IsCore};
 ghost use Rattle.slot_theory.specs.Steps.{IsAttempt, IsKindAttempt};
@@ -11,7 +11,7 @@ use crate::kinds::{is_contradicted, open_tests};
 use crate::outcome::{KindProof, SlotProof, SlotValue};
 use crate::slots::shape_at;
 use crate::steps::{Attempt, KindAttempt};
-use crate::trial::first_wrong;
+use crate::trial::tried;
 use crate::wants::solve;
 use formula_tree::Path;
 use pattern_automata::Product;
@@ -41,13 +41,7 @@ fn attempt_word(
     match solve(alloc, tests, path, core, shape, states)? {
         Product::Empty(closed) => Ok(Attempt::Empty(SlotProof::Word(closed))),
         Product::TooMany(texts) => Ok(Attempt::Full(texts)),
-        Product::Found(text) => {
-            let value = SlotValue::Word(text);
-            match first_wrong(tests, path.as_slice(), slot, &value) {
-                None => Ok(Attempt::Right(value)),
-                Some(n) => Ok(Attempt::Wrong(n)),
-            }
-        }
+        Product::Found(text) => Ok(tried(tests, path, slot, SlotValue::Word(text))),
     }
 }
 
@@ -77,10 +71,7 @@ fn attempt_kind(
         Product::TooMany(texts) => Ok(KindAttempt::Whole(Attempt::Full(texts))),
         Product::Found(id) => {
             let value = SlotValue::Principal(kind, id);
-            match first_wrong(tests, path.as_slice(), &Slot::Principal, &value) {
-                None => Ok(KindAttempt::Whole(Attempt::Right(value))),
-                Some(n) => Ok(KindAttempt::Whole(Attempt::Wrong(n))),
-            }
+            Ok(KindAttempt::Whole(tried(tests, path, &Slot::Principal, value)))
         }
     }
 }
@@ -131,7 +122,6 @@ pub fn attempt(
 ) -> Result<Attempt, NoMemory>
     requires suit { All (TestSuits schema.now) tests.now }
     requires range { InRange tests.now path.now }
-    requires slot { IsBuiltSlot slot.now }
     requires core { IsCore tests.now path.now core.now slot.now }
     requires some { 1 ≤ states }
     ensures { IfOk result (IsAttempt schema.now tests.now path.now slot.now states core.now) }

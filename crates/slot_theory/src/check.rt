@@ -19,27 +19,7 @@ use policy_model::PrincipalKind::{self, Aws, CanonicalUser, Federated, Service};
 use policy_model::{Schema, Slot, Test, TestList, shape_of};
 use std::alloc::Global;
 
-/// Whether the slot is the action or the resource.
-fn is_word_slot(slot: &Slot) -> bool
-    ensures { IsTrue result ↔ IsWordSlot slot.now }
-{
-    match slot {
-        Slot::Action | Slot::Resource => true,
-        _ => false,
-    }
-}
-
-/// Whether the slot is the principal.
-fn is_principal(slot: &Slot) -> bool
-    ensures { IsTrue result ↔ (slot.now ≡ Principal) }
-{
-    match slot {
-        Slot::Principal => true,
-        _ => false,
-    }
-}
-
-/// Whether the slot is that of words, and the set is closed for what the core wants of a word.
+/// Whether the set is closed for what the core wants of a word.
 fn word_shows(
     alloc: Global,
     schema: &Schema,
@@ -51,11 +31,9 @@ fn word_shows(
 ) -> Result<bool, NoMemory>
     requires suit { All (TestSuits schema.now) tests.now }
     requires core { IsCore tests.now path.now core.now slot.now }
+    requires slot { IsWordSlot slot.now }
     ensures { IfOk result (λ yes. IsTrue yes ↔ Shows schema.now tests.now path.now core.now slot.now (Word closed.now)) }
 {
-    if !is_word_slot(slot) {
-        return Ok(false);
-    }
     let shape = shape_at(schema, slot);
     is_closed_for(alloc, tests, path, core, shape, closed)
 }
@@ -98,27 +76,20 @@ fn shows(
     requires core { IsCore tests.now path.now core.now slot.now }
     ensures { IfOk result (λ yes. IsTrue yes ↔ Shows schema.now tests.now path.now core.now slot.now proof.now) }
 {
-    let (aws, service, federated, canonical) = match proof {
-        SlotProof::Word(closed) => {
-            return word_shows(alloc, schema, tests, path, core, slot, closed);
+    match (slot, proof) {
+        (Slot::Action | Slot::Resource, SlotProof::Word(closed)) => {
+            word_shows(alloc, schema, tests, path, core, slot, closed)
         }
-        SlotProof::Kinds(aws, service, federated, canonical) => {
-            (aws, service, federated, canonical)
+        (Slot::Principal, SlotProof::Kinds(aws, service, federated, canonical)) => {
+            Ok(
+                kind_shows(alloc, schema, tests, path, core, Aws, aws)?
+                    && kind_shows(alloc, schema, tests, path, core, Service, service)?
+                    && kind_shows(alloc, schema, tests, path, core, Federated, federated)?
+                    && kind_shows(alloc, schema, tests, path, core, CanonicalUser, canonical)?,
+            )
         }
-    };
-    if !is_principal(slot) {
-        return Ok(false);
+        _ => Ok(false),
     }
-    if !kind_shows(alloc, schema, tests, path, core, Aws, aws)? {
-        return Ok(false);
-    }
-    if !kind_shows(alloc, schema, tests, path, core, Service, service)? {
-        return Ok(false);
-    }
-    if !kind_shows(alloc, schema, tests, path, core, Federated, federated)? {
-        return Ok(false);
-    }
-    kind_shows(alloc, schema, tests, path, core, CanonicalUser, canonical)
 }
 
 /// Whether the core is one of the slot, and the proof shows that no value answers it as the path does.

@@ -7,24 +7,10 @@ ghost use Rattle.slot_theory.specs.Cores.{IsAnsweredOn, IsCore, IsWith};
 use crate::outcome::Core;
 use crate::slots::is_on;
 use formula_tree::Path;
+use pattern_automata::rises;
 use plain_lists::NoMemory;
 use policy_model::{Slot, Test};
 use std::alloc::Global;
-
-/// Whether the numbers strictly rise.
-fn rises(core: &[u32]) -> bool
-    ensures { result ≡ rises_from 0 core.now }
-{
-    let mut next: u64 = 0;
-    for n in core {
-        let n = u64::from(*n);
-        if n < next {
-            return false;
-        }
-        next = n + 1;
-    }
-    true
-}
 
 /// Whether the path answers the test, and the test is on the slot.
 fn is_answered_on(tests: &[Test], path: &Path, slot: &Slot, n: u32) -> bool

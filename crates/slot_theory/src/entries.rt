@@ -1,5 +1,5 @@
 //! What an entry asks of the principals of one kind: a fixed answer, or a pattern of their ids.
-ghost use Rattle.std.specs.Prelude.{◌≡◌, ◌≤◌, [], None, Some, false, IfOk, length, unwrap_or, if◌then◌else◌};
+ghost use Rattle.std.specs.Prelude.{◌≡◌, ◌≤◌, None, Some, Ok, false, IfOk, length, if◌then◌else◌};
 ghost use Rattle.wildcard_lang.specs.Reading.{literals};
 ghost use Rattle.policy_model.specs.Soundness.{EntryIsSound, IsAccount};
 ghost use Rattle.slot_theory.specs.Entries.{account_pattern, entry_pattern, fixed_answer, is_kind};
@@ -7,7 +7,7 @@ ghost use Rattle.slot_theory.specs.Entries.{account_pattern, entry_pattern, fixe
 use plain_lists::NoMemory;
 use policy_model::{Entry, PrincipalKind};
 use std::alloc::{AllocError, Global};
-use wildcard_lang::{Pattern, Text, read_arn, read_literal};
+use wildcard_lang::{Pattern, PatternFault, Text, read_arn, read_literal};
 
 /// Whether the kinds are the same.
 fn is_kind(kind: PrincipalKind, other: PrincipalKind) -> bool
@@ -40,23 +40,23 @@ pub fn fixed_answer(entry: &Entry, kind: PrincipalKind) -> Option<bool>
     }
 }
 
+/// The pattern that was read. Any fault counts as want of memory.
+pub fn or_no_memory(read: Result<Pattern, PatternFault>) -> Result<Pattern, NoMemory>
+    ensures { IfOk result (λ p. read ≡ Ok p) }
+{
+    match read {
+        Ok(pattern) => Ok(pattern),
+        Err(_) => Err(AllocError),
+    }
+}
+
 /// The pattern that matches this text alone.
 fn literal(alloc: Global, text: &Text) -> Result<Pattern, NoMemory>
     requires { length text.now ≤ 2048 }
     ensures { IfOk result (λ p. p ≡ literals false text.now) }
 {
     let text = text.to_utf8()?;
-    match read_literal(alloc, &text, false, false) {
-        Ok(pattern) => Ok(pattern),
-        Err(_) => Err(AllocError),
-    }
-}
-
-/// The pattern without pieces.
-fn no_pieces(alloc: Global) -> Result<Pattern, NoMemory>
-    ensures { IfOk result (λ p. p ≡ []) }
-{
-    literal(alloc, &Text::from_chars(Vec::new(alloc)))
+    or_no_memory(read_literal(alloc, &text, false, false))
 }
 
 /// The pattern of the ids of an account.
@@ -66,21 +66,17 @@ fn account_pattern(alloc: Global, account: &Text) -> Result<Pattern, NoMemory>
 {
     let account = account.to_utf8()?;
     let text = format!(in alloc; "arn:*:*:*:{account}:*")?;
-    match read_arn(alloc, &text, false) {
-        Ok(pattern) => Ok(pattern),
-        Err(_) => Err(AllocError),
-    }
+    or_no_memory(read_arn(alloc, &text, false))
 }
 
-/// The pattern that the entry asks ids to match where it has no fixed answer; of an entry that never
-/// asks so, the pattern without pieces.
-pub fn entry_pattern(alloc: Global, entry: &Entry) -> Result<Pattern, NoMemory>
+/// The pattern that the entry asks ids to match where it has no fixed answer, if it ever asks so.
+pub fn entry_pattern(alloc: Global, entry: &Entry) -> Result<Option<Pattern>, NoMemory>
     requires { EntryIsSound entry.now }
-    ensures { IfOk result (λ p. p ≡ unwrap_or (entry_pattern entry.now) []) }
+    ensures { IfOk result (λ p. p ≡ entry_pattern entry.now) }
 {
     match entry {
-        Entry::All | Entry::Kind(_) => no_pieces(alloc),
-        Entry::Account(account) => account_pattern(alloc, account),
-        Entry::Exact(_, id) => literal(alloc, id),
+        Entry::All | Entry::Kind(_) => Ok(None),
+        Entry::Account(account) => Ok(Some(account_pattern(alloc, account)?)),
+        Entry::Exact(_, id) => Ok(Some(literal(alloc, id)?)),
     }
 }

@@ -13,6 +13,7 @@ mod search;
 mod slots;
 mod steps;
 mod trial;
+mod unasked;
 mod wants;
 
 pub use check::accepts;
@@ -20,6 +21,7 @@ pub use laws::accepted_cores_are_impossible;
 pub use outcome::{Core, KindProof, Possible, SlotProof, SlotValue};
 pub use search::possible;
 pub use slots::{meets, slot_of};
+pub use unasked::{sample, stated_value};
 
 #[cfg(test)]
 mod tests;

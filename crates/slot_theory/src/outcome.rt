@@ -1,6 +1,8 @@
 //! Values of slots, cores, and what a search for a value answers.
+ghost use Rattle.std.specs.Prelude.{◌≡◌, IfOk};
+
 use pattern_automata::Closed;
-use plain_lists::List;
+use plain_lists::{List, NoMemory};
 use policy_model::PrincipalKind;
 use wildcard_lang::{Text, TextList};
 
@@ -11,6 +13,18 @@ pub enum SlotValue {
     Principal(PrincipalKind, Text),
     /// An action or a resource.
     Word(Text),
+}
+
+impl SlotValue {
+    /// An equal value.
+    pub fn copy(&self) -> Result<SlotValue, NoMemory>
+        ensures { IfOk result (λ v. v ≡ self.now) }
+    {
+        match self {
+            SlotValue::Principal(kind, id) => Ok(SlotValue::Principal(*kind, id.copy()?)),
+            SlotValue::Word(text) => Ok(SlotValue::Word(text.copy()?)),
+        }
+    }
 }
 
 /// Why no principal of one kind answers the tests of a core as a path does.

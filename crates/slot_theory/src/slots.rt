@@ -57,15 +57,15 @@ pub fn fixed_at(test: &Test, kind: PrincipalKind) -> Option<bool>
     }
 }
 
-/// A copy of the test's pattern; of a test that has none, the pattern without pieces.
-pub fn pattern_of(alloc: Global, test: &Test) -> Result<Pattern, NoMemory>
+/// A copy of the test's pattern, where it has one.
+pub fn pattern_of(alloc: Global, test: &Test) -> Result<Option<Pattern>, NoMemory>
     requires { (schema : Schema) × TestSuits schema test.now }
     ensures { IfOk result (λ p. p ≡ pattern_of test.now) }
 {
     match test {
         Test::Principal(entry) => entry_pattern(alloc, entry),
-        Test::Action(pattern) => pattern.copy(),
-        Test::Resource(pattern) => pattern.copy(),
+        Test::Action(pattern) => Ok(Some(pattern.copy()?)),
+        Test::Resource(pattern) => Ok(Some(pattern.copy()?)),
     }
 }
 

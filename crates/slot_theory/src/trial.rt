@@ -1,12 +1,14 @@
 //! A value is tried on all answered tests of its slot.
 ghost use Rattle.std.specs.Prelude.{◌≡◌, MatchBool, MatchOption};
 ghost use Rattle.formula_tree.specs.Answers.{IsDistinct};
-ghost use Rattle.slot_theory.specs.Slots.{AnswersSlot, slot_of};
+ghost use Rattle.slot_theory.specs.Slots.{AnswersSlot, slot_of, AnswersTest};
 ghost use Rattle.slot_theory.specs.Possible.{InRange};
-ghost use Rattle.slot_theory.specs.Steps.{AnswersTest, IsOtherwise, IsWrong};
+ghost use Rattle.slot_theory.specs.Steps.{IsOtherwise, IsTried, IsWrong};
 
 use crate::outcome::SlotValue;
 use crate::slots::{is_on, meets};
+use crate::steps::Attempt;
+use formula_tree::Path;
 use policy_model::{Slot, Test};
 
 /// Whether the test is on the slot and the value answers it otherwise.
@@ -20,7 +22,7 @@ fn is_wrong(slot: &Slot, test: &Test, value: &SlotValue, holds: bool) -> bool
 }
 
 /// The first answered test of the slot that the value answers otherwise.
-pub fn first_wrong(
+fn first_wrong(
     tests: &[Test],
     answers: &[(u32, bool)],
     slot: &Slot,
@@ -37,4 +39,15 @@ pub fn first_wrong(
         }
     }
     None
+}
+
+/// The value, tried on all answered tests of the slot.
+pub fn tried(tests: &[Test], path: &Path, slot: &Slot, value: SlotValue) -> Attempt
+    requires { InRange tests.now path.now }
+    ensures { IsTried tests.now path.now slot.now value result }
+{
+    match first_wrong(tests, path.as_slice(), slot, &value) {
+        None => Attempt::Right(value),
+        Some(n) => Attempt::Wrong(n),
+    }
 }

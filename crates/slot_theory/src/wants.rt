@@ -1,12 +1,13 @@
 //! What tests want of a word or of an id, with `?*` and a shape, and products for that.
-ghost use Rattle.std.specs.Prelude.{◌≡◌, ◌++◌, ◌≤◌, ◌<◌, ◌↔◌, IfOk, OnOk, IsTrue, All, length, map};
+ghost use Rattle.std.specs.Prelude.{◌≡◌, ◌++◌, ◌≤◌, ◌<◌, ◌↔◌, IfOk, OnOk, IsTrue, All, flat_map, length};
 ghost use Rattle.std.specs.Option.{option_to_list};
 ghost use Rattle.pattern_automata.specs.Answer.{IsProduct};
 ghost use Rattle.policy_model.specs.declared.schema.Schema.{Schema};
 ghost use Rattle.policy_model.specs.Soundness.{TestSuits};
-ghost use Rattle.slot_theory.specs.Slots.{pattern_of, some_word, test_at};
+ghost use Rattle.slot_theory.specs.Slots.{HasPattern, pattern_of, some_word, test_at};
 ghost use Rattle.slot_theory.specs.Wants.{IsClosedFor, IsWants, shape_clauses, wanted, wanted_clauses, wanted_patterns};
 
+use crate::entries::or_no_memory;
 use crate::slots::pattern_of;
 use formula_tree::Path;
 use pattern_automata::{
@@ -21,21 +22,20 @@ use wildcard_lang::{Pattern, PatternList, read_glob};
 fn some_word(alloc: Global) -> Result<Pattern, NoMemory>
     ensures { IfOk result (λ p. p ≡ some_word) }
 {
-    match read_glob(alloc, "?*", false, false) {
-        Ok(pattern) => Ok(pattern),
-        Err(_) => Err(AllocError),
-    }
+    or_no_memory(read_glob(alloc, "?*", false, false))
 }
 
 /// The patterns of the tests of these numbers, in order.
 fn test_patterns(alloc: Global, tests: &[Test], numbers: &[u32]) -> Result<PatternList, NoMemory>
     requires suit { (schema : Schema) × All (TestSuits schema) tests.now }
     requires within { All (λ n. n < length tests.now) numbers.now }
-    ensures { IfOk result (λ v. v ≡ map (λ n. pattern_of (test_at tests.now n)) numbers.now) }
+    ensures { IfOk result (λ v. v ≡ flat_map (λ n. option_to_list (pattern_of (test_at tests.now n))) numbers.now) }
 {
     let mut patterns = PatternList::new(alloc);
     for n in numbers {
-        patterns.push(pattern_of(alloc, &tests[*n as usize])?)?;
+        if let Some(pattern) = pattern_of(alloc, &tests[*n as usize])? {
+            patterns.push(pattern)?;
+        }
     }
     Ok(patterns)
 }
@@ -128,6 +128,7 @@ pub fn solve(
 ) -> Result<Product, NoMemory>
     requires suit { (schema : Schema) × All (TestSuits schema) tests.now }
     requires within { All (λ n. n < length tests.now) numbers.now }
+    requires patterns { All (HasPattern tests.now) numbers.now }
     requires some { 1 ≤ states }
     ensures { IfOk result (IsProduct (wanted_patterns tests.now numbers.now shape.now) (wanted_clauses path.now numbers.now shape.now 0) states) }
 {
@@ -146,6 +147,7 @@ pub fn is_closed_for(
 ) -> Result<bool, NoMemory>
     requires suit { (schema : Schema) × All (TestSuits schema) tests.now }
     requires within { All (λ n. n < length tests.now) numbers.now }
+    requires patterns { All (HasPattern tests.now) numbers.now }
     ensures { IfOk result (λ yes. IsTrue yes ↔ IsClosedFor tests.now path.now numbers.now shape.now closed.now) }
 {
     let wants = wants_of(alloc, tests, path, numbers, shape)?;

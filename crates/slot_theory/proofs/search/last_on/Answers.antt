@@ -15,6 +15,6 @@ loop-i-preserved c =
     last-more c.args.tests.now c.args.answers.now c.args.slot.now c.requires.range c.requires.distinct c.loop-i.i (0, false) c.index-tests-n.result c.loop-i-test.true c.loop-i.auto.i c.index-tests-n.is
     (sym c.is_on.ensures ∙ c.if-is_on.false) c.loop-i.invariant
 
-pub unreachable-requires : goal.unreachable-requires
-unreachable-requires c =
-    asked-none c.args.tests.now c.args.answers.now c.args.slot.now c.requires.range c.requires.distinct c.loop-i.i c.requires.asked c.loop-i-test.false c.loop-i.invariant
+pub returns : goal.returns
+returns c =
+    λ asked. asked-none c.args.tests.now c.args.answers.now c.args.slot.now c.requires.range c.requires.distinct c.loop-i.i asked c.loop-i-test.false c.loop-i.invariant

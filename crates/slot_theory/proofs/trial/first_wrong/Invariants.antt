@@ -1,6 +1,5 @@
 use Rattle.std.proofs.Common.{◌≡◌, ◌<◌, ℕ, Bool, get_or}
-use Rattle.slot_theory.specs.Slots.{slot_of, test_at}
-use Rattle.slot_theory.specs.Steps.{AnswersTest}
+use Rattle.slot_theory.specs.Slots.{slot_of, test_at, AnswersTest}
 use Rattle.slot_theory.proofs.trial.first_wrong.Given as goal
 
 abbrev pub invariant-loop-i : goal.invariant-loop-i
