@@ -1,28 +1,27 @@
 -- The request that is joined from slot values is valid and answers the path.
-use Rattle.std.proofs.Common.{◌≡◌, ◌≢◌, ℕ, zero, suc, Bool, List, [], ◌∷◌, slice_get, Some, None, All, Contains, MatchBool, refl, sym, ap, subst, inl, inr, ◌⊎◌, arith}
+use Rattle.std.proofs.Common.{◌≡◌, ◌≢◌, ℕ, zero, suc, Bool, List, [], ◌∷◌, slice_get, Some, All, Contains, MatchBool, refl, ap, inl, inr, ◌⊎◌, arith}
 use Rattle.std.specs.List.{Any}
 use Rattle.std.proofs.lemmas.List.Elements.{All-nil, All-cons, All-head, All-tail, All-contains}
 use Rattle.formula_tree.specs.Answers.{Answers, answer_of}
 use Rattle.policy_model.specs.declared.principal.PrincipalKind.{PrincipalKind}
 use Rattle.policy_model.specs.declared.principal.PrincipalKind.TheVariants.{Aws}
 use Rattle.policy_model.specs.declared.schema.Schema.{Schema}
-use Rattle.policy_model.specs.declared.schema.Shapes.{Shapes}
 use Rattle.policy_model.specs.declared.test.Slot.{Slot}
 use Rattle.policy_model.specs.declared.test.Slot.TheVariants as slot
 use Rattle.policy_model.specs.declared.test.Test.{Test}
 use Rattle.policy_model.specs.declared.test.Test.TheVariants.{Principal, Action, Resource}
 use Rattle.policy_model.specs.declared.value.Value.{Value}
 use Rattle.text_table.specs.Table.{Entries}
-use Rattle.policy_model.specs.Requests.{EntryIsValid, IsThere, IsValid, IsWord}
 use Rattle.policy_model.specs.Tests.{TestHolds}
 use Rattle.slot_theory.specs.declared.outcome.SlotValue.{SlotValue}
 use Rattle.slot_theory.specs.declared.outcome.SlotValue.TheVariants as value
 use Rattle.slot_theory.specs.Cores.{HasTest}
-use Rattle.slot_theory.specs.Slots.{AnswersSlot, Permits, slot_of}
-use Rattle.slot_theory.specs.Possible.{AnswersPath, IsPossible}
+use Rattle.slot_theory.specs.Slots.{AnswersSlot, IsSlotValue, Permits, slot_of}
+use Rattle.slot_theory.specs.Possible.{AnswersPath}
 use Rattle.slot_theory.proofs.Wording.{at-test}
-use Rattle.request_build.specs.Built.{AreSlotValues, IsPlainSchema, IsSlotValue}
-use Rattle.request_build.specs.Taken.{action_in, action_or, joined, principal_in, principal_or, resource_in, resource_or, stated_word}
+use Rattle.request_build.specs.Built.{AreSlotValues}
+use Rattle.slot_theory.specs.Unasked.{stated_word}
+use Rattle.request_build.specs.Taken.{action_in, action_or, joined, principal_in, principal_or, resource_in, resource_or, stated_context}
 
 abbrev Values : Type 0
 Values = List (Slot × SlotValue)
@@ -55,8 +54,11 @@ abbrev principal_of : PrincipalKind × List ℕ → SlotValue
 principal_of p = value.Principal p.0 p.1
 
 module _ (schema : Schema) (tests : List Test) (path : Answers) where
+  abbrev Here : Slot × SlotValue → Type 0
+  Here p = IsSlotValue schema tests path p.0 p.1
+
   abbrev Each : Values → Type 0
-  Each values = All (IsSlotValue schema tests path) values
+  Each values = All Here values
 
   principal-step : (s : Slot) (v stated : SlotValue) (ps : Values) (rest : PrincipalKind × List ℕ) → Permits schema s v → IsTaken ps slot.Principal stated (principal_of rest) → IsTaken ((s, v) ∷ ps) slot.Principal stated (principal_of (principal_or s v rest))
   principal-step slot.Principal (value.Principal kind id) stated ps rest h taken = taken-first slot.Principal stated (value.Principal kind id) ps
@@ -79,35 +81,35 @@ module _ (schema : Schema) (tests : List Test) (path : Answers) where
   resource-step slot.Action v stated ps rest h taken = taken-later slot.Resource slot.Action stated (value.Word rest) v ps (λ e. absurd (cc)) taken
   resource-step (slot.Key name) v stated ps rest h taken = absurd h
 
-  principal-taken : (values : Values) → Each values → IsTaken values slot.Principal (value.Principal Aws stated_word) (principal_of (principal_in values))
-  principal-taken [] each = taken-none slot.Principal (value.Principal Aws stated_word)
+  principal-taken : (values : Values) → Each values → IsTaken values slot.Principal (value.Principal Aws (stated_word schema.shapes.aws)) (principal_of (principal_in schema.shapes values))
+  principal-taken [] each = taken-none slot.Principal (value.Principal Aws (stated_word schema.shapes.aws))
   principal-taken (p ∷ ps) each =
-      let here : IsSlotValue schema tests path p = All-head (IsSlotValue schema tests path) p ps each in
-      principal-step p.0 p.1 (value.Principal Aws stated_word) ps (principal_in ps) here.0 (principal-taken ps (All-tail (IsSlotValue schema tests path) p ps each))
+      let here : Here p = All-head Here p ps each in
+      principal-step p.0 p.1 (value.Principal Aws (stated_word schema.shapes.aws)) ps (principal_in schema.shapes ps) here.0 (principal-taken ps (All-tail Here p ps each))
 
-  action-taken : (values : Values) → Each values → IsTaken values slot.Action (value.Word stated_word) (value.Word (action_in values))
-  action-taken [] each = taken-none slot.Action (value.Word stated_word)
+  action-taken : (values : Values) → Each values → IsTaken values slot.Action (value.Word (stated_word schema.shapes.action)) (value.Word (action_in schema.shapes values))
+  action-taken [] each = taken-none slot.Action (value.Word (stated_word schema.shapes.action))
   action-taken (p ∷ ps) each =
-      let here : IsSlotValue schema tests path p = All-head (IsSlotValue schema tests path) p ps each in
-      action-step p.0 p.1 (value.Word stated_word) ps (action_in ps) here.0 (action-taken ps (All-tail (IsSlotValue schema tests path) p ps each))
+      let here : Here p = All-head Here p ps each in
+      action-step p.0 p.1 (value.Word (stated_word schema.shapes.action)) ps (action_in schema.shapes ps) here.0 (action-taken ps (All-tail Here p ps each))
 
-  resource-taken : (values : Values) → Each values → IsTaken values slot.Resource (value.Word stated_word) (value.Word (resource_in values))
-  resource-taken [] each = taken-none slot.Resource (value.Word stated_word)
+  resource-taken : (values : Values) → Each values → IsTaken values slot.Resource (value.Word (stated_word schema.shapes.resource)) (value.Word (resource_in schema.shapes values))
+  resource-taken [] each = taken-none slot.Resource (value.Word (stated_word schema.shapes.resource))
   resource-taken (p ∷ ps) each =
-      let here : IsSlotValue schema tests path p = All-head (IsSlotValue schema tests path) p ps each in
-      resource-step p.0 p.1 (value.Word stated_word) ps (resource_in ps) here.0 (resource-taken ps (All-tail (IsSlotValue schema tests path) p ps each))
+      let here : Here p = All-head Here p ps each in
+      resource-step p.0 p.1 (value.Word (stated_word schema.shapes.resource)) ps (resource_in schema.shapes ps) here.0 (resource-taken ps (All-tail Here p ps each))
 
-  -- ---- what is taken is permitted, answers the slot's tests, and is the stated value where the slot has none
+  -- ---- what is taken answers the slot's tests, and is the stated value where the slot has none
 
-  taken-permits : (values : Values) (s : Slot) (stated v : SlotValue) → Each values → Permits schema s stated → IsTaken values s stated v → Permits schema s v
-  taken-permits values s stated v each h (inl among) = (All-contains (IsSlotValue schema tests path) values (s, v) each among).0
-  taken-permits values s stated v each h (inr (same, none)) = subst (λ (u : SlotValue). Permits schema s u) (sym same) h
+  -- each value is permitted
+  pub all-permitted : (values : Values) → Each values → All (λ (p : Slot × SlotValue). Permits schema p.0 p.1) values
+  all-permitted values each i d within = (each i d within).0
 
   none-there : (values : Values) (s : Slot) → All (λ (p : Slot × SlotValue). p.0 ≢ s) values → Any (λ (p : Slot × SlotValue). p.0 ≡ s) values → ⊥
   none-there values s none (k, p, within, at, same) = All-contains (λ (q : Slot × SlotValue). q.0 ≢ s) values p none (k, within, at) same
 
   taken-answers : (values : Values) (s : Slot) (stated v : SlotValue) → AreSlotValues schema tests path values → IsTaken values s stated v → HasTest tests path s → AnswersSlot tests path s v
-  taken-answers values s stated v are (inl among) asked = (All-contains (IsSlotValue schema tests path) values (s, v) are.each among).1
+  taken-answers values s stated v are (inl among) asked = (All-contains Here values (s, v) are.each among).1
   taken-answers values s stated v are (inr (same, none)) asked = absurd (none-there values s none (are.there s asked))
 
   taken-stated : (values : Values) (s : Slot) (stated v : SlotValue) → All (λ (p : Slot × SlotValue). HasTest tests path p.0) values → IsTaken values s stated v → (HasTest tests path s → ⊥) → v ≡ stated
@@ -116,70 +118,41 @@ module _ (schema : Schema) (tests : List Test) (path : Answers) where
 
   -- ---- the joined request
 
-  stated-is-word : (w : List ℕ) → w ≡ stated_word → IsWord None w
-  stated-is-word w same = rw same (record { text = refl; some = λ bad. absurd (cc); fits = tt })
-
-  -- where no shape is given, the stated values are permitted
-  principal-permits : IsPlainSchema schema → Permits schema slot.Principal (value.Principal Aws stated_word)
-  principal-permits plain = subst (λ (x : Shapes). IsWord x.aws stated_word) (sym plain.shapes) (stated-is-word stated_word refl)
-
-  action-permits : IsPlainSchema schema → Permits schema slot.Action (value.Word stated_word)
-  action-permits plain = subst (λ (x : Shapes). IsWord x.action stated_word) (sym plain.shapes) (stated-is-word stated_word refl)
-
-  resource-permits : IsPlainSchema schema → Permits schema slot.Resource (value.Word stated_word)
-  resource-permits plain = subst (λ (x : Shapes). IsWord x.resource stated_word) (sym plain.shapes) (stated-is-word stated_word refl)
-
   module _ (values : Values) where
-    pub joined-valid : IsPlainSchema schema → Each values → IsValid schema (joined values)
-    joined-valid plain each = record {
-      words = record {
-        id = taken-permits values slot.Principal (value.Principal Aws stated_word) (principal_of (principal_in values)) each (principal-permits plain) (principal-taken values each);
-        action = taken-permits values slot.Action (value.Word stated_word) (value.Word (action_in values)) each (action-permits plain) (action-taken values each);
-        resource = taken-permits values slot.Resource (value.Word stated_word) (value.Word (resource_in values)) each (resource-permits plain) (resource-taken values each);
-      };
-      keys = record {
-        each = All-nil (EntryIsValid schema.keys);
-        required = rw plain.keys (All-nil (IsThere []));
-      };
-    }
-
     -- a test holds on the request as its slot's value meets it
-    test-answers : AreSlotValues schema tests path values → (n : ℕ) (b : Bool) (t : Test) → HasTest tests path (slot_of t) → answer_of path n ≡ Some b → slice_get tests n ≡ Some t → MatchBool b (TestHolds (joined values) t) (¬ TestHolds (joined values) t)
+    test-answers : AreSlotValues schema tests path values → (n : ℕ) (b : Bool) (t : Test) → HasTest tests path (slot_of t) → answer_of path n ≡ Some b → slice_get tests n ≡ Some t → MatchBool b (TestHolds (joined schema values) t) (¬ TestHolds (joined schema values) t)
     test-answers are n b (Principal entry) asked answered at =
-        taken-answers values slot.Principal (value.Principal Aws stated_word) (principal_of (principal_in values)) are (principal-taken values are.each) asked n b (Principal entry) answered at refl
+        taken-answers values slot.Principal (value.Principal Aws (stated_word schema.shapes.aws)) (principal_of (principal_in schema.shapes values)) are (principal-taken values are.each) asked n b (Principal entry) answered at refl
     test-answers are n b (Action pattern) asked answered at =
-        taken-answers values slot.Action (value.Word stated_word) (value.Word (action_in values)) are (action-taken values are.each) asked n b (Action pattern) answered at refl
+        taken-answers values slot.Action (value.Word (stated_word schema.shapes.action)) (value.Word (action_in schema.shapes values)) are (action-taken values are.each) asked n b (Action pattern) answered at refl
     test-answers are n b (Resource pattern) asked answered at =
-        taken-answers values slot.Resource (value.Word stated_word) (value.Word (resource_in values)) are (resource-taken values are.each) asked n b (Resource pattern) answered at refl
+        taken-answers values slot.Resource (value.Word (stated_word schema.shapes.resource)) (value.Word (resource_in schema.shapes values)) are (resource-taken values are.each) asked n b (Resource pattern) answered at refl
 
-    pub joined-answers : AreSlotValues schema tests path values → AnswersPath tests path (joined values)
+    pub joined-answers : AreSlotValues schema tests path values → AnswersPath tests path (joined schema values)
     joined-answers are n b t answered at = test-answers are n b t (asked-by tests path n b t answered at) answered at
-
-    -- a path whose slots have values is possible
-    pub joined-possible : IsPlainSchema schema → AreSlotValues schema tests path values → IsPossible schema tests path
-    joined-possible plain are = record { request = joined values; valid = joined-valid plain are.each; answers = joined-answers are }
 
     -- ---- slots without a test
 
-    pub principal-stated : AreSlotValues schema tests path values → (HasTest tests path slot.Principal → ⊥) → ((principal_in values).0 ≡ Aws) × ((principal_in values).1 ≡ stated_word)
+    pub principal-stated : AreSlotValues schema tests path values → (HasTest tests path slot.Principal → ⊥) → ((principal_in schema.shapes values).0 ≡ Aws) × ((principal_in schema.shapes values).1 ≡ stated_word schema.shapes.aws)
     principal-stated are none =
-        let same : principal_of (principal_in values) ≡ value.Principal Aws stated_word = taken-stated values slot.Principal (value.Principal Aws stated_word) (principal_of (principal_in values)) are.needed (principal-taken values are.each) none in
+        let same : principal_of (principal_in schema.shapes values) ≡ value.Principal Aws (stated_word schema.shapes.aws) = taken-stated values slot.Principal (value.Principal Aws (stated_word schema.shapes.aws)) (principal_of (principal_in schema.shapes values)) are.needed (principal-taken values are.each) none in
         (cc, cc)
 
-    pub action-stated : AreSlotValues schema tests path values → (HasTest tests path slot.Action → ⊥) → action_in values ≡ stated_word
+    pub action-stated : AreSlotValues schema tests path values → (HasTest tests path slot.Action → ⊥) → action_in schema.shapes values ≡ stated_word schema.shapes.action
     action-stated are none =
-        let same : value.Word (action_in values) ≡ value.Word stated_word = taken-stated values slot.Action (value.Word stated_word) (value.Word (action_in values)) are.needed (action-taken values are.each) none in
+        let same : value.Word (action_in schema.shapes values) ≡ value.Word (stated_word schema.shapes.action) = taken-stated values slot.Action (value.Word (stated_word schema.shapes.action)) (value.Word (action_in schema.shapes values)) are.needed (action-taken values are.each) none in
         cc
 
-    pub resource-stated : AreSlotValues schema tests path values → (HasTest tests path slot.Resource → ⊥) → resource_in values ≡ stated_word
+    pub resource-stated : AreSlotValues schema tests path values → (HasTest tests path slot.Resource → ⊥) → resource_in schema.shapes values ≡ stated_word schema.shapes.resource
     resource-stated are none =
-        let same : value.Word (resource_in values) ≡ value.Word stated_word = taken-stated values slot.Resource (value.Word stated_word) (value.Word (resource_in values)) are.needed (resource-taken values are.each) none in
+        let same : value.Word (resource_in schema.shapes values) ≡ value.Word (stated_word schema.shapes.resource) = taken-stated values slot.Resource (value.Word (stated_word schema.shapes.resource)) (value.Word (resource_in schema.shapes values)) are.needed (resource-taken values are.each) none in
         cc
 
 -- the request is the joined one where its parts are
-pub joined-is : (values : Values) (kind : PrincipalKind) (id action resource : List ℕ) (context : Entries (List Value)) → (kind, id) ≡ principal_in values → action ≡ action_in values → resource ≡ resource_in values → context ≡ [] →
-    record { kind = kind; id = id; action = action; resource = resource; context = context } ≡ joined values
-joined-is values kind id action resource context p a r none =
-    let first : kind ≡ (principal_in values).0 = ap (λ (q : PrincipalKind × List ℕ). q.0) p in
-    let second : id ≡ (principal_in values).1 = ap (λ (q : PrincipalKind × List ℕ). q.1) p in
+pub joined-is : (schema : Schema) (values : Values) (kind : PrincipalKind) (id action resource : List ℕ) (context : Entries (List Value)) → (kind, id) ≡ principal_in schema.shapes values → action ≡ action_in schema.shapes values →
+    resource ≡ resource_in schema.shapes values → context ≡ stated_context schema.keys →
+    record { kind = kind; id = id; action = action; resource = resource; context = context } ≡ joined schema values
+joined-is schema values kind id action resource context p a r k =
+    let first : kind ≡ (principal_in schema.shapes values).0 = ap (λ (q : PrincipalKind × List ℕ). q.0) p in
+    let second : id ≡ (principal_in schema.shapes values).1 = ap (λ (q : PrincipalKind × List ℕ). q.1) p in
     cc

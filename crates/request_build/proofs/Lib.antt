@@ -1,2 +1,4 @@
 pub mod Joining
+pub mod Filling
+pub mod Stating
 pub mod Given

@@ -1,93 +1,144 @@
 //! Builds requests.
-ghost use Rattle.std.specs.Prelude.{◌≡◌, [], IfOk, All, codes};
-ghost use Rattle.policy_model.specs.Requests.{IsValid};
-ghost use Rattle.policy_model.specs.Soundness.{TestSuits};
+ghost use Rattle.std.specs.Prelude.{◌≡◌, IfOk, All};
+ghost use Rattle.policy_model.specs.Requests.{IsValid, IsWord, shape_of};
+ghost use Rattle.policy_model.specs.Soundness.{SchemaIsSound, TestSuits};
 ghost use Rattle.policy_model.specs.declared.principal.PrincipalKind.TheVariants.{Aws};
 ghost use Rattle.policy_model.specs.declared.test.Slot.TheVariants as slot;
 ghost use Rattle.slot_theory.specs.Cores.{HasTest};
 ghost use Rattle.slot_theory.specs.Possible.{AnswersPath, InRange};
-ghost use Rattle.request_build.specs.Built.{AreSlotValues, IsPlainSchema};
-ghost use Rattle.request_build.specs.Taken.{action_in, principal_in, resource_in, stated_word};
+ghost use Rattle.slot_theory.specs.Slots.{Permits};
+ghost use Rattle.slot_theory.specs.Unasked.{stated_word};
+ghost use Rattle.request_build.specs.Built.{AreSlotValues};
+ghost use Rattle.request_build.specs.Taken.{action_in, joined, principal_in, resource_in};
 
+use crate::context::stated_context;
 use formula_tree::Path;
 use plain_lists::{List, NoMemory};
-use policy_model::{Context, PrincipalKind, Request, Schema, Slot, TestList};
-use slot_theory::SlotValue;
+use policy_model::{PrincipalKind, Request, Schema, Slot, TestList};
+use slot_theory::{SlotValue, stated_value};
 use std::alloc::Global;
 use wildcard_lang::Text;
 
 /// A value for each of some slots.
 pub type SlotValues = List<(Slot, SlotValue)>;
 
-// The word of a slot without a test.
-fn stated_word(alloc: Global) -> Result<Text, NoMemory>
-    ensures { IfOk result (λ t. t ≡ stated_word) }
+// The kind and the id of a principal that nothing is asked of.
+fn stated_principal(alloc: Global, schema: &Schema) -> Result<(PrincipalKind, Text), NoMemory>
+    requires { SchemaIsSound schema.now }
+    ensures value { IfOk result (λ p. p ≡ (Aws, stated_word schema.now.shapes.aws)) }
+    ensures word { IfOk result (λ p. IsWord (shape_of schema.now.shapes p.0) p.1) }
 {
-    Text::of(alloc, "x")
+    match stated_value(alloc, schema, &Slot::Principal)? {
+        SlotValue::Principal(kind, id) => Ok((kind, id)),
+        SlotValue::Word(_) => unreachable!(),
+    }
+}
+
+// The action that nothing is asked of.
+fn stated_action(alloc: Global, schema: &Schema) -> Result<Text, NoMemory>
+    requires { SchemaIsSound schema.now }
+    ensures value { IfOk result (λ t. t ≡ stated_word schema.now.shapes.action) }
+    ensures word { IfOk result (IsWord schema.now.shapes.action) }
+{
+    match stated_value(alloc, schema, &Slot::Action)? {
+        SlotValue::Word(text) => Ok(text),
+        SlotValue::Principal(_, _) => unreachable!(),
+    }
+}
+
+// The resource that nothing is asked of.
+fn stated_resource(alloc: Global, schema: &Schema) -> Result<Text, NoMemory>
+    requires { SchemaIsSound schema.now }
+    ensures value { IfOk result (λ t. t ≡ stated_word schema.now.shapes.resource) }
+    ensures word { IfOk result (IsWord schema.now.shapes.resource) }
+{
+    match stated_value(alloc, schema, &Slot::Resource)? {
+        SlotValue::Word(text) => Ok(text),
+        SlotValue::Principal(_, _) => unreachable!(),
+    }
 }
 
 // The kind and the id of the first value of the principal, or the stated ones.
 fn principal_in(
     alloc: Global,
+    schema: &Schema,
     values: &[(Slot, SlotValue)],
 ) -> Result<(PrincipalKind, Text), NoMemory>
-    ensures { IfOk result (λ p. p ≡ principal_in values.now) }
+    requires sound { SchemaIsSound schema.now }
+    requires permitted { All (λ p. Permits schema.now p.0 p.1) values.now }
+    ensures value { IfOk result (λ p. p ≡ principal_in schema.now.shapes values.now) }
+    ensures word { IfOk result (λ p. IsWord (shape_of schema.now.shapes p.0) p.1) }
 {
     match values {
-        [] => Ok((PrincipalKind::Aws, stated_word(alloc)?)),
+        [] => stated_principal(alloc, schema),
         [(Slot::Principal, SlotValue::Principal(kind, id)), ..] => Ok((*kind, id.copy()?)),
-        [_, rest @ ..] => principal_in(alloc, rest),
+        [_, rest @ ..] => principal_in(alloc, schema, rest),
     }
 }
 
 // The word of the first value of the action, or the stated one.
-fn action_in(alloc: Global, values: &[(Slot, SlotValue)]) -> Result<Text, NoMemory>
-    ensures { IfOk result (λ t. t ≡ action_in values.now) }
+fn action_in(alloc: Global, schema: &Schema, values: &[(Slot, SlotValue)]) -> Result<Text, NoMemory>
+    requires sound { SchemaIsSound schema.now }
+    requires permitted { All (λ p. Permits schema.now p.0 p.1) values.now }
+    ensures value { IfOk result (λ t. t ≡ action_in schema.now.shapes values.now) }
+    ensures word { IfOk result (IsWord schema.now.shapes.action) }
 {
     match values {
-        [] => stated_word(alloc),
+        [] => stated_action(alloc, schema),
         [(Slot::Action, SlotValue::Word(text)), ..] => text.copy(),
-        [_, rest @ ..] => action_in(alloc, rest),
+        [_, rest @ ..] => action_in(alloc, schema, rest),
     }
 }
 
 // The word of the first value of the resource, or the stated one.
-fn resource_in(alloc: Global, values: &[(Slot, SlotValue)]) -> Result<Text, NoMemory>
-    ensures { IfOk result (λ t. t ≡ resource_in values.now) }
+fn resource_in(
+    alloc: Global,
+    schema: &Schema,
+    values: &[(Slot, SlotValue)],
+) -> Result<Text, NoMemory>
+    requires sound { SchemaIsSound schema.now }
+    requires permitted { All (λ p. Permits schema.now p.0 p.1) values.now }
+    ensures value { IfOk result (λ t. t ≡ resource_in schema.now.shapes values.now) }
+    ensures word { IfOk result (IsWord schema.now.shapes.resource) }
 {
     match values {
-        [] => stated_word(alloc),
+        [] => stated_resource(alloc, schema),
         [(Slot::Resource, SlotValue::Word(text)), ..] => text.copy(),
-        [_, rest @ ..] => resource_in(alloc, rest),
+        [_, rest @ ..] => resource_in(alloc, schema, rest),
     }
 }
 
 /// The request whose slots have these values. A slot without a value has a stated one: the principal
-/// is the `AWS` principal `x`, the action `x`, and the resource `x`.
+/// is an `AWS` principal, and its id, the action and the resource are a sample of their shape, or `x`
+/// where they have none or the sample is empty. Each required key has one value, the first listed one,
+/// or else a sample of the key's shape, or else `x` or true by its kind; no other key has one.
+///
+/// The schema is sound, and the values are one for each slot of a test of the path, each permitted and
+/// answering its slot's tests as the path does. The only error is want of memory.
 pub fn build(
     alloc: Global,
-    _schema: &Schema,
+    schema: &Schema,
     _tests: &TestList,
     _path: &Path,
     values: &SlotValues,
 ) -> Result<Request, NoMemory>
-    requires schema { IsPlainSchema _schema.now }
-    requires suit { All (TestSuits _schema.now) _tests.now }
+    requires sound { SchemaIsSound schema.now }
+    requires suit { All (TestSuits schema.now) _tests.now }
     requires range { InRange _tests.now _path.now }
-    requires values { AreSlotValues _schema.now _tests.now _path.now values.now }
-    ensures valid { IfOk result (IsValid _schema.now) }
+    requires values { AreSlotValues schema.now _tests.now _path.now values.now }
+    ensures joined { IfOk result (λ r. r ≡ joined schema.now values.now) }
+    ensures valid { IfOk result (IsValid schema.now) }
     ensures answers { IfOk result (AnswersPath _tests.now _path.now) }
-    ensures context { IfOk result (λ r. r.context ≡ []) }
-    ensures principal { IfOk result (λ r. ¬ HasTest _tests.now _path.now slot.Principal → (r.kind ≡ Aws) × (r.id ≡ codes "x")) }
-    ensures action { IfOk result (λ r. ¬ HasTest _tests.now _path.now slot.Action → r.action ≡ codes "x") }
-    ensures resource { IfOk result (λ r. ¬ HasTest _tests.now _path.now slot.Resource → r.resource ≡ codes "x") }
+    ensures principal { IfOk result (λ r. ¬ HasTest _tests.now _path.now slot.Principal → (r.kind ≡ Aws) × (r.id ≡ stated_word schema.now.shapes.aws)) }
+    ensures action { IfOk result (λ r. ¬ HasTest _tests.now _path.now slot.Action → r.action ≡ stated_word schema.now.shapes.action) }
+    ensures resource { IfOk result (λ r. ¬ HasTest _tests.now _path.now slot.Resource → r.resource ≡ stated_word schema.now.shapes.resource) }
 {
-    let (kind, id) = principal_in(alloc, values.as_slice())?;
+    let (kind, id) = principal_in(alloc, schema, values.as_slice())?;
     Ok(Request {
         kind,
         id,
-        action: action_in(alloc, values.as_slice())?,
-        resource: resource_in(alloc, values.as_slice())?,
-        context: Context::new(alloc),
+        action: action_in(alloc, schema, values.as_slice())?,
+        resource: resource_in(alloc, schema, values.as_slice())?,
+        context: stated_context(alloc, &schema.keys)?,
     })
 }

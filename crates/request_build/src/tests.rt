@@ -1,20 +1,24 @@
 //! Requests built from the values of a few tests.
-ghost use Rattle.std.specs.Prelude.{◌≡◌, ◌∷◌, ◌<◌, [], List, IfOk};
+ghost use Rattle.std.specs.Prelude.{◌≡◌, ◌≢◌, ◌∷◌, ◌<◌, ◌≤◌, [], length, List, Some, IfOk, OnOk};
 ghost use Rattle.wildcard_lang.specs.declared.piece.Piece.{Piece};
 ghost use Rattle.policy_model.specs.declared.test.Test.TheVariants.{Action, Resource};
 ghost use Rattle.slot_theory.specs.Cores.{HasTest};
 ghost use Rattle.slot_theory.specs.Possible.{InRange};
-ghost use Rattle.slot_theory.specs.Slots.{IsBuiltSlot};
-ghost use Rattle.request_build.specs.Built.{IsPlainSchema, IsSlotValue};
+ghost use Rattle.slot_theory.specs.Slots.{IsBuiltSlot, IsSlotValue};
+ghost use Rattle.wildcard_lang.specs.Text.{IsText};
+ghost use Rattle.policy_model.specs.Keys.{IsFolded};
+ghost use Rattle.policy_model.specs.Soundness.{RuleIsSound, SchemaIsSound};
 
 use crate::{SlotValues, build};
 use formula_tree::Path;
-use policy_model::{PrincipalKind, Request, Schema, Slot, Test, TestList, valid};
+use policy_model::{
+    KeyRule, Kind, PrincipalKind, Request, Schema, Slot, Test, TestList, Value, ValueList, valid,
+};
 use slot_theory::{Possible, SlotValue, possible, slot_of};
 use std::alloc::Global;
 use std::process::Abort;
 use std::test::Fail;
-use wildcard_lang::{Text, read_literal};
+use wildcard_lang::{Pattern, Text, read_glob, read_literal};
 
 // The tests that the action is `a` and that the resource is `b`.
 fn tests_of(alloc: Global) -> Result<TestList, Fail>
@@ -34,12 +38,12 @@ fn value_of(
     path: &Path,
     slot: &Slot,
 ) -> Result<SlotValue, Fail>
-    requires schema { IsPlainSchema schema.now }
+    requires sound { SchemaIsSound schema.now }
     requires tests { (p : List Piece) × (q : List Piece) × (tests.now ≡ Action p ∷ Resource q ∷ []) }
     requires range { InRange tests.now path.now }
     requires slot { IsBuiltSlot slot.now }
     requires asked { HasTest tests.now path.now slot.now }
-    ensures { IfOk result (λ v. IsSlotValue schema.now tests.now path.now (slot.now, v)) }
+    ensures { IfOk result (λ v. IsSlotValue schema.now tests.now path.now slot.now v) }
 {
     match possible(alloc, schema, tests, path, slot, 100)? {
         Possible::Found(value) => Ok(value),
@@ -145,4 +149,169 @@ fn the_request_answers_the_path(rt: HostRuntime) -> Result<(), Fail> {
         }
     }
     Ok(())
+}
+
+// The request of a path without answers under the schema. It is valid.
+fn of_schema(rt: &(impl Abort + AllocGlobal), schema: &Schema) -> Result<Request, Fail>
+    requires { SchemaIsSound schema.now }
+{
+    let alloc = rt.alloc();
+    let tests = TestList::new(alloc);
+    let path = Path::new(alloc);
+    let values = SlotValues::new(alloc);
+    let request = build(alloc, schema, &tests, &path, &values)?;
+    assert!(rt; valid(schema, &request));
+    Ok(request)
+}
+
+// A shape of words, which isn't the empty pattern.
+fn shape(alloc: Global, text: &str) -> Result<Option<Pattern>, Fail>
+    ensures { IfOk result (λ s. s ≢ Some []) }
+{
+    let pattern = read_glob(alloc, text, false, false)?;
+    if pattern.len() == 0 {
+        return Err(Fail::new("an empty shape"));
+    }
+    Ok(Some(pattern))
+}
+
+#[test]
+fn a_stated_word_is_a_sample_of_its_shape(rt: HostRuntime) -> Result<(), Fail> {
+    let alloc = rt.alloc();
+    let mut schema = Schema::new(alloc);
+    schema.shapes.action = shape(alloc, "s3:?et*")?;
+    schema.shapes.resource = shape(alloc, "*")?;
+    schema.shapes.aws = shape(alloc, "arn:*")?;
+    let request = of_schema(&rt, &schema)?;
+    assert!(rt; request.id == Text::of(alloc, "arn:")?);
+    has(&rt, &request, "s3:xet", "x")
+}
+
+// A text of at most 2,048 characters.
+fn short_text(alloc: Global, text: &str) -> Result<Text, Fail>
+    ensures text { IfOk result IsText }
+    ensures short { IfOk result (λ t. length t ≤ 2048) }
+{
+    let text = Text::of(alloc, text)?;
+    if text.len() > 2048 {
+        return Err(Fail::new("a long text"));
+    }
+    Ok(text)
+}
+
+// The rule of a required key that lists two texts.
+fn listed(alloc: Global, first: &str, second: &str) -> Result<KeyRule, Fail>
+    ensures { IfOk result RuleIsSound }
+{
+    let first = short_text(alloc, first)?;
+    let second = short_text(alloc, second)?;
+    let mut texts = ValueList::new(alloc);
+    texts.push(Value::Word(first))?;
+    texts.push(Value::Word(second))?;
+    Ok(KeyRule {
+        kind: Kind::Text,
+        many: false,
+        required: true,
+        among: Some(texts),
+        shape: None,
+    })
+}
+
+// The rule of a key of texts of a shape.
+fn shaped(alloc: Global, text: &str) -> Result<KeyRule, Fail>
+    ensures { IfOk result RuleIsSound }
+{
+    Ok(KeyRule {
+        kind: Kind::Text,
+        many: true,
+        required: true,
+        among: None,
+        shape: shape(alloc, text)?,
+    })
+}
+
+// The rule of a key with any value of its kind.
+fn any_of(kind: Kind, required: bool) -> KeyRule
+    ensures { RuleIsSound result }
+{
+    KeyRule {
+        kind,
+        many: false,
+        required,
+        among: None,
+        shape: None,
+    }
+}
+
+fn folded_key(rt: &impl Abort, alloc: Global, name: &str) -> Result<Text, Fail>
+    ensures { IfOk result (λ key. IsFolded key) }
+{
+    let key = Text::of(alloc, name)?;
+    let folded = key.folded()?;
+    assert!(rt; folded == key);
+    Ok(key)
+}
+
+fn with_key(mut schema: Schema, key: Text, rule: KeyRule) -> Result<Schema, Fail>
+    requires sound { SchemaIsSound schema }
+    requires folded { IsFolded key }
+    requires rule { RuleIsSound rule }
+    ensures { IfOk result SchemaIsSound }
+{
+    schema.insert(key, rule)?;
+    Ok(schema)
+}
+
+// Two required keys of any value of their kind, and one that isn't required.
+fn plain_keys(rt: &impl Abort, alloc: Global) -> Result<Schema, Fail>
+    ensures { IfOk result SchemaIsSound }
+{
+    let truth = folded_key(rt, alloc, "aws:truth")?;
+    let schema = with_key(Schema::new(alloc), truth, any_of(Kind::Truth, true))?;
+    let free = folded_key(rt, alloc, "aws:free")?;
+    let schema = with_key(schema, free, any_of(Kind::Text, false))?;
+    let plain = folded_key(rt, alloc, "aws:plain")?;
+    with_key(schema, plain, any_of(Kind::Text, true))
+}
+
+// The same with a key that lists its values, and one of a shape.
+fn many_keys(rt: &impl Abort, alloc: Global) -> Result<Schema, Fail>
+    ensures { IfOk result SchemaIsSound }
+{
+    let schema = plain_keys(rt, alloc)?;
+    let listing = folded_key(rt, alloc, "aws:listed")?;
+    let schema = with_key(schema, listing, listed(alloc, "red", "blue")?)?;
+    let shaping = folded_key(rt, alloc, "aws:shaped")?;
+    with_key(schema, shaping, shaped(alloc, "a:?*")?)
+}
+
+// The key has this value and no other.
+fn has_value(
+    rt: &(impl Abort + AllocGlobal),
+    request: &Request,
+    key: &str,
+    value: &Value,
+) -> Result<(), Fail> {
+    let Some(values) = request.context.get(&Text::of(rt.alloc(), key)?) else {
+        return Err(Fail::new("a key without a value"));
+    };
+    assert_eq!(rt; values.len(), 1);
+    assert!(rt; values.get(0) == Some(value));
+    Ok(())
+}
+
+#[test]
+fn each_required_key_has_one_value(rt: HostRuntime) -> Result<(), Fail> {
+    let alloc = rt.alloc();
+    let schema = many_keys(&rt, alloc)?;
+    let request = of_schema(&rt, &schema)?;
+    assert_eq!(rt; request.context.len(), 4);
+    for (key, word) in [
+        ("aws:listed", "red"),
+        ("aws:plain", "x"),
+        ("aws:shaped", "a:x"),
+    ] {
+        has_value(&rt, &request, key, &Value::Word(Text::of(alloc, word)?))?;
+    }
+    has_value(&rt, &request, "aws:truth", &Value::Truth(true))
 }

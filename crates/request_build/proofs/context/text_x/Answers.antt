@@ -1,6 +1,6 @@
 use Rattle.std.proofs.Common.{rules}
 use Rattle.std.specs.Str.{chars}
-use Rattle.request_build.proofs.request.stated_word.Goals as goal
+use Rattle.request_build.proofs.context.text_x.Goals as goal
 
 pub returns : goal.returns
 unfolding chars
