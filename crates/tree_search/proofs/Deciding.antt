@@ -43,7 +43,7 @@ holds_on r (Principal entry) = is_named r.kind r.id entry
 holds_on r (Action pattern) = accepts pattern r.action
 holds_on r (Resource pattern) = accepts pattern r.resource
 
-Decides-test : (r : Request) (t : Test) → Decides (holds_on r t) (TestHolds r t)
+pub Decides-test : (r : Request) (t : Test) → Decides (holds_on r t) (TestHolds r t)
 Decides-test r (Principal entry) = Decides-named r.kind r.id entry
 Decides-test r (Action pattern) = Decides-accepts pattern r.action
 Decides-test r (Resource pattern) = Decides-accepts pattern r.resource

@@ -2,3 +2,5 @@ pub mod Deciding
 pub mod Renewing
 pub mod Meeting
 pub mod Searching
+pub mod Nesting
+pub mod Below

@@ -1,11 +1,13 @@
 -- The entries of a path's values, and what a request that answers the path says of a tree.
-use Rattle.std.proofs.Common.{◌≡◌, ◌≢◌, ℕ, List, [], ◌++◌, Bool, true, false, Option, Some, None, All, AllPairs, Any, MatchBool, refl, sym, subst, arith}
+use Rattle.std.proofs.Common.{◌≡◌, ◌≢◌, ◌↔◌, IsTrue, ℕ, List, [], ◌++◌, Bool, true, false, Option, Some, None, All, AllPairs, Any, MatchBool, refl, sym, ap, subst, slice_get, arith}
 use Rattle.std.proofs.lemmas.List.Elements.{All-nil, All-cons, All-append, Contains-append_left, Contains-append_right}
 use Rattle.std.proofs.lemmas.List.Kept.{AllPairs-cons}
 use Rattle.std.proofs.lemmas.Option.{slice_get-get_or}
-use Rattle.formula_tree.specs.Answers.{Answers, Completes}
+use Rattle.wildcard_lang.specs.declared.piece.Piece.{Piece}
+use Rattle.wildcard_lang.specs.Matching.{Matches}
+use Rattle.formula_tree.specs.Answers.{Answers, Completes, answer_of}
 use Rattle.formula_tree.specs.Trees.{Tree}
-use Rattle.formula_tree.specs.Values.{value}
+use Rattle.formula_tree.specs.Values.{value as tree_value}
 use Rattle.formula_tree.specs.declared.value.Three.TheVariants.{Yes}
 use Rattle.formula_tree.proofs.Keeping.{says-yes}
 use Rattle.policy_model.specs.declared.request.Request.{Request}
@@ -13,19 +15,24 @@ use Rattle.policy_model.specs.declared.schema.Schema.{Schema}
 use Rattle.policy_model.specs.declared.test.Slot.{Slot}
 use Rattle.policy_model.specs.declared.test.Slot.TheVariants as slot
 use Rattle.policy_model.specs.declared.test.Test.{Test}
-use Rattle.policy_model.specs.declared.test.Test.TheVariants.{Action}
+use Rattle.policy_model.specs.declared.test.Test.TheVariants.{Action, Principal, Resource}
+use Rattle.policy_model.specs.declared.principal.Entry.{Entry}
+use Rattle.policy_model.specs.declared.principal.PrincipalKind.{PrincipalKind}
+use Rattle.policy_model.specs.Principals.{EntryNames}
+use Rattle.policy_model.specs.Requests.{IsValid, IsWord, shape_of}
 use Rattle.policy_model.specs.Tests.{TestHolds}
 use Rattle.slot_theory.specs.declared.outcome.SlotValue.{SlotValue}
-use Rattle.slot_theory.specs.Slots.{test_at}
+use Rattle.slot_theory.specs.declared.outcome.SlotValue.TheVariants as value
+use Rattle.slot_theory.specs.Slots.{IsSlotValue, slot_of, test_at}
 use Rattle.slot_theory.specs.Possible.{AnswersPath, InRange, IsPossible}
 use Rattle.slot_theory.specs.Cores.{HasTest}
 use Rattle.slot_theory.proofs.Wording.{at-test}
-use Rattle.request_build.specs.Built.{AreSlotValues, IsPlainSchema, IsSlotValue}
-use Rattle.request_build.proofs.Joining.{joined-possible}
+use Rattle.request_build.specs.Built.{AreSlotValues}
+use Rattle.request_build.specs.Taken.{action_or, principal_or, resource_or}
 use Rattle.refute_check.specs.Laws.{MakesYes}
 use Rattle.tree_search.specs.declared.values.Values.{Values}
 use Rattle.tree_search.specs.Values.{AreValues, IsValueAt, entries_of, entry_of, value_in}
-use Rattle.tree_search.proofs.Deciding.{holds_on, test-decided}
+use Rattle.tree_search.proofs.Deciding.{Decides-test, holds_on, test-decided}
 
 -- ---- no slot stands twice
 
@@ -78,10 +85,23 @@ any-left s ps qs (k, p, within, at, on) = let among = Contains-append_left ps qs
 any-right : (s : Slot) (ps qs : List (Slot × SlotValue)) → Any (IsOn s) qs → Any (IsOn s) (ps ++ qs)
 any-right s ps qs (k, p, within, at, on) = let among = Contains-append_right ps qs p (k, within, at) in (among.0, p, among.1, among.2, on)
 
+-- the path answers a test of the slot of each test that it answers
+asked-by : (tests : List Test) (path : Answers) (n : ℕ) (b : Bool) (t : Test) → answer_of path n ≡ Some b → slice_get tests n ≡ Some t → HasTest tests path (slot_of t)
+asked-by tests path n b t answered at = record { number = n; is = record { answered = rw answered refl; on_slot = ap slot_of (at-test tests n t at) } }
+
+-- no values are those of a path without answers
+pub none-given : (schema : Schema) (tests : List Test) → AreSlotValues schema tests [] []
+none-given schema tests = record {
+  each = All-nil (λ (p : Slot × SlotValue). IsSlotValue schema tests [] p.0 p.1);
+  needed = All-nil (λ (p : Slot × SlotValue). HasTest tests [] p.0);
+  there = λ s asked. absurd (cc asked.is.answered);
+  once = none-differ;
+}
+
 module _ (schema : Schema) (tests : List Test) (path : Answers) where
-  value-permits : (s : Slot) (o : Option SlotValue) (v : SlotValue) → o ≡ Some v → IsValueAt schema tests path s o → IsSlotValue schema tests path (s, v)
+  value-permits : (s : Slot) (o : Option SlotValue) (v : SlotValue) → o ≡ Some v → IsValueAt schema tests path s o → IsSlotValue schema tests path s v
   value-permits s None v e is = absurd (cc)
-  value-permits s (Some u) v e is = let same : u ≡ v = cc in subst (λ (x : SlotValue). IsSlotValue schema tests path (s, x)) same (is.permits, is.answers)
+  value-permits s (Some u) v e is = let same : u ≡ v = cc in subst (λ (x : SlotValue). IsSlotValue schema tests path s x) same is.value
 
   value-asked : (s : Slot) (o : Option SlotValue) (v : SlotValue) → o ≡ Some v → IsValueAt schema tests path s o → HasTest tests path s
   value-asked s None v e is = absurd (cc)
@@ -105,15 +125,93 @@ module _ (schema : Schema) (tests : List Test) (path : Answers) where
 
     pub are-entries : AreSlotValues schema tests path (entries_of values)
     are-entries = record {
-      each = entries-each (IsSlotValue schema tests path) values (λ s v e. value-permits s (value_in s values) v e (are s));
+      each = entries-each (λ (p : Slot × SlotValue). IsSlotValue schema tests path p.0 p.1) values (λ s v e. value-permits s (value_in s values) v e (are s));
       needed = entries-each (λ (p : Slot × SlotValue). HasTest tests path p.0) values (λ s v e. value-asked s (value_in s values) v e (are s));
       there = entries-there;
       once = entries-once values;
     }
 
-    -- a path that values answer is possible
-    pub values-possible : IsPlainSchema schema → IsPossible schema tests path
-    values-possible plain = joined-possible schema tests path (entries_of values) plain are-entries
+-- ---- a request with the values in place of its own
+
+abbrev principal_over : Option SlotValue → PrincipalKind × List ℕ → PrincipalKind × List ℕ
+principal_over None own = own
+principal_over (Some v) own = principal_or slot.Principal v own
+
+abbrev action_over : Option SlotValue → List ℕ → List ℕ
+action_over None own = own
+action_over (Some v) own = action_or slot.Action v own
+
+abbrev resource_over : Option SlotValue → List ℕ → List ℕ
+resource_over None own = own
+resource_over (Some v) own = resource_or slot.Resource v own
+
+abbrev over : Values → Request → Request
+over values r = record {
+  kind = (principal_over values.principal (r.kind, r.id)).0;
+  id = (principal_over values.principal (r.kind, r.id)).1;
+  action = action_over values.action r.action;
+  resource = resource_over values.resource r.resource;
+  context = r.context;
+}
+
+module _ (schema : Schema) (tests : List Test) (path : Answers) where
+  id-over : (o : Option SlotValue) (own : PrincipalKind × List ℕ) → IsValueAt schema tests path slot.Principal o → IsWord (shape_of schema.shapes own.0) own.1 →
+      IsWord (shape_of schema.shapes (principal_over o own).0) (principal_over o own).1
+  id-over None own is word = word
+  id-over (Some (value.Principal kind id)) own is word = is.value.0
+  id-over (Some (value.Word t)) own is word = absurd is.value.0
+
+  action-over : (o : Option SlotValue) (own : List ℕ) → IsValueAt schema tests path slot.Action o → IsWord schema.shapes.action own → IsWord schema.shapes.action (action_over o own)
+  action-over None own is word = word
+  action-over (Some (value.Word t)) own is word = is.value.0
+  action-over (Some (value.Principal kind id)) own is word = absurd is.value.0
+
+  resource-over : (o : Option SlotValue) (own : List ℕ) → IsValueAt schema tests path slot.Resource o → IsWord schema.shapes.resource own → IsWord schema.shapes.resource (resource_over o own)
+  resource-over None own is word = word
+  resource-over (Some (value.Word t)) own is word = is.value.0
+  resource-over (Some (value.Principal kind id)) own is word = absurd is.value.0
+
+  principal-answers : (o : Option SlotValue) (own : PrincipalKind × List ℕ) (entry : Entry) (n : ℕ) (b : Bool) → IsValueAt schema tests path slot.Principal o → HasTest tests path slot.Principal →
+      answer_of path n ≡ Some b → slice_get tests n ≡ Some (Principal entry) → MatchBool b (EntryNames (principal_over o own).0 (principal_over o own).1 entry) (¬ EntryNames (principal_over o own).0 (principal_over o own).1 entry)
+  principal-answers None own entry n b is asked answered at = absurd (is asked)
+  principal-answers (Some (value.Principal kind id)) own entry n b is asked answered at = is.value.1 n b (Principal entry) answered at refl
+  principal-answers (Some (value.Word t)) own entry n b is asked answered at = absurd is.value.0
+
+  action-answers : (o : Option SlotValue) (own : List ℕ) (pattern : List Piece) (n : ℕ) (b : Bool) → IsValueAt schema tests path slot.Action o → HasTest tests path slot.Action →
+      answer_of path n ≡ Some b → slice_get tests n ≡ Some (Action pattern) → MatchBool b (Matches pattern (action_over o own)) (¬ Matches pattern (action_over o own))
+  action-answers None own pattern n b is asked answered at = absurd (is asked)
+  action-answers (Some (value.Word t)) own pattern n b is asked answered at = is.value.1 n b (Action pattern) answered at refl
+  action-answers (Some (value.Principal kind id)) own pattern n b is asked answered at = absurd is.value.0
+
+  resource-answers : (o : Option SlotValue) (own : List ℕ) (pattern : List Piece) (n : ℕ) (b : Bool) → IsValueAt schema tests path slot.Resource o → HasTest tests path slot.Resource →
+      answer_of path n ≡ Some b → slice_get tests n ≡ Some (Resource pattern) → MatchBool b (Matches pattern (resource_over o own)) (¬ Matches pattern (resource_over o own))
+  resource-answers None own pattern n b is asked answered at = absurd (is asked)
+  resource-answers (Some (value.Word t)) own pattern n b is asked answered at = is.value.1 n b (Resource pattern) answered at refl
+  resource-answers (Some (value.Principal kind id)) own pattern n b is asked answered at = absurd is.value.0
+
+  module _ (values : Values) (are : AreValues schema tests path values) (r : Request) where
+    over-valid : IsValid schema r → IsValid schema (over values r)
+    over-valid valid = record {
+      words = record {
+        id = id-over values.principal (r.kind, r.id) (are slot.Principal) valid.words.id;
+        action = action-over values.action r.action (are slot.Action) valid.words.action;
+        resource = resource-over values.resource r.resource (are slot.Resource) valid.words.resource;
+      };
+      keys = valid.keys;
+    }
+
+    over-answers : (t : Test) (n : ℕ) (b : Bool) → HasTest tests path (slot_of t) → answer_of path n ≡ Some b → slice_get tests n ≡ Some t → MatchBool b (TestHolds (over values r) t) (¬ TestHolds (over values r) t)
+    over-answers (Principal entry) n b asked answered at = principal-answers values.principal (r.kind, r.id) entry n b (are slot.Principal) asked answered at
+    over-answers (Action pattern) n b asked answered at = action-answers values.action r.action pattern n b (are slot.Action) asked answered at
+    over-answers (Resource pattern) n b asked answered at = resource-answers values.resource r.resource pattern n b (are slot.Resource) asked answered at
+
+    -- a path that values answer is possible, where some request is valid
+    pub values-possible : IsValid schema r → IsPossible schema tests path
+    values-possible valid = record {
+      request = over values r;
+      valid = over-valid valid;
+      answers = λ n b t answered at. over-answers t n b (asked-by tests path n b t answered at) answered at;
+    }
 
 -- ---- what the request says of a tree
 
@@ -123,7 +221,7 @@ same-answer true false A h g = absurd (g h)
 same-answer false true A h g = absurd (h g)
 same-answer false false A h g = refl
 
-pub makes-yes : (tests : List Test) (tree : Tree) (path : Answers) (q : Request) → InRange tests path → AnswersPath tests path q → value path tree ≡ Yes → MakesYes tests tree q
+pub makes-yes : (tests : List Test) (tree : Tree) (path : Answers) (q : Request) → InRange tests path → AnswersPath tests path q → tree_value path tree ≡ Yes → MakesYes tests tree q
 makes-yes tests tree path q range says made =
     let total : ℕ → Bool = λ n. holds_on q (test_at tests n) in
     let completes : Completes total path =
@@ -131,6 +229,6 @@ makes-yes tests tree path q range says made =
     let t = test_at tests n in
     same-answer (total n) b (TestHolds q t) (test-decided q t) (says n b t e (slice_get-get_or tests n (Action []) (range n b e))) in (
       total,
-      λ n t at. subst (λ (x : Test). MatchBool (holds_on q x) (TestHolds q t) (¬ TestHolds q t)) (sym (at-test tests n t at)) (test-decided q t),
+      λ n t at. subst (λ (x : Test). IsTrue (holds_on q x) ↔ TestHolds q t) (sym (at-test tests n t at)) (Decides-test q t),
       says-yes path tree total completes made,
     )

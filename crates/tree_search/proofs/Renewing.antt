@@ -1,5 +1,5 @@
 -- Values of a path, and of the path with one more answer.
-use Rattle.std.proofs.Common.{◌≡◌, ◌≢◌, ℕ, List, slice_get, Bool, Option, Some, None, IsSome, ◌⊎◌, refl, sym, ap, ◌∙◌, subst, inl, inr}
+use Rattle.std.proofs.Common.{◌≡◌, ◌≢◌, ◌<◌, ℕ, List, length, get_or, slice_get, Bool, Option, Some, None, IsSome, ◌⊎◌, refl, sym, ap, ◌∙◌, subst, inl, inr}
 use Rattle.std.proofs.lemmas.Bool.{both_ways, cases_Bool}
 use Rattle.formula_tree.specs.Answers.{Answers, answer_of}
 use Rattle.formula_tree.specs.Runs.{answered}
@@ -10,12 +10,11 @@ use Rattle.policy_model.specs.declared.test.Slot.TheVariants as slot
 use Rattle.policy_model.specs.declared.test.Test.{Test}
 use Rattle.policy_model.specs.declared.test.Test.TheVariants.{Principal, Action, Resource}
 use Rattle.slot_theory.specs.declared.outcome.SlotValue.{SlotValue}
-use Rattle.slot_theory.specs.Slots.{AnswersSlot, Permits, is_on, slot_of, test_at}
+use Rattle.slot_theory.specs.Slots.{AnswersSlot, AnswersTest, IsSlotValue, is_on, slot_of, test_at}
 use Rattle.slot_theory.specs.Cores.{HasTest}
-use Rattle.slot_theory.specs.Steps.{AnswersTest}
-use Rattle.slot_theory.proofs.Wording.{at-test, on-slot, slot-on}
+use Rattle.slot_theory.proofs.Wording.{at-test, on-slot, own-test, slot-on}
 use Rattle.tree_search.specs.declared.values.Values.{Values}
-use Rattle.tree_search.specs.Values.{AreValues, IsValueAt, IsValueOf, Keeps, value_in, with_value}
+use Rattle.tree_search.specs.Values.{AreValues, IsNext, IsValueAt, IsValueOf, Keeps, value_in, with_value}
 
 -- ---- the slot of a test
 
@@ -86,7 +85,7 @@ module _ (schema : Schema) (tests : List Test) (path : Answers) (n : ℕ) (b : B
 
   other-value : (s : Slot) (o : Option SlotValue) → slot_of own ≢ s → IsValueAt schema tests path s o → IsValueAt schema tests more s o
   other-value s None off none = λ h. none (asked-less s off h)
-  other-value s (Some v) off is = record { asked = asked-more s is.asked; permits = is.permits; answers = other-answers s v off is.answers }
+  other-value s (Some v) off is = record { asked = asked-more s is.asked; value = (is.value.0, other-answers s v off is.value.1) }
 
   -- a value that answers the new test too
   own-answers : (s : Slot) (v : SlotValue) → AnswersTest v own b → AnswersSlot tests path s v → AnswersSlot tests more s v
@@ -102,7 +101,7 @@ module _ (schema : Schema) (tests : List Test) (path : Answers) (n : ℕ) (b : B
       ]
 
   own-value : (s : Slot) (v : SlotValue) → AnswersTest v own b → IsValueOf schema tests path s v → IsValueOf schema tests more s v
-  own-value s v here is = record { asked = asked-more s is.asked; permits = is.permits; answers = own-answers s v here is.answers }
+  own-value s v here is = record { asked = asked-more s is.asked; value = (is.value.0, own-answers s v here is.value.1) }
 
   kept-here : (s : Slot) (o : Option SlotValue) (v : SlotValue) → o ≡ Some v → AnswersTest v own b → IsValueAt schema tests path s o → IsValueAt schema tests more s o
   kept-here s None v e here is = absurd (cc)
@@ -117,11 +116,19 @@ module _ (schema : Schema) (tests : List Test) (path : Answers) (n : ℕ) (b : B
       ]
 
   -- values with a new one for the new test's slot
-  pub changed-values : (values : Values) (v : SlotValue) → Permits schema (slot_of own) v → AnswersSlot tests more (slot_of own) v → AreValues schema tests path values → AreValues schema tests more (with_value (slot_of own) v values)
-  changed-values values v permits says are s =
+  pub changed-values : (values : Values) (v : SlotValue) → IsSlotValue schema tests more (slot_of own) v → AreValues schema tests path values → AreValues schema tests more (with_value (slot_of own) v values)
+  changed-values values v is are s =
       elim (slot-cases s own) [
         | inl e ↦
-            let here : IsValueAt schema tests more (slot_of own) (Some v) = record { asked = asked-now; permits = permits; answers = says } in
+            let here : IsValueAt schema tests more (slot_of own) (Some v) = record { asked = asked-now; value = is } in
             subst (λ (x : Slot). IsValueAt schema tests more x (value_in x (with_value (slot_of own) v values))) e (subst (λ (o : Option SlotValue). IsValueAt schema tests more (slot_of own) o) (sym (value-with own v values)) here)
         | inr off ↦ subst (λ (o : Option SlotValue). IsValueAt schema tests more s o) (sym (value-besides own s v values off)) (other-value s (value_in s values) off (are s))
       ]
+
+-- ---- the last answer of a path
+
+-- a path answers a test of its last test's slot
+pub asked-here : (schema : Schema) (tests : List Test) (path : Answers) (n : ℕ) (b : Bool) (values : Values) (s : Slot) (t : Test) → IsNext schema tests path n b values → n < length tests → t ≡ get_or tests n t → s ≡ slot_of t → HasTest tests path s
+asked-here schema tests path n b values s t next within read on =
+    let own : s ≡ slot_of (test_at tests n) = on ∙ ap slot_of (own-test tests n t within read) in
+    rw (own, next.is) (asked-now schema tests next.before n b next.new)

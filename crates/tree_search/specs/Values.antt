@@ -7,9 +7,8 @@ use Rattle.policy_model.specs.declared.test.Slot.{Slot}
 use Rattle.policy_model.specs.declared.test.Slot.TheVariants as slot
 use Rattle.policy_model.specs.declared.test.Test.{Test}
 use Rattle.slot_theory.specs.declared.outcome.SlotValue.{SlotValue}
-use Rattle.slot_theory.specs.Slots.{AnswersSlot, Permits}
+use Rattle.slot_theory.specs.Slots.{AnswersTest, IsSlotValue}
 use Rattle.slot_theory.specs.Cores.{HasTest}
-use Rattle.slot_theory.specs.Steps.{AnswersTest}
 use Rattle.tree_search.specs.declared.values.Values.{Values}
 
 -- no slot has a value
@@ -39,11 +38,10 @@ entry_of s (Some v) = (s, v) ∷ []
 abbrev pub entries_of : Values → List (Slot × SlotValue)
 entries_of values = entry_of slot.Principal values.principal ++ (entry_of slot.Action values.action ++ entry_of slot.Resource values.resource)
 
--- a value of a slot, some of whose tests are answered: the schema permits it, and it answers them as the path does
+-- a value of a slot, some of whose tests the path answers
 pub record IsValueOf (schema : Schema) (tests : List Test) (path : Answers) (s : Slot) (v : SlotValue) : Type 0 where
   pub asked : HasTest tests path s
-  pub permits : Permits schema s v
-  pub answers : AnswersSlot tests path s v
+  pub value : IsSlotValue schema tests path s v
 
 -- such a value, or none where the path answers no test of the slot
 abbrev pub IsValueAt : Schema → List Test → Answers → Slot → Option SlotValue → Type 0

@@ -4,9 +4,8 @@ ghost use Rattle.formula_tree.specs.Trees.{tree_of};
 ghost use Rattle.formula_tree.specs.Values.{value};
 ghost use Rattle.formula_tree.specs.declared.value.Three.TheVariants.{Yes};
 ghost use Rattle.policy_model.specs.Requests.{IsValid};
-ghost use Rattle.policy_model.specs.Soundness.{TestSuits};
+ghost use Rattle.policy_model.specs.Soundness.{SchemaIsSound, TestSuits};
 ghost use Rattle.slot_theory.specs.Possible.{InRange};
-ghost use Rattle.request_build.specs.Built.{IsPlainSchema};
 ghost use Rattle.refute_check.specs.Laws.{MakesYes};
 ghost use Rattle.tree_search.specs.Values.{AreValues};
 
@@ -15,7 +14,7 @@ use formula_tree::Path;
 use plain_lists::NoMemory;
 use policy_compile::Query;
 use policy_model::{Request, Schema};
-use request_build::build;
+use request_build::{SlotValues, build};
 use std::alloc::Global;
 
 /// The request of a path's values, where the path makes the query yes.
@@ -26,7 +25,7 @@ pub fn met(
     path: &Path,
     values: &Values,
 ) -> Result<Request, NoMemory>
-    requires schema { IsPlainSchema schema.now }
+    requires sound { SchemaIsSound schema.now }
     requires suit { All (TestSuits schema.now) query.now.tests }
     requires range { InRange query.now.tests path.now }
     requires values { AreValues schema.now query.now.tests path.now values.now }
@@ -36,4 +35,14 @@ pub fn met(
 {
     let entries = values.entries(alloc)?;
     build(alloc, schema, &query.tests, path, &entries)
+}
+
+/// A valid request, whatever it answers.
+pub fn someone(alloc: Global, schema: &Schema, query: &Query) -> Result<Request, NoMemory>
+    requires sound { SchemaIsSound schema.now }
+    requires suit { All (TestSuits schema.now) query.now.tests }
+    ensures { IfOk result (IsValid schema.now) }
+{
+    let path = Path::new(alloc);
+    build(alloc, schema, &query.tests, &path, &SlotValues::new(alloc))
 }

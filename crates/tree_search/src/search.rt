@@ -1,22 +1,21 @@
 //! The search.
-ghost use Rattle.std.specs.Prelude.{◌≡◌, ◌≢◌, ◌≤◌, ◌<◌, ◌^◌, None, All, IfOk, OnOk, length};
+ghost use Rattle.std.specs.Prelude.{◌≡◌, ◌≢◌, ◌≤◌, ◌<◌, ◌-◌, ◌^◌, None, All, IfOk, OnOk, length};
 ghost use Rattle.formula_tree.specs.Answers.{answer_of};
 ghost use Rattle.formula_tree.specs.Runs.{answered};
 ghost use Rattle.formula_tree.specs.Trees.{tree_of};
 ghost use Rattle.formula_tree.specs.Values.{AreBelow, value};
 ghost use Rattle.formula_tree.specs.declared.value.Three.TheVariants.{No};
-ghost use Rattle.policy_model.specs.Soundness.{TestSuits};
+ghost use Rattle.policy_model.specs.Soundness.{SchemaIsSound, TestSuits};
 ghost use Rattle.slot_theory.specs.Possible.{InRange};
 ghost use Rattle.refute_check.specs.Proofs.{by_slot, by_value, proof_of, split};
-ghost use Rattle.request_build.specs.Built.{IsPlainSchema};
-ghost use Rattle.tree_search.specs.Decisions.{IsDecision};
-ghost use Rattle.tree_search.specs.Steps.{IsAsked, IsFound};
+ghost use Rattle.tree_search.specs.Decisions.{IsDecidedFrom, IsDecision, NestsWithin};
+ghost use Rattle.tree_search.specs.Steps.{IsAsked};
 ghost use Rattle.tree_search.specs.Values.{AreValues, IsNext};
 
-use crate::met::met;
+use crate::met::{met, someone};
 use crate::outcome::{Budgets, Decided, Wide};
 use crate::renewal::renew;
-use crate::step::{Found, Renewed};
+use crate::step::Renewed;
 use crate::values::Values;
 use formula_tree::{Path, Three, pick, value3};
 use plain_lists::NoMemory;
@@ -53,7 +52,8 @@ fn by_slot(alloc: Global, core: Core, proof: SlotProof) -> Result<Rc<Refutation>
     Ok(Rc::new(alloc, Refutation::BySlot { core, proof })?)
 }
 
-/// The search from a path whose tests the values answer, and under which the query isn't no.
+/// The search from a path whose tests the values answer, and under which the query isn't no. The
+/// splits that it uses are taken from those left.
 #[cycle(search)]
 fn search(
     alloc: Global,
@@ -62,50 +62,34 @@ fn search(
     states: u32,
     path: &mut Path,
     values: &Values,
-    left: u32,
-) -> Result<Found, NoMemory>
+    left: &mut u32,
+) -> Result<Decided, NoMemory>
     requires asked { IsAsked schema.now query.now.tests (tree_of query.now.formula.value) states }
     requires range { InRange query.now.tests path.old }
     requires values { AreValues schema.now query.now.tests path.old values.now }
     requires open { value path.old (tree_of query.now.formula.value) ≢ No }
-    ensures found { IfOk result (IsFound schema.now query.now.tests (tree_of query.now.formula.value) states path.old left) }
+    ensures decided { IfOk result (IsDecidedFrom schema.now query.now.tests (tree_of query.now.formula.value) states path.old left.old (left.old - left.new)) }
     ensures path { OnOk result (path.new ≡ path.old) }
+    ensures left { OnOk result (left.new ≤ left.old) }
 {
     let Some(test) = pick(&query.formula, path) else {
-        return Ok(Found::Met(met(alloc, schema, query, path, values)?));
+        return Ok(Decided::Met(met(alloc, schema, query, path, values)?));
     };
-    if left == 0 {
-        return Ok(Found::OutOfSplits);
+    if *left == 0 {
+        return Ok(Decided::OutOfSplits);
     }
-    match side(
-        alloc,
-        schema,
-        query,
-        states,
-        path,
-        values,
-        test,
-        true,
-        left - 1,
-    )? {
-        Found::Closed(yes, used) => {
-            let rest = left - 1 - used;
-            match side(
-                alloc, schema, query, states, path, values, test, false, rest,
-            )? {
-                Found::Closed(no, more) => {
-                    let refutation = split(alloc, test, yes, no)?;
-                    Ok(Found::Closed(refutation, used + more + 1))
-                }
-                Found::Met(request) => Ok(Found::Met(request)),
-                Found::OutOfSplits => Ok(Found::OutOfSplits),
-                Found::OutOfStates(wide) => Ok(Found::OutOfStates(wide)),
-            }
-        }
-        Found::Met(request) => Ok(Found::Met(request)),
-        Found::OutOfSplits => Ok(Found::OutOfSplits),
-        Found::OutOfStates(wide) => Ok(Found::OutOfStates(wide)),
-    }
+    *left -= 1;
+    let yes = side(alloc, schema, query, states, path, values, test, true, left)?;
+    let Decided::Refuted(yes) = yes else {
+        return Ok(yes);
+    };
+    let no = side(
+        alloc, schema, query, states, path, values, test, false, left,
+    )?;
+    let Decided::Refuted(no) = no else {
+        return Ok(no);
+    };
+    Ok(Decided::Refuted(split(alloc, test, yes, no)?))
 }
 
 /// The search from the path with one more answer.
@@ -119,22 +103,23 @@ fn side(
     values: &Values,
     test: u32,
     answer: bool,
-    left: u32,
-) -> Result<Found, NoMemory>
+    left: &mut u32,
+) -> Result<Decided, NoMemory>
     requires asked { IsAsked schema.now query.now.tests (tree_of query.now.formula.value) states }
     requires range { InRange query.now.tests path.old }
     requires values { AreValues schema.now query.now.tests path.old values.now }
     requires within { test < length query.now.tests }
     requires new { answer_of path.old test ≡ None }
-    ensures found { IfOk result (IsFound schema.now query.now.tests (tree_of query.now.formula.value) states (answered path.old test answer) left) }
+    ensures decided { IfOk result (IsDecidedFrom schema.now query.now.tests (tree_of query.now.formula.value) states (answered path.old test answer) left.old (left.old - left.new)) }
     ensures path { OnOk result (path.new ≡ path.old) }
+    ensures left { OnOk result (left.new ≤ left.old) }
 {
     path.push(test, answer)?;
-    let found = enter(
+    let decided = enter(
         alloc, schema, query, states, path, values, test, answer, left,
     )?;
     path.pop();
-    Ok(found)
+    Ok(decided)
 }
 
 /// The search from a path whose tests but the last the values answer.
@@ -148,17 +133,18 @@ fn enter(
     values: &Values,
     test: u32,
     answer: bool,
-    left: u32,
-) -> Result<Found, NoMemory>
+    left: &mut u32,
+) -> Result<Decided, NoMemory>
     requires asked { IsAsked schema.now query.now.tests (tree_of query.now.formula.value) states }
     requires range { InRange query.now.tests path.old }
     requires within { test < length query.now.tests }
     requires next { IsNext schema.now query.now.tests path.old test answer values.now }
-    ensures found { IfOk result (IsFound schema.now query.now.tests (tree_of query.now.formula.value) states path.old left) }
+    ensures decided { IfOk result (IsDecidedFrom schema.now query.now.tests (tree_of query.now.formula.value) states path.old left.old (left.old - left.new)) }
     ensures path { OnOk result (path.new ≡ path.old) }
+    ensures left { OnOk result (left.new ≤ left.old) }
 {
     if let Three::No = value3(&query.formula, path) {
-        return Ok(Found::Closed(by_value(alloc)?, 0));
+        return Ok(Decided::Refuted(by_value(alloc)?));
     }
     let slot = slot_of(alloc, &query.tests.as_slice()[test as usize])?;
     match renew(
@@ -166,13 +152,10 @@ fn enter(
     )? {
         Renewed::Kept => search(alloc, schema, query, states, path, values, left),
         Renewed::Changed(values) => search(alloc, schema, query, states, path, &values, left),
-        Renewed::Conflict(core, proof) => {
-            let refutation = by_slot(alloc, core, proof)?;
-            Ok(Found::Closed(refutation, 0))
-        }
+        Renewed::Conflict(core, proof) => Ok(Decided::Refuted(by_slot(alloc, core, proof)?)),
         Renewed::TooMany(texts) => {
             let path = path.copy()?;
-            Ok(Found::OutOfStates(Wide { path, slot, texts }))
+            Ok(Decided::OutOfStates(Wide { path, slot, texts }))
         }
     }
 }
@@ -184,31 +167,29 @@ pub fn decide(
     query: &Query,
     budgets: Budgets,
 ) -> Result<Decided, NoMemory>
-    requires schema { IsPlainSchema schema.now }
+    requires sound { SchemaIsSound schema.now }
     requires suit { All (TestSuits schema.now) query.now.tests }
     requires count { length query.now.tests < 2 ^ 32 }
     requires below { AreBelow (length query.now.tests) (tree_of query.now.formula.value) }
     requires splits { 1 ≤ budgets.splits }
     requires states { 1 ≤ budgets.states }
-    ensures { IfOk result (IsDecision schema.now query.now.tests (tree_of query.now.formula.value) budgets.splits budgets.states) }
+    ensures decision { IfOk result (IsDecision schema.now query.now.tests (tree_of query.now.formula.value) budgets.splits budgets.states) }
+    ensures nests { IfOk result (NestsWithin query.now.tests) }
 {
     let mut path = Path::new(alloc);
     if let Three::No = value3(&query.formula, &path) {
         return Ok(Decided::Refuted(by_value(alloc)?));
     }
+    let _request = someone(alloc, schema, query)?;
     let values = Values::none();
-    match search(
+    let mut left = budgets.splits;
+    search(
         alloc,
         schema,
         query,
         budgets.states,
         &mut path,
         &values,
-        budgets.splits,
-    )? {
-        Found::Closed(refutation, _) => Ok(Decided::Refuted(refutation)),
-        Found::Met(request) => Ok(Decided::Met(request)),
-        Found::OutOfSplits => Ok(Decided::OutOfSplits),
-        Found::OutOfStates(wide) => Ok(Decided::OutOfStates(wide)),
-    }
+        &mut left,
+    )
 }

@@ -1,14 +1,16 @@
 //! Small queries, each decided as by hand.
-ghost use Rattle.std.specs.Prelude.{◌≡◌, ◌∷◌, ◌≤◌, ◌<◌, [], List, All, IfOk, length};
+ghost use Rattle.std.specs.Prelude.{◌≡◌, ◌∷◌, ◌≤◌, ◌<◌, ℕ, [], List, All, IfOk, length};
 ghost use Rattle.wildcard_lang.specs.declared.piece.Piece.{Piece};
 ghost use Rattle.formula_tree.specs.Trees.{tree_of, trees_of};
 ghost use Rattle.formula_tree.specs.Values.{AreBelow};
-ghost use Rattle.policy_model.specs.declared.test.Test.TheVariants.{Action, Resource};
+ghost use Rattle.policy_model.specs.declared.schema.Schema.{Schema};
+ghost use Rattle.policy_model.specs.declared.test.Test.TheVariants.{Action, Principal, Resource};
+ghost use Rattle.policy_model.specs.Soundness.{EntryIsSound, TestSuits};
 
 use crate::{Budgets, Decided, Wide, decide};
 use formula_tree::{Branches, Formula, Path};
 use policy_compile::Query;
-use policy_model::{Request, Schema, Slot, Test, TestList};
+use policy_model::{Entry, PrincipalKind, Request, Schema, Slot, Test, TestList};
 use refute_check::Refutation;
 use std::alloc::Global;
 use std::process::Abort;
@@ -263,4 +265,107 @@ fn a_budget_that_is_not_needed_is_not_named(rt: HostRuntime) -> Result<(), Fail>
     // The wide slot is behind a split that there isn't.
     let behind = both(alloc, &zero, &two)?;
     gives(&rt, &behind, ["a", "b", WIDE], 1, 5, "out of splits")
+}
+
+// ---- principals
+
+// A query over three tests: 0 is on the principal, 1 on the action, and 2 on the resource.
+fn principal_query(alloc: Global, formula: &Shared, entry: Entry) -> Result<Query, Fail>
+    requires { AreBelow 3 (tree_of formula.now.value) }
+    ensures tests { IfOk result (λ q. (r : List Piece) × (s : List Piece) × (q.tests ≡ Principal entry ∷ Action r ∷ Resource s ∷ [])) }
+    ensures below { IfOk result (λ q. AreBelow (length q.tests) (tree_of q.formula.value)) }
+{
+    let mut tests = TestList::new(alloc);
+    tests.push(Test::Principal(entry))?;
+    tests.push(Test::Action(glob(alloc, "a")?))?;
+    tests.push(Test::Resource(glob(alloc, "r")?))?;
+    let formula = formula.clone()?;
+    Ok(Query { formula, tests })
+}
+
+// What is decided of such a query.
+fn of_principal(alloc: Global, formula: &Shared, entry: Entry) -> Result<Decided, Fail>
+    requires below { AreBelow 3 (tree_of formula.now.value) }
+    requires sound { EntryIsSound entry }
+{
+    let query = principal_query(alloc, formula, entry)?;
+    let budgets = Budgets {
+        splits: 3,
+        states: 100,
+    };
+    Ok(decide(alloc, &Schema::new(alloc), &query, budgets)?)
+}
+
+#[test]
+fn queries_on_each_slot(rt: HostRuntime) -> Result<(), Fail> {
+    let alloc = rt.alloc();
+    let words = both(alloc, &leaf(alloc, 1)?, &leaf(alloc, 2)?)?;
+    let named = both(alloc, &words, &leaf(alloc, 0)?)?;
+    let service = of_principal(alloc, &named, Entry::Kind(PrincipalKind::Service))?;
+    let is_service =
+        matches!(&service, Decided::Met(request) if request.kind == PrincipalKind::Service);
+    assert!(rt; is_service);
+    assert_eq!(rt; decided_text(alloc, &service)?.as_str(), "met by a, r");
+    // Each principal is any.
+    let other = both(alloc, &words, &not(alloc, &leaf(alloc, 0)?)?)?;
+    let any = of_principal(alloc, &other, Entry::All)?;
+    let want = "1(2(0(value, core 1), value), value)";
+    assert_eq!(rt; decided_text(alloc, &any)?.as_str(), want);
+    Ok(())
+}
+
+// ---- many splits
+
+// So many tests on the action, no two of them for one action.
+fn many_tests(alloc: Global, count: u32) -> Result<TestList, Fail>
+    ensures count { IfOk result (λ v. length v ≡ count) }
+    ensures suit { IfOk result (λ v. (schema : Schema) → All (TestSuits schema) v) }
+{
+    let mut tests = TestList::new(alloc);
+    for i in 0..count {
+        let text = format!(in alloc; "a{i}")?;
+        let pattern = glob(alloc, text.as_str())?;
+        tests.push(Test::Action(pattern))?;
+    }
+    Ok(tests)
+}
+
+// A test that doesn't hold.
+fn denied(alloc: Global, number: u32) -> Result<Shared, Fail>
+    ensures { IfOk result (λ r. (count : ℕ) → number < count → AreBelow count (tree_of r.value)) }
+{
+    let test = Rc::new(alloc, Formula::Test(number))?;
+    Ok(Rc::new(alloc, Formula::Not(test))?)
+}
+
+// No test holds.
+fn none_holds(alloc: Global, count: u32) -> Result<Shared, Fail>
+    ensures { IfOk result (λ r. AreBelow count (tree_of r.value)) }
+{
+    let mut branches = Branches::new(alloc);
+    for i in 0..count {
+        let other = denied(alloc, i)?;
+        branches.push(other)?;
+    }
+    Ok(Rc::new(alloc, Formula::All(branches))?)
+}
+
+#[test]
+fn a_thousand_splits_one_in_the_other(rt: HostRuntime) -> Result<(), Fail> {
+    let alloc = rt.alloc();
+    let query = Query {
+        formula: none_holds(alloc, 1000)?,
+        tests: many_tests(alloc, 1000)?,
+    };
+    let schema = Schema::new(alloc);
+    for splits in [999, 1000] {
+        let budgets = Budgets {
+            splits,
+            states: 100,
+        };
+        let decided = decide(alloc, &schema, &query, budgets)?;
+        assert_eq!(rt; matches!(&decided, Decided::Met(_)), splits == 1000);
+        assert_eq!(rt; matches!(&decided, Decided::OutOfSplits), splits == 999);
+    }
+    Ok(())
 }

@@ -1,5 +1,5 @@
 //! Values for the slots of a path.
-ghost use Rattle.std.specs.Prelude.{◌≡◌, ◌++◌, IfOk, OnOk, IsTrue, option_map};
+ghost use Rattle.std.specs.Prelude.{◌≡◌, ◌++◌, ◌↔◌, IfOk, OnOk, IsTrue, option_map};
 ghost use Rattle.slot_theory.specs.Slots.{IsBuiltSlot};
 ghost use Rattle.tree_search.specs.Values.{Keeps, entries_of, entry_of, no_values, value_in, with_value};
 
@@ -17,23 +17,13 @@ pub struct Values {
     pub resource: Option<SlotValue>,
 }
 
-/// A copy of a value.
-fn copy_value(value: &SlotValue) -> Result<SlotValue, NoMemory>
-    ensures { IfOk result (λ v. v ≡ value.now) }
-{
-    match value {
-        SlotValue::Principal(kind, id) => Ok(SlotValue::Principal(*kind, id.copy()?)),
-        SlotValue::Word(text) => Ok(SlotValue::Word(text.copy()?)),
-    }
-}
-
 /// A copy of a value, where there is one.
 fn copy_of(value: &Option<SlotValue>) -> Result<Option<SlotValue>, NoMemory>
     ensures { IfOk result (λ v. v ≡ value.now) }
 {
     match value {
         None => Ok(None),
-        Some(value) => Ok(Some(copy_value(value)?)),
+        Some(value) => Ok(Some(value.copy()?)),
     }
 }
 
@@ -47,7 +37,7 @@ fn push_entry(
 {
     match value {
         None => Ok(()),
-        Some(value) => entries.push((slot, copy_value(value)?)),
+        Some(value) => entries.push((slot, value.copy()?)),
     }
 }
 
@@ -114,7 +104,7 @@ impl Values {
 
 /// Whether the slot has a value that answers the test so.
 pub fn answers(values: &Values, slot: &Slot, test: &Test, answer: bool) -> bool
-    ensures { IsTrue result → Keeps slot.now values.now test.now answer }
+    ensures { IsTrue result ↔ Keeps slot.now values.now test.now answer }
 {
     match values.get(slot) {
         None => false,

@@ -2,10 +2,10 @@ use Rattle.std.proofs.Common.{◌+◌, ◌*◌}
 use Rattle.tree_search.proofs.search.+search.Given as goal
 
 abbrev pub decreases-search : goal.decreases-search
-decreases-search l = 3 * l.left
+decreases-search l = 3 * l.left.now
 
 abbrev pub decreases-side : goal.decreases-side
-decreases-side l = 3 * l.left + 2
+decreases-side l = 3 * l.left.now + 2
 
 abbrev pub decreases-enter : goal.decreases-enter
-decreases-enter l = 3 * l.left + 1
+decreases-enter l = 3 * l.left.now + 1
