@@ -11,7 +11,7 @@ use Rattle.policy_model.specs.Requests.{IsValid}
 use Rattle.policy_model.specs.Sets.{Allows}
 use Rattle.policy_model.specs.Tests.{TestHolds}
 use Rattle.policy_compile.specs.declared.outcome.Query.{Query}
-use Rattle.policy_compile.specs.Meaning.{AnswersAs as says_as}
+use Rattle.policy_compile.specs.Meaning.{AnswersAs}
 use Rattle.policy_compile.specs.Numbering.{AreNumbered, IsNumbered, numbered_all, numbered_more, numbered_not}
 use Rattle.policy_compile.specs.Plans.{Plan, Plans, all, more, none, not, tests_in}
 use Rattle.policy_compile.specs.Queries.{IsQuery}
@@ -19,10 +19,10 @@ use Rattle.policy_compile.specs.Sets.{query_plan, set_plan}
 use Rattle.policy_compile.proofs.Ranges.{All-collects, below-numbered, suit-query}
 use Rattle.policy_compile.proofs.Meanings.{holds-numbered, query-holds, set-holds}
 use Rattle.refute_check.specs.Closing.{Closes}
-use Rattle.refute_check.specs.Laws.{AnswersAs, MakesYes}
+use Rattle.refute_check.specs.Laws.{MakesYes}
 use Rattle.refute_check.specs.Proofs.{Proof, proof_of}
 use Rattle.refute_check.proofs.Closed.{queries_are_no}
-use Rattle.policy_model.specs.Soundness.{IsSound, SchemaFits, TestSuits}
+use Rattle.policy_model.specs.Soundness.{IsSound, RuleIsSound, SchemaFits, SchemaIsSound, TestSuits}
 use Rattle.tree_search.specs.declared.outcome.Budgets.{Budgets}
 use Rattle.tree_search.specs.declared.outcome.Decided.{Decided}
 use Rattle.tree_search.specs.declared.outcome.Decided.TheVariants as decided
@@ -31,13 +31,19 @@ use Rattle.tree_search.proofs.Meeting.{makes-yes}
 use Rattle.compare_cli.specs.Comparison.{Covers, IsWitness, run_schema}
 use Rattle.compare_cli.specs.Decided.{IsComparison, answer_of}
 
--- an answer to each test, said in two ways
-says : (b : Bool) (P : Type 0) → MatchBool b P (¬ P) → (IsTrue b ↔ P)
-says true P h = (λ e. h, λ p. refl)
-says false P h = (λ e. absurd (cc), λ p. absurd (h p))
-
-says_all : (tests : List Test) (r : Request) (total : ℕ → Bool) → AnswersAs tests r total → says_as total r tests
-says_all tests r total answers n t at = says (total n) (TestHolds r t) (answers n t at)
+-- the schema of a run is sound
+pub run_schema-sound : SchemaIsSound run_schema
+run_schema-sound = record {
+  rules = All-nil (λ entry. RuleIsSound entry.1);
+  shapes = record {
+    action = λ e. absurd (cc);
+    resource = λ e. absurd (cc);
+    aws = λ e. absurd (cc);
+    service = λ e. absurd (cc);
+    federated = λ e. absurd (cc);
+    canonical_user = λ e. absurd (cc);
+  };
+}
 
 fits : (set : PolicySet) → IsSound set → SchemaFits run_schema set
 fits set sound = record { sound = sound }
@@ -99,7 +105,7 @@ covers_if_refuted first second q p one two is closes r valid allowed =
     let suit = query_tests first second q one two is in
     let some_yes : MakesYes q.tests tree.yes r = makes-yes q.tests tree.yes [] r (λ n b e. absurd (cc)) (λ n b t e at. absurd (cc)) refl in
     let total : ℕ → Bool = some_yes.0 in
-    let say : says_as total r q.tests = says_all q.tests r total some_yes.1 in
+    let say : AnswersAs total r q.tests = some_yes.1 in
     let part = second_tree q.tests first second (tree.tree_of q.formula.value) is.tree in
     let part_says = holds-numbered total r q.tests say (set_plan second) part.part part.numbered in
     let whole_says = holds-numbered total r q.tests say (query_plan first second) (tree.tree_of q.formula.value) is.tree in
@@ -114,12 +120,12 @@ covers_if_refuted first second q p one two is closes r valid allowed =
 -- a request that makes the query yes is one that only the first set allows
 pub witness_if_met : (first second : PolicySet) (q : Query) (r : Request) → IsQuery (query_plan first second) q → IsValid run_schema r → MakesYes q.tests (tree.tree_of q.formula.value) r → IsWitness first second r
 witness_if_met first second q r is valid (total, answers, met) =
-    let whole_says = holds-numbered total r q.tests (says_all q.tests r total answers) (query_plan first second) (tree.tree_of q.formula.value) is.tree in
+    let whole_says = holds-numbered total r q.tests answers (query_plan first second) (tree.tree_of q.formula.value) is.tree in
     let both = (query-holds r first second).0 (whole_says.0 met) in
     record { valid = valid; allowed = both.0; refused = both.1 }
 
 pub comparison_if_decided : (first second : PolicySet) (q : Query) (budgets : Budgets) (d : Decided) → IsSound first → IsSound second → IsQuery (query_plan first second) q → IsDecision run_schema q.tests (tree.tree_of q.formula.value) budgets.splits budgets.states d → IsComparison first second budgets (answer_of budgets d)
-comparison_if_decided first second q budgets (decided.Refuted r) one two is h = covers_if_refuted first second q (proof_of r.value) one two is h
-comparison_if_decided first second q budgets (decided.Met r) one two is h = witness_if_met first second q r is h.0 h.1
-comparison_if_decided first second q budgets decided.OutOfSplits one two is h = (refl, record { query = q; is = is; needs = h })
-comparison_if_decided first second q budgets (decided.OutOfStates w) one two is h = (refl, record { query = q; is = is; path = w.path; node = h.node; wider = (w.texts, h.texts) })
+comparison_if_decided first second q budgets (decided.Refuted r) one two is h = covers_if_refuted first second q (proof_of r.value) one two is h.1.closes
+comparison_if_decided first second q budgets (decided.Met r) one two is h = witness_if_met first second q r is h.1.valid h.1.meets
+comparison_if_decided first second q budgets decided.OutOfSplits one two is h = (refl, record { query = q; is = is; needs = h.1 })
+comparison_if_decided first second q budgets (decided.OutOfStates w) one two is h = (refl, record { query = q; is = is; path = w.path; node = h.1.node; wider = (w.texts, h.1.texts) })

@@ -8,12 +8,13 @@ use Rattle.compare_cli.specs.declared.answer.Answer.{Answer}
 use Rattle.compare_cli.specs.declared.answer.Answer.TheVariants as answer
 use Rattle.policy_json.specs.declared.fault.PolicyFault.{PolicyFault}
 use Rattle.compare_cli.specs.declared.top.Status.{Status}
-use Rattle.compare_cli.specs.declared.top.Status.TheVariants.{Holds, Fails, Refused, Undecided, Usage, ReadFault, WriteFault, NoMemory, BadProof}
+use Rattle.compare_cli.specs.declared.top.Status.TheVariants.{WriteFault, NoMemory, BadProof}
 use Rattle.policy_json.specs.Sets.{set_from}
 use Rattle.compare_cli.specs.Answers.{IsAnswer, StandsFor}
 use Rattle.compare_cli.specs.Comparison.{FitsSplits, NeedsSplits, NeedsStates}
 use Rattle.compare_cli.specs.Files.{IsLong, IsShort}
-use Rattle.compare_cli.specs.Promises.{Asked, ReadSets}
+use Rattle.compare_cli.specs.Words.{Asked}
+use Rattle.compare_cli.specs.Promises.{ReadSets}
 use Rattle.compare_cli.specs.Runs.{Runs, status_of}
 use Rattle.compare_cli.specs.Complete.{HoldsSet, IsAccepted, IsDecidable, IsDecided}
 
@@ -65,12 +66,10 @@ answer_decided (Some files) before now last (Some asked) (answer.Refused Second 
 answer_decided (Some files) before now last (Some asked) answer.TooManyTests accepted calm given = accepted.tests (of_held files asked accepted _ given)
 answer_decided (Some files) before now last (Some asked) answer.TooManyPieces accepted calm given = accepted.pieces (of_held files asked accepted _ given)
 answer_decided (Some files) before now last (Some asked) (answer.UndecidedSplits n) accepted calm given =
-    let (first, second, first_short, second_short, (is, sets)) = given in
-    let needs : NeedsSplits accepted.first.set accepted.second.set n = of_held files asked accepted (λ one two. NeedsSplits one two n) (first, second, first_short, second_short, sets) in
+    let (is, needs) = of_held files asked accepted (λ one two. (n ≡ asked.2.splits) × NeedsSplits one two n) given in
     fits_not_needs accepted.first.set accepted.second.set asked.2.splits accepted.splits (subst (λ (k : ℕ). NeedsSplits accepted.first.set accepted.second.set k) is needs)
 answer_decided (Some files) before now last (Some asked) (answer.UndecidedStates n s) accepted calm given =
-    let (first, second, first_short, second_short, (is, sets)) = given in
-    let needs : NeedsStates accepted.first.set accepted.second.set n s = of_held files asked accepted (λ one two. NeedsStates one two n s) (first, second, first_short, second_short, sets) in
+    let (is, needs) = of_held files asked accepted (λ one two. (n ≡ asked.2.states) × NeedsStates one two n s) given in
     accepted.states s (subst (λ (k : ℕ). NeedsStates accepted.first.set accepted.second.set k s) is needs)
 answer_decided (Some files) before now last (Some asked) answer.NotMore accepted calm given = tt
 answer_decided (Some files) before now last (Some asked) (answer.More q) accepted calm given = tt
@@ -79,12 +78,7 @@ pub IsDecided-from_Runs : (may : Answer → Type 0) (decided : (a : Answer) → 
 IsDecided-from_Runs may decided NoMemory before now old new calm runs = tt
 IsDecided-from_Runs may decided WriteFault before now old new calm runs = calm runs.rose
 IsDecided-from_Runs may decided BadProof before now old new calm runs = runs
-IsDecided-from_Runs may decided Holds before now old new calm runs = tt
-IsDecided-from_Runs may decided Fails before now old new calm runs = tt
-IsDecided-from_Runs may decided Undecided before now old new calm runs = subst (λ (s : Status). IsDecided s) runs.status_is (decided runs.answer runs.given)
-IsDecided-from_Runs may decided Refused before now old new calm runs = subst (λ (s : Status). IsDecided s) runs.status_is (decided runs.answer runs.given)
-IsDecided-from_Runs may decided Usage before now old new calm runs = subst (λ (s : Status). IsDecided s) runs.status_is (decided runs.answer runs.given)
-IsDecided-from_Runs may decided ReadFault before now old new calm runs = subst (λ (s : Status). IsDecided s) runs.status_is (decided runs.answer runs.given)
+IsDecided-from_Runs may decided status before now old new calm runs = subst (λ (s : Status). IsDecided s) runs.status_is (decided runs.answer runs.given)
 
 pub run_decided : (held : Option Files) (before now : ℕ) (last : Option (List ℕ)) (asked : Option Asked) (status : Status) (s0 s1 : ℕ) (old new : Option (List ℕ)) → Runs (IsAnswer held before now last asked) status s0 s1 old new → IsAccepted held asked → ¬ Rose before now → ¬ Rose s0 s1 → IsDecided status
 run_decided held before now last asked status s0 s1 old new runs accepted calm calm_sink =

@@ -3,9 +3,9 @@ use Rattle.std.specs.Prelude.{◌≡◌, ℕ, ◌≤◌, List, length, Option, S
 use Rattle.pol_outside.specs.Folder.{Files}
 use Rattle.policy_model.specs.declared.set.PolicySet.{PolicySet}
 use Rattle.compare_cli.specs.declared.top.Status.{Status}
-use Rattle.compare_cli.specs.declared.top.Status.TheVariants.{Holds, Fails, Refused, Undecided, Usage, ReadFault, WriteFault, NoMemory, BadProof}
-use Rattle.tree_search.specs.declared.outcome.Budgets.{Budgets}
+use Rattle.compare_cli.specs.declared.top.Status.TheVariants.{Holds, Fails, NoMemory}
 use Rattle.compare_cli.specs.Answers.{StandsFor}
+use Rattle.compare_cli.specs.Words.{Asked}
 use Rattle.compare_cli.specs.Comparison.{FitsSplits, FitsStates, TooManyPieces, TooManyTests}
 
 -- the folder tells that the name holds a set's file, within the limit
@@ -17,7 +17,7 @@ pub record HoldsSet (files : Files) (name : List ℕ) : Type 0 where
   pub stands : StandsFor bytes set
 
 -- the words name two files of sets whose query is within its limits, and the budgets are at least the plain need
-pub record IsDecidable (files : Files) (asked : List ℕ × List ℕ × Budgets) : Type 0 where
+pub record IsDecidable (files : Files) (asked : Asked) : Type 0 where
   pub first : HoldsSet files asked.0
   pub second : HoldsSet files asked.1
   pub tests : ¬ TooManyTests first.set second.set
@@ -25,7 +25,7 @@ pub record IsDecidable (files : Files) (asked : List ℕ × List ℕ × Budgets)
   pub splits : FitsSplits first.set second.set asked.2.splits
   pub states : FitsStates first.set second.set asked.2.states
 
-abbrev pub IsAccepted : Option Files → Option (List ℕ × List ℕ × Budgets) → Type 0
+abbrev pub IsAccepted : Option Files → Option Asked → Type 0
 IsAccepted None asked = ⊥
 IsAccepted (Some files) None = ⊥
 IsAccepted (Some files) (Some asked) = IsDecidable files asked
@@ -35,9 +35,4 @@ abbrev pub IsDecided : Status → Type 0
 IsDecided Holds = ⊤
 IsDecided Fails = ⊤
 IsDecided NoMemory = ⊤
-IsDecided Refused = ⊥
-IsDecided Undecided = ⊥
-IsDecided Usage = ⊥
-IsDecided ReadFault = ⊥
-IsDecided WriteFault = ⊥
-IsDecided BadProof = ⊥
+IsDecided _ = ⊥

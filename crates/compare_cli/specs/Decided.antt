@@ -8,7 +8,7 @@ use Rattle.tree_search.specs.declared.outcome.Budgets.{Budgets}
 use Rattle.tree_search.specs.declared.outcome.Decided.{Decided}
 use Rattle.tree_search.specs.declared.outcome.Decided.TheVariants as decided
 use Rattle.compare_cli.specs.declared.answer.Answer.{Answer}
-use Rattle.compare_cli.specs.declared.answer.Answer.TheVariants.{Usage, ReadFault, TooLong, Refused, TooManyTests as too_many_tests, TooManyPieces as too_many_pieces, UndecidedSplits, UndecidedStates, NotMore, More}
+use Rattle.compare_cli.specs.declared.answer.Answer.TheVariants.{TooManyTests as too_many_tests, TooManyPieces as too_many_pieces, UndecidedSplits, UndecidedStates, NotMore, More}
 use Rattle.compare_cli.specs.Comparison.{Covers, IsWitness, NeedsSplits, NeedsStates, TooManyPieces, TooManyTests}
 
 -- a limit of the query, a budget that is too small, or a comparison
@@ -19,10 +19,7 @@ IsComparison one two budgets (UndecidedSplits n) = (n ≡ budgets.splits) × Nee
 IsComparison one two budgets (UndecidedStates n s) = (n ≡ budgets.states) × NeedsStates one two n s
 IsComparison one two budgets NotMore = Covers one two
 IsComparison one two budgets (More q) = IsWitness one two q
-IsComparison one two budgets Usage = ⊥
-IsComparison one two budgets (ReadFault role) = ⊥
-IsComparison one two budgets (TooLong role) = ⊥
-IsComparison one two budgets (Refused role fault) = ⊥
+IsComparison one two budgets _ = ⊥
 
 -- a limit that the query is past
 abbrev pub IsPastLimit : PolicySet → PolicySet → Answer → Type 0

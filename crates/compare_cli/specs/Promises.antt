@@ -11,16 +11,13 @@ use Rattle.compare_cli.specs.declared.answer.Role.{Role}
 use Rattle.compare_cli.specs.declared.answer.Role.TheVariants.{First, Second}
 use Rattle.policy_json.specs.declared.fault.PolicyFault.{PolicyFault}
 use Rattle.compare_cli.specs.declared.top.Status.{Status}
-use Rattle.compare_cli.specs.declared.top.Status.TheVariants.{Usage, WriteFault, NoMemory}
+use Rattle.compare_cli.specs.declared.top.Status.TheVariants.{Usage, ReadFault, WriteFault, NoMemory}
 use Rattle.compare_cli.specs.Files.{IsShort, IsLong}
+use Rattle.compare_cli.specs.Words.{Asked}
 use Rattle.policy_json.specs.Sets.{set_from}
 use Rattle.compare_cli.specs.Answers.{OfSets, StandsFor}
 use Rattle.compare_cli.specs.Comparison.{Covers, IsWitness, NeedsSplits, NeedsStates, TooManyPieces, TooManyTests}
 use Rattle.compare_cli.specs.Texts.{fault_text, request_text, role_word, slot_word}
-
--- what the words ask: the names of two files, and the budgets
-abbrev pub Asked : Type 0
-Asked = List ℕ × List ℕ × Budgets
 
 -- the words ask for nothing: the usage line, unless it couldn't be made or written
 abbrev pub IsUsageOrFault : Status → Type 0
@@ -53,6 +50,14 @@ pub record NamesRole (asked : Asked) (last : Option (List ℕ)) (old new : Optio
 abbrev pub ReadFaultByCount : Option Asked → ℕ → ℕ → Option (List ℕ) → Option (List ℕ) → Option (List ℕ) → Type 0
 ReadFaultByCount None before now last old new = ⊥
 ReadFaultByCount (Some asked) before now last old new = Rose before now × NamesRole asked last old new
+
+-- a fault of reading is told, unless there is no memory for it or it can't be written: else the name of the folder's last fault is as
+-- it was
+abbrev pub ToldByStatus : Option (List ℕ) → Option (List ℕ) → Status → Type 0
+ToldByStatus last_before last ReadFault = ⊤
+ToldByStatus last_before last WriteFault = ⊤
+ToldByStatus last_before last NoMemory = ⊤
+ToldByStatus last_before last _ = last ≡ last_before
 
 -- both files are within their limits and stand for sets, of which this holds
 abbrev pub ReadSets : Option Files → Asked → (PolicySet → PolicySet → Type 0) → Type 0

@@ -21,6 +21,18 @@ status_of (answer.UndecidedStates n s) = Undecided
 status_of answer.NotMore = Holds
 status_of (answer.More q) = Fails
 
+-- the program's exit number
+abbrev pub exit_number : Status → ℕ
+exit_number Holds = 0
+exit_number Fails = 1
+exit_number Refused = 2
+exit_number Undecided = 3
+exit_number Usage = 4
+exit_number ReadFault = 5
+exit_number WriteFault = 6
+exit_number NoMemory = 7
+exit_number BadProof = 8
+
 -- the whole text of an answer that may be given was written
 pub record Answers (may : Answer → Type 0) (status : Status) (old new : Option (List ℕ)) : Type 0 where
   pub answer : Answer

@@ -1,8 +1,12 @@
 -- What the words of a command line ask for.
-use Rattle.std.specs.Prelude.{ℕ, ◌+◌, ◌-◌, ◌*◌, ◌&&◌, ◌==◌, List, [], ◌∷◌, Bool, false, not, nat_le, if◌then◌else◌, Option, Some, None, option_and_then, option_map, codes}
+use Rattle.std.specs.Prelude.{ℕ, ◌+◌, ◌-◌, ◌*◌, ◌&&◌, ◌==◌, List, [], ◌∷◌, map, Bool, false, not, nat_le, if◌then◌else◌, Option, Some, None, option_and_then, option_map, String, codes, string_bytes}
 use Rattle.std.specs.Char.{is_ascii_digit}
 use Rattle.std.specs.Str.{bytes_eq}
 use Rattle.tree_search.specs.declared.outcome.Budgets.{Budgets}
+
+-- what is asked: the names of the two files, and the budgets
+abbrev pub Asked : Type 0
+Asked = List ℕ × List ℕ × Budgets
 
 -- a `-` stands first
 abbrev pub begins_dash : List ℕ → Bool
@@ -42,10 +46,14 @@ budgets_of (option ∷ number ∷ next ∷ more ∷ []) = two_options option num
 budgets_of _ = None
 
 -- the names of the two files, neither of which begins with a `-`, and the budgets
-abbrev pub names_of : List ℕ → List ℕ → List ℕ → List (List ℕ) → Option (List ℕ × List ℕ × Budgets)
+abbrev pub names_of : List ℕ → List ℕ → List ℕ → List (List ℕ) → Option Asked
 names_of command first second options = (if bytes_eq command (codes "compare") && not (begins_dash first) && not (begins_dash second) then option_map (λ b. (first, second, b)) (budgets_of options) else None)
 
 -- what `compare FIRST SECOND [--splits N] [--states N]` asks, or none where the words aren't of that form
-abbrev pub asked : List (List ℕ) → Option (List ℕ × List ℕ × Budgets)
+abbrev pub asked : List (List ℕ) → Option Asked
 asked (command ∷ first ∷ second ∷ options) = names_of command first second options
 asked _ = None
+
+-- what the words of a run ask
+abbrev pub asked_by : {Z : Type 0} → List (String Z) → Option Asked
+asked_by words = asked (map (λ w. string_bytes w) words)

@@ -9,7 +9,7 @@ mod top;
 mod words;
 
 pub use answer::{Answer, Role};
-pub use top::{Status, run};
+pub use top::{Status, exit_number, run};
 
 #[cfg(test)]
 mod small_sets;

@@ -1,10 +1,10 @@
 //! One run, from the words to the bytes that are written.
-ghost use Rattle.std.specs.Prelude.{◌≡◌, ◌≤◌, ◌≢◌, ℕ, List, None, IfOk, map, string_bytes};
+ghost use Rattle.std.specs.Prelude.{◌≡◌, ◌≤◌, None, IfOk};
 ghost use Rattle.pol_outside.specs.Faults.{Rose};
-ghost use Rattle.compare_cli.specs.Words.{asked};
-ghost use Rattle.compare_cli.specs.Answers.{IsAnswer, IsAnswerTo, IsFaultAnswer, IsVerdict};
-ghost use Rattle.compare_cli.specs.Runs.{Runs, status_of};
-ghost use Rattle.compare_cli.specs.Promises.{MoreByWords, NotMoreByWords, ReadFaultByCount, RefusedByCause, UndecidedByNeed, UsageByWords};
+ghost use Rattle.compare_cli.specs.Words.{asked_by};
+ghost use Rattle.compare_cli.specs.Answers.{IsAnswer, IsAnswerTo, IsFaultAnswer, IsVerdict, TellsFault};
+ghost use Rattle.compare_cli.specs.Runs.{Runs, exit_number, status_of};
+ghost use Rattle.compare_cli.specs.Promises.{MoreByWords, NotMoreByWords, ReadFaultByCount, RefusedByCause, ToldByStatus, UndecidedByNeed, UsageByWords};
 ghost use Rattle.compare_cli.specs.Complete.{IsAccepted, IsDecided};
 
 use crate::answer::{Answer, Role, answer_text};
@@ -16,7 +16,7 @@ use policy_json::{PolicyAnswer, read_set};
 use std::alloc::{AllocError, Global};
 use tree_search::Budgets;
 
-/// How a run ends. The numbers of the statuses in this order, from 0, are the program's exit numbers.
+/// How a run ends.
 #[derive(Clone, Copy, Debug, PartialEq, Eq)]
 pub enum Status {
     /// The answer is yes: `not more permissive`.
@@ -37,6 +37,23 @@ pub enum Status {
     NoMemory,
     /// A certificate doesn't hold.
     BadProof,
+}
+
+/// The program's exit number for a status.
+pub fn exit_number(status: Status) -> u8
+    ensures { result ≡ exit_number status }
+{
+    match status {
+        Status::Holds => 0,
+        Status::Fails => 1,
+        Status::Refused => 2,
+        Status::Undecided => 3,
+        Status::Usage => 4,
+        Status::ReadFault => 5,
+        Status::WriteFault => 6,
+        Status::NoMemory => 7,
+        Status::BadProof => 8,
+    }
 }
 
 // The answer of two files that were read.
@@ -84,6 +101,7 @@ fn answer_to<F: Folder>(
     requires splits { 1 ≤ budgets.splits }
     requires states { 1 ≤ budgets.states }
     ensures given { IfOk result (IsAnswerTo (F.held folder.old) (F.faults folder.old) (F.faults folder.new) (F.last_fault folder.new) (first.now, second.now, budgets)) }
+    ensures told { IfOk result (TellsFault (F.last_fault folder.old) (F.last_fault folder.new)) }
     ensures held { F.held folder.new ≡ F.held folder.old }
     ensures later { F.faults folder.old ≤ F.faults folder.new }
 {
@@ -99,8 +117,9 @@ fn answer_to<F: Folder>(
 }
 
 fn answer<F: Folder>(alloc: Global, words: &[String], folder: &mut F) -> Result<Answer, AllocError>
-    ensures given { IfOk result (IsAnswer (F.held folder.old) (F.faults folder.old) (F.faults folder.new) (F.last_fault folder.new) (asked (map (λ w. string_bytes w) words.now))) }
-    ensures untouched { asked (map (λ w. string_bytes w) words.now) ≡ None → folder.new ≡ folder.old }
+    ensures given { IfOk result (IsAnswer (F.held folder.old) (F.faults folder.old) (F.faults folder.new) (F.last_fault folder.new) (asked_by words.now)) }
+    ensures untouched { asked_by words.now ≡ None → folder.new ≡ folder.old }
+    ensures told { IfOk result (TellsFault (F.last_fault folder.old) (F.last_fault folder.new)) }
     ensures held { F.held folder.new ≡ F.held folder.old }
     ensures later { F.faults folder.old ≤ F.faults folder.new }
 {
@@ -133,10 +152,13 @@ fn answer_and_write<F: Folder, S: Sink>(
 ) -> Status
     ensures runs { Runs
         (IsAnswer (F.held folder.old) (F.faults folder.old) (F.faults folder.new) (F.last_fault folder.new)
-        (asked (map (λ w. string_bytes w) words.now)))
+        (asked_by words.now))
         result (S.faults out.old) (S.faults out.new) (S.written out.old) (S.written out.new) }
-    ensures untouched { asked (map (λ w. string_bytes w) words.now) ≡ None → folder.new ≡ folder.old }
+    ensures untouched { asked_by words.now ≡ None → folder.new ≡ folder.old }
     ensures held { F.held folder.new ≡ F.held folder.old }
+    ensures reads { F.faults folder.old ≤ F.faults folder.new }
+    ensures writes { S.faults out.old ≤ S.faults out.new }
+    ensures told { ToldByStatus (F.last_fault folder.old) (F.last_fault folder.new) result }
 {
     let Ok(answer) = answer(alloc, words, folder) else {
         return Status::NoMemory;
@@ -158,8 +180,11 @@ fn answer_and_write<F: Folder, S: Sink>(
 ///   it with `WriteFault`, nothing with `NoMemory`;
 /// - `usage`, `untouched`: `Usage` exactly where the words are no `compare FIRST SECOND [--splits N]
 ///   [--states N]`, and then the folder is as before;
+/// - `held`, `reads`, `writes`: what the folder holds stays as it is, and no count of faults falls;
 /// - `read_fault`, `write_fault`: only where the count of faults rose in this call, and a role's fault
 ///   of reading only with that role's file as the last fault's name;
+/// - `told`: no fault of reading is passed over: without `ReadFault`, `WriteFault` and `NoMemory` the
+///   last fault's name is as before;
 /// - `refused`: a refusal by the first cause, with its line;
 /// - `undecided`: only where a named budget is below the plain need, with a line that names it;
 /// - `not_more`: the second set allows each valid request that the first allows, over all texts;
@@ -174,23 +199,26 @@ pub fn run<F: Folder, S: Sink>(
 ) -> Status
     ensures runs { Runs
         (IsAnswer (F.held folder.old) (F.faults folder.old) (F.faults folder.new) (F.last_fault folder.new)
-        (asked (map (λ w. string_bytes w) words.now)))
+        (asked_by words.now))
         result (S.faults out.old) (S.faults out.new) (S.written out.old) (S.written out.new) }
-    ensures usage { UsageByWords (asked (map (λ w. string_bytes w) words.now)) result }
-    ensures untouched { asked (map (λ w. string_bytes w) words.now) ≡ None → folder.new ≡ folder.old }
+    ensures usage { UsageByWords (asked_by words.now) result }
+    ensures untouched { asked_by words.now ≡ None → folder.new ≡ folder.old }
     ensures held { F.held folder.new ≡ F.held folder.old }
-    ensures read_fault { result ≡ Status.ReadFault → ReadFaultByCount (asked (map (λ w. string_bytes w) words.now))
+    ensures reads { F.faults folder.old ≤ F.faults folder.new }
+    ensures writes { S.faults out.old ≤ S.faults out.new }
+    ensures read_fault { result ≡ Status.ReadFault → ReadFaultByCount (asked_by words.now)
         (F.faults folder.old) (F.faults folder.new) (F.last_fault folder.new) (S.written out.old) (S.written out.new) }
+    ensures told { ToldByStatus (F.last_fault folder.old) (F.last_fault folder.new) result }
     ensures write_fault { result ≡ Status.WriteFault → Rose (S.faults out.old) (S.faults out.new) }
     ensures refused { result ≡ Status.Refused → RefusedByCause (F.held folder.old)
-        (asked (map (λ w. string_bytes w) words.now)) (S.written out.old) (S.written out.new) }
+        (asked_by words.now) (S.written out.old) (S.written out.new) }
     ensures undecided { result ≡ Status.Undecided → UndecidedByNeed (F.held folder.old)
-        (asked (map (λ w. string_bytes w) words.now)) (S.written out.old) (S.written out.new) }
+        (asked_by words.now) (S.written out.old) (S.written out.new) }
     ensures not_more { result ≡ Status.Holds → NotMoreByWords (F.held folder.old)
-        (asked (map (λ w. string_bytes w) words.now)) (S.written out.old) (S.written out.new) }
+        (asked_by words.now) (S.written out.old) (S.written out.new) }
     ensures more { result ≡ Status.Fails → MoreByWords (F.held folder.old)
-        (asked (map (λ w. string_bytes w) words.now)) (S.written out.old) (S.written out.new) }
-    ensures complete { IsAccepted (F.held folder.old) (asked (map (λ w. string_bytes w) words.now))
+        (asked_by words.now) (S.written out.old) (S.written out.new) }
+    ensures complete { IsAccepted (F.held folder.old) (asked_by words.now)
         → ¬ Rose (F.faults folder.old) (F.faults folder.new)
         → ¬ Rose (S.faults out.old) (S.faults out.new)
         → IsDecided result }

@@ -1,13 +1,10 @@
 //! The program: compares sets of IAM policies.
 #![tactic(auto)]
 
-use compare_cli::run;
+use compare_cli::{Status, exit_number, run};
 use pol_outside::{DiskFolder, StdSink};
 use std::process::ExitCode;
 use std::{env, io};
-
-/// The exit number where there is no memory for the words; `run` has the same for its own.
-const NO_MEMORY: u8 = 7;
 
 /// The exit number where the runtime refuses the words. No status has it.
 const NO_WORDS: u8 = 9;
@@ -18,17 +15,17 @@ fn main(rt: HostRuntime) -> ExitCode {
         Ok(words) => words,
         Err(error) => {
             return ExitCode::from(if error.kind() == io::ErrorKind::OutOfMemory {
-                NO_MEMORY
+                exit_number(Status::NoMemory)
             } else {
                 NO_WORDS
             });
         }
     };
     let Ok(words) = words.skip(1).collect::<Vec<String>>(rt.alloc()) else {
-        return ExitCode::from(NO_MEMORY);
+        return ExitCode::from(exit_number(Status::NoMemory));
     };
     let mut folder = DiskFolder::new(&rt);
     let mut sink = StdSink::new(io::writer(&rt));
     let status = run(rt.alloc(), words.as_slice(), &mut folder, &mut sink);
-    ExitCode::from(status as u8)
+    ExitCode::from(exit_number(status))
 }
