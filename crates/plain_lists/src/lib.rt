@@ -6,7 +6,9 @@ ghost use Rattle.std.specs.Prelude.{◌≡◌, ◌++◌, ◌↔◌, [], ◌∷�
 ghost use Rattle.std.specs.Option.{option_copied};
 
 mod equal;
+mod equal_clone;
 
+pub use equal_clone::EqualClone;
 use std::alloc::{AllocError, Global};
 use std::marker::Model;
 
@@ -72,7 +74,7 @@ impl<T> List<T> {
         self.items.is_empty()
     }
 
-    /// The item at a place, counted from 0, or none where the list has no such place.
+    /// The item at an index, counted from 0, or none where the list has no such index.
     pub fn get(&self, i: usize) -> Option<&T>
         ensures { option_copied result ≡ slice_get self.now i }
     {

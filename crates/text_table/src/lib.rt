@@ -4,14 +4,16 @@
 
 ghost use Rattle.std.specs.Prelude.{◌≡◌, [], length, slice_get, option_map, OnOk, OnErr};
 ghost use Rattle.std.specs.Option.{option_copied};
+ghost use Rattle.std.proofs.Common.{rules};
 ghost use Rattle.text_table.specs.Table.{IsInOrder, item_at, with_item};
 
 #[cfg(test)]
 mod tests;
 
-use plain_lists::NoMemory;
+use plain_lists::{EqualClone, NoMemory};
 use std::alloc::Global;
 use std::collections::BTreeMap;
+use std::collections::btree_map::Iter;
 use std::marker::Model;
 use wildcard_lang::Text;
 
@@ -55,8 +57,17 @@ impl<V> Table<V> {
         self.entries.get(key)
     }
 
-    /// The entry at a place in the order of the keys, counted from 0, or none where the map has no
-    /// such place.
+    /// The entries in the order of the keys. What the iterator still gives stands in contracts as the
+    /// list of the entries that are left.
+    pub fn iter(&self) -> Iter<'_, Text, V>
+        ensures value { result ≡ self.now }
+        ensures ordered { IsInOrder self.now }
+    {
+        self.entries.iter()
+    }
+
+    /// The entry at an index in the order of the keys, counted from 0, or none where the map has no
+    /// such index. A walk over all entries goes by `iter`, since each call counts from the first.
     pub fn at(&self, i: usize) -> Option<(&Text, &V)>
         ensures { option_map (λ p. (p.0.now, p.1.now)) result ≡ slice_get self.now i }
     {
@@ -74,4 +85,17 @@ impl<V: Drop> Table<V> {
         self.entries.insert(key, item)?;
         Ok(())
     }
+}
+
+impl<V: EqualClone> Clone for Table<V> {
+    ghost is_clone = { λ t u. u ≡ t };
+
+    fn clone(&self) -> Result<Table<V>, NoMemory> {
+        let entries = self.entries.clone()?;
+        Ok(Table { entries })
+    }
+}
+
+impl<V: EqualClone> EqualClone for Table<V> {
+    ghost clones_are_equal = { Prim.search rules };
 }

@@ -1,13 +1,14 @@
-pub mod Accept
-pub mod Texts
-pub mod ReadSymbols
-pub mod PatternRules
-pub mod Narrow
-pub mod Written
-pub mod Inversions
-pub mod Literals
-pub mod Forms
-pub mod Parts
-pub mod Fronts
-pub mod Escapes
-pub mod Stepping
+pub mod Laws
+mod Accept
+mod Texts
+mod ReadSymbols
+mod PatternRules
+mod Narrow
+mod Written
+mod Inversions
+mod Literals
+mod Forms
+mod Parts
+mod Fronts
+mod Escapes
+mod Stepping

@@ -13,14 +13,12 @@ use Rattle.wildcard_lang.specs.Symbols.{character, symbols}
 use Rattle.wildcard_lang.specs.Reading.{literal, literals, literal_of}
 use Rattle.wildcard_lang.specs.Meanings.{IsSameCharacter, LiteralMatchesItself, FoldedLiteralMatchesEitherCase}
 use Rattle.wildcard_lang.proofs.Inversions.{empty_left, OneTaken, one_left}
+use Rattle.wildcard_lang.proofs.Texts.{lower_lower}
 
 -- ---- the piece of a plain character
 
 pub one-literal : (fold : Bool) (d : ℕ) → is_many (literal fold d) ≡ false
 one-literal fold d = cond_both (fold && is_ascii_alphabetic d) (LitFold (to_ascii_lowercase d)) (Lit d) (λ p. is_many p ≡ false) (λ e. refl) (λ e. refl)
-
-lower_lower : (c : ℕ) → to_ascii_lowercase (to_ascii_lowercase c) ≡ to_ascii_lowercase c
-lower_lower c = grind (arith, nat_tests)
 
 lower_upper_lower : (c : ℕ) → to_ascii_lowercase (to_ascii_uppercase (to_ascii_lowercase c)) ≡ to_ascii_lowercase c
 lower_upper_lower c = grind (arith, nat_tests)

@@ -1,7 +1,7 @@
 -- What is read is a pattern.
-use Rattle.std.proofs.Common.{◌≡◌, ℕ, zero, suc, ◌≤◌, Bool, true, false, ◌&&◌, ◌==◌, List, [], ◌∷◌, ◌++◌, map, length, Option, Some, None, if◌then◌else◌, refl, ap, ◌∙◌, subst, arith}
+use Rattle.std.proofs.Common.{◌≡◌, ℕ, zero, suc, ◌≤◌, Bool, true, false, ◌&&◌, ◌==◌, List, [], ◌∷◌, ◌++◌, map, length, Option, Some, None, if◌then◌else◌, refl, sym, ap, ◌∙◌, subst, arith, not, append_assoc}
 use Rattle.std.proofs.Math.Utf8.{scalar}
-use Rattle.std.proofs.lemmas.Bool.{cond_both, and_parts, and_from}
+use Rattle.std.proofs.lemmas.Bool.{cond_both, cond-false, and_parts, and_from, not-true}
 use Rattle.std.proofs.lemmas.Bool.Decides.{nat_tests}
 use Rattle.std.proofs.lemmas.Grind.{common_steps}
 use Rattle.std.specs.Char.{to_ascii_lowercase, is_ascii_alphabetic, is_ascii_lowercase}
@@ -15,7 +15,7 @@ use Rattle.wildcard_lang.specs.declared.symbol.Symbol.TheVariants.{Written, Esca
 use Rattle.wildcard_lang.specs.Text.{IsText}
 use Rattle.wildcard_lang.specs.Patterns.{own, is_lower, is_wide, is_not_narrow, narrow_first, IsPattern}
 use Rattle.wildcard_lang.specs.Symbols.{character, escaped, is_mark, opens, prepend, behind, unescaped, symbols}
-use Rattle.wildcard_lang.specs.Reading.{literal, wildcard, literal_of, wildcard_of}
+use Rattle.wildcard_lang.specs.Reading.{literal, literals, wildcard, literal_of, wildcard_of}
 use Rattle.wildcard_lang.proofs.Texts.{scalar-lowercase}
 
 -- ---- the characters of symbols
@@ -167,6 +167,12 @@ pub wildcards_of-written : (fold : Bool) (cs : List ℕ) → map (wildcard_of fo
 wildcards_of-written fold [] = refl
 wildcards_of-written fold (c ∷ cs) = ap (λ (ps : List Piece). wildcard fold c ∷ ps) (wildcards_of-written fold cs)
 
+pub IsPattern-literals : (fold : Bool) (cs : List ℕ) → IsText cs → length cs ≤ 2048 → IsPattern (literals fold cs)
+IsPattern-literals fold cs text fits =
+    let own : IsText (map character (map Written cs)) = rw (character-written cs) text in
+    let long : length (map Written cs) ≡ length cs = length-map cs Written in
+    rw (literals_of-written fold cs) at (IsPattern-pieces (literal_of fold) (Keeps-literal fold) (map Written cs) own (omega arith))
+
 -- what is read without escapes, where one symbol is one character
 pub plain_read : (piece : Symbol → Piece) (plain : ℕ → Piece) → ((cs : List ℕ) → map piece (map Written cs) ≡ map plain cs) → (escapes : Bool) (cs : List ℕ) (ss : List Symbol) (ps : List Piece) →
     symbols escapes cs ≡ Some ss → ps ≡ map piece ss → length ss ≤ 2048 → OnFalse escapes ((ps ≡ map plain cs) × (length cs ≤ 2048))
@@ -175,3 +181,31 @@ plain_read piece plain same false cs ss ps read made fits =
     let own : ss ≡ map Written cs = cc in
     let long : length ss ≡ length cs = ap length own ∙ length-map cs Written in
     (made ∙ ap (map piece) own ∙ same cs, omega arith)
+
+-- ---- patterns one behind the other
+
+flat_map-append : (ps qs : List Piece) → flat_map own (ps ++ qs) ≡ flat_map own ps ++ flat_map own qs
+flat_map-append [] qs = refl
+flat_map-append (p ∷ ps) qs = ap (λ (t : List ℕ). own p ++ t) (flat_map-append ps qs) ∙ sym (append_assoc (own p) (flat_map own ps) (flat_map own qs))
+
+list_all-append : (test : Piece → Bool) (ps qs : List Piece) → list_all test ps ≡ true → list_all test qs ≡ true → list_all test (ps ++ qs) ≡ true
+list_all-append test [] qs h k = k
+list_all-append test (p ∷ ps) qs h k = let parts = and_parts (test p) (list_all test ps) h in and_from _ _ parts.0 (list_all-append test ps qs parts.1 k)
+
+narrow_first-append : (ps qs : List Piece) → list_all (λ p. not (is_wide p)) ps ≡ true → narrow_first qs ≡ true → narrow_first (ps ++ qs) ≡ true
+narrow_first-append [] qs h k = k
+narrow_first-append (p ∷ ps) qs h k =
+    let parts = and_parts (not (is_wide p)) (list_all (λ q. not (is_wide q)) ps) h in
+    cond-false (is_wide p) _ _ (not-true (is_wide p) parts.0) ∙ narrow_first-append ps qs parts.1 k
+
+pub IsPattern-append : (ps qs : List Piece) → list_all (λ p. not (is_wide p)) ps ≡ true → IsPattern ps → IsPattern qs → length (ps ++ qs) ≤ 2048 → IsPattern (ps ++ qs)
+IsPattern-append ps qs narrow front behind fits = record {
+  fits = fits;
+  scalars = rw (flat_map-append ps qs) (IsText-append (flat_map own ps) (flat_map own qs) front.scalars behind.scalars);
+  lower = list_all-append is_lower ps qs front.lower behind.lower;
+  narrow = narrow_first-append ps qs narrow behind.narrow;
+}
+
+pub narrow-literals : (cs : List ℕ) → list_all (λ p. not (is_wide p)) (literals false cs) ≡ true
+narrow-literals [] = refl
+narrow-literals (c ∷ cs) = narrow-literals cs

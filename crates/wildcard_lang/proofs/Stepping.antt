@@ -1,5 +1,5 @@
 -- The step from the places of a text is the places of the text with one more character.
-use Rattle.std.proofs.Common.{◌≡◌, ℕ, zero, suc, ◌+◌, ◌<◌, ◌≤◌, List, [], ◌∷◌, ◌++◌, length, get_or, Bool, true, false, ◌||◌, ◌&&◌, All, Contains, eqb, inl, inr, refl, sym, ◌∙◌, arith, take}
+use Rattle.std.proofs.Common.{◌≡◌, ℕ, zero, suc, ◌+◌, ◌<◌, ◌≤◌, List, [], ◌∷◌, ◌++◌, length, get_or, Bool, true, false, ◌&&◌, All, Contains, eqb, inl, inr, refl, sym, ◌∙◌, arith, take}
 use Rattle.std.proofs.lemmas.Bool.{cases_eq, cases_lt, cases_Bool, both_ways, or_cases, or_left, or_right, and_parts, eqb-true, eq-eqb}
 use Rattle.std.proofs.lemmas.List.Elements.{All-head, All-tail}
 use Rattle.std.proofs.lemmas.Bool.Decides.{nat_tests}
@@ -8,7 +8,7 @@ use Rattle.wildcard_lang.specs.declared.piece.Piece.TheVariants.{One}
 use Rattle.wildcard_lang.specs.Matching.{takes, is_many}
 use Rattle.wildcard_lang.specs.Accepts.{accepts, reaches}
 use Rattle.wildcard_lang.proofs.Accept.{reaches-accepts, Decides-accepts}
-use Rattle.wildcard_lang.specs.Places.{has, rising, places_of, step, lists_of, step_lists, Leads, takes_one, stays, goes_on, PlacesAreMatched, StepsAreLed, ShowWider, WidthsGrow}
+use Rattle.wildcard_lang.specs.Places.{has, rising, places_of, step, lists_of, step_lists, Leads, takes_one, stays, goes_on, PlacesAreMatched, StepsAreLed, WidthsGrow}
 
 -- a number below the first is not in the list
 has-below : (f : ℕ → Bool) (i k j : ℕ) → j < i → has (rising f i k) j ≡ false
@@ -104,7 +104,7 @@ places-at [] k p t u e h is = absurd (omega arith)
 places-at (q ∷ qs) zero p t u e h is = let same : places_of q t ≡ places_of q u = cc in rw is at same
 places-at (q ∷ qs) (suc k) p t u e h is = let rest : lists_of qs t ≡ lists_of qs u = cc in places-at qs k p t u rest (omega arith) is
 
--- texts with the same lists of places of some patterns have the same lists of places of patterns that are among those
+-- texts with the same product state of some patterns have the same product state of patterns that are among those
 pub lists-among : (few more : List (List Piece)) (t u : List ℕ) → All (Contains more) few → lists_of more t ≡ lists_of more u → lists_of few t ≡ lists_of few u
 lists-among [] more t u among e = refl
 lists-among (p ∷ ps) more t u among e =

@@ -39,6 +39,10 @@ abbrev pub reaches : List Piece → (ℕ → Bool) → ℕ → ℕ → Bool
 reaches ps old c zero = false
 reaches ps old c (suc j) = mark_after (slice_index_or ps j One) c (old j) (old (suc j)) (reaches ps old c j)
 
+-- each place up to the number of pieces is marked anew exactly where the character c leads there from those marked before
+abbrev pub AreReached : List Piece → List Bool → ℕ → List Bool → Type 0
+AreReached ps old c new = (j : ℕ) → j ≤ length ps → slice_index_or new j false ≡ reaches ps (λ i. slice_index_or old i false) c j
+
 -- a test at each number from i on, k of them
 abbrev pub tests : (ℕ → Bool) → ℕ → ℕ → List Bool
 tests test i zero = []

@@ -6,6 +6,7 @@ use Rattle.wildcard_lang.specs.declared.piece.Piece.TheVariants.{Lit, LitFold, O
 use Rattle.wildcard_lang.specs.declared.fault.PatternFault.{PatternFault}
 use Rattle.wildcard_lang.specs.declared.fault.PatternFault.TheVariants.{PolicyVariable, ArnParts, TooLong, NoMemory}
 use Rattle.wildcard_lang.specs.Reading.{glob_pieces}
+use Rattle.wildcard_lang.specs.declared.pattern.TheConstants.{MOST_PIECES}
 
 -- the wildcard that takes no colon in place of one that takes any character
 abbrev pub narrow : Piece → Piece
@@ -52,8 +53,8 @@ arn_pieces escapes cs = option_map (narrowed 5) (glob_pieces false escapes cs)
 -- what the reader answers by the pieces that the text stands for: these pieces where there are five plain colons and at most
 -- 2,048 pieces, and otherwise the fault, besides want of memory
 abbrev pub IsArnRead : Option (List Piece) → Result (List Piece) PatternFault → Type 0
-IsArnRead read (Ok p) = (read ≡ Some p) × (5 ≤ colons p) × (length p ≤ 2048)
+IsArnRead read (Ok p) = (read ≡ Some p) × (5 ≤ colons p) × (length p ≤ MOST_PIECES)
 IsArnRead read (Err PolicyVariable) = read ≡ None
 IsArnRead read (Err ArnParts) = IsSomeAnd read (λ ps. colons ps < 5)
-IsArnRead read (Err TooLong) = IsSomeAnd read (λ ps. (5 ≤ colons ps) × (2048 < length ps))
+IsArnRead read (Err TooLong) = IsSomeAnd read (λ ps. (5 ≤ colons ps) × (MOST_PIECES < length ps))
 IsArnRead read (Err NoMemory) = Unit {0}

@@ -9,9 +9,11 @@ pub data Reads : List ℕ → List Symbol → Type 0 where
   -- no text, no symbols
   no_text : Reads [] []
   -- `${`, one of `*`, `?` and `$`, and `}` are that character, escaped
-  an_escape : {a b x d : ℕ} {cs : List ℕ} {ss : List Symbol} → a ≡ 36 → b ≡ 123 → is_mark x ≡ true → d ≡ 125 → Reads cs ss → Reads (a ∷ b ∷ x ∷ d ∷ cs) (Escaped x ∷ ss)
+  an_escape : {a b x d : ℕ} {cs : List ℕ} {ss : List Symbol} → a ≡ 36 → b ≡ 123 → is_mark x ≡ true → d ≡ 125 → Reads cs ss →
+      Reads (a ∷ b ∷ x ∷ d ∷ cs) (Escaped x ∷ ss)
   -- any other character, at which no `${` stands, is itself
-  a_character : {c : ℕ} {cs : List ℕ} {ss : List Symbol} → ((c == 36) && opens cs) ≡ false → Reads cs ss → Reads (c ∷ cs) (Written c ∷ ss)
+  a_character : {c : ℕ} {cs : List ℕ} {ss : List Symbol} → ((c == 36) && opens cs) ≡ false → Reads cs ss →
+      Reads (c ∷ cs) (Written c ∷ ss)
 
 -- the symbols of a text with escapes are those as which it is read. It has none, and a policy variable stands in it, exactly
 -- where it can't be read

@@ -29,8 +29,10 @@ pub data Matches : List Piece → List ℕ → Type 0 where
   -- no pieces match the empty text
   no_pieces : Matches [] []
   -- a piece for one character takes one
-  takes_one : {p : Piece} {ps : List Piece} {c : ℕ} {t : List ℕ} → is_many p ≡ false → takes p c ≡ true → Matches ps t → Matches (p ∷ ps) (c ∷ t)
+  takes_one : {p : Piece} {ps : List Piece} {c : ℕ} {t : List ℕ} → is_many p ≡ false → takes p c ≡ true → Matches ps t →
+      Matches (p ∷ ps) (c ∷ t)
   -- a piece for any number is done
   is_done : {p : Piece} {ps : List Piece} {t : List ℕ} → is_many p ≡ true → Matches ps t → Matches (p ∷ ps) t
   -- or takes one and stays
-  takes_more : {p : Piece} {ps : List Piece} {c : ℕ} {t : List ℕ} → is_many p ≡ true → takes p c ≡ true → Matches (p ∷ ps) t → Matches (p ∷ ps) (c ∷ t)
+  takes_more : {p : Piece} {ps : List Piece} {c : ℕ} {t : List ℕ} → is_many p ≡ true → takes p c ≡ true → Matches (p ∷ ps) t →
+      Matches (p ∷ ps) (c ∷ t)

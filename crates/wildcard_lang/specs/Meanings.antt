@@ -16,7 +16,8 @@ use Rattle.wildcard_lang.specs.Arns.{colons, arn_pieces}
 -- a literal pattern matches the plain text that was written, and no other
 abbrev pub LiteralMatchesItself : Type 0
 LiteralMatchesItself =
-    (escapes : Bool) (cs : List ℕ) (ps : List Piece) (t : List ℕ) → literal_pieces false escapes cs ≡ Some ps → Matches ps t ↔ (plain_text escapes cs ≡ Some t)
+    (escapes : Bool) (cs : List ℕ) (ps : List Piece) (t : List ℕ) → literal_pieces false escapes cs ≡ Some ps →
+    Matches ps t ↔ (plain_text escapes cs ≡ Some t)
 
 -- with folding it matches the texts that are the same once ASCII letters are lowered
 abbrev pub FoldedLiteralMatchesEitherCase : Type 0
@@ -52,16 +53,20 @@ pub data HasForm (fold : Bool) : List Symbol → List ℕ → Type 0 where
   -- no symbols name the empty text
   no_symbols : HasForm fold [] []
   -- a star stands for any run of characters, none included
-  star : {s : Symbol} {ss : List Symbol} {t : List ℕ} (run rest : List ℕ) → is_star s ≡ true → t ≡ run ++ rest → HasForm fold ss rest → HasForm fold (s ∷ ss) t
+  star : {s : Symbol} {ss : List Symbol} {t : List ℕ} (run rest : List ℕ) → is_star s ≡ true → t ≡ run ++ rest →
+      HasForm fold ss rest → HasForm fold (s ∷ ss) t
   -- a question mark stands for any one character
-  question_mark : {s : Symbol} {ss : List Symbol} {c : ℕ} {t : List ℕ} → is_question_mark s ≡ true → HasForm fold ss t → HasForm fold (s ∷ ss) (c ∷ t)
+  question_mark : {s : Symbol} {ss : List Symbol} {c : ℕ} {t : List ℕ} → is_question_mark s ≡ true → HasForm fold ss t →
+      HasForm fold (s ∷ ss) (c ∷ t)
   -- any other symbol stands for its character
-  plain : {s : Symbol} {ss : List Symbol} {c : ℕ} {t : List ℕ} → is_star s ≡ false → is_question_mark s ≡ false → IsSameCharacter fold (character s) c → HasForm fold ss t → HasForm fold (s ∷ ss) (c ∷ t)
+  plain : {s : Symbol} {ss : List Symbol} {c : ℕ} {t : List ℕ} → is_star s ≡ false → is_question_mark s ≡ false →
+      IsSameCharacter fold (character s) c → HasForm fold ss t → HasForm fold (s ∷ ss) (c ∷ t)
 
 -- a pattern with wildcards matches the texts that have the form of its symbols, and no others
 abbrev pub GlobMatchesItsForm : Type 0
 GlobMatchesItsForm =
-    (fold escapes : Bool) (cs : List ℕ) (ss : List Symbol) (ps : List Piece) (t : List ℕ) → symbols escapes cs ≡ Some ss → glob_pieces fold escapes cs ≡ Some ps →
+    (fold escapes : Bool) (cs : List ℕ) (ss : List Symbol) (ps : List Piece) (t : List ℕ) → symbols escapes cs ≡ Some ss →
+    glob_pieces fold escapes cs ≡ Some ps →
     Matches ps t ↔ HasForm fold ss t
 
 -- ---- patterns of ARNs
@@ -75,11 +80,13 @@ has_no_colon t = list_all (λ c. not (c == 58)) t
 pub data HasParts : ℕ → List Symbol → List ℕ → Type 0 where
   last_part : {ss : List Symbol} {t : List ℕ} → HasForm false ss t → HasParts zero ss t
   first_part : {k : ℕ} {ss : List Symbol} {t : List ℕ} (part : List Symbol) (colon : Symbol) (more : List Symbol) (text rest : List ℕ) →
-      ss ≡ part ++ colon ∷ more → character colon ≡ 58 → has_no_colon (map character part) ≡ true → t ≡ text ++ 58 ∷ rest → has_no_colon text ≡ true →
+      ss ≡ part ++ colon ∷ more → character colon ≡ 58 → has_no_colon (map character part) ≡ true → t ≡ text ++ 58 ∷ rest →
+      has_no_colon text ≡ true →
       HasForm false part text → HasParts k more rest → HasParts (suc k) ss t
 
 -- the pattern of an ARN, which has five colons at least, matches the texts that have its six parts, and no others
 abbrev pub ArnMatchesItsParts : Type 0
 ArnMatchesItsParts =
-    (escapes : Bool) (cs : List ℕ) (ss : List Symbol) (ps : List Piece) (t : List ℕ) → symbols escapes cs ≡ Some ss → arn_pieces escapes cs ≡ Some ps → 5 ≤ colons ps →
+    (escapes : Bool) (cs : List ℕ) (ss : List Symbol) (ps : List Piece) (t : List ℕ) → symbols escapes cs ≡ Some ss →
+    arn_pieces escapes cs ≡ Some ps → 5 ≤ colons ps →
     Matches ps t ↔ HasParts 5 ss t

@@ -5,6 +5,7 @@ use Rattle.std.specs.Char.{is_ascii_lowercase}
 use Rattle.wildcard_lang.specs.Text.{IsText}
 use Rattle.wildcard_lang.specs.declared.piece.Piece.{Piece}
 use Rattle.wildcard_lang.specs.declared.piece.Piece.TheVariants.{Lit, LitFold, One, Many, OneNoColon, ManyNoColon}
+use Rattle.wildcard_lang.specs.declared.pattern.TheConstants.{MOST_PIECES}
 
 -- the character of a literal piece
 abbrev pub own : Piece → List ℕ
@@ -49,7 +50,7 @@ narrow_first (p ∷ ps) = (if is_wide p then list_all is_not_narrow ps else narr
 -- a pattern has at most 2,048 pieces, its literals are Unicode scalars, its folded literals lower-case ASCII letters, and its
 -- wildcards that take no colon stand before those that do
 pub record IsPattern (ps : List Piece) : Type 0 where
-  pub fits : length ps ≤ 2048
+  pub fits : length ps ≤ MOST_PIECES
   pub scalars : IsText (flat_map own ps)
   pub lower : list_all is_lower ps ≡ true
   pub narrow : narrow_first ps ≡ true

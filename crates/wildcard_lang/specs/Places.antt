@@ -1,4 +1,4 @@
--- The places of a pattern after a text, the step by one more character, and how many lists of places patterns have.
+-- The places of a pattern after a text, the step by one more character, and how many product states patterns have.
 use Rattle.std.specs.Prelude.{◌≡◌, ◌≢◌, ℕ, zero, suc, ◌+◌, ◌<◌, ◌≤◌, ◌↔◌, IsTrue, List, [], ◌∷◌, ◌++◌, length, take, slice_index_or, Bool, true, false, cond, ◌==◌, All, AllPairs, Contains}
 use Rattle.std.specs.List.{list_any}
 use Rattle.wildcard_lang.specs.declared.piece.Piece.{Piece}
@@ -15,9 +15,12 @@ IsPlace ps t j = (j ≤ length ps) × Matches (take j ps) t
 -- number of characters that takes c, where that place is in the list; and, without a character, past a piece for any number of
 -- characters from a place that was so reached
 pub data Leads : List Piece → List ℕ → ℕ → ℕ → Type 0 where
-  takes_one : {ps : List Piece} {places : List ℕ} {c j : ℕ} → j < length ps → is_many (slice_index_or ps j One) ≡ false → takes (slice_index_or ps j One) c ≡ true → Contains places j → Leads ps places c (suc j)
-  stays : {ps : List Piece} {places : List ℕ} {c j : ℕ} → j < length ps → is_many (slice_index_or ps j One) ≡ true → takes (slice_index_or ps j One) c ≡ true → Contains places (suc j) → Leads ps places c (suc j)
-  goes_on : {ps : List Piece} {places : List ℕ} {c j : ℕ} → j < length ps → is_many (slice_index_or ps j One) ≡ true → Leads ps places c j → Leads ps places c (suc j)
+  takes_one : {ps : List Piece} {places : List ℕ} {c j : ℕ} → j < length ps → is_many (slice_index_or ps j One) ≡ false →
+      takes (slice_index_or ps j One) c ≡ true → Contains places j → Leads ps places c (suc j)
+  stays : {ps : List Piece} {places : List ℕ} {c j : ℕ} → j < length ps → is_many (slice_index_or ps j One) ≡ true →
+      takes (slice_index_or ps j One) c ≡ true → Contains places (suc j) → Leads ps places c (suc j)
+  goes_on : {ps : List Piece} {places : List ℕ} {c j : ℕ} → j < length ps → is_many (slice_index_or ps j One) ≡ true →
+      Leads ps places c j → Leads ps places c (suc j)
 
 -- whether j is in the list
 abbrev pub has : List ℕ → ℕ → Bool
@@ -36,18 +39,18 @@ places_of ps t = rising (λ i. accepts (take i ps) t) 0 (length ps + 1)
 abbrev pub step : List Piece → List ℕ → ℕ → List ℕ
 step ps places c = rising (reaches ps (has places) c) 0 (length ps + 1)
 
--- the lists of places of patterns after a text, pattern by pattern
+-- the product state of patterns after a text: the places of each
 abbrev pub lists_of : List (List Piece) → List ℕ → List (List ℕ)
 lists_of [] t = []
 lists_of (p ∷ ps) t = places_of p t ∷ lists_of ps t
 
--- the lists of places that c leads to, pattern by pattern
+-- the product state that c leads to: of each pattern the places that it leads to
 abbrev pub step_lists : List (List Piece) → List (List ℕ) → ℕ → List (List ℕ)
 step_lists [] lists c = []
 step_lists (p ∷ ps) [] c = []
 step_lists (p ∷ ps) (l ∷ ls) c = step p l c ∷ step_lists ps ls c
 
--- n + 1 texts, no two with the same lists of places of the patterns
+-- n + 1 texts, no two with the same product state of the patterns
 pub record ShowWider (patterns : List (List Piece)) (n : ℕ) (texts : List (List ℕ)) : Type 0 where
   pub count : length texts ≡ n + 1
   pub different : AllPairs (λ t u. lists_of patterns t ≢ lists_of patterns u) texts
@@ -67,8 +70,10 @@ StepsAreLed = (ps : List Piece) (places : List ℕ) (c j : ℕ) → IsTrue (has 
 
 -- the step of the places of a text gives those of the text with one more character
 abbrev pub StepsFollowTexts : Type 0
-StepsFollowTexts = (patterns : List (List Piece)) (t : List ℕ) (c : ℕ) → step_lists patterns (lists_of patterns t) c ≡ lists_of patterns (t ++ c ∷ [])
+StepsFollowTexts = (patterns : List (List Piece)) (t : List ℕ) (c : ℕ) →
+    step_lists patterns (lists_of patterns t) c ≡ lists_of patterns (t ++ c ∷ [])
 
--- texts that have different lists of places of some patterns have different lists of places of any patterns that have those
+-- texts that have different product states of some patterns have different product states of any patterns that have those
 abbrev pub WidthsGrow : Type 0
-WidthsGrow = (few more : List (List Piece)) (n : ℕ) (texts : List (List ℕ)) → All (Contains more) few → ShowWider few n texts → ShowWider more n texts
+WidthsGrow = (few more : List (List Piece)) (n : ℕ) (texts : List (List ℕ)) → All (Contains more) few → ShowWider few n texts →
+    ShowWider more n texts

@@ -8,6 +8,7 @@ use Rattle.wildcard_lang.specs.declared.symbol.Symbol.TheVariants.{Written, Esca
 use Rattle.wildcard_lang.specs.declared.fault.PatternFault.{PatternFault}
 use Rattle.wildcard_lang.specs.declared.fault.PatternFault.TheVariants.{PolicyVariable, ArnParts, TooLong, NoMemory}
 use Rattle.wildcard_lang.specs.Symbols.{symbols}
+use Rattle.wildcard_lang.specs.declared.pattern.TheConstants.{MOST_PIECES}
 
 -- the piece of a plain character. With folding an ASCII letter takes either case
 abbrev pub literal : Bool → ℕ → Piece
@@ -46,16 +47,16 @@ glob_pieces fold escapes cs = option_map (map (wildcard_of fold)) (symbols escap
 -- what a reader answers by the pieces that the text stands for: these pieces where there are at most 2,048 of them, and
 -- otherwise the fault, besides want of memory
 abbrev pub IsRead : Option (List Piece) → Result (List Piece) PatternFault → Type 0
-IsRead read (Ok p) = (read ≡ Some p) × (length p ≤ 2048)
+IsRead read (Ok p) = (read ≡ Some p) × (length p ≤ MOST_PIECES)
 IsRead read (Err PolicyVariable) = read ≡ None
 IsRead read (Err ArnParts) = ⊥
-IsRead read (Err TooLong) = IsSomeAnd read (λ ps. 2048 < length ps)
+IsRead read (Err TooLong) = IsSomeAnd read (λ ps. MOST_PIECES < length ps)
 IsRead read (Err NoMemory) = Unit {0}
 
 -- the same where each character of the text is a piece
 abbrev pub IsPlainRead : (ℕ → Piece) → List ℕ → Result (List Piece) PatternFault → Type 0
-IsPlainRead piece cs (Ok p) = (p ≡ map piece cs) × (length cs ≤ 2048)
+IsPlainRead piece cs (Ok p) = (p ≡ map piece cs) × (length cs ≤ MOST_PIECES)
 IsPlainRead piece cs (Err PolicyVariable) = ⊥
 IsPlainRead piece cs (Err ArnParts) = ⊥
-IsPlainRead piece cs (Err TooLong) = 2048 < length cs
+IsPlainRead piece cs (Err TooLong) = MOST_PIECES < length cs
 IsPlainRead piece cs (Err NoMemory) = Unit {0}

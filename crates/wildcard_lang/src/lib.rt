@@ -2,10 +2,11 @@
 #![tactic(auto)]
 
 mod arn;
+mod char_source;
 mod equal;
 mod fault;
-mod laws;
 mod matching;
+mod meanings;
 mod order;
 mod pattern;
 mod piece;
@@ -17,10 +18,10 @@ mod writing;
 
 pub use arn::read_arn;
 pub use fault::PatternFault;
-pub use laws::{
+pub use matching::{accepts_is_matches, matches, matches_str};
+pub use meanings::{
     arn_matches_its_parts, glob_matches_its_form, literal_matches_itself, symbols_are_read,
 };
-pub use matching::{accepts_is_matches, matches, matches_str};
 pub use pattern::{MOST_PIECES, Pattern, PatternList};
 pub use piece::Piece;
 pub use places::{
@@ -31,6 +32,3 @@ pub use reading::{read_glob, read_literal};
 pub use symbol::Symbol;
 pub use text::{Text, TextList};
 pub use writing::write_pattern;
-
-#[cfg(test)]
-mod tests;

@@ -5,6 +5,7 @@ ghost use Rattle.wildcard_lang.specs.declared.piece.Piece.{Piece};
 ghost use Rattle.wildcard_lang.specs.Accepts.{accepts};
 ghost use Rattle.wildcard_lang.specs.Matching.{Matches};
 
+use crate::char_source::CharSource;
 use crate::pattern::{MOST_PIECES, Pattern};
 use crate::piece::Piece;
 use crate::places::{start, step};
@@ -22,28 +23,34 @@ pub fn matches(pattern: &Pattern, text: &Text) -> bool
     matches_pieces(pattern.as_slice(), text.as_slice())
 }
 
+/// Whether the pattern matches the characters of the string. It takes no memory.
+pub fn matches_str(pattern: &Pattern, text: &str) -> bool
+    ensures { IsTrue result ↔ Matches pattern.now (chars text.now) }
+{
+    matches_pieces(pattern.as_slice(), text)
+}
+
 // Compares the pieces in front of the first for any number one by one.
-fn matches_pieces(pieces: &[Piece], text: &[char]) -> bool
+fn matches_pieces<S: CharSource>(pieces: &[Piece], text: S) -> bool
     requires { length pieces.now ≤ MOST_PIECES }
-    ensures { result ≡ accepts pieces.now text.now }
+    ensures { result ≡ accepts pieces.now (S.left text) }
 {
     let mut rest = pieces;
     let mut left = text;
     'front: loop {
         let [piece, more @ ..] = rest else {
-            return left.is_empty();
+            return left.next_char().is_none();
         };
         if piece.is_many() {
             return matches_places(rest, left);
         }
-        let [c, behind @ ..] = left else {
+        let Some(c) = left.next_char() else {
             return false;
         };
-        if !piece.takes(*c) {
+        if !piece.takes(c) {
             return false;
         }
         rest = more;
-        left = behind;
     }
 }
 
@@ -55,9 +62,9 @@ fn is_star(piece: Piece) -> bool
 }
 
 // Keeps the places of the pieces, of which the first is for any number.
-fn matches_places(pieces: &[Piece], text: &[char]) -> bool
+fn matches_places<S: CharSource>(pieces: &[Piece], text: S) -> bool
     requires { length pieces.now ≤ MOST_PIECES }
-    ensures { result ≡ accepts pieces.now text.now }
+    ensures { result ≡ accepts pieces.now (S.left text) }
 {
     if let [piece] = pieces {
         if is_star(*piece) {
@@ -66,20 +73,8 @@ fn matches_places(pieces: &[Piece], text: &[char]) -> bool
     }
     let mut places = [false; MOST_PIECES + 1];
     start(pieces, &mut places);
-    for c in text {
-        step(pieces, &mut places, *c);
-    }
-    places[pieces.len()]
-}
-
-/// Whether the pattern matches the characters of the string. It takes no memory.
-pub fn matches_str(pattern: &Pattern, text: &str) -> bool
-    ensures { IsTrue result ↔ Matches pattern.now (chars text.now) }
-{
-    let pieces = pattern.as_slice();
-    let mut places = [false; MOST_PIECES + 1];
-    start(pieces, &mut places);
-    for c in text.chars() {
+    let mut left = text;
+    'text: while let Some(c) = left.next_char() {
         step(pieces, &mut places, c);
     }
     places[pieces.len()]

@@ -1,11 +1,14 @@
 //! Patterns as lists of pieces.
-ghost use Rattle.std.specs.Prelude.{◌≡◌, ◌≤◌, length, slice_get, IfOk};
+ghost use Rattle.std.specs.Prelude.{◌≡◌, ◌≤◌, false, length, slice_get, IfOk};
 ghost use Rattle.std.specs.Option.{option_copied};
+ghost use Rattle.std.proofs.Common.{rules};
 ghost use Rattle.wildcard_lang.specs.Patterns.{IsPattern};
+ghost use Rattle.wildcard_lang.specs.Reading.{literals};
 
 use crate::piece::Piece;
-use plain_lists::{List, NoMemory};
-use std::alloc::Global;
+use crate::text::Text;
+use plain_lists::{EqualClone, List, NoMemory};
+use std::alloc::{AllocError, Global};
 use std::marker::Model;
 
 /// The most pieces that a pattern has.
@@ -35,11 +38,20 @@ pub type PatternList = List<Pattern>;
 
 impl Pattern {
     /// The pattern of these pieces. It takes no memory.
-    pub(crate) fn from_pieces(pieces: Vec<Piece>) -> Pattern
+    pub fn from_pieces(pieces: Vec<Piece>) -> Pattern
         requires { IsPattern pieces.items }
         ensures { result ≡ pieces.items }
     {
         Pattern { pieces }
+    }
+
+    /// The pattern that takes the characters of the text, one by one, and so matches it alone.
+    pub fn literal(alloc: Global, text: &Text) -> Result<Pattern, NoMemory>
+        requires { length text.now ≤ MOST_PIECES }
+        ensures { IfOk result (λ p. p ≡ literals false text.now) }
+    {
+        let pieces = literals(alloc, text.as_slice())?;
+        Ok(Pattern { pieces })
     }
 
     /// How many pieces there are.
@@ -58,7 +70,7 @@ impl Pattern {
         self.pieces.as_slice()
     }
 
-    /// The piece at a place, counted from 0, or none where the pattern has no such place.
+    /// The piece at an index, counted from 0, or none where the pattern has no such index.
     pub fn get(&self, i: usize) -> Option<&Piece>
         ensures { option_copied result ≡ slice_get self.now i }
     {
@@ -72,4 +84,22 @@ impl Pattern {
         let pieces = self.pieces.clone()?;
         Ok(Pattern { pieces })
     }
+}
+
+fn literals(alloc: Global, chars: &[char]) -> Result<Vec<Piece>, AllocError>
+    ensures { IfOk result (λ v. v.items ≡ literals false chars.now) }
+{
+    chars.iter().map(|c| Piece::Lit(*c)).collect(alloc)
+}
+
+impl Clone for Pattern {
+    ghost is_clone = { λ p q. q ≡ p };
+
+    fn clone(&self) -> Result<Pattern, NoMemory> {
+        self.copy()
+    }
+}
+
+impl EqualClone for Pattern {
+    ghost clones_are_equal = { Prim.search rules };
 }

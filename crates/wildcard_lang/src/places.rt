@@ -1,6 +1,6 @@
 //! The places of a pattern after a text, as marks: one for each number of first pieces.
-ghost use Rattle.std.specs.Prelude.{◌≡◌, ◌+◌, ◌<◌, ◌≤◌, ℕ, [], false, length, slice_index_or};
-ghost use Rattle.wildcard_lang.specs.Accepts.{ArePlaces, mark_after, marks_of, marks_reached, reaches};
+ghost use Rattle.std.specs.Prelude.{◌≡◌, ◌+◌, ◌<◌, [], length};
+ghost use Rattle.wildcard_lang.specs.Accepts.{ArePlaces, AreReached, mark_after, marks_of, marks_reached};
 ghost use Rattle.wildcard_lang.specs.Places.{PlacesAreMatched, StepsAreLed, StepsFollowTexts, WidthsGrow};
 
 use crate::pattern::Pattern;
@@ -33,7 +33,7 @@ fn mark_after(piece: Piece, c: char, before: bool, old: bool, below: bool) -> bo
 // Marks the places after one more character.
 pub(crate) fn step(pieces: &[Piece], places: &mut [bool], c: char)
     requires { length pieces.now < length places.old }
-    ensures { (j : ℕ) → j ≤ length pieces.now → slice_index_or places.new j false ≡ reaches pieces.now (λ i. slice_index_or places.old i false) c j }
+    ensures { AreReached pieces.now places.old c places.new }
 {
     let mut before = places[0];
     places[0] = false;

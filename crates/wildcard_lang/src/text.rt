@@ -1,9 +1,10 @@
 //! Texts as lists of Unicode scalars.
 ghost use Rattle.std.specs.Prelude.{◌≡◌, ◌↔◌, [], IsTrue, length, slice_get, IfOk, string_bytes};
 ghost use Rattle.std.specs.Str.{chars, encode_utf8_all};
+ghost use Rattle.std.proofs.Common.{rules};
 ghost use Rattle.wildcard_lang.specs.Text.{IsText, folded_text};
 
-use plain_lists::{List, NoMemory};
+use plain_lists::{EqualClone, List, NoMemory};
 use std::alloc::Global;
 use std::marker::Model;
 
@@ -68,7 +69,7 @@ impl Text {
         self.chars.as_slice()
     }
 
-    /// The character at a place, counted from 0, or none where the text has no such place.
+    /// The character at an index, counted from 0, or none where the text has no such index.
     pub fn get(&self, i: usize) -> Option<char>
         ensures { result ≡ slice_get self.now i }
     {
@@ -83,9 +84,10 @@ impl Text {
         Ok(Text { chars })
     }
 
-    /// The text with its ASCII letters lowered.
+    /// The text with its ASCII letters lowered. Folded once more it stays as it is.
     pub fn folded(&self) -> Result<Text, NoMemory>
-        ensures { IfOk result (λ t. t ≡ folded_text self.now) }
+        ensures value { IfOk result (λ t. t ≡ folded_text self.now) }
+        ensures folded { IfOk result (λ t. folded_text t ≡ t) }
     {
         let alloc = *self.chars.allocator();
         let chars: Vec<char> = self
@@ -103,4 +105,16 @@ impl Text {
         let text: String = self.chars.iter().copied().collect(*self.chars.allocator())?;
         Ok(text)
     }
+}
+
+impl Clone for Text {
+    ghost is_clone = { λ t u. u ≡ t };
+
+    fn clone(&self) -> Result<Text, NoMemory> {
+        self.copy()
+    }
+}
+
+impl EqualClone for Text {
+    ghost clones_are_equal = { Prim.search rules };
 }

@@ -1,5 +1,5 @@
 use Rattle.wildcard_lang.proofs.Forms.{glob_matches}
-use Rattle.wildcard_lang.proofs.laws.glob_matches_its_form.Goals as goal
+use Rattle.wildcard_lang.proofs.meanings.glob_matches_its_form.Goals as goal
 
 pub returns : goal.returns
 returns c = glob_matches

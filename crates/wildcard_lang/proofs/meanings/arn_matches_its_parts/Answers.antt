@@ -1,5 +1,5 @@
 use Rattle.wildcard_lang.proofs.Parts.{arn_matches}
-use Rattle.wildcard_lang.proofs.laws.arn_matches_its_parts.Goals as goal
+use Rattle.wildcard_lang.proofs.meanings.arn_matches_its_parts.Goals as goal
 
 pub returns : goal.returns
 returns c = arn_matches

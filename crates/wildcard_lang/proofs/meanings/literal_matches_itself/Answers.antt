@@ -3,7 +3,7 @@ use Rattle.wildcard_lang.specs.Matching.{Matches}
 use Rattle.wildcard_lang.specs.Reading.{literals}
 use Rattle.std.proofs.Common.{false}
 use Rattle.wildcard_lang.proofs.Literals.{literal_matches, folded_literal_matches, exact-matched, exact-matches, folded-matched, folded-matches}
-use Rattle.wildcard_lang.proofs.laws.literal_matches_itself.Goals as goal
+use Rattle.wildcard_lang.proofs.meanings.literal_matches_itself.Goals as goal
 
 pub returns-clause-exact : goal.returns-clause-exact
 returns-clause-exact c = literal_matches

@@ -1,0 +1,103 @@
+//! Answers each line of standard input, whose words stand between tabs: a kind, a pattern and texts.
+//! The answer is the pattern that was read, written again, and a mark for each text: `y` where the
+//! pattern matches it and `n` where it doesn't; or why the pattern is refused. For the kind `text` it
+//! is the texts, folded.
+#![tactic(auto)]
+
+use std::alloc::Global;
+use std::io;
+use std::io::{BufRead, BufReader, Write};
+use std::str::Split;
+use wildcard_lang::{
+    MOST_PIECES, Pattern, PatternFault, Text, matches, matches_str, read_arn, read_glob,
+    read_literal, write_pattern,
+};
+
+/// The pattern of a kind: `glob`, `literal` or `arn`, in capitals with escapes, and with `+` folded;
+/// `itself` takes the characters of the text as they are.
+fn read(alloc: Global, kind: &str, own: &str) -> Result<Pattern, PatternFault> {
+    match kind {
+        "glob" => read_glob(alloc, own, false, false),
+        "glob+" => read_glob(alloc, own, true, false),
+        "GLOB" => read_glob(alloc, own, false, true),
+        "GLOB+" => read_glob(alloc, own, true, true),
+        "literal" => read_literal(alloc, own, false, false),
+        "literal+" => read_literal(alloc, own, true, false),
+        "LITERAL" => read_literal(alloc, own, false, true),
+        "LITERAL+" => read_literal(alloc, own, true, true),
+        "arn" => read_arn(alloc, own, false),
+        "ARN" => read_arn(alloc, own, true),
+        _ => literal(alloc, &Text::of(alloc, own)?),
+    }
+}
+
+fn literal(alloc: Global, text: &Text) -> Result<Pattern, PatternFault> {
+    if text.len() > MOST_PIECES {
+        return Err(PatternFault::TooLong);
+    }
+    Ok(Pattern::literal(alloc, text)?)
+}
+
+fn fault_name(fault: PatternFault) -> &'static str {
+    match fault {
+        PatternFault::ArnParts => "ArnParts",
+        PatternFault::PolicyVariable => "PolicyVariable",
+        PatternFault::TooLong => "TooLong",
+        PatternFault::NoMemory => "NoMemory",
+    }
+}
+
+/// What the two calls that match say, where they agree.
+fn mark(pattern: &Pattern, chars: &Text, text: &str) -> char {
+    match (matches(pattern, chars), matches_str(pattern, text)) {
+        (true, true) => 'y',
+        (false, false) => 'n',
+        _ => '?',
+    }
+}
+
+fn show(
+    alloc: Global,
+    answer: &mut String,
+    pattern: &Pattern,
+    texts: Split<'_, char>,
+) -> io::Result<()> {
+    answer.push_str(&write_pattern(alloc, &pattern.copy()?)?.to_utf8()?)?;
+    answer.push('\t')?;
+    for text in texts {
+        answer.push(mark(pattern, &Text::of(alloc, text)?, text))?;
+    }
+    Ok(())
+}
+
+fn show_folded(alloc: Global, answer: &mut String, texts: Split<'_, char>) -> io::Result<()> {
+    for text in texts {
+        answer.push_str(&Text::of(alloc, text)?.copy()?.folded()?.to_utf8()?)?;
+        answer.push('\t')?;
+    }
+    Ok(())
+}
+
+fn answer_to(alloc: Global, answer: &mut String, line: &str) -> io::Result<()> {
+    let mut words = line.split('\t');
+    let kind = words.next().unwrap_or("");
+    if kind == "text" {
+        return show_folded(alloc, answer, words);
+    }
+    match read(alloc, kind, words.next().unwrap_or("")) {
+        Ok(pattern) => show(alloc, answer, &pattern, words),
+        Err(fault) => Ok(answer.push_str(fault_name(fault))?),
+    }
+}
+
+fn main(rt: HostRuntime) -> io::Result<()> {
+    let alloc = rt.alloc();
+    let mut out = io::writer(&rt);
+    for line in BufReader::new(alloc, rt.reader())?.lines(alloc) {
+        let mut answer = String::new(alloc);
+        answer_to(alloc, &mut answer, line?.as_str())?;
+        answer.push('\n')?;
+        out.write_all(answer.as_bytes())?;
+    }
+    Ok(())
+}
