@@ -1,5 +1,5 @@
 -- What one `take` from a folder says.
-use Rattle.std.specs.Prelude.{◌≡◌, ℕ, ◌+◌, ◌<◌, ◌≤◌, List, [], ◌++◌, length, take, Option, Some, None, Result, Ok, Err, ⊤, if◌then◌else◌}
+use Rattle.std.specs.Prelude.{◌≡◌, ℕ, ◌+◌, ◌<◌, ◌≤◌, List, [], ◌++◌, length, take, Option, Some, None, option_map, String, string_bytes, Result, Ok, Err, ⊤, if◌then◌else◌}
 use Rattle.std.specs.Str.{bytes_eq}
 use Rattle.pol_outside.specs.declared.folder.TakeFault.{TakeFault}
 use Rattle.pol_outside.specs.declared.folder.TakeFault.TheVariants.{Failed, TooLong, NoMemory}
@@ -23,10 +23,15 @@ abbrev pub BeginsFile : Option Files → List ℕ → List ℕ → Type 0
 BeginsFile None name given = ⊤
 BeginsFile (Some files) name given = Begins (files name) given
 
+-- a longer file, of which this is the front with one byte more than the limit
+abbrev pub BeginsLonger : Option Files → List ℕ → ℕ → List ℕ → Type 0
+BeginsLonger held name limit given =
+    (bytes : List ℕ) × IsFile held name bytes × (limit < length bytes) × (given ≡ take (limit + 1) bytes)
+
 -- what came of a file under a limit
 abbrev pub Gives : Option Files → List ℕ → ℕ → Result Unit TakeFault → List ℕ → Type 0
 Gives held name limit (Ok u) given = IsFile held name given × (length given ≤ limit)
-Gives held name limit (Err TooLong) given = (length given ≡ limit + 1) × ((bytes : List ℕ) × IsFile held name bytes × (limit < length bytes) × (given ≡ take (limit + 1) bytes))
+Gives held name limit (Err TooLong) given = (length given ≡ limit + 1) × BeginsLonger held name limit given
 Gives held name limit (Err Failed) given = BeginsFile held name given
 Gives held name limit (Err NoMemory) given = BeginsFile held name given
 
@@ -35,6 +40,14 @@ pub record Takes (held : Option Files) (name : List ℕ) (limit : ℕ) (result :
   pub given : List ℕ
   pub grown : new ≡ old ++ given
   pub gives : Gives held name limit result given
+
+-- the bytes of a name, where there is one
+abbrev pub name_bytes : {A : Type 0} → Option (String A) → Option (List ℕ)
+name_bytes text = option_map (λ s. string_bytes s) text
+
+-- the folder whose every name stands for these bytes, where they are told
+abbrev pub one_file : Option (List ℕ) → Option Files
+one_file bytes = option_map (λ bs. λ name. Some bs) bytes
 
 -- `Failed` is answered only where the count rose, and then the last fault is at that name. No other answer changes that name.
 abbrev pub NamesFault : {T : Type 0} → Result T TakeFault → List ℕ → ℕ → ℕ → Option (List ℕ) → Option (List ℕ) → Type 0

@@ -4,4 +4,3 @@ pub mod MemoryFolder
 pub mod SafeFolder
 pub mod Sink
 pub mod MemorySink
-pub mod DiskFolder

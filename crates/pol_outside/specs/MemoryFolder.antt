@@ -1,5 +1,5 @@
 -- What a folder in memory stands for: its files, and its calls with their faults.
-use Rattle.std.specs.Prelude.{◌≡◌, ℕ, ◌==◌, Bool, true, false, List, [], Option, None, option_map, string_bytes, is_none, Result, Ok, Err, ⊤, if◌then◌else◌}
+use Rattle.std.specs.Prelude.{◌≡◌, ℕ, ◌==◌, Bool, true, false, List, [], ◌∷◌, ◌++◌, Option, None, option_map, string_bytes, is_none, Result, Ok, Err, ⊤, if◌then◌else◌}
 use Rattle.std.specs.List.{list_any}
 use Rattle.std.specs.BTreeMap.{get_by_text}
 use Rattle.pol_outside.specs.Faults.{one_more}
@@ -20,19 +20,28 @@ pub record FolderCalls : Type 0 where
   pub last_fault : Option (List ℕ)
 
 abbrev pub folder_calls : MemoryFolder → FolderCalls
-folder_calls folder = record { failing = folder.failing.items; made = folder.calls; faults = folder.faults; last_fault = option_map (λ s. string_bytes s) folder.last_fault }
+folder_calls folder = record {
+  failing = folder.failing.items;
+  made = folder.calls;
+  faults = folder.faults;
+  last_fault = option_map (λ s. string_bytes s) folder.last_fault;
+}
 
 -- no call was made and none is to fail
 abbrev pub no_folder_calls : FolderCalls
 no_folder_calls = record { failing = []; made = 0; faults = 0; last_fault = None }
+
+-- the calls where one more is to fail
+abbrev pub take_fails_at : ℕ → FolderCalls → FolderCalls
+take_fails_at call calls = record calls { failing = calls.failing ++ call ∷ [] }
 
 -- whether the next call is among those that are to fail
 abbrev pub next_is_to_fail : List ℕ → ℕ → Bool
 next_is_to_fail failing made = list_any (λ call. call == one_more made) failing
 
 -- whether the next call is a fault: it is to fail, or there is no file of the name
-abbrev pub next_is_fault : FolderCalls → Option (List ℕ) → Bool
-next_is_fault calls file = if next_is_to_fail calls.failing calls.made then true else is_none file
+abbrev pub next_is_fault : MemoryFolder → List ℕ → Bool
+next_is_fault folder name = if next_is_to_fail folder.failing.items folder.calls then true else is_none (files_of folder name)
 
 -- a fault is answered where the call is one, and no file is given then; only want of memory may come besides
 abbrev pub FaultIsAnswered : Bool → Result Unit TakeFault → Type 0

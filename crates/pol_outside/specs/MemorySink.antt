@@ -1,5 +1,5 @@
 -- What a sink in memory stands for: the bytes that were written, its limits, and its calls with their faults.
-use Rattle.std.specs.Prelude.{◌≡◌, ℕ, ◌-◌, ◌==◌, Bool, true, false, List, [], length, min, Result, Ok, Err, if◌then◌else◌}
+use Rattle.std.specs.Prelude.{◌≡◌, ℕ, ◌-◌, ◌==◌, Bool, true, false, List, [], ◌∷◌, ◌++◌, length, min, Result, Ok, Err, if◌then◌else◌}
 use Rattle.std.specs.List.{list_any}
 use Rattle.pol_outside.specs.Faults.{one_more}
 use Rattle.pol_outside.specs.declared.memory_sink.MemorySink.{MemorySink}
@@ -30,15 +30,19 @@ sink_calls sink = record { failing = sink.failing.items; made = sink.calls; faul
 abbrev pub no_sink_calls : SinkCalls
 no_sink_calls = record { failing = []; made = 0; faults = 0 }
 
+-- the calls where one more is to fail
+abbrev pub put_fails_at : ℕ → SinkCalls → SinkCalls
+put_fails_at call calls = record calls { failing = calls.failing ++ call ∷ [] }
+
 -- how many of the bytes fit after those that were written, at one call
-abbrev pub fits_next : SinkLimits → List ℕ → List ℕ → ℕ
-fits_next limits bytes piece = min (length piece) (min limits.most (limits.room - length bytes))
+abbrev pub fits_next : MemorySink → List ℕ → ℕ
+fits_next sink piece = min (length piece) (min sink.most (sink.room - length sink.bytes.items))
 
 -- whether the next call is a fault: it is to fail, or no room is left
-abbrev pub next_put_is_fault : SinkLimits → SinkCalls → List ℕ → Bool
-next_put_is_fault limits calls bytes = if limits.room - length bytes == 0 then true else list_any (λ call. call == one_more calls.made) calls.failing
+abbrev pub next_put_is_fault : MemorySink → Bool
+next_put_is_fault sink = if sink.room - length sink.bytes.items == 0 then true else list_any (λ call. call == one_more sink.calls) sink.failing.items
 
--- a fault is answered exactly where the call is one, and else all that fits is taken; the count rises by that fault alone
-abbrev pub PutsWhatFits : Bool → ℕ → Result ℕ SinkFault → ℕ → ℕ → Type 0
-PutsWhatFits is_fault fits (Ok n) before now = (is_fault ≡ false) × (n ≡ fits) × (now ≡ before)
-PutsWhatFits is_fault fits (Err e) before now = (is_fault ≡ true) × (now ≡ one_more before)
+-- a fault is answered exactly where the call is one, and else all that fits is taken
+abbrev pub PutsWhatFits : Bool → ℕ → Result ℕ SinkFault → Type 0
+PutsWhatFits is_fault fits (Ok n) = (is_fault ≡ false) × (n ≡ fits)
+PutsWhatFits is_fault fits (Err e) = is_fault ≡ true

@@ -1,8 +1,7 @@
 // Real files. What they hold is not told.
-ghost use Rattle.std.specs.Prelude.{◌≡◌, ◌≤◌, ◌<◌, ◌^◌, Some, None, option_map, string_bytes};
+ghost use Rattle.std.specs.Prelude.{◌≡◌, ◌≤◌, [], Some, None};
 ghost use Rattle.pol_outside.specs.Faults.{one_more};
-ghost use Rattle.pol_outside.specs.Folder.{Takes, NamesFault, CountsFault};
-ghost use Rattle.pol_outside.specs.DiskFolder.{Grows};
+ghost use Rattle.pol_outside.specs.Folder.{Takes, NamesFault, CountsFault, one_file, name_bytes};
 
 use crate::{Folder, TakeFault};
 use std::alloc::Global;
@@ -38,6 +37,7 @@ impl<'a, R: Files> DiskFolder<'a, R> {
         ensures fault { result ≡ TakeFault.Failed }
         ensures faults { self.new.faults ≡ one_more self.old.faults }
         ensures name { self.new.last_fault ≡ Some asked }
+        ensures later { self.old.faults ≤ self.new.faults }
     {
         self.faults = self.faults.saturating_add(1);
         self.last_fault = Some(asked);
@@ -50,7 +50,7 @@ impl<'a, R: Files> Folder for DiskFolder<'a, R> {
 
     ghost faults = { λ f. f.faults };
 
-    ghost last_fault = { λ f. option_map (λ s. string_bytes s) f.last_fault };
+    ghost last_fault = { λ f. name_bytes f.last_fault };
 
     /// Opens the file and reads it in pieces, never more than `limit + 1` bytes. An error of the
     /// system is a fault, and a name that isn't there is one.
@@ -64,59 +64,47 @@ impl<'a, R: Files> Folder for DiskFolder<'a, R> {
         requires { limit ≤ 67108864 }
         ensures given { Takes None name.now limit result into.old.items into.new.items }
         ensures later { self.old.faults ≤ self.new.faults }
-        ensures cause { NamesFault result name.now self.old.faults self.new.faults (option_map (λ s. string_bytes s) self.old.last_fault) (option_map (λ s. string_bytes s) self.new.last_fault) }
+        ensures cause { NamesFault result name.now self.old.faults self.new.faults
+            (name_bytes self.old.last_fault) (name_bytes self.new.last_fault) }
         ensures counts { CountsFault result self.old.faults self.new.faults }
     {
         let Ok(asked) = String::from_str(alloc, name) else {
             return Err(TakeFault::NoMemory);
         };
         match fs::open(self.files, name) {
-            Ok(mut file) => match read_up_to(&mut file, limit as usize + 1, into) {
-                Ok(Ended::Early) => Ok(()),
-                Ok(Ended::Full) => Err(TakeFault::TooLong),
-                Err(ReadFault::NoMemory) => Err(TakeFault::NoMemory),
-                Err(ReadFault::Failed) => Err(self.fail(asked)),
+            Ok(mut file) => match read_up_to(&mut file, limit, into) {
+                Err(TakeFault::Failed) => Err(self.fail(asked)),
+                taken => taken,
             },
             Err(_) => Err(self.fail(asked)),
         }
     }
 }
 
-// Why reading ended: the file had no more, or the room was filled.
-#[derive(Clone, Copy, Debug, PartialEq, Eq)]
-enum Ended {
-    Early,
-    Full,
-}
-
-#[derive(Clone, Copy, Debug, PartialEq, Eq)]
-enum ReadFault {
-    Failed,
-    NoMemory,
-}
-
 // How many bytes are read at once. They stand on the stack.
 const CHUNK: usize = 4096;
 
-// Reads to the end, or `room` bytes.
-fn read_up_to<F: Read>(file: &mut F, room: usize, into: &mut Vec<u8>) -> Result<Ended, ReadFault>
-    requires { room < 2 ^ 63 }
-    ensures { Grows room result into.old.items into.new.items }
+// Reads to the end, or one byte more than the limit. A read that gives no byte is the end; an error is
+// `Failed`, and the first bytes stay in `into`.
+fn read_up_to<F: Read>(file: &mut F, limit: u64, into: &mut Vec<u8>) -> Result<(), TakeFault>
+    requires { limit ≤ 67108864 }
+    ensures { Takes (one_file (F.remaining file.old)) [] limit result into.old.items
+        into.new.items }
 {
     let mut chunk = [0u8; CHUNK];
-    let mut left = room;
+    let mut left = limit as usize + 1;
     while left > 0 {
         let most = left.min(CHUNK);
         let Ok(n) = file.read(&mut chunk[..most]) else {
-            return Err(ReadFault::Failed);
+            return Err(TakeFault::Failed);
         };
         if n == 0 {
-            return Ok(Ended::Early);
+            return Ok(());
         }
         if into.extend_from_slice(&chunk[..n]).is_err() {
-            return Err(ReadFault::NoMemory);
+            return Err(TakeFault::NoMemory);
         }
         left -= n;
     }
-    Ok(Ended::Full)
+    Err(TakeFault::TooLong)
 }

@@ -42,5 +42,6 @@ pub trait Folder {
         ensures given { Takes (held self.old) name.now limit result into.old.items into.new.items }
         ensures held { held self.new ≡ held self.old }
         ensures later { faults self.old ≤ faults self.new }
-        ensures cause { NamesFault result name.now (faults self.old) (faults self.new) (last_fault self.old) (last_fault self.new) };
+        ensures cause { NamesFault result name.now (faults self.old) (faults self.new)
+            (last_fault self.old) (last_fault self.new) };
 }

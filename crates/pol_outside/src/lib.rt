@@ -12,8 +12,6 @@ mod safe_folder;
 mod safe_sink;
 mod sink;
 mod std_sink;
-#[cfg(test)]
-mod tests;
 
 pub use disk_folder::DiskFolder;
 pub use folder::{Folder, TakeFault};

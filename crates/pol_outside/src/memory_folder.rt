@@ -1,5 +1,5 @@
 // A folder in memory, whose calls fail where they are told to.
-ghost use Rattle.std.specs.Prelude.{◌≡◌, ◌≤◌, ◌∷◌, ◌++◌, ℕ, List, [], Some, None, OnOk, OnErr, option_map, string_bytes};
+ghost use Rattle.std.specs.Prelude.{◌≡◌, ◌≤◌, ℕ, List, [], Some, None, OnOk, OnErr, option_map, string_bytes};
 ghost use Rattle.pol_outside.specs.Faults.{one_more};
 ghost use Rattle.pol_outside.specs.Folder.{Takes, NamesFault, CountsFault, Replaces, SameFiles};
 
@@ -20,7 +20,7 @@ pub struct MemoryFolder {
 }
 
 impl MemoryFolder {
-    ghost use Rattle.pol_outside.specs.MemoryFolder.{files_of, folder_calls, no_folder_calls};
+    ghost use Rattle.pol_outside.specs.MemoryFolder.{files_of, folder_calls, no_folder_calls, take_fails_at};
 
     /// The folder without a file, whose calls aren't to fail. It takes no memory.
     pub fn new(alloc: Global) -> MemoryFolder
@@ -39,7 +39,8 @@ impl MemoryFolder {
     /// Holds these bytes under a name, in place of those that were there. Where there is no memory
     /// the folder stays as it was.
     pub fn hold(&mut self, name: &str, bytes: &[u8]) -> Result<(), NoMemory>
-        ensures ok { OnOk result (Replaces (files_of self.old) name.now bytes.now (files_of self.new)) }
+        ensures ok { OnOk result (Replaces (files_of self.old) name.now bytes.now
+            (files_of self.new)) }
         ensures err { OnErr result (SameFiles (files_of self.old) (files_of self.new)) }
         ensures calls { folder_calls self.new ≡ folder_calls self.old }
     {
@@ -54,7 +55,8 @@ impl MemoryFolder {
     /// there is no memory the folder stays as it was.
     pub fn fail_at(&mut self, call: u64) -> Result<(), NoMemory>
         ensures files { files_of self.new ≡ files_of self.old }
-        ensures ok { OnOk result (folder_calls self.new ≡ record (folder_calls self.old) { failing = (folder_calls self.old).failing ++ call ∷ [] }) }
+        ensures ok { OnOk result (folder_calls self.new ≡ take_fails_at call
+            (folder_calls self.old)) }
         ensures err { OnErr result (folder_calls self.new ≡ folder_calls self.old) }
     {
         self.failing.push(call)?;
@@ -64,7 +66,10 @@ impl MemoryFolder {
     // One fault more, at that name.
     fn fail(&mut self, asked: String) -> TakeFault
         ensures fault { result ≡ TakeFault.Failed }
-        ensures after { self.new ≡ record self.old { faults = one_more self.old.faults; last_fault = Some asked } }
+        ensures after { self.new ≡ record self.old {
+          faults = one_more self.old.faults;
+          last_fault = Some asked;
+        } }
         ensures later { self.old.faults ≤ self.new.faults }
     {
         self.faults = self.faults.saturating_add(1);
@@ -93,14 +98,18 @@ impl Folder for MemoryFolder {
         into: &mut Vec<u8>,
     ) -> Result<(), TakeFault>
         requires { limit ≤ 67108864 }
-        ensures given { Takes (Some (files_of self.old)) name.now limit result into.old.items into.new.items }
+        ensures given { Takes (Some (files_of self.old)) name.now limit result
+            into.old.items into.new.items }
         ensures held { Some (files_of self.new) ≡ Some (files_of self.old) }
         ensures later { (folder_calls self.old).faults ≤ (folder_calls self.new).faults }
-        ensures cause { NamesFault result name.now (folder_calls self.old).faults (folder_calls self.new).faults (folder_calls self.old).last_fault (folder_calls self.new).last_fault }
+        ensures cause { NamesFault result name.now
+            (folder_calls self.old).faults (folder_calls self.new).faults
+            (folder_calls self.old).last_fault (folder_calls self.new).last_fault }
         ensures made { (folder_calls self.new).made ≡ one_more (folder_calls self.old).made }
         ensures failing { (folder_calls self.new).failing ≡ (folder_calls self.old).failing }
-        ensures fault { FaultIsAnswered (next_is_fault (folder_calls self.old) (files_of self.old name.now)) result }
-        ensures counts { CountsFault result (folder_calls self.old).faults (folder_calls self.new).faults }
+        ensures fault { FaultIsAnswered (next_is_fault self.old name.now) result }
+        ensures counts { CountsFault result
+            (folder_calls self.old).faults (folder_calls self.new).faults }
     {
         self.calls = self.calls.saturating_add(1);
         let asked = match String::from_str(alloc, name) {

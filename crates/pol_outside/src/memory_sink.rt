@@ -1,7 +1,7 @@
 // A sink in memory, whose calls fail where they are told to.
-ghost use Rattle.std.specs.Prelude.{◌≡◌, ◌<◌, ◌≤◌, ◌∷◌, ◌++◌, [], Some, IfOk, OnOk, OnErr, length, vec_capacity};
+ghost use Rattle.std.specs.Prelude.{◌≡◌, ◌<◌, ◌≤◌, [], Some, IfOk, OnOk, OnErr, length, vec_capacity};
 ghost use Rattle.pol_outside.specs.Faults.{one_more};
-ghost use Rattle.pol_outside.specs.Sink.{Puts};
+ghost use Rattle.pol_outside.specs.Sink.{Puts, CountsSinkFault};
 
 use crate::{NoMemory, Sink, SinkFault};
 use std::alloc::Global;
@@ -22,7 +22,7 @@ pub struct MemorySink {
 }
 
 impl MemorySink {
-    ghost use Rattle.pol_outside.specs.MemorySink.{bytes_of, sink_limits, sink_calls, no_sink_calls};
+    ghost use Rattle.pol_outside.specs.MemorySink.{bytes_of, sink_limits, sink_calls, no_sink_calls, put_fails_at};
 
     /// The sink with room for exactly `room` bytes that takes at most `most` at a call. Nothing is
     /// written yet, and no call is to fail.
@@ -47,7 +47,7 @@ impl MemorySink {
     pub fn fail_at(&mut self, call: u64) -> Result<(), NoMemory>
         ensures written { bytes_of self.new ≡ bytes_of self.old }
         ensures limits { sink_limits self.new ≡ sink_limits self.old }
-        ensures ok { OnOk result (sink_calls self.new ≡ record (sink_calls self.old) { failing = (sink_calls self.old).failing ++ call ∷ [] }) }
+        ensures ok { OnOk result (sink_calls self.new ≡ put_fails_at call (sink_calls self.old)) }
         ensures err { OnErr result (sink_calls self.new ≡ sink_calls self.old) }
     {
         self.failing.push(call)?;
@@ -82,12 +82,15 @@ impl Sink for MemorySink {
     /// fail or no room is left; else it takes as many bytes as it may and has room for.
     fn put(&mut self, piece: &[u8]) -> Result<usize, SinkFault>
         requires { 0 < length piece.now }
-        ensures puts { Puts result piece.now (Some (bytes_of self.old)) (Some (bytes_of self.new)) (sink_calls self.old).faults (sink_calls self.new).faults }
+        ensures puts { Puts result piece.now (Some (bytes_of self.old)) (Some (bytes_of self.new)) }
         ensures later { (sink_calls self.old).faults ≤ (sink_calls self.new).faults }
         ensures limits { sink_limits self.new ≡ sink_limits self.old }
         ensures made { (sink_calls self.new).made ≡ one_more (sink_calls self.old).made }
         ensures failing { (sink_calls self.new).failing ≡ (sink_calls self.old).failing }
-        ensures takes { PutsWhatFits (next_put_is_fault (sink_limits self.old) (sink_calls self.old) (bytes_of self.old)) (fits_next (sink_limits self.old) (bytes_of self.old) piece.now) result (sink_calls self.old).faults (sink_calls self.new).faults }
+        ensures takes { PutsWhatFits (next_put_is_fault self.old) (fits_next self.old piece.now)
+            result }
+        ensures counts { CountsSinkFault result (sink_calls self.old).faults
+            (sink_calls self.new).faults }
     {
         self.calls = self.calls.saturating_add(1);
         let left = self.room.saturating_sub(self.bytes.len());

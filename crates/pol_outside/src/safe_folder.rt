@@ -31,7 +31,8 @@ impl SafeFolder {
     /// Holds these bytes under a name, in place of those that were there. Where there is no memory
     /// the folder stays as it was.
     pub fn hold(&mut self, name: &str, bytes: &[u8]) -> Result<(), NoMemory>
-        ensures ok { OnOk result (Replaces (every_file self.old) name.now bytes.now (every_file self.new)) }
+        ensures ok { OnOk result
+            (Replaces (every_file self.old) name.now bytes.now (every_file self.new)) }
         ensures err { OnErr result (SameFiles (every_file self.old) (every_file self.new)) }
     {
         let alloc = self.alloc;

@@ -26,7 +26,7 @@ impl Sink for SafeSink {
     /// Takes the whole piece.
     fn put(&mut self, piece: &[u8]) -> Result<usize, SinkFault>
         requires { 0 < length piece.now }
-        ensures puts { Puts result piece.now None None 0 0 }
+        ensures puts { Puts result piece.now None None }
         ensures all { result ≡ Ok (length piece.now) }
     {
         Ok(piece.len())

@@ -1,12 +1,12 @@
 // Standard output, or any other writer.
-ghost use Rattle.std.specs.Prelude.{◌≡◌, ◌<◌, ◌≤◌, None, length};
+ghost use Rattle.std.specs.Prelude.{◌≡◌, ◌<◌, ◌≤◌, length};
 ghost use Rattle.pol_outside.specs.Sink.{Puts, CountsSinkFault};
 
 use crate::{Sink, SinkFault};
 use std::io::Write;
 
-/// A sink over a writer, as standard output. It counts its faults and doesn't tell what was
-/// written.
+/// A sink over a writer, as standard output. It counts its faults, and tells what was written where
+/// the writer tells what it holds. Standard output doesn't.
 #[derive(Drop)]
 pub struct StdSink<W> {
     inner: W,
@@ -16,7 +16,7 @@ pub struct StdSink<W> {
 impl<W: Write + Drop> StdSink<W> {
     /// The sink over this writer, with no fault yet. It takes no memory.
     pub fn new(inner: W) -> StdSink<W>
-        ensures told { ⟦<StdSink<W> as Sink>⟧.written result ≡ None }
+        ensures written { ⟦<StdSink<W> as Sink>⟧.written result ≡ W.contents inner }
         ensures faults { ⟦<StdSink<W> as Sink>⟧.faults result ≡ 0 }
     {
         StdSink { inner, faults: 0 }
@@ -24,14 +24,15 @@ impl<W: Write + Drop> StdSink<W> {
 }
 
 impl<W: Write + Drop> Sink for StdSink<W> {
-    ghost written = { λ _. None };
+    ghost written = { λ s. W.contents s.inner };
 
     ghost faults = { λ s. s.faults };
 
     /// One write. An error of the writer is a fault, and so is a write that took no byte.
     fn put(&mut self, piece: &[u8]) -> Result<usize, SinkFault>
         requires { 0 < length piece.now }
-        ensures puts { Puts result piece.now None None self.old.faults self.new.faults }
+        ensures puts { Puts result piece.now (W.contents self.old.inner)
+            (W.contents self.new.inner) }
         ensures later { self.old.faults ≤ self.new.faults }
         ensures counts { CountsSinkFault result self.old.faults self.new.faults }
     {

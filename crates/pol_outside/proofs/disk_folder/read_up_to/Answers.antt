@@ -1,0 +1,10 @@
+use Rattle.std.proofs.Common.{arith}
+use Rattle.pol_outside.proofs.Reading.{Gives-longer}
+use Rattle.pol_outside.proofs.disk_folder.read_up_to.Goals as goal
+
+pub returns : goal.returns
+returns g c = record {
+  given = c.loop-left.invariant.0;
+  grown = c.loop-left.invariant.1;
+  gives = Gives-longer _ _ _ _ c.loop-left.invariant.3 (omega arith);
+}
