@@ -1,5 +1,6 @@
-pub mod Runs
-pub mod Cleared
-pub mod Reading
-pub mod Hex
-pub mod ReadBack
+mod Cleared
+mod Runs
+mod Reading
+mod Readings
+mod ReadBack
+mod Hex

@@ -42,7 +42,7 @@ groups_fit n (suc (suc (suc (suc (suc (suc zero)))))) = omega arith
 groups_fit n (suc (suc (suc (suc (suc (suc (suc zero))))))) = omega arith
 groups_fit n (suc (suc (suc (suc (suc (suc (suc (suc k)))))))) = omega arith
 
-spells : (a : Address) → IsAddress a → IsAddressText (address_text a) a
+pub spells : (a : Address) → IsAddress a → IsAddressText (address_text a) a
 spells (V4 n) fits = (
   last_digits 256 4 n,
   IsDotted-ipv4_text (last_digits 256 4 n) refl (octets_fit n),
@@ -62,7 +62,7 @@ uncleared : (a : Address) (prefix : ℕ) → number a % 2 ^ (width a - prefix) �
 uncleared (V4 n) prefix clear = let whole = shr_split n (32 - prefix) in ap V4 (omega (arith, whole))
 uncleared (V6 n) prefix clear = let whole = shr_split n (128 - prefix) in ap V6 (omega (arith, whole))
 
-block_spells : (first : Address) (prefix : ℕ) → IsAddress first → prefix ≤ width first → number first % 2 ^ (width first - prefix) ≡ 0 → IsBlockText (block_text first prefix) first prefix
+pub block_spells : (first : Address) (prefix : ℕ) → IsAddress first → prefix ≤ width first → number first % 2 ^ (width first - prefix) ≡ 0 → IsBlockText (block_text first prefix) first prefix
 block_spells first prefix fits within clear = record {
   address_text = address_text first;
   length_text = 47 ∷ decimal prefix;
@@ -74,7 +74,7 @@ block_spells first prefix fits within clear = record {
 }
 
 -- nothing, or a text that begins with `/`
-abbrev IsRest : List ℕ → Type 0
+abbrev pub IsRest : List ℕ → Type 0
 IsRest t = (t ≡ []) ⊎ ((u : List ℕ) × (t ≡ 47 ∷ u))
 
 no_rest : (t : List ℕ) (y : ℕ) (ys : List ℕ) → y ≢ 47 → IsRest t → t ≡ y ∷ ys → ⊥
@@ -92,11 +92,11 @@ same_parts (a ∷ xs) (b ∷ ys) us vs x y u v e =
     let later = same_parts xs ys us vs (All-tail NotSlash a xs x) (All-tail NotSlash b ys y) u v rest in
     (cc, later.1)
 
-width_small : (a : Address) → width a ≤ 128
+pub width_small : (a : Address) → width a ≤ 128
 width_small (V4 n) = omega arith
 width_small (V6 n) = omega arith
 
-is_rest : (bits prefix : ℕ) (t : List ℕ) → IsLengthText bits t prefix → IsRest t
+pub is_rest : (bits prefix : ℕ) (t : List ℕ) → IsLengthText bits t prefix → IsRest t
 is_rest bits prefix t (inl h) = inl h.0
 is_rest bits prefix t (inr h) = inr (decimal prefix, h.0)
 

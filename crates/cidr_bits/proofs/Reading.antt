@@ -21,18 +21,14 @@ use Rattle.std.specs.declared.net.ip_addr.IpAddr.TheVariants as Ip
 use Rattle.cidr_bits.specs.declared.address.Address.{Address}
 use Rattle.cidr_bits.specs.declared.address.Address.TheVariants.{V4, V6}
 use Rattle.cidr_bits.specs.Numbers.{width, cleared}
-use Rattle.cidr_bits.specs.Forms.{IsAddressText, IsBlockText}
+use Rattle.cidr_bits.specs.Forms.{IsAddressText, IsBlockText, IsPlain}
 
 -- std's reader misses no address
 pub no_address : (text : List ℕ) → ((a : IpAddr) → IsIpText text a → ⊥) → (a : Address) → IsAddressText text a → ⊥
 no_address text none (V4 n) (octets, dotted, value) = none (Ip.V4 (record { octets = octets })) dotted
 no_address text none (V6 n) (groups, spelled, value) = none (Ip.V6 (record { segments = groups })) spelled
 
--- no sign, and no zero before other digits
-abbrev pub IsPlain : List ℕ → Type 0
-IsPlain text = (get_or text 0 0 ≢ 43) × (get_or text 0 0 ≡ 48 → length text ≡ 1)
-
-own : IsNumeralModel (AllDigits 10) (digits_value 10)
+pub own : IsNumeralModel (AllDigits 10) (digits_value 10)
 own = numerals_by_value (AllDigits 10) tells_digits
 
 pub IsPlain-decimal : (p : ℕ) → p < 256 → IsPlain (decimal p)
@@ -175,8 +171,8 @@ module _ (text : List ℕ) (first : Address) (prefix : ℕ) (h : IsBlockText tex
         | inr e ↦ split_after 47 text h.address_text (decimal prefix) None split (lit< tt) (shown e.0) clean
       ]
 
-  pub parts_of : (front length : Bor (List ℕ)) → IsSplitOnceResult 47 text (Some (front, length)) → IsParts front.now length.now h.address prefix
-  parts_of front length split =
+  pub parts_at : (front length : Bor (List ℕ)) → IsSplitOnceResult 47 text (Some (front, length)) → IsParts front.now length.now h.address prefix
+  parts_at front length split =
       let parts = split_parts 47 text (Some (front, length)) split (lit< tt) in
       elim h.is_length [
         | inl e ↦

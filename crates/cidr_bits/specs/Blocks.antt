@@ -1,8 +1,12 @@
 -- The least and the greatest address of a block.
-use Rattle.std.specs.Prelude.{◌≡◌, ◌≤◌, true}
+use Rattle.std.specs.Prelude.{◌≡◌, ℕ, ◌-◌, ◌^◌, ◌≤◌, true}
 use Rattle.cidr_bits.specs.declared.address.Address.{Address}
 use Rattle.cidr_bits.specs.declared.block.Block.{Block}
-use Rattle.cidr_bits.specs.Numbers.{number, lies_in}
+use Rattle.cidr_bits.specs.Numbers.{width, number, lies_in}
+
+-- how many addresses the block has
+abbrev pub block_size : Block → ℕ
+block_size block = 2 ^ (width block.first - block.prefix)
 
 -- the address lies in the block
 abbrev pub LiesIn : Block → Address → Type 0

@@ -1,5 +1,5 @@
 -- Which texts stand for an address or a block. Texts are lists of bytes.
-use Rattle.std.specs.Prelude.{◌≡◌, ℕ, ◌≤◌, ◌⊎◌, List, [], ◌++◌, codes, decimal, Result, MatchResult}
+use Rattle.std.specs.Prelude.{◌≡◌, ◌≢◌, ℕ, ◌≤◌, ◌⊎◌, List, [], ◌++◌, length, get_or, codes, decimal, Result, MatchResult}
 use Rattle.std.specs.Int.Digits.{number_from_digits}
 use Rattle.std.specs.Net.Grammar.{IsDotted, IsColonHex}
 use Rattle.cidr_bits.specs.declared.address.Address.{Address}
@@ -41,3 +41,20 @@ ReadsAddress text r = MatchResult r (IsAddressText text) (λ _. (a : Address) �
 abbrev pub ReadsBlock : List ℕ → Result Block BadAddress → Type 0
 ReadsBlock text r = MatchResult r (λ block. IsBlockText text block.first block.prefix)
     (λ _. (first : Address) (prefix : ℕ) → ¬ (IsBlockText text first prefix))
+
+-- the same of a text without `/`
+abbrev pub ReadsWhole : List ℕ → Result Block BadAddress → Type 0
+ReadsWhole text r = MatchResult r (λ block. IsBlockText text block.first block.prefix)
+    (λ _. (a : Address) → ¬ IsAddressText text a)
+
+-- the answer is the prefix length of at most so many bits that digits write, and the error exactly where they write none
+abbrev pub ReadsLength : ℕ → List ℕ → Result ℕ BadAddress → Type 0
+ReadsLength most digits r = MatchResult r (λ p. (digits ≡ decimal p) × (p ≤ most)) (λ _. (p : ℕ) → p ≤ most → digits ≢ decimal p)
+
+-- no sign, and no zero before other digits
+abbrev pub IsPlain : List ℕ → Type 0
+IsPlain digits = (get_or digits 0 0 ≢ 43) × (get_or digits 0 0 ≡ 48 → length digits ≡ 1)
+
+-- a block as its first address and its prefix length
+abbrev pub parts_of : Block → Address × ℕ
+parts_of block = (block.first, block.prefix)

@@ -1,7 +1,7 @@
 //! Which addresses lie in a block.
 ghost use Rattle.std.specs.Prelude.{◌≡◌, ◌+◌, ◌-◌, ◌*◌, ◌/◌, ◌%◌, ◌^◌, ◌<◌, ◌≤◌, true};
 ghost use Rattle.cidr_bits.specs.Numbers.{width, number, same_family, lies_in};
-ghost use Rattle.cidr_bits.specs.Blocks.{IsLeast, IsGreatest};
+ghost use Rattle.cidr_bits.specs.Blocks.{block_size, IsLeast, IsGreatest};
 
 use crate::address::Address;
 use crate::block::Block;
@@ -38,7 +38,7 @@ pub fn bounds(block: &Block) -> (Address, Address)
     ensures greatest { IsGreatest block.now result.1 }
     ensures first { result.0 ≡ block.now.first }
     ensures family { same_family block.now.first result.1 ≡ true }
-    ensures count { number result.1 + 1 ≡ number block.now.first + 2 ^ (width block.now.first - block.now.prefix) }
+    ensures count { number result.1 + 1 ≡ number block.now.first + block_size block.now }
 {
     (block.first, last_address(block.first, block.prefix))
 }

@@ -13,10 +13,8 @@ pub use address::{Address, BadAddress};
 pub use bits::{bounds, contains};
 pub use block::Block;
 pub use laws::{
-    address_is_read_back, block_is_read_back, text_spells_one_address, text_spells_one_block,
+    address_is_read_back, address_of_is_the_form, block_is_read_back, block_of_is_the_form,
+    text_spells_one_address, text_spells_one_block, written_address_spells, written_block_spells,
 };
 pub use read::{read_address, read_block};
 pub use write::{write_address, write_block};
-
-#[cfg(test)]
-mod tests;

@@ -1,10 +1,11 @@
 //! Texts to addresses and blocks.
-ghost use Rattle.std.specs.Prelude.{◌≡◌, ◌≢◌, ℕ, ◌+◌, ◌-◌, ◌*◌, ◌/◌, ◌^◌, ◌<◌, ◌≤◌, ◌↔◌, ◌⊎◌, MatchResult, decimal, length, slice_index, IsTrue};
+ghost use Rattle.std.specs.Prelude.{◌≡◌, ◌+◌, ◌-◌, ◌*◌, ◌/◌, ◌^◌, ◌≤◌, ◌↔◌, option_map, IsTrue};
+ghost use Rattle.std.specs.Result.{result_ok};
 ghost use Rattle.std.specs.Int.Digits.{number_from_digits};
 ghost use Rattle.std.specs.Net.Addr.{ipv4_octets, ipv6_segments};
-ghost use Rattle.cidr_bits.specs.declared.address.Address.{Address};
 ghost use Rattle.cidr_bits.specs.Numbers.{width, cleared};
-ghost use Rattle.cidr_bits.specs.Forms.{IsAddressText, IsBlockText, ReadsAddress, ReadsBlock};
+ghost use Rattle.cidr_bits.specs.Forms.{IsPlain, ReadsAddress, ReadsBlock, ReadsWhole, ReadsLength, parts_of};
+ghost use Rattle.cidr_bits.specs.Readings.{address_of, block_of};
 
 use crate::address::{Address, BadAddress};
 use crate::block::Block;
@@ -13,7 +14,8 @@ use std::net::{IpAddr, Ipv4Addr, Ipv6Addr};
 /// The address that the text spells: an IPv4 address as four decimal numbers joined by points, or
 /// an IPv6 address by RFC 4291, section 2.2. `BadAddress` exactly where the text spells none.
 pub fn read_address(text: &str) -> Result<Address, BadAddress>
-    ensures { ReadsAddress text.now result }
+    ensures form { ReadsAddress text.now result }
+    ensures value { result_ok result ≡ address_of text.now }
 {
     match text.parse::<IpAddr>() {
         Ok(IpAddr::V4(address)) => Ok(Address::V4(number_of_octets(address))),
@@ -48,7 +50,8 @@ fn four_groups(a: u16, b: u16, c: u16, d: u16) -> u64
 /// number without leading zeros of at most 32 or 128. A missing prefix length is 32 or 128, and the
 /// bits of the address after the prefix are ignored. `BadAddress` exactly where the text spells none.
 pub fn read_block(text: &str) -> Result<Block, BadAddress>
-    ensures { ReadsBlock text.now result }
+    ensures form { ReadsBlock text.now result }
+    ensures value { option_map parts_of (result_ok result) ≡ block_of text.now }
 {
     let Some((front, length)) = text.split_once('/') else {
         return read_whole(text);
@@ -64,7 +67,7 @@ pub fn read_block(text: &str) -> Result<Block, BadAddress>
 
 // The block of one address.
 fn read_whole(text: &str) -> Result<Block, BadAddress>
-    ensures { MatchResult result (λ b. IsBlockText text.now b.first b.prefix) (λ _. (a : Address) → ¬ IsAddressText text.now a) }
+    ensures { ReadsWhole text.now result }
 {
     match read_address(text) {
         Ok(address) => Ok(block_at(address, bits_of(address))),
@@ -116,7 +119,7 @@ fn clear_last(number: u128, free: u8) -> u128
 
 // The prefix length that the digits after `/` write.
 fn read_length(text: &str, most: u8) -> Result<u8, BadAddress>
-    ensures { MatchResult result (λ p. (text.now ≡ decimal p) × (p ≤ most)) (λ _. (p : ℕ) → p ≤ most → text.now ≢ decimal p) }
+    ensures { ReadsLength most text.now result }
 {
     if !is_plain(text.as_bytes()) {
         return Err(BadAddress);
@@ -129,7 +132,7 @@ fn read_length(text: &str, most: u8) -> Result<u8, BadAddress>
 
 // Whether the digits have no sign and no leading zero.
 fn is_plain(digits: &[u8]) -> bool
-    ensures { IsTrue result ↔ (slice_index digits.now 0 ≢ 43) × ((slice_index digits.now 0 ≡ 48) → length digits.now ≡ 1) }
+    ensures { IsTrue result ↔ IsPlain digits.now }
 {
     match digits {
         [b'+', ..] => false,

@@ -9,7 +9,7 @@ use Rattle.intervals.specs.Digits.{is_digits, fraction_units, digit_run}
 use Rattle.intervals.specs.DecimalTexts.{fraction_of}
 use Rattle.intervals.specs.Moments.{two, four, units_of_second, WritesMinutes, WritesSeconds, WritesOffset}
 use Rattle.intervals.specs.Moments.{none, whole, with_fraction, utc, east, west}
-use Rattle.intervals.specs.MomentTexts.{two_of, four_of, field_of, minutes_of, clock_of, fraction_behind, behind_second, second_of, seconds_of, at_end, whole_clock, is_mark, begins_with, offset_of}
+use Rattle.intervals.specs.MomentTexts.{two_of, four_of, field_of, minutes_of, clock_of, fraction_behind, behind_second, second_of, seconds_of, at_end, whole_clock, is_mark_alone, begins_with, offset_of}
 use Rattle.intervals.proofs.Steps.{by_bool, mapped, chained, guarded, both, same_of, only_digits, front_digits, behind_digits}
 
 -- ---- two digits, four digits, and a mark with two digits
@@ -179,7 +179,7 @@ whole_forth mark minutes clock w =
     let e : clock_of mark (mark ∷ clock) ≡ Some (minutes, []) = subst (λ t. clock_of mark (mark ∷ t) ≡ Some (minutes, [])) (append-nil clock) (clock_forth mark minutes clock [] w) in
     rw e refl
 
-longer : (mark c minutes : ℕ) (clock : List ℕ) → WritesMinutes clock minutes → is_mark mark (c ∷ clock) ≡ false
+longer : (mark c minutes : ℕ) (clock : List ℕ) → WritesMinutes clock minutes → is_mark_alone mark (c ∷ clock) ≡ false
 longer mark c minutes clock w = rw w.text_is refl
 
 pub offset_forth : (text : List ℕ) (ahead : ℤ) → WritesOffset text ahead → offset_of text ≡ Some ahead
@@ -209,7 +209,7 @@ whole_back mark text n h =
       text_is = read.text_is ∙ ap (λ (t : List ℕ). mark ∷ (read.clock ++ t)) e.1 ∙ ap (λ (t : List ℕ). mark ∷ t) (append-nil read.clock);
     }
 
-mark_back : (mark : ℕ) (text : List ℕ) → is_mark mark text ≡ true → text ≡ mark ∷ []
+mark_back : (mark : ℕ) (text : List ℕ) → is_mark_alone mark text ≡ true → text ≡ mark ∷ []
 mark_back mark [] h = absurd (cc)
 mark_back mark (c ∷ []) h = ap (λ (b : ℕ). b ∷ []) (same_of c mark h)
 mark_back mark (c ∷ d ∷ text) h = absurd (cc)
@@ -217,7 +217,7 @@ mark_back mark (c ∷ d ∷ text) h = absurd (cc)
 pub offset_back : (text : List ℕ) (ahead : ℤ) → offset_of text ≡ Some ahead → WritesOffset text ahead
 unfolding offset_of
 offset_back text ahead h =
-    by_bool (is_mark 90 text)
+    by_bool (is_mark_alone 90 text)
     (λ e.
     let k : ◌≡◌ {A = Option ℤ} (Some (pos 0)) (Some ahead) = rw e at h in
     utc (mark_back 90 text e) (sym (same_Some _ _ k)))

@@ -1,8 +1,8 @@
-pub mod Numbers
-pub mod Dates
-pub mod Fractions
-pub mod Steps
-pub mod DecimalForms
-pub mod RoundTrip
-pub mod FieldForms
-pub mod MomentForms
+mod Numbers
+mod Dates
+mod Fractions
+mod Steps
+mod DecimalForms
+mod RoundTrip
+mod FieldForms
+mod MomentForms

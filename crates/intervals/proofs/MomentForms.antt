@@ -7,7 +7,7 @@ use Rattle.std.proofs.lemmas.Int.{ints}
 use Rattle.std.proofs.lemmas.Grind.{common_steps}
 use Rattle.std.specs.Int.{IsInRange}
 use Rattle.jiff_core.specs.Calendar.{IsCivilDate, days_in_month}
-use Rattle.intervals.specs.Digits.{is_digits, place_value}
+use Rattle.intervals.specs.Digits.{is_digits, digits_number}
 use Rattle.intervals.specs.Moments.{two, four, midnight, units_of_second, units_of_minute, WritesMinutes, WritesSeconds, WritesOffset, WritesMoment}
 use Rattle.intervals.specs.Moments.{utc, east, west, seconds, month, day, time}
 use Rattle.intervals.specs.MomentTexts.{four_of, field_of, clock_of, seconds_of, offset_of, time_of, is_date, midnight_of, behind_day, behind_month, civil_of, moment_of}
@@ -159,6 +159,6 @@ unfolding moment_of
 moment_back text units h =
     by_bool (is_digits 18 text)
     (λ e.
-    let k : ◌≡◌ {A = Option ℤ} (Some (pos (place_value text * units_of_second))) (Some units) = rw e at h in
+    let k : ◌≡◌ {A = Option ℤ} (Some (pos (digits_number text * units_of_second))) (Some units) = rw e at h in
     seconds e (sym (same_Some _ _ k)))
     (λ e. civil_back text units (rw e at h))

@@ -5,11 +5,11 @@ use Rattle.std.proofs.lemmas.Nat.{pow-add}
 use Rattle.std.proofs.lemmas.Grind.{common_steps}
 use Rattle.std.specs.List.{list_all}
 use Rattle.std.specs.Char.{is_ascii_digit}
-use Rattle.intervals.specs.Digits.{place_value}
+use Rattle.intervals.specs.Digits.{digits_number}
 
 -- the first i digits of the text were read as n
 pub record ReadSoFar (text : List ℕ) (i n : ℕ) : Type 0 where
-  pub value : n * 10 ^ length (drop i text) + place_value (drop i text) ≡ place_value text
+  pub value : n * 10 ^ length (drop i text) + digits_number (drop i text) ≡ digits_number text
   pub digits : list_all is_ascii_digit (drop i text) ≡ list_all is_ascii_digit text
   pub small : n < 10 ^ i
 
@@ -17,11 +17,11 @@ pub record ReadSoFar (text : List ℕ) (i n : ℕ) : Type 0 where
 value_step : (n d rest p v : ℕ) → n * (p * 10) + (d * p + rest) ≡ v → (n * 10 + d) * p + rest ≡ v
 value_step n d rest p v h = omega arith
 
-value_at : (xs left : List ℕ) (n d v : ℕ) → xs ≡ d ∷ left → n * 10 ^ length xs + place_value xs ≡ v → (n * 10 + (d - 48)) * 10 ^ length left + place_value left ≡ v
+value_at : (xs left : List ℕ) (n d v : ℕ) → xs ≡ d ∷ left → n * 10 ^ length xs + digits_number xs ≡ v → (n * 10 + (d - 48)) * 10 ^ length left + digits_number left ≡ v
 value_at xs left n d v e h =
-    let P : List ℕ → Type 0 = λ ys. n * 10 ^ length ys + place_value ys ≡ v in
+    let P : List ℕ → Type 0 = λ ys. n * 10 ^ length ys + digits_number ys ≡ v in
     let k : P (d ∷ left) = subst P e h in
-    value_step n (d - 48) (place_value left) (10 ^ length left) v (rw (← pow-suc 10 (length left)) k)
+    value_step n (d - 48) (digits_number left) (10 ^ length left) v (rw (← pow-suc 10 (length left)) k)
 
 digits_at : (xs left : List ℕ) (d : ℕ) (b : Bool) → xs ≡ d ∷ left → list_all is_ascii_digit xs ≡ b → is_ascii_digit d ≡ true → list_all is_ascii_digit left ≡ b
 digits_at xs left d b e h digit =

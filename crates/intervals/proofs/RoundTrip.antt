@@ -10,7 +10,7 @@ use Rattle.std.specs.List.{list_all}
 use Rattle.std.specs.Char.{is_ascii_digit, digit_value}
 use Rattle.std.specs.Str.Parse.{AllDigits, digits_value, digits_value_after}
 use Rattle.intervals.specs.Scaled.{IsScaled}
-use Rattle.intervals.specs.Digits.{is_digits, place_value, fraction_units}
+use Rattle.intervals.specs.Digits.{is_digits, digits_number, fraction_units}
 use Rattle.intervals.specs.Decimals.{WritesSize}
 use Rattle.intervals.specs.Decimals.{whole, with_fraction, unsigned, negated}
 use Rattle.intervals.specs.DecimalTexts.{decimal_of, written_decimal, fraction_text, fraction_digits}
@@ -30,22 +30,22 @@ all_digits (d ∷ ds) h = rw ((digit_of d h.0).0, all_digits ds h.1) refl
 value_step : (n d rest p q v : ℕ) → q ≡ p * 10 → v ≡ (n * 10 + d) * p + rest → v ≡ n * q + (d * p + rest)
 value_step n d rest p q v e h = rw e (h ∙ omega arith)
 
-value_after : (n : ℕ) (ds : List ℕ) → AllDigits 10 ds → digits_value_after 10 n ds ≡ n * 10 ^ length ds + place_value ds
+value_after : (n : ℕ) (ds : List ℕ) → AllDigits 10 ds → digits_value_after 10 n ds ≡ n * 10 ^ length ds + digits_number ds
 value_after n [] h = omega arith
 value_after n (d ∷ ds) h =
-    let later : digits_value_after 10 (n * 10 + digit_value d) ds ≡ (n * 10 + digit_value d) * 10 ^ length ds + place_value ds = value_after (n * 10 + digit_value d) ds h.1 in
-    let P : ℕ → Type 0 = λ k. digits_value_after 10 (n * 10 + digit_value d) ds ≡ (n * 10 + k) * 10 ^ length ds + place_value ds in
+    let later : digits_value_after 10 (n * 10 + digit_value d) ds ≡ (n * 10 + digit_value d) * 10 ^ length ds + digits_number ds = value_after (n * 10 + digit_value d) ds h.1 in
+    let P : ℕ → Type 0 = λ k. digits_value_after 10 (n * 10 + digit_value d) ds ≡ (n * 10 + k) * 10 ^ length ds + digits_number ds in
     let here : P (d - 48) = subst P (digit_of d h.0).1 later in
-    value_step n (d - 48) (place_value ds) (10 ^ length ds) _ _ (pow-suc 10 (length ds)) here
+    value_step n (d - 48) (digits_number ds) (10 ^ length ds) _ _ (pow-suc 10 (length ds)) here
 
 is_digits_by : (most : ℕ) (ds : List ℕ) → 0 < length ds → length ds ≤ most → list_all is_ascii_digit ds ≡ true → is_digits most ds ≡ true
 is_digits_by most ds some fits all = rw all (grind (arith, common_steps))
 
-pub whole_digits : (w : ℕ) → w < 1_000_000_000_000_000_000 → (is_digits 18 (decimal w) ≡ true) × (place_value (decimal w) ≡ w)
+pub whole_digits : (w : ℕ) → w < 1_000_000_000_000_000_000 → (is_digits 18 (decimal w) ≡ true) × (digits_number (decimal w) ≡ w)
 whole_digits w small =
     let n = decimal_is_IsNumeral w (omega arith) in
     let length_in : length (decimal w) ≤ 18 = length-decimal-le 18 w (omega arith) small (omega arith) in
-    let value : digits_value 10 (decimal w) ≡ 0 * 10 ^ length (decimal w) + place_value (decimal w) = value_after 0 (decimal w) n.0.1 in
+    let value : digits_value 10 (decimal w) ≡ 0 * 10 ^ length (decimal w) + digits_number (decimal w) = value_after 0 (decimal w) n.0.1 in
     (is_digits_by 18 (decimal w) n.0.0 length_in (all_digits (decimal w) n.0.1), omega (arith, n.1))
 
 -- ---- fractions
@@ -59,7 +59,7 @@ quotient_in n p h positive =
 record Fraction (k n : ℕ) (ds : List ℕ) : Type 0 where
   pub fits : length ds ≤ k
   pub digits : list_all is_ascii_digit ds ≡ true
-  pub value : place_value ds * 10 ^ (k - length ds) ≡ n
+  pub value : digits_number ds * 10 ^ (k - length ds) ≡ n
 
 worth : (d d' p q r pv total : ℕ) → d' ≡ d → p * q ≡ total → pv * q ≡ r → (d' * p + pv) * q ≡ d * total + r
 worth d d' p q r pv total e h k = rw (e, ← h, ← k) (omega arith)
@@ -77,7 +77,7 @@ fraction_more k d r ds h small =
     record {
       fits = omega (arith, h.fits);
       digits = rw (digit_is d small) h.digits;
-      value = rw left (worth d ((48 + d) - 48) (10 ^ length ds) (10 ^ (k - length ds)) r (place_value ds) (10 ^ k) back powers h.value);
+      value = rw left (worth d ((48 + d) - 48) (10 ^ length ds) (10 ^ (k - length ds)) r (digits_number ds) (10 ^ k) back powers h.value);
     }
 
 no_fraction : (k n : ℕ) → (n == 0) ≡ true → Fraction k n []
@@ -110,7 +110,7 @@ some_digits k n some small =
 otherwise : (b : Bool) (xs ys : List ℕ) → b ≡ false → (if b then xs else ys) ≡ ys
 otherwise b xs ys h = rw h refl
 
-with_digits : (w f n : ℕ) (tail ds : List ℕ) → tail ≡ 46 ∷ ds → is_digits 18 (decimal w) ≡ true → place_value (decimal w) ≡ w → is_digits 9 ds ≡ true → fraction_units ds ≡ f → w * 1_000_000_000 + f ≡ n → WritesSize (decimal w ++ tail) n
+with_digits : (w f n : ℕ) (tail ds : List ℕ) → tail ≡ 46 ∷ ds → is_digits 18 (decimal w) ≡ true → digits_number (decimal w) ≡ w → is_digits 9 ds ≡ true → fraction_units ds ≡ f → w * 1_000_000_000 + f ≡ n → WritesSize (decimal w ++ tail) n
 with_digits w f n tail ds t d value h k e =
     rw t (with_fraction (decimal w) ds refl d h (rw (value, k) (sym e)))
 

@@ -54,4 +54,5 @@ sign_text (negsuc n) = 45 ∷ []
 -- how this many units of 10^-9 are written: the sign of a negative number, the whole number without leading zeros, and the
 -- fraction without last zeros
 abbrev pub written_decimal : ℤ → List ℕ
-written_decimal units = sign_text units ++ (decimal (unsigned_abs units / 1_000_000_000) ++ fraction_text (unsigned_abs units % 1_000_000_000))
+written_decimal units =
+    sign_text units ++ (decimal (unsigned_abs units / 1_000_000_000) ++ fraction_text (unsigned_abs units % 1_000_000_000))

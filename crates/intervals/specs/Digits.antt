@@ -8,17 +8,17 @@ abbrev pub is_digits : ℕ → List ℕ → Bool
 is_digits most text = nat_lt 0 (length text) && (nat_le (length text) most && list_all is_ascii_digit text)
 
 -- the number that digits write: each digit times the power of ten of how many digits stand behind it
-abbrev pub place_value : List ℕ → ℕ
-place_value [] = 0
-place_value (d ∷ ds) = (d - 48) * 10 ^ length ds + place_value ds
+abbrev pub digits_number : List ℕ → ℕ
+digits_number [] = 0
+digits_number (d ∷ ds) = (d - 48) * 10 ^ length ds + digits_number ds
 
 -- the units of 10^-9 that the digits behind a point write: the last of n digits is worth 10^-n
 abbrev pub fraction_units : List ℕ → ℕ
-fraction_units digits = place_value digits * 10 ^ (9 - length digits)
+fraction_units digits = digits_number digits * 10 ^ (9 - length digits)
 
 -- the number that a text of one to `most` digits writes, and none for any other text
 abbrev pub number_of : ℕ → List ℕ → Option ℕ
-number_of most text = (if is_digits most text then Some (place_value text) else None)
+number_of most text = (if is_digits most text then Some (digits_number text) else None)
 
 -- how many digits the text begins with
 abbrev pub digit_run : List ℕ → ℕ

@@ -5,3 +5,4 @@ pub mod Decimals
 pub mod DecimalTexts
 pub mod Moments
 pub mod MomentTexts
+pub mod Laws

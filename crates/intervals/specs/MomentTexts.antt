@@ -5,7 +5,7 @@ use Rattle.std.specs.Option.{option_map}
 use Rattle.std.specs.Borrow.{Bor}
 use Rattle.std.specs.Char.{is_ascii_digit}
 use Rattle.jiff_core.specs.Calendar.{days_in_month}
-use Rattle.intervals.specs.Digits.{is_digits, place_value, digit_run}
+use Rattle.intervals.specs.Digits.{is_digits, digits_number, digit_run}
 use Rattle.intervals.specs.DecimalTexts.{fraction_of}
 use Rattle.intervals.specs.Moments.{midnight, units_of_second, units_of_minute}
 
@@ -39,7 +39,8 @@ clock_of mark text = option_and_then (λ h. option_and_then (λ m. minutes_of h.
 
 -- the units of a second, and those of the digits behind its point
 abbrev pub fraction_behind : ℕ → List ℕ → Option (ℕ × List ℕ)
-fraction_behind second text = option_map (λ f. (second * units_of_second + f, drop (digit_run text) text)) (fraction_of (take (digit_run text) text))
+fraction_behind second text =
+    option_map (λ f. (second * units_of_second + f, drop (digit_run text) text)) (fraction_of (take (digit_run text) text))
 
 -- the units of a second, and of a fraction where a point stands behind it
 abbrev pub behind_second : ℕ → List ℕ → Option (ℕ × List ℕ)
@@ -64,10 +65,10 @@ abbrev pub whole_clock : ℕ → List ℕ → Option ℕ
 whole_clock mark text = option_and_then (λ m. at_end m.0 m.1) (clock_of mark text)
 
 -- whether the text is the mark alone
-abbrev pub is_mark : ℕ → List ℕ → Bool
-is_mark mark [] = false
-is_mark mark (c ∷ []) = c == mark
-is_mark mark (c ∷ d ∷ text) = false
+abbrev pub is_mark_alone : ℕ → List ℕ → Bool
+is_mark_alone mark [] = false
+is_mark_alone mark (c ∷ []) = c == mark
+is_mark_alone mark (c ∷ d ∷ text) = false
 
 -- whether the text begins with the mark
 abbrev pub begins_with : ℕ → List ℕ → Bool
@@ -77,12 +78,18 @@ begins_with mark (c ∷ text) = c == mark
 -- the minutes that the local time is ahead
 unfoldable pub offset_of : List ℕ → Option ℤ
 offset_of text =
-    (if is_mark 90 text then Some (pos 0)
-    else (if begins_with 45 text then option_map (λ n. neg_ℤ (pos n)) (whole_clock 45 text) else option_map (λ n. pos n) (whole_clock 43 text)))
+    (if is_mark_alone 90 text then Some (pos 0)
+    else (if begins_with 45 text then option_map (λ n. neg_ℤ (pos n)) (whole_clock 45 text)
+    else option_map (λ n. pos n) (whole_clock 43 text)))
+
+-- the units in UTC of minutes and units of the local time, that is so many minutes ahead
+abbrev pub in_utc : ℕ → ℕ → ℤ → ℤ
+in_utc minutes units ahead = pos (minutes * units_of_minute + units) -ℤ (ahead *ℤ pos units_of_minute)
 
 -- the units of a time of day since the day's first instant in UTC
 unfoldable pub time_of : List ℕ → Option ℤ
-time_of text = option_and_then (λ c. option_and_then (λ s. option_map (λ ahead. pos (c.0 * units_of_minute + s.0) -ℤ (ahead *ℤ pos units_of_minute)) (offset_of s.1)) (seconds_of c.1)) (clock_of 84 text)
+time_of text =
+    option_and_then (λ c. option_and_then (λ s. option_map (in_utc c.0 s.0) (offset_of s.1)) (seconds_of c.1)) (clock_of 84 text)
 
 -- the first instant of a date, where the calendar has it
 abbrev pub is_date : ℕ → ℕ → ℕ → Bool
@@ -98,7 +105,8 @@ behind_day start (c ∷ rest) = option_map (λ time. start +ℤ time) (time_of (
 
 abbrev pub behind_month : ℕ → ℕ → List ℕ → Option ℤ
 behind_month year month [] = midnight_of year month 1
-behind_month year month (c ∷ rest) = option_and_then (λ d. option_and_then (λ start. behind_day start d.1) (midnight_of year month d.0)) (field_of 45 (c ∷ rest))
+behind_month year month (c ∷ rest) =
+    option_and_then (λ d. option_and_then (λ start. behind_day start d.1) (midnight_of year month d.0)) (field_of 45 (c ∷ rest))
 
 -- the forms with a date
 unfoldable pub civil_of : List ℕ → Option ℤ
@@ -106,4 +114,4 @@ civil_of text = option_and_then (λ y. option_and_then (λ m. behind_month y.0 m
 
 -- all forms
 unfoldable pub moment_of : List ℕ → Option ℤ
-moment_of text = (if is_digits 18 text then Some (pos (place_value text * units_of_second)) else civil_of text)
+moment_of text = (if is_digits 18 text then Some (pos (digits_number text * units_of_second)) else civil_of text)

@@ -4,7 +4,7 @@
 -- this project's own choice. 43 is `+`, 45 `-`, 46 the point, 58 the colon, 84 `T` and 90 `Z`.
 use Rattle.std.specs.Prelude.{◌≡◌, ℕ, ◌+◌, ◌*◌, ◌/◌, ◌%◌, ◌<◌, List, [], ◌∷◌, ◌++◌, true, ℤ, pos, neg_ℤ, ◌+ℤ◌, ◌-ℤ◌, ◌*ℤ◌}
 use Rattle.jiff_core.specs.Calendar.{IsCivilDate, days_from_civil}
-use Rattle.intervals.specs.Digits.{is_digits, place_value, fraction_units}
+use Rattle.intervals.specs.Digits.{is_digits, digits_number, fraction_units}
 
 -- a number below 100 in two digits, and one below 10,000 in four
 abbrev pub two : ℕ → List ℕ
@@ -41,22 +41,30 @@ pub record WritesMinutes (text : List ℕ) (minutes : ℕ) : Type 0 where
 pub data WritesSeconds (text : List ℕ) (units : ℕ) : Type 0 where
   none : text ≡ [] → units ≡ 0 → WritesSeconds text units
   whole : (second : ℕ) → text ≡ 58 ∷ two second → second < 60 → units ≡ second * units_of_second → WritesSeconds text units
-  with_fraction : (second : ℕ) (fraction : List ℕ) → text ≡ 58 ∷ (two second ++ 46 ∷ fraction) → second < 60 → is_digits 9 fraction ≡ true → units ≡ second * units_of_second + fraction_units fraction → WritesSeconds text units
+  with_fraction : (second : ℕ) (fraction : List ℕ) → text ≡ 58 ∷ (two second ++ 46 ∷ fraction)
+      → second < 60 → is_digits 9 fraction ≡ true → units ≡ second * units_of_second + fraction_units fraction
+      → WritesSeconds text units
 
 -- the minutes that the local time is ahead of UTC
 pub data WritesOffset (text : List ℕ) (ahead : ℤ) : Type 0 where
   utc : text ≡ 90 ∷ [] → ahead ≡ pos 0 → WritesOffset text ahead
-  east : (clock : List ℕ) (minutes : ℕ) → text ≡ 43 ∷ clock → WritesMinutes clock minutes → ahead ≡ pos minutes → WritesOffset text ahead
-  west : (clock : List ℕ) (minutes : ℕ) → text ≡ 45 ∷ clock → WritesMinutes clock minutes → ahead ≡ neg_ℤ (pos minutes) → WritesOffset text ahead
+  east : (clock : List ℕ) (minutes : ℕ) → text ≡ 43 ∷ clock → WritesMinutes clock minutes → ahead ≡ pos minutes
+      → WritesOffset text ahead
+  west : (clock : List ℕ) (minutes : ℕ) → text ≡ 45 ∷ clock → WritesMinutes clock minutes → ahead ≡ neg_ℤ (pos minutes)
+      → WritesOffset text ahead
 
 -- the text is of the form of a moment, and stands for this many units of 10^-9 s since 1970-01-01T00:00:00Z
 pub data WritesMoment (text : List ℕ) (units : ℤ) : Type 0 where
   -- seconds
-  seconds : is_digits 18 text ≡ true → units ≡ pos (place_value text * units_of_second) → WritesMoment text units
+  seconds : is_digits 18 text ≡ true → units ≡ pos (digits_number text * units_of_second) → WritesMoment text units
   -- `YYYY-MM`
   month : (y m : ℕ) → text ≡ four y ++ 45 ∷ two m → IsCivilDate (pos y) m 1 → units ≡ midnight y m 1 → WritesMoment text units
   -- `YYYY-MM-DD`
-  day : (y m d : ℕ) → text ≡ four y ++ 45 ∷ (two m ++ 45 ∷ two d) → IsCivilDate (pos y) m d → units ≡ midnight y m d → WritesMoment text units
+  day : (y m d : ℕ) → text ≡ four y ++ 45 ∷ (two m ++ 45 ∷ two d) → IsCivilDate (pos y) m d → units ≡ midnight y m d
+      → WritesMoment text units
   -- `YYYY-MM-DDThh:mm`, then seconds, then the offset, which is taken off
-  time : (y m d minutes within : ℕ) (ahead : ℤ) (clock second offset : List ℕ) → text ≡ four y ++ 45 ∷ (two m ++ 45 ∷ (two d ++ 84 ∷ (clock ++ (second ++ offset)))) → IsCivilDate (pos y) m d → WritesMinutes clock minutes → WritesSeconds second within → WritesOffset offset ahead
-      → units ≡ ((midnight y m d +ℤ pos (minutes * units_of_minute + within)) -ℤ (ahead *ℤ pos units_of_minute)) → WritesMoment text units
+  time : (y m d minutes within : ℕ) (ahead : ℤ) (clock second offset : List ℕ)
+      → text ≡ four y ++ 45 ∷ (two m ++ 45 ∷ (two d ++ 84 ∷ (clock ++ (second ++ offset)))) → IsCivilDate (pos y) m d
+      → WritesMinutes clock minutes → WritesSeconds second within → WritesOffset offset ahead
+      → units ≡ ((midnight y m d +ℤ pos (minutes * units_of_minute + within)) -ℤ (ahead *ℤ pos units_of_minute))
+      → WritesMoment text units

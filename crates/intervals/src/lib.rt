@@ -10,8 +10,6 @@ mod fields;
 mod laws;
 mod moment;
 mod scaled;
-#[cfg(test)]
-mod tests;
 mod write;
 
 pub use compare::{Compare, satisfies};

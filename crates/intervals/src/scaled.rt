@@ -1,6 +1,6 @@
 //! Scaled numbers.
-ghost use Rattle.std.specs.Prelude.{◌≡◌, ◌<◌, ◌≤◌, IfOk, MatchResult, unsigned_abs};
-ghost use Rattle.intervals.specs.Scaled.{IsScaled, size_limit, whole_limit, units_of_whole};
+ghost use Rattle.std.specs.Prelude.{◌≡◌, ◌<◌, IfOk};
+ghost use Rattle.intervals.specs.Scaled.{IsScaled, IsOkBelow, size_limit, whole_limit, units_of_whole};
 ghost use Rattle.intervals.specs.DecimalTexts.{signed};
 
 use std::marker::Model;
@@ -33,7 +33,7 @@ impl Scaled {
     /// size.
     pub fn from_units(units: i128) -> Result<Scaled, BadNumber>
         ensures value { IfOk result (λ s. s ≡ units) }
-        ensures bounded { MatchResult result (λ s. IsScaled units) (λ e. size_limit ≤ unsigned_abs units) }
+        ensures bounded { IsOkBelow size_limit units result }
     {
         if units.unsigned_abs() < 1_000_000_000_000_000_000_000_000_000 {
             Ok(Scaled { units })
@@ -66,7 +66,7 @@ impl Scaled {
 /// than 10^18 in size.
 pub fn from_whole(n: i128) -> Result<Scaled, BadNumber>
     ensures value { IfOk result (λ s. s ≡ units_of_whole n) }
-    ensures bounded { MatchResult result (λ s. unsigned_abs n < whole_limit) (λ e. whole_limit ≤ unsigned_abs n) }
+    ensures bounded { IsOkBelow whole_limit n result }
 {
     if n.unsigned_abs() < 1_000_000_000_000_000_000 {
         Ok(Scaled {

@@ -44,15 +44,16 @@ fn push_fraction(text: &mut String, units: u32) -> Result<(), NoMemory>
         if rest == 0 {
             break;
         }
-        let place = place(done);
-        text.push(digit(rest, place))?;
-        rest %= place;
+        let worth = digit_worth(done);
+        text.push(digit(rest, worth))?;
+        rest %= worth;
     }
     Ok(())
 }
 
-// What a digit behind the point is worth, where this many stand before it: the last of nine is worth 1.
-fn place(before: u32) -> u32
+// What a digit behind the point is worth in units, where this many stand before it: the last of nine
+// is worth one.
+fn digit_worth(before: u32) -> u32
     requires { before < 9 }
     ensures value { result ≡ 10 ^ (8 - before) }
     ensures positive { 0 < result }
@@ -60,11 +61,11 @@ fn place(before: u32) -> u32
     10u32.pow(8 - before)
 }
 
-fn digit(units: u32, place: u32) -> char
-    requires positive { 0 < place }
-    requires below { units < place * 10 }
-    ensures value { result ≡ 48 + units / place }
+fn digit(units: u32, worth: u32) -> char
+    requires positive { 0 < worth }
+    requires below { units < worth * 10 }
+    ensures value { result ≡ 48 + units / worth }
     ensures ascii { result < 58 }
 {
-    char::from(b'0' + (units / place) as u8)
+    char::from(b'0' + (units / worth) as u8)
 }

@@ -1,7 +1,7 @@
-pub mod Floors
-pub mod NumberPoints
-pub mod AddressPoints
-pub mod BytePoints
-pub mod Points
-pub mod Pushing
-pub mod SameTests
+mod Floors
+mod NumberPoints
+mod AddressPoints
+mod BytePoints
+mod Points
+mod Pushing
+mod SameTests

@@ -14,7 +14,7 @@ use Rattle.value_theory.specs.declared.kinds.PlainCond.TheVariants.{Compares, In
 use Rattle.value_theory.specs.declared.kinds.PlainValue.TheVariants as Value
 use Rattle.value_theory.specs.Meaning.{stands_to}
 use Rattle.value_theory.specs.Solutions.{answers}
-use Rattle.value_theory.specs.Samples.{samples_at, number_at, number_after}
+use Rattle.value_theory.specs.Samples.{samples_at, number_at}
 use Rattle.value_theory.proofs.Floors.{In, In-left, In-right, AllReached, IsFloor, floor}
 
 int_split : (a b : ℤ) → (a ≤ℤ b) ⊎ (b <ℤ a)
@@ -65,14 +65,14 @@ numbers_alike (Equals bytes ∷ conds) v s below h = ap (λ ts. false ∷ ts) (n
 listed_at : (s : ℤ) → IsScaled s → In (Value.Number s) (number_at s)
 listed_at s small = rw (lt-ltb (unsigned_abs s) size_limit small) (inl refl)
 
-listed_after : (s b : ℤ) → IsScaled s → s ≡ b +ℤ pos 1 → In (Value.Number s) (number_after b)
+listed_after : (s b : ℤ) → IsScaled s → s ≡ b +ℤ pos 1 → In (Value.Number s) (number_at (b +ℤ pos 1))
 listed_after s b small e = subst (λ n. In (Value.Number s) (number_at n)) e (listed_at s small)
 
 pub number_listed : (conds : List PlainCond) (s : ℤ) → IsScaled s → In s (number_points conds) → In (Value.Number s) (flat_map samples_at conds)
 number_listed [] s small m = elim m [ ]
 number_listed (Compares c b ∷ conds) s small (inl e) = inl (ap Value.Number e)
-number_listed (Compares c b ∷ conds) s small (inr (inl e)) = inr (In-left _ (number_after b) _ (listed_after s b small e))
-number_listed (Compares c b ∷ conds) s small (inr (inr m)) = inr (In-right _ (number_after b) _ (number_listed conds s small m))
+number_listed (Compares c b ∷ conds) s small (inr (inl e)) = inr (In-left _ (number_at (b +ℤ pos 1)) _ (listed_after s b small e))
+number_listed (Compares c b ∷ conds) s small (inr (inr m)) = inr (In-right _ (number_at (b +ℤ pos 1)) _ (number_listed conds s small m))
 number_listed (Inside block ∷ conds) s small m = In-right _ (samples_at (Inside block)) _ (number_listed conds s small m)
 number_listed (Flag t f ∷ conds) s small m = number_listed conds s small m
 number_listed (Equals bytes ∷ conds) s small m = inr (number_listed conds s small m)

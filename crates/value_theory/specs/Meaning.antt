@@ -16,49 +16,49 @@ use Rattle.value_theory.specs.declared.kinds.PlainValue.{PlainValue}
 use Rattle.value_theory.specs.declared.kinds.PlainValue.TheVariants as Value
 
 -- the kind of values that a condition is on
-abbrev pub kind_of : PlainCond → PlainKind
-kind_of (Compares c bound) = Kind.Number
-kind_of (Inside block) = Kind.Address
-kind_of (Flag t f) = Kind.Truth
-kind_of (Equals bytes) = Kind.Bytes
+abbrev pub plain_kind : PlainCond → PlainKind
+plain_kind (Compares c bound) = Kind.Number
+plain_kind (Inside block) = Kind.Address
+plain_kind (Flag t f) = Kind.Truth
+plain_kind (Equals bytes) = Kind.Bytes
 
 -- the value is of the kind, in the range of its values
-abbrev pub IsOfKind : PlainKind → PlainValue → Type 0
-IsOfKind Kind.Truth (Value.Truth b) = ⊤
-IsOfKind Kind.Truth (Value.Number n) = ⊥
-IsOfKind Kind.Truth (Value.Address a) = ⊥
-IsOfKind Kind.Truth (Value.Bytes bs) = ⊥
-IsOfKind Kind.Number (Value.Truth b) = ⊥
-IsOfKind Kind.Number (Value.Number n) = IsScaled n
-IsOfKind Kind.Number (Value.Address a) = ⊥
-IsOfKind Kind.Number (Value.Bytes bs) = ⊥
-IsOfKind Kind.Address (Value.Truth b) = ⊥
-IsOfKind Kind.Address (Value.Number n) = ⊥
-IsOfKind Kind.Address (Value.Address a) = IsAddress a
-IsOfKind Kind.Address (Value.Bytes bs) = ⊥
-IsOfKind Kind.Bytes (Value.Truth b) = ⊥
-IsOfKind Kind.Bytes (Value.Number n) = ⊥
-IsOfKind Kind.Bytes (Value.Address a) = ⊥
-IsOfKind Kind.Bytes (Value.Bytes bs) = All (λ b. b < 256) bs
+abbrev pub IsOfPlainKind : PlainKind → PlainValue → Type 0
+IsOfPlainKind Kind.Truth (Value.Truth b) = ⊤
+IsOfPlainKind Kind.Truth (Value.Number n) = ⊥
+IsOfPlainKind Kind.Truth (Value.Address a) = ⊥
+IsOfPlainKind Kind.Truth (Value.Bytes bs) = ⊥
+IsOfPlainKind Kind.Number (Value.Truth b) = ⊥
+IsOfPlainKind Kind.Number (Value.Number n) = IsScaled n
+IsOfPlainKind Kind.Number (Value.Address a) = ⊥
+IsOfPlainKind Kind.Number (Value.Bytes bs) = ⊥
+IsOfPlainKind Kind.Address (Value.Truth b) = ⊥
+IsOfPlainKind Kind.Address (Value.Number n) = ⊥
+IsOfPlainKind Kind.Address (Value.Address a) = IsAddress a
+IsOfPlainKind Kind.Address (Value.Bytes bs) = ⊥
+IsOfPlainKind Kind.Bytes (Value.Truth b) = ⊥
+IsOfPlainKind Kind.Bytes (Value.Number n) = ⊥
+IsOfPlainKind Kind.Bytes (Value.Address a) = ⊥
+IsOfPlainKind Kind.Bytes (Value.Bytes bs) = All (λ b. b < 256) bs
 
 -- the value meets the condition; one of another kind never does
-abbrev pub Meets : PlainValue → PlainCond → Type 0
-Meets (Value.Truth b) (Compares c bound) = ⊥
-Meets (Value.Truth b) (Inside block) = ⊥
-Meets (Value.Truth b) (Flag t f) = (if b then t else f) ≡ true
-Meets (Value.Truth b) (Equals bytes) = ⊥
-Meets (Value.Number n) (Compares c bound) = StandsTo c bound n
-Meets (Value.Number n) (Inside block) = ⊥
-Meets (Value.Number n) (Flag t f) = ⊥
-Meets (Value.Number n) (Equals bytes) = ⊥
-Meets (Value.Address a) (Compares c bound) = ⊥
-Meets (Value.Address a) (Inside block) = LiesIn block a
-Meets (Value.Address a) (Flag t f) = ⊥
-Meets (Value.Address a) (Equals bytes) = ⊥
-Meets (Value.Bytes bs) (Compares c bound) = ⊥
-Meets (Value.Bytes bs) (Inside block) = ⊥
-Meets (Value.Bytes bs) (Flag t f) = ⊥
-Meets (Value.Bytes bs) (Equals bytes) = bs ≡ bytes
+abbrev pub PlainMeets : PlainValue → PlainCond → Type 0
+PlainMeets (Value.Truth b) (Compares c bound) = ⊥
+PlainMeets (Value.Truth b) (Inside block) = ⊥
+PlainMeets (Value.Truth b) (Flag t f) = (if b then t else f) ≡ true
+PlainMeets (Value.Truth b) (Equals bytes) = ⊥
+PlainMeets (Value.Number n) (Compares c bound) = StandsTo c bound n
+PlainMeets (Value.Number n) (Inside block) = ⊥
+PlainMeets (Value.Number n) (Flag t f) = ⊥
+PlainMeets (Value.Number n) (Equals bytes) = ⊥
+PlainMeets (Value.Address a) (Compares c bound) = ⊥
+PlainMeets (Value.Address a) (Inside block) = LiesIn block a
+PlainMeets (Value.Address a) (Flag t f) = ⊥
+PlainMeets (Value.Address a) (Equals bytes) = ⊥
+PlainMeets (Value.Bytes bs) (Compares c bound) = ⊥
+PlainMeets (Value.Bytes bs) (Inside block) = ⊥
+PlainMeets (Value.Bytes bs) (Flag t f) = ⊥
+PlainMeets (Value.Bytes bs) (Equals bytes) = bs ≡ bytes
 
 -- the same by computation: whether the value stands to the bound as named
 abbrev pub stands_to : Compare → ℤ → ℤ → Bool
@@ -69,16 +69,17 @@ stands_to Greater bound value = lt_z bound value
 stands_to GreaterOrEqual bound value = not (lt_z value bound)
 
 -- whether the value meets the condition
-abbrev pub meets : PlainValue → PlainCond → Bool
-meets (Value.Truth b) (Flag t f) = (if b then t else f)
-meets (Value.Truth b) _ = false
-meets (Value.Number n) (Compares c bound) = stands_to c bound n
-meets (Value.Number n) _ = false
-meets (Value.Address a) (Inside block) = lies_in block.first block.prefix a
-meets (Value.Address a) _ = false
-meets (Value.Bytes bs) (Equals bytes) = bytes_eq bs bytes
-meets (Value.Bytes bs) _ = false
+abbrev pub plain_meets : PlainValue → PlainCond → Bool
+plain_meets (Value.Truth b) (Flag t f) = (if b then t else f)
+plain_meets (Value.Truth b) _ = false
+plain_meets (Value.Number n) (Compares c bound) = stands_to c bound n
+plain_meets (Value.Number n) _ = false
+plain_meets (Value.Address a) (Inside block) = lies_in block.first block.prefix a
+plain_meets (Value.Address a) _ = false
+plain_meets (Value.Bytes bs) (Equals bytes) = bytes_eq bs bytes
+plain_meets (Value.Bytes bs) _ = false
 
 -- the computation says what the relation says
-abbrev pub MeetsIsMeaning : Type 0
-MeetsIsMeaning = (v : PlainValue) (c : PlainCond) → (meets v c ≡ true → Meets v c) × (Meets v c → meets v c ≡ true)
+abbrev pub PlainMeetsIsMeaning : Type 0
+PlainMeetsIsMeaning = (v : PlainValue) (c : PlainCond) →
+    (plain_meets v c ≡ true → PlainMeets v c) × (PlainMeets v c → plain_meets v c ≡ true)

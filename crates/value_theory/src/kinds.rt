@@ -1,6 +1,6 @@
 //! Values of the plain kinds, and conditions on them.
 ghost use Rattle.std.specs.Prelude.{◌≡◌};
-ghost use Rattle.value_theory.specs.Meaning.{kind_of};
+ghost use Rattle.value_theory.specs.Meaning.{plain_kind};
 
 use cidr_bits::{Address, Block};
 use intervals::{ByteList, Compare, Scaled};
@@ -35,7 +35,7 @@ pub enum PlainCond {
 impl PlainCond {
     /// The kind of values that the condition is on.
     pub fn kind(&self) -> PlainKind
-        ensures { result ≡ kind_of self.now }
+        ensures { result ≡ plain_kind self.now }
     {
         match self {
             PlainCond::Compares(_, _) => PlainKind::Number,

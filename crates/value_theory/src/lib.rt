@@ -14,6 +14,3 @@ pub use laws::{meets_is_meaning, samples_stand_for_all};
 pub use meaning::meets_condition;
 pub use plain_lists::NoMemory;
 pub use search::{PlainWants, Solved, solve};
-
-#[cfg(test)]
-mod tests;

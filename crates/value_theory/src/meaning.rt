@@ -1,18 +1,15 @@
 //! Which values meet which conditions.
-ghost use Rattle.std.specs.Prelude.{◌≡◌, IfOk};
-ghost use Rattle.value_theory.specs.Meaning.{meets, stands_to};
-ghost use Rattle.value_theory.specs.Solutions.{answers};
+ghost use Rattle.std.specs.Prelude.{◌≡◌};
+ghost use Rattle.value_theory.specs.Meaning.{plain_meets, stands_to};
 
 use crate::kinds::{PlainCond, PlainValue};
 use cidr_bits::contains;
 use intervals::{Compare, Scaled, satisfies};
-use plain_lists::NoMemory;
-use std::alloc::Global;
 
 /// Whether the value meets the condition. A value of another kind than the condition's never does. It
 /// takes no memory.
 pub fn meets_condition(value: &PlainValue, cond: &PlainCond) -> bool
-    ensures { result ≡ meets value.now cond.now }
+    ensures { result ≡ plain_meets value.now cond.now }
 {
     match (value, cond) {
         (PlainValue::Truth(truth), PlainCond::Flag(at_true, at_false)) => {
@@ -33,18 +30,4 @@ fn number_stands_to(compare: Compare, bound: Scaled, number: Scaled) -> bool
     ensures { result ≡ stands_to compare bound number }
 {
     satisfies(compare, bound, number)
-}
-
-// For each condition whether the value meets it.
-pub(crate) fn answers_of(
-    alloc: Global,
-    value: &PlainValue,
-    conds: &[PlainCond],
-) -> Result<Vec<bool>, NoMemory>
-    ensures { IfOk result (λ found. found.items ≡ answers conds.now value.now) }
-{
-    conds
-        .iter()
-        .map(|cond| meets_condition(value, cond))
-        .collect(alloc)
 }

@@ -5,8 +5,8 @@ ghost use Rattle.intervals.specs.Scaled.{IsScaled};
 ghost use Rattle.cidr_bits.specs.Numbers.{number};
 ghost use Rattle.value_theory.specs.declared.kinds.PlainKind.TheVariants as Kind;
 ghost use Rattle.value_theory.specs.declared.kinds.PlainValue.TheVariants as Value;
-ghost use Rattle.value_theory.specs.Meaning.{kind_of, IsOfKind};
-ghost use Rattle.value_theory.specs.Samples.{samples, first_samples, samples_at, number_after, address_past, address_at, longest, length_named};
+ghost use Rattle.value_theory.specs.Meaning.{plain_kind, IsOfPlainKind};
+ghost use Rattle.value_theory.specs.Samples.{samples, first_samples, last_samples, samples_at, number_samples, address_samples, address_at, longest, length_named};
 
 use crate::kinds::{PlainCond, PlainKind, PlainValue};
 use cidr_bits::{Address, Block, bounds};
@@ -14,7 +14,7 @@ use intervals::{ByteList, Scaled};
 use plain_lists::{List, NoMemory};
 use std::alloc::Global;
 
-// The least number: 10^27 is out of range.
+/// The least number: 10^27 is out of range.
 const LEAST_UNITS: i128 = -999_999_999_999_999_999_999_999_999;
 
 pub(crate) type SampleList = List<PlainValue>;
@@ -25,21 +25,22 @@ pub(crate) fn samples_of(
     kind: PlainKind,
     conds: &[PlainCond],
 ) -> Result<SampleList, NoMemory>
-    requires { All (λ c. kind_of c ≡ kind) conds.now }
+    requires { All (λ c. plain_kind c ≡ kind) conds.now }
     ensures items { IfOk result (λ points. points ≡ samples kind conds.now) }
-    ensures kinds { IfOk result (λ points. All (IsOfKind kind) points) }
+    ensures kinds { IfOk result (λ points. All (IsOfPlainKind kind) points) }
 {
     let mut points = first_points(alloc, kind, conds)?;
     for cond in conds {
         push_points(alloc, cond, &mut points)?;
     }
+    push_last(kind, &mut points)?;
     Ok(points)
 }
 
-// The points that the kind has whatever the conditions are, and the byte string that none names.
+// The points that are tried first.
 fn first_points(alloc: Global, kind: PlainKind, conds: &[PlainCond]) -> Result<SampleList, NoMemory>
     ensures items { IfOk result (λ points. points ≡ first_samples kind conds.now) }
-    ensures kinds { IfOk result (λ points. All (IsOfKind kind) points) }
+    ensures kinds { IfOk result (λ points. All (IsOfPlainKind kind) points) }
 {
     let mut points = List::new(alloc);
     match kind {
@@ -47,7 +48,7 @@ fn first_points(alloc: Global, kind: PlainKind, conds: &[PlainCond]) -> Result<S
             points.push(PlainValue::Truth(false))?;
             points.push(PlainValue::Truth(true))?;
         }
-        PlainKind::Number => points.push(PlainValue::Number(number_of(LEAST_UNITS)))?,
+        PlainKind::Number => points.push(PlainValue::Number(number_of(0)))?,
         PlainKind::Address => {
             points.push(PlainValue::Address(Address::V4(0)))?;
             points.push(PlainValue::Address(Address::V6(0)))?;
@@ -55,6 +56,17 @@ fn first_points(alloc: Global, kind: PlainKind, conds: &[PlainCond]) -> Result<S
         PlainKind::Bytes => points.push(PlainValue::Bytes(zeros(alloc, longest_of(conds))?))?,
     }
     Ok(points)
+}
+
+// Adds the point that is tried last.
+fn push_last(kind: PlainKind, points: &mut SampleList) -> Result<(), NoMemory>
+    ensures items { OnOk result (points.new ≡ points.old ++ last_samples kind) }
+    ensures kinds { OnOk result (All (IsOfPlainKind kind) (last_samples kind)) }
+{
+    match kind {
+        PlainKind::Number => points.push(PlainValue::Number(number_of(LEAST_UNITS))),
+        PlainKind::Truth | PlainKind::Address | PlainKind::Bytes => Ok(()),
+    }
 }
 
 fn number_of(units: i128) -> Scaled
@@ -95,7 +107,7 @@ fn length_of(cond: &PlainCond) -> usize
 // Adds the points at which the answer to the condition changes.
 fn push_points(alloc: Global, cond: &PlainCond, points: &mut SampleList) -> Result<(), NoMemory>
     ensures items { OnOk result (points.new ≡ points.old ++ samples_at cond.now) }
-    ensures kinds { OnOk result (All (IsOfKind (kind_of cond.now)) (samples_at cond.now)) }
+    ensures kinds { OnOk result (All (IsOfPlainKind (plain_kind cond.now)) (samples_at cond.now)) }
 {
     match cond {
         PlainCond::Compares(_, bound) => push_numbers(*bound, points),
@@ -107,8 +119,8 @@ fn push_points(alloc: Global, cond: &PlainCond, points: &mut SampleList) -> Resu
 
 // Adds the bound and the number past it.
 fn push_numbers(bound: Scaled, points: &mut SampleList) -> Result<(), NoMemory>
-    ensures items { OnOk result (points.new ≡ points.old ++ Value.Number bound ∷ number_after bound) }
-    ensures kinds { OnOk result (All (IsOfKind Kind.Number) (Value.Number bound ∷ number_after bound)) }
+    ensures items { OnOk result (points.new ≡ points.old ++ number_samples bound) }
+    ensures kinds { OnOk result (All (IsOfPlainKind Kind.Number) (number_samples bound)) }
 {
     points.push(PlainValue::Number(bound))?;
     if let Ok(after) = Scaled::from_units(bound.units() + 1) {
@@ -119,8 +131,8 @@ fn push_numbers(bound: Scaled, points: &mut SampleList) -> Result<(), NoMemory>
 
 // Adds the first address of the block and the one past its last.
 fn push_addresses(block: &Block, points: &mut SampleList) -> Result<(), NoMemory>
-    ensures items { OnOk result (points.new ≡ points.old ++ Value.Address block.now.first ∷ address_past block.now) }
-    ensures kinds { OnOk result (All (IsOfKind Kind.Address) (Value.Address block.now.first ∷ address_past block.now)) }
+    ensures items { OnOk result (points.new ≡ points.old ++ address_samples block.now) }
+    ensures kinds { OnOk result (All (IsOfPlainKind Kind.Address) (address_samples block.now)) }
 {
     let (first, last) = bounds(block);
     points.push(PlainValue::Address(first))?;
@@ -143,7 +155,7 @@ fn next_address(address: Address) -> Option<Address>
 // Adds the byte string.
 fn push_bytes(alloc: Global, bytes: &ByteList, points: &mut SampleList) -> Result<(), NoMemory>
     ensures items { OnOk result (points.new ≡ points.old ++ Value.Bytes bytes.now ∷ []) }
-    ensures kinds { OnOk result (All (IsOfKind Kind.Bytes) (Value.Bytes bytes.now ∷ [])) }
+    ensures kinds { OnOk result (All (IsOfPlainKind Kind.Bytes) (Value.Bytes bytes.now ∷ [])) }
 {
     let copy = copy_of(alloc, bytes.as_slice())?;
     points.push(PlainValue::Bytes(copy))?;

@@ -1,12 +1,12 @@
 //! A value that meets clauses, or none.
-ghost use Rattle.std.specs.Prelude.{◌≡◌, ◌↔◌, length, All, IfOk, IsTrue};
-ghost use Rattle.value_theory.specs.Clauses.{InRange};
-ghost use Rattle.value_theory.specs.Meaning.{kind_of};
-ghost use Rattle.value_theory.specs.Solutions.{IsProper, IsSolution, IsFirstMeeting, meets_clauses};
+ghost use Rattle.std.specs.Prelude.{◌≡◌, ◌<◌, ◌↔◌, length, All, IfOk, IsTrue};
+ghost use Rattle.value_theory.specs.Clauses.{OnConditions};
+ghost use Rattle.value_theory.specs.Meaning.{plain_kind};
+ghost use Rattle.value_theory.specs.Solutions.{IsProper, IsSolution, PrefersZero, IsFirstMeeting, meets_clause, meets_clauses};
 
-use crate::clause::{ClauseList, LiteralList, are_in_range, clauses_hold};
+use crate::clause::{ClauseList, Literal, LiteralList, are_in_range, literal_holds};
 use crate::kinds::{PlainCond, PlainCondList, PlainKind, PlainValue};
-use crate::meaning::answers_of;
+use crate::meaning::meets_condition;
 use crate::samples::samples_of;
 use plain_lists::NoMemory;
 use std::alloc::Global;
@@ -36,7 +36,7 @@ impl PlainWants {
 
 // Whether each condition is on values of the kind.
 fn are_of_kind(kind: PlainKind, conds: &[PlainCond]) -> bool
-    ensures { IsTrue result ↔ All (λ c. kind_of c ≡ kind) conds.now }
+    ensures { IsTrue result ↔ All (λ c. plain_kind c ≡ kind) conds.now }
 {
     conds.iter().all(|cond| cond.kind() == kind)
 }
@@ -50,11 +50,13 @@ pub enum Solved {
     Empty,
 }
 
-/// A value of the kind that meets the clauses, or that there is none. The wants are to be proper. It tries finitely many values, which
-/// stand for all: the work is that of each condition and clause at each of them.
+/// A value of the kind that meets the clauses, or that there is none. The wants are to be proper. It
+/// tries finitely many values, which stand for all: 0 first among numbers and the least number last.
+/// At each value a condition is looked at only where a clause needs its answer.
 pub fn solve(alloc: Global, wants: &PlainWants) -> Result<Solved, NoMemory>
     requires { IsProper wants.now }
-    ensures { IfOk result (λ solved. IsSolution wants.now.kind wants.now.conds wants.now.clauses solved) }
+    ensures answer { IfOk result (IsSolution wants.now.kind wants.now.conds wants.now.clauses) }
+    ensures zero { IfOk result (PrefersZero wants.now.kind wants.now.conds wants.now.clauses) }
 {
     find(
         alloc,
@@ -71,44 +73,57 @@ fn find(
     conds: &[PlainCond],
     clauses: &[LiteralList],
 ) -> Result<Solved, NoMemory>
-    requires kind { All (λ c. kind_of c ≡ kind) conds.now }
-    requires range { InRange (length conds.now) clauses.now }
-    ensures { IfOk result (λ solved. IsSolution kind conds.now clauses.now solved) }
+    requires kind { All (λ c. plain_kind c ≡ kind) conds.now }
+    requires range { OnConditions (length conds.now) clauses.now }
+    ensures answer { IfOk result (IsSolution kind conds.now clauses.now) }
+    ensures zero { IfOk result (PrefersZero kind conds.now clauses.now) }
 {
     let points = samples_of(alloc, kind, conds)?;
-    match first_meeting(alloc, points.as_slice(), conds, clauses)? {
-        Some(place) => Ok(Solved::Found(points.into_vec().remove(place))),
+    match first_meeting(points.as_slice(), conds, clauses) {
+        Some(index) => Ok(Solved::Found(points.into_vec().remove(index))),
         None => Ok(Solved::Empty),
     }
 }
 
-// The place of the first point that meets the clauses.
+// The index of the first point that meets the clauses.
 fn first_meeting(
-    alloc: Global,
     points: &[PlainValue],
     conds: &[PlainCond],
     clauses: &[LiteralList],
-) -> Result<Option<usize>, NoMemory>
-    requires { InRange (length conds.now) clauses.now }
-    ensures { IfOk result (λ place. IsFirstMeeting points.now conds.now clauses.now place) }
+) -> Option<usize>
+    requires { OnConditions (length conds.now) clauses.now }
+    ensures { IsFirstMeeting points.now conds.now clauses.now result }
 {
-    for (place, point) in points.iter().enumerate() {
-        if point_meets(alloc, point, conds, clauses)? {
-            return Ok(Some(place));
+    for (index, point) in points.iter().enumerate() {
+        if point_meets(point, conds, clauses) {
+            return Some(index);
         }
     }
-    Ok(None)
+    None
 }
 
-fn point_meets(
-    alloc: Global,
-    point: &PlainValue,
-    conds: &[PlainCond],
-    clauses: &[LiteralList],
-) -> Result<bool, NoMemory>
-    requires { InRange (length conds.now) clauses.now }
-    ensures { IfOk result (λ holds. holds ≡ meets_clauses conds.now clauses.now point.now) }
+fn point_meets(point: &PlainValue, conds: &[PlainCond], clauses: &[LiteralList]) -> bool
+    requires { OnConditions (length conds.now) clauses.now }
+    ensures { result ≡ meets_clauses conds.now clauses.now point.now }
 {
-    let answers = answers_of(alloc, point, conds)?;
-    Ok(clauses_hold(answers.as_slice(), clauses))
+    for clause in clauses {
+        if !clause_meets(point, conds, clause.as_slice()) {
+            return false;
+        }
+    }
+    true
+}
+
+// Answers to all conditions in advance would be wasted: most points fail at their first clauses.
+fn clause_meets(point: &PlainValue, conds: &[PlainCond], literals: &[Literal]) -> bool
+    requires { All (λ l. l.pattern < length conds.now) literals.now }
+    ensures { result ≡ meets_clause conds.now point.now literals.now }
+{
+    for literal in literals {
+        let met = meets_condition(point, &conds[literal.pattern as usize]);
+        if literal_holds(met, *literal) {
+            return true;
+        }
+    }
+    false
 }

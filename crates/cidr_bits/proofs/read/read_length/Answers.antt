@@ -1,5 +1,6 @@
 use Rattle.std.proofs.Common.{sym, ◌∙◌, subst, true≢false, arith}
-use Rattle.cidr_bits.proofs.Reading.{IsPlain, IsPlain-decimal, length_is, length_read, one_ok, ok_not_err}
+use Rattle.cidr_bits.specs.Forms.{IsPlain}
+use Rattle.cidr_bits.proofs.Reading.{IsPlain-decimal, length_is, length_read, one_ok, ok_not_err}
 use Rattle.cidr_bits.proofs.read.read_length.Goals as goal
 
 pub returns-then-not-is_plain : goal.returns-then-not-is_plain

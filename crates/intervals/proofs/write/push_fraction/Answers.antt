@@ -6,4 +6,4 @@ pub loop-done-preserved : goal.loop-done-preserved
 loop-done-preserved c =
     let ascii : c.digit.result < 128 = omega arith in
     let e = c.in_ok-push-2.ensures.ascii ascii ∙ ap (λ (d : ℕ). d ∷ []) c.digit.ensures.value in
-    Writing-step _ _ _ _ _ _ _ c.loop-done.invariant c.loop-done-test.true (omega arith) c.place-place.ensures.value (c.in_ok-push-2.ensures.bytes ∙ ap (λ (ds : List ℕ). string_bytes c.loop-done.text ++ ds) e)
+    Writing-step _ _ _ _ _ _ _ c.loop-done.invariant c.loop-done-test.true (omega arith) c.digit_worth-worth.ensures.value (c.in_ok-push-2.ensures.bytes ∙ ap (λ (ds : List ℕ). string_bytes c.loop-done.text ++ ds) e)
