@@ -3,7 +3,7 @@ use Rattle.std.proofs.Common.{◌≡◌, ◌≢◌, ℕ, ◌<◌, [], ◌∷◌,
 use Rattle.std.proofs.lemmas.Bool.Decides.{nat_tests}
 use Rattle.std.proofs.lemmas.Grind.{common_steps}
 use Rattle.formula_tree.specs.Answers.{Answers, answer_of, IsDistinct}
-use Rattle.formula_tree.proofs.AnswerLists.{answer_of-last, answer_of-besides, cases_eq}
+use Rattle.formula_tree.proofs.Laws.{answer_of-last, answer_of-besides, cases_eq}
 
 other_number : (n k : ℕ) → k ≢ n → nat_eq n k ≡ false
 other_number n k h = grind (arith, nat_tests)
@@ -17,7 +17,7 @@ table-more old new order v b same fresh at besides n =
       | inr ne ↦ besides n (other_number v n ne) ∙ same n ∙ sym (answer_of-besides order v b n ne)
     ]
 
--- a test of a path stands nowhere before its place
+-- a test of a path stands nowhere before its index
 later_differs : (ps : Answers) (n k : ℕ) (d : ℕ × Bool) → answer_of ps n ≡ None → k < length ps → nat_eq n (get_or ps k d).0 ≡ false
 later_differs [] n k d new h = absurd (omega arith)
 later_differs (p ∷ ps) n zero d new h = grind (arith, common_steps, nat_tests)

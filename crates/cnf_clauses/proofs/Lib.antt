@@ -1,10 +1,10 @@
-pub mod Deciding
-pub mod Hinting
-pub mod Indexing
-pub mod Keeping
-pub mod Limits
-pub mod Scanning
-pub mod Settling
-pub mod Truths
-pub mod Tying
-pub mod Walking
+mod Deciding
+mod Hinting
+mod Indexing
+mod Keeping
+mod Limits
+mod Scanning
+mod Settling
+mod Truths
+mod Tying
+mod Walking

@@ -1,37 +1,60 @@
--- Lists of clauses that are cut at a length.
-use Rattle.std.proofs.Common.{◌≡◌, ℕ, ◌<◌, ◌≤◌, ◌+◌, List, [], ◌∷◌, ◌++◌, length, take, get_or, map, zero, suc, Bool, refl, sym, ap, subst, ◌∙◌, arith, append_assoc, append-nil, length-append}
-use Rattle.std.proofs.lemmas.List.{take_more, take_all, take-append-le}
+-- Clauses that are made behind others, as far as there are numbers for them.
+use Rattle.std.proofs.Common.{◌≡◌, ℕ, ◌<◌, ◌≤◌, ◌+◌, ◌-◌, ◌^◌, List, [], ◌∷◌, ◌++◌, length, take, get_or, map, zero, suc, Bool, refl, sym, ap, subst, ◌∙◌, arith, append_assoc, append-nil, length-append}
+use Rattle.std.proofs.lemmas.List.{take_more, take_all}
 use Rattle.cnf_clauses.specs.Literals.{Clause, Literal}
-use Rattle.cnf_clauses.specs.Numbering.{literals_at, pairs_with}
+use Rattle.cnf_clauses.specs.declared.making.TheConstants.{MOST_CLAUSES}
+use Rattle.cnf_clauses.specs.Numbering.{HaveNumbers, literals_at, pairs_with, with_more}
 
--- cut, extended and cut again
-pub take-again : (n : ℕ) (xs ys : List Clause) → take n (take n xs ++ ys) ≡ take n (xs ++ ys)
-take-again zero xs ys = refl
-take-again (suc n) [] ys = refl
-take-again (suc n) (x ∷ xs) ys = ap (λ (zs : List Clause). x ∷ zs) (take-again n xs ys)
+take-append : (n : ℕ) (xs ys : List Clause) → take n (xs ++ ys) ≡ take n xs ++ take (n - length (take n xs)) ys
+take-append zero xs ys = refl
+take-append (suc n) [] ys = let e : suc n - 0 ≡ suc n = omega arith in rw e refl
+take-append (suc n) (x ∷ xs) ys =
+    let e : suc n - suc (length (take n xs)) ≡ n - length (take n xs) = omega arith in
+    rw e (ap (λ (zs : List Clause). x ∷ zs) (take-append n xs ys))
 
-pub length-cut : (n : ℕ) (xs : List Clause) → length (take n xs) ≤ n
-length-cut zero xs = omega arith
-length-cut (suc n) [] = omega arith
-length-cut (suc n) (x ∷ xs) = omega (arith, length-cut n xs)
+-- two extensions in turn
+twice : (m : ℕ) (xs ys zs : List Clause) → (xs ++ take (m - length xs) ys) ++ take (m - length (xs ++ take (m - length xs) ys)) zs ≡ xs ++ take (m - length xs) (ys ++ zs)
+twice m xs ys zs =
+    let some = take (m - length xs) ys in
+    let left : m - length (xs ++ some) ≡ m - length xs - length some = omega (arith, length-append xs some) in
+    append_assoc xs some (take (m - length (xs ++ some)) zs) ∙
+    ap (λ (x : List Clause). xs ++ x) (ap (λ (k : ℕ). some ++ take k zs) left ∙ sym (take-append (m - length xs) ys zs))
 
--- two extensions, each cut
-pub cut-twice : (n : ℕ) (xs ys zs mid end : List Clause) → mid ≡ take n (xs ++ ys) → end ≡ take n (mid ++ zs) → end ≡ take n (xs ++ (ys ++ zs))
-cut-twice n xs ys zs mid end e f =
-    f ∙ ap (λ (x : List Clause). take n (x ++ zs)) e ∙ take-again n (xs ++ ys) zs ∙ ap (λ (x : List Clause). take n x) (append_assoc xs ys zs)
+pub cut-twice : (xs ys zs mid end : List Clause) → mid ≡ with_more xs ys → end ≡ with_more mid zs → end ≡ with_more xs (ys ++ zs)
+unfolding with_more
+cut-twice xs ys zs mid end e f = f ∙ ap (λ (x : List Clause). x ++ take (MOST_CLAUSES - length x) zs) e ∙ twice MOST_CLAUSES xs ys zs
 
-pub cut-small : (n : ℕ) (xs mid : List Clause) → mid ≡ take n xs → length mid ≤ n
-cut-small n xs mid e = rw e (length-cut n xs)
+take-none : (n : ℕ) → take {A = Clause} n [] ≡ []
+take-none zero = refl
+take-none (suc n) = refl
 
-pub cut-none : (n : ℕ) (xs : List Clause) → length xs ≤ n → xs ≡ take n (xs ++ [])
-cut-none n xs h = sym (rw append-nil (take_all n xs h))
+pub cut-none : (xs : List Clause) → xs ≡ with_more xs []
+unfolding with_more
+cut-none xs = sym (ap (λ (x : List Clause). xs ++ x) (take-none (MOST_CLAUSES - length xs)) ∙ append-nil xs)
 
--- one more clause, where there is room for it, and where there is none
-pub cut-push : (n : ℕ) (xs : List Clause) (c : Clause) → length xs < n → xs ++ c ∷ [] ≡ take n (xs ++ c ∷ [])
-cut-push n xs c h = sym (take_all n (xs ++ c ∷ []) (omega (arith, length-append xs (c ∷ []))))
+-- one more clause, where there is a number for it, and where there is none
+pub cut-push : (xs : List Clause) (c : Clause) → length xs < MOST_CLAUSES → xs ++ c ∷ [] ≡ with_more xs (c ∷ [])
+unfolding with_more
+cut-push xs c h = sym (ap (λ (x : List Clause). xs ++ x) (take_all (MOST_CLAUSES - length xs) (c ∷ []) (omega arith)))
 
-pub cut-full : (n : ℕ) (xs : List Clause) (c : Clause) → n ≤ length xs → length xs ≤ n → xs ≡ take n (xs ++ c ∷ [])
-cut-full n xs c h k = sym (take-append-le n xs (c ∷ []) h ∙ take_all n xs k)
+pub cut-full : (xs : List Clause) (c : Clause) → MOST_CLAUSES ≤ length xs → xs ≡ with_more xs (c ∷ [])
+unfolding with_more
+cut-full xs c h =
+    let none : MOST_CLAUSES - length xs ≡ 0 = omega arith in
+    sym (ap (λ (k : ℕ). xs ++ take k (c ∷ [])) none ∙ append-nil xs)
+
+-- and the number that it gets
+pub have-numbers-push : (xs : List Clause) (c : Clause) → length xs < MOST_CLAUSES → HaveNumbers (xs ++ c ∷ [])
+unfolding HaveNumbers
+have-numbers-push xs c h = omega (arith, length-append xs (c ∷ []))
+
+pub have-numbers-none : HaveNumbers []
+unfolding HaveNumbers
+have-numbers-none = omega arith
+
+pub have-numbers-fits : (xs : List Clause) (i : ℕ) → HaveNumbers xs → i < length xs → i < 2 ^ 32
+unfolding HaveNumbers
+have-numbers-fits xs i h l = omega arith
 
 -- one more variable
 map-more : {A B : Type 0} → (f : A → B) (xs : List A) (x : A) → map f (xs ++ x ∷ []) ≡ map f xs ++ f x ∷ []
@@ -44,18 +67,18 @@ pairs-more l b vs k dflt h = ap (λ (x : List ℕ). pairs_with l b x) (take_more
 pub literals-more : (b : Bool) (vs : List ℕ) (k dflt : ℕ) → k < length vs → literals_at b (take (k + 1) vs) ≡ literals_at b (take k vs) ++ (get_or vs k dflt, b) ∷ []
 literals-more b vs k dflt h = ap (λ (x : List ℕ). literals_at b x) (take_more vs k dflt h) ∙ map-more (λ (v : ℕ). (v, b)) (take k vs) (get_or vs k dflt)
 
-pub pairs-step : (n : ℕ) (old mid new : List Clause) (l : Literal) (b : Bool) (vs : List ℕ) (k dflt : ℕ) → k < length vs → mid ≡ take n (old ++ pairs_with l b (take k vs)) →
-    new ≡ take n (mid ++ (l ∷ (get_or vs k dflt, b) ∷ []) ∷ []) → new ≡ take n (old ++ pairs_with l b (take (k + 1) vs))
-pairs-step n old mid new l b vs k dflt h e f =
-    rw (pairs-more l b vs k dflt h) (cut-twice n old (pairs_with l b (take k vs)) ((l ∷ (get_or vs k dflt, b) ∷ []) ∷ []) mid new e f)
+pub pairs-step : (old mid new : List Clause) (l : Literal) (b : Bool) (vs : List ℕ) (k dflt : ℕ) → k < length vs → mid ≡ with_more old (pairs_with l b (take k vs)) →
+    new ≡ with_more mid ((l ∷ (get_or vs k dflt, b) ∷ []) ∷ []) → new ≡ with_more old (pairs_with l b (take (k + 1) vs))
+pairs-step old mid new l b vs k dflt h e f =
+    rw (pairs-more l b vs k dflt h) (cut-twice old (pairs_with l b (take k vs)) ((l ∷ (get_or vs k dflt, b) ∷ []) ∷ []) mid new e f)
 
-pub pairs-end : (n : ℕ) (old mid : List Clause) (l : Literal) (b : Bool) (vs : List ℕ) (k : ℕ) → length vs ≤ k → mid ≡ take n (old ++ pairs_with l b (take k vs)) → mid ≡ take n (old ++ pairs_with l b vs)
-pairs-end n old mid l b vs k h e = subst (λ (x : List ℕ). mid ≡ take n (old ++ pairs_with l b x)) (take_all k vs h) e
+pub pairs-end : (old mid : List Clause) (l : Literal) (b : Bool) (vs : List ℕ) (k : ℕ) → length vs ≤ k → mid ≡ with_more old (pairs_with l b (take k vs)) → mid ≡ with_more old (pairs_with l b vs)
+pairs-end old mid l b vs k h e = subst (λ (x : List ℕ). mid ≡ with_more old (pairs_with l b x)) (take_all k vs h) e
 
 pub literals-step : (l : Literal) (b : Bool) (vs : List ℕ) (k dflt : ℕ) (old new : Clause) → k < length vs → old ≡ l ∷ literals_at b (take k vs) → new ≡ old ++ (get_or vs k dflt, b) ∷ [] → new ≡ l ∷ literals_at b (take (k + 1) vs)
 literals-step l b vs k dflt old new h e f = rw (literals-more b vs k dflt h) (f ∙ ap (λ (x : Clause). x ++ (get_or vs k dflt, b) ∷ []) e)
 
-pub long-end : (n : ℕ) (old new : List Clause) (l : Literal) (b : Bool) (vs : List ℕ) (k : ℕ) (c : Clause) → length vs ≤ k → c ≡ l ∷ literals_at b (take k vs) → new ≡ take n (old ++ c ∷ []) → new ≡ take n (old ++ (l ∷ literals_at b vs) ∷ [])
-long-end n old new l b vs k c h e f =
+pub long-end : (old new : List Clause) (l : Literal) (b : Bool) (vs : List ℕ) (k : ℕ) (c : Clause) → length vs ≤ k → c ≡ l ∷ literals_at b (take k vs) → new ≡ with_more old (c ∷ []) → new ≡ with_more old ((l ∷ literals_at b vs) ∷ [])
+long-end old new l b vs k c h e f =
     let whole : c ≡ l ∷ literals_at b vs = subst (λ (x : List ℕ). c ≡ l ∷ literals_at b x) (take_all k vs h) e in
-    subst (λ (x : Clause). new ≡ take n (old ++ x ∷ [])) whole f
+    subst (λ (x : Clause). new ≡ with_more old (x ∷ [])) whole f

@@ -7,19 +7,19 @@ use Rattle.std.proofs.lemmas.Bool.{cases_Bool, cases_lt}
 use Rattle.std.proofs.lemmas.Bool.Decides.{nat_tests}
 use Rattle.std.proofs.lemmas.List.Elements.{Contains-append_cases}
 use Rattle.formula_tree.specs.Answers.{Answers, answer_of, Contained}
-use Rattle.formula_tree.proofs.AnswerLists.{answer_of-more, answer_of-rest, answer_of-last, cases_eq}
+use Rattle.formula_tree.proofs.Laws.{answer_of-more, answer_of-rest, answer_of-last, cases_eq}
 use Rattle.cnf_clauses.specs.declared.clause.Found.TheVariants.{Refuted, Unit}
 use Rattle.cnf_clauses.specs.Literals.{Clause, Literal, IsTrueUnder, IsFalseUnder, IsUndecided, IsRefuted, IsUnit}
 use Rattle.cnf_clauses.specs.Found.{IsOpen, FindsAt}
 use Rattle.cnf_clauses.specs.Indexes.{HasTwoLiterals}
 use Rattle.cnf_clauses.specs.Replays.{Replays, refuted, derives}
-use Rattle.cnf_clauses.specs.Propagates.{Leads, GoesOn, Steps, IsQuiet, AreQuiet}
+use Rattle.cnf_clauses.specs.Propagates.{HintsLead, GoesOn, Steps, IsQuiet, AreQuiet}
 use Rattle.cnf_clauses.proofs.Hinting.{true-false, undecided-false, found-refuted, found-unit, same_clause}
 use Rattle.cnf_clauses.proofs.Scanning.{pair_eq}
 
 -- ---- one clause
 
-pub settle-refuted : (cs : List Clause) (d : Answers) (h new : List ℕ) (n : ℕ) → FindsAt cs d n Refuted → new ≡ h ++ n ∷ [] → (path : Answers) → Leads cs path h d → Replays cs path new
+pub settle-refuted : (cs : List Clause) (d : Answers) (h new : List ℕ) (n : ℕ) → FindsAt cs d n Refuted → new ≡ h ++ n ∷ [] → (path : Answers) → HintsLead cs path h d → Replays cs path new
 settle-refuted cs d h new n f e path leads =
     let (c, there, all) = found-refuted cs d n f in
     rw e (leads (n ∷ []) (refuted d n c there all))
@@ -53,7 +53,7 @@ goes-on cs h1 h2 h3 d1 d2 d3 first second = record {
   grows = second.grows ∙ rw (first.grows, append_assoc d1 first.added second.added) refl;
 }
 
-pub goes-conflict : (cs : List Clause) (h1 h2 h3 : List ℕ) (d1 d2 d3 : Answers) (met : Bool) → GoesOn cs h1 d1 h2 d2 → Steps cs h2 d2 h3 d3 met → met ≡ true → (path : Answers) → Leads cs path h1 d1 → Replays cs path h3
+pub goes-conflict : (cs : List Clause) (h1 h2 h3 : List ℕ) (d1 d2 d3 : Answers) (met : Bool) → GoesOn cs h1 d1 h2 d2 → Steps cs h2 d2 h3 d3 met → met ≡ true → (path : Answers) → HintsLead cs path h1 d1 → Replays cs path h3
 goes-conflict cs h1 h2 h3 d1 d2 d3 met first second e path leads =
     let now : Steps cs h2 d2 h3 d3 true = subst (λ (x : Bool). Steps cs h2 d2 h3 d3 x) e second in
     now path (first.leads path leads)

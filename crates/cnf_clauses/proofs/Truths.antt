@@ -1,11 +1,11 @@
 -- The truth of every variable under answers to all tests, and that it makes each clause true but that of the root.
-use Rattle.std.proofs.Common.{◌≡◌, ℕ, ◌<◌, ◌+◌, ◌-◌, ◌^◌, List, [], ◌∷◌, ◌++◌, length, take, drop, get_or, zero, suc, Bool, true, false, not, ◌&&◌, ◌||◌, Some, None, slice_get, ◌⊎◌, inl, inr, refl, sym, ap, subst, ◌∙◌, arith, length-append, nat_lt, nat_eq, if◌then◌else◌}
+use Rattle.std.proofs.Common.{◌≡◌, ℕ, ◌<◌, ◌+◌, ◌-◌, List, [], ◌∷◌, ◌++◌, length, take, drop, get_or, zero, suc, Bool, true, false, not, ◌&&◌, ◌||◌, Some, None, slice_get, ◌⊎◌, inl, inr, refl, sym, ap, subst, ◌∙◌, arith, length-append, nat_lt, nat_eq, if◌then◌else◌}
 use Rattle.std.specs.List.{Contains, All}
 use Rattle.std.proofs.lemmas.List.Elements.{Contains-append_left, Contains-append_right, Contains-append_cases, Contains-push}
 use Rattle.std.proofs.lemmas.Bool.{cases_Bool}
 use Rattle.std.proofs.lemmas.List.{take-append-drop}
 use Rattle.std.proofs.lemmas.Option.{slice_get_within, get_or_from_slice_get}
-use Rattle.formula_tree.proofs.AnswerLists.{answer_of-more, answer_of-rest}
+use Rattle.formula_tree.proofs.Laws.{answer_of-more, answer_of-rest}
 use Rattle.cnf_clauses.proofs.Settling.{cases_option}
 use Rattle.std.proofs.lemmas.Bool.Decides.{nat_tests}
 use Rattle.formula_tree.specs.Answers.{Answers, answer_of, Completes}
@@ -13,7 +13,8 @@ use Rattle.formula_tree.specs.Trees.{Tree, Trees, yes, no, test, all, one_of, no
 use Rattle.formula_tree.specs.Trees.{not as negation}
 use Rattle.formula_tree.specs.Values.{AreBelow, EachBelow, holds, each_holds, some_holds}
 use Rattle.cnf_clauses.specs.Literals.{Clause, Literal, IsFalseUnder, IsUnit}
-use Rattle.cnf_clauses.specs.Numbering.{nodes, nodes_in, variable_of, variables_of, literals_at, pairs_with, not_clauses, all_clauses, one_of_clauses, node_clauses, node_clauses_in, clauses_of}
+use Rattle.cnf_clauses.specs.Numbering.{nodes, nodes_in, variable_of, variables_of, literals_at, pairs_with, not_clauses, all_clauses, one_of_clauses, node_clauses, node_clauses_in, clauses_of, with_more}
+use Rattle.cnf_clauses.specs.declared.making.TheConstants.{MOST_CLAUSES}
 use Rattle.cnf_clauses.specs.Replays.{Replays, refuted, derives}
 
 -- a clause that has a true literal, where `truth` gives each variable a value
@@ -74,8 +75,8 @@ agrees-left truth next xs ys h k l = h k (omega (arith, length-append xs ys)) �
 
 agrees-right : (truth : ℕ → Bool) (next n : ℕ) (xs ys : List Bool) → length xs ≡ n → Agrees truth next (xs ++ ys) → Agrees truth (next + n) ys
 agrees-right truth next n xs ys e h k l =
-    let place : next + n + k ≡ next + (length xs + k) = omega arith in
-    ap truth place ∙ h (length xs + k) (omega (arith, length-append xs ys)) ∙ get_or-right xs ys k
+    let index : next + n + k ≡ next + (length xs + k) = omega arith in
+    ap truth index ∙ h (length xs + k) (omega (arith, length-append xs ys)) ∙ get_or-right xs ys k
 
 -- the tests have their answers
 abbrev Answers-tests : (ℕ → Bool) → (ℕ → Bool) → ℕ → Type 0
@@ -336,6 +337,10 @@ answered-below tests (p ∷ path) h n b e =
 satisfied-cut : (truth : ℕ → Bool) (limit : ℕ) (cs : List Clause) → AreSatisfied truth cs → AreSatisfied truth (take limit cs)
 satisfied-cut truth limit cs good c stands = good c (subst (λ (x : List Clause). Contains x c) (take-append-drop limit cs) (Contains-append_left (take limit cs) (drop limit cs) c stands))
 
+satisfied-made : (truth : ℕ → Bool) (cs : List Clause) → AreSatisfied truth cs → AreSatisfied truth (with_more [] cs)
+unfolding with_more
+satisfied-made truth cs good = satisfied-cut truth (MOST_CLAUSES - 0) cs good
+
 pub exclude-yes : (tests : ℕ) (tree : Tree) (path : Answers) (hints : List ℕ) (total : ℕ → Bool) → AreBelow tests tree → All (λ (p : Literal). p.0 < tests) path → Replays (clauses_of tests tree) path hints → Completes total path →
     holds total tree ≡ false
 exclude-yes tests tree path hints total below within replays full =
@@ -347,7 +352,7 @@ exclude-yes tests tree path hints total below within replays full =
           let root : IsSatisfied truth ((variable_of tests tree, true) ∷ []) = first-true truth (variable_of tests tree, true) [] (truth-of truth total tests tests tree a below agrees ∙ e) in
           let good : AreSatisfied truth (((variable_of tests tree, true) ∷ []) ∷ node_clauses tests tree) =
           satisfied-more truth ((variable_of tests tree, true) ∷ []) (node_clauses tests tree) root (nodes-satisfied truth total tests tests tree a below agrees) in
-          absurd (replays-none truth (clauses_of tests tree) (satisfied-cut truth (2 ^ 32) (((variable_of tests tree, true) ∷ []) ∷ node_clauses tests tree) good) path hints
+          absurd (replays-none truth (clauses_of tests tree) (satisfied-made truth (((variable_of tests tree, true) ∷ []) ∷ node_clauses tests tree) good) path hints
           (λ n b h. a n (answered-below tests path within n b h) ∙ full n b h) replays)
       | inr e ↦ e
     ]

@@ -9,7 +9,7 @@ use Rattle.formula_tree.specs.declared.formula.Formula.TheVariants.{Test, Not, A
 use Rattle.formula_tree.specs.declared.formula.Branches.{Branches}
 use Rattle.formula_tree.specs.Trees.{Tree, Trees, yes, no, test, not, all, one_of, none, more, of_list, tree_of, trees_of}
 use Rattle.cnf_clauses.specs.Literals.{Clause}
-use Rattle.cnf_clauses.specs.Numbering.{nodes, nodes_in, variable_of, variables_of, node_clauses, node_clauses_in}
+use Rattle.cnf_clauses.specs.Numbering.{nodes, nodes_in, variable_of, variables_of, node_clauses, node_clauses_in, with_more}
 use Rattle.cnf_clauses.proofs.Limits.{cut-twice}
 
 pub tree-Test : (n : ℕ) → tree_of (Test n) ≡ test n
@@ -98,12 +98,12 @@ clauses-snoc n (x ∷ xs) t =
     ap (λ (cs : List Clause). node_clauses n x ++ cs) (rw e at (clauses-snoc (n + nodes x) xs t)) ∙
     sym (append_assoc (node_clauses n x) (node_clauses_in (n + nodes x) (of_list xs)) (node_clauses (n + (nodes x + nodes_in (of_list xs))) t))
 
-pub clauses-next : (limit n : ℕ) (ts : List Tree) (i : ℕ) (t : Tree) (old mid new : List Clause) (next : ℕ) → Some t ≡ slice_get ts i → mid ≡ take limit (old ++ node_clauses_in n (of_list (take i ts))) →
-    next ≡ n + nodes_in (of_list (take i ts)) → new ≡ take limit (mid ++ node_clauses next t) → new ≡ take limit (old ++ node_clauses_in n (of_list (take (i + 1) ts)))
-clauses-next limit n ts i t old mid new next e was at_next is =
-    let here : new ≡ take limit (mid ++ node_clauses (n + nodes_in (of_list (take i ts))) t) = subst (λ (x : ℕ). new ≡ take limit (mid ++ node_clauses x t)) at_next is in
-    cut-twice limit old (node_clauses_in n (of_list (take i ts))) (node_clauses (n + nodes_in (of_list (take i ts))) t) mid new was here ∙
-    ap (λ (x : List Clause). take limit (old ++ x)) (sym (clauses-snoc n (take i ts) t) ∙ ap (λ (x : List Tree). node_clauses_in n (of_list x)) (sym (take_next ts i t e)))
+pub clauses-next : (n : ℕ) (ts : List Tree) (i : ℕ) (t : Tree) (old mid new : List Clause) (next : ℕ) → Some t ≡ slice_get ts i → mid ≡ with_more old (node_clauses_in n (of_list (take i ts))) →
+    next ≡ n + nodes_in (of_list (take i ts)) → new ≡ with_more mid (node_clauses next t) → new ≡ with_more old (node_clauses_in n (of_list (take (i + 1) ts)))
+clauses-next n ts i t old mid new next e was at_next is =
+    let here : new ≡ with_more mid (node_clauses (n + nodes_in (of_list (take i ts))) t) = subst (λ (x : ℕ). new ≡ with_more mid (node_clauses x t)) at_next is in
+    cut-twice old (node_clauses_in n (of_list (take i ts))) (node_clauses (n + nodes_in (of_list (take i ts))) t) mid new was here ∙
+    ap (λ (x : List Clause). with_more old x) (sym (clauses-snoc n (take i ts) t) ∙ ap (λ (x : List Tree). node_clauses_in n (of_list x)) (sym (take_next ts i t e)))
 
 pub nodes_in-all : (ts : List Tree) (i : ℕ) → length ts ≤ i → nodes_in (of_list (take i ts)) ≡ nodes_in (of_list ts)
 nodes_in-all ts i h = ap (λ (x : List Tree). nodes_in (of_list x)) (take_all i ts h)
@@ -111,8 +111,8 @@ nodes_in-all ts i h = ap (λ (x : List Tree). nodes_in (of_list x)) (take_all i 
 pub variables-all : (n : ℕ) (ts : List Tree) (i : ℕ) (vs : List ℕ) → length ts ≤ i → vs ≡ variables_of n (of_list (take i ts)) → vs ≡ variables_of n (of_list ts)
 variables-all n ts i vs h e = e ∙ ap (λ (x : List Tree). variables_of n (of_list x)) (take_all i ts h)
 
-pub clauses-all : (limit n : ℕ) (ts : List Tree) (i : ℕ) (old made : List Clause) → length ts ≤ i → made ≡ take limit (old ++ node_clauses_in n (of_list (take i ts))) → made ≡ take limit (old ++ node_clauses_in n (of_list ts))
-clauses-all limit n ts i old made h e = e ∙ ap (λ (x : List Tree). take limit (old ++ node_clauses_in n (of_list x))) (take_all i ts h)
+pub clauses-all : (n : ℕ) (ts : List Tree) (i : ℕ) (old made : List Clause) → length ts ≤ i → made ≡ with_more old (node_clauses_in n (of_list (take i ts))) → made ≡ with_more old (node_clauses_in n (of_list ts))
+clauses-all n ts i old made h e = e ∙ ap (λ (x : List Tree). with_more old (node_clauses_in n (of_list x))) (take_all i ts h)
 
 pub nodes-Not : (r : Rc Formula Global) (f : Formula) → f ≡ Not r → nodes (tree_of f) ≡ nodes (tree_of r.value) + 1
 nodes-Not r f e = rw (e, tree-Not r) refl

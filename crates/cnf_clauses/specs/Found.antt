@@ -11,7 +11,8 @@ HasTrue decided c = (m : Literal) × Contains c m × IsTrueUnder decided m
 
 -- two literals that differ are undecided
 abbrev pub HasTwoUndecided : Answers → Clause → Type 0
-HasTwoUndecided decided c = (m : Literal) × (n : Literal) × Contains c m × Contains c n × IsUndecided decided m × IsUndecided decided n × (m ≡ n → ⊥)
+HasTwoUndecided decided c = (m : Literal) × (n : Literal) × Contains c m × Contains c n ×
+    IsUndecided decided m × IsUndecided decided n × (m ≡ n → ⊥)
 
 -- neither refuted nor unit
 abbrev pub IsOpen : Answers → Clause → Type 0

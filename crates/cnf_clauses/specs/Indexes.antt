@@ -17,5 +17,30 @@ HasTwoLiterals c = (m : Literal) × (n : Literal) × Contains c m × Contains c 
 
 -- the clauses from 0 up to a number stand in the index
 pub record AreIndexed (clauses : List Clause) (index : Index) (upto : ℕ) : Type 0 where
-  pub held : (i : ℕ) (c : Clause) (l : Literal) → i < upto → slice_get clauses i ≡ Some c → Contains c l → Contains (held_at index l) i
+  pub held : (i : ℕ) (c : Clause) (l : Literal) → i < upto → slice_get clauses i ≡ Some c → Contains c l →
+      Contains (held_at index l) i
   pub short : (i : ℕ) (c : Clause) → i < upto → slice_get clauses i ≡ Some c → HasTwoLiterals c ⊎ Contains index.short i
+
+-- the table has the same list for each variable
+abbrev pub HasSameLists : List (List ℕ) → List (List ℕ) → Type 0
+HasSameLists old new = (n : ℕ) → slice_index_or new n [] ≡ slice_index_or old n []
+
+-- no number is lost, at any variable
+abbrev pub KeepsNumbers : List (List ℕ) → List (List ℕ) → Type 0
+KeepsNumbers old new = (v i : ℕ) → Contains (slice_index_or old v []) i → Contains (slice_index_or new v []) i
+
+-- and at any literal
+abbrev pub KeepsHeld : Index → Index → Type 0
+KeepsHeld old new = (l : Literal) (i : ℕ) → Contains (held_at old l) i → Contains (held_at new l) i
+
+-- the number stands at each literal of the clause
+abbrev pub HoldsAll : Index → Clause → ℕ → Type 0
+HoldsAll index c n = (l : Literal) → Contains c l → Contains (held_at index l) n
+
+-- the numbers of all clauses that hold the literal
+abbrev pub NameHolding : List Clause → Literal → List ℕ → Type 0
+NameHolding clauses l numbers = (i : ℕ) (c : Clause) → slice_get clauses i ≡ Some c → Contains c l → Contains numbers i
+
+-- the numbers of all clauses without two literals that differ
+abbrev pub NameShort : List Clause → List ℕ → Type 0
+NameShort clauses numbers = (i : ℕ) (c : Clause) → slice_get clauses i ≡ Some c → HasTwoLiterals c ⊎ Contains numbers i

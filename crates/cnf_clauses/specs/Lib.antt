@@ -1,5 +1,6 @@
 pub mod Found
 pub mod Indexes
+pub mod Laws
 pub mod Literals
 pub mod Numbering
 pub mod Propagates

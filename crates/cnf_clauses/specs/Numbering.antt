@@ -1,6 +1,7 @@
 -- The clauses of a tree. Test j is variable j; each node that isn't a test gets a variable of its own, in prefix order, and
 -- clauses that tie it to its children: a Tseitin encoding.
-use Rattle.std.specs.Prelude.{ℕ, ◌+◌, ◌^◌, List, [], ◌∷◌, ◌++◌, map, Bool, true, false, take}
+use Rattle.std.specs.Prelude.{◌≡◌, ℕ, ◌+◌, ◌-◌, ◌≤◌, List, [], ◌∷◌, ◌++◌, length, map, Bool, true, false, take, Result, OnOk}
+use Rattle.cnf_clauses.specs.declared.making.TheConstants.{MOST_CLAUSES}
 use Rattle.formula_tree.specs.Trees.{Tree, Trees, yes, no, test, not, all, one_of, none, more}
 use Rattle.cnf_clauses.specs.Literals.{Clause, Literal}
 
@@ -39,17 +40,31 @@ literals_at value vs = map (λ v. (v, value)) vs
 abbrev pub pairs_with : Literal → Bool → List ℕ → List Clause
 pairs_with l value vs = map (λ v. l ∷ (v, value) ∷ []) vs
 
+-- one clause of a literal and of each variable at the value
+abbrev pub long_with : Literal → Bool → List ℕ → List Clause
+long_with l value vs = (l ∷ literals_at value vs) ∷ []
+
 -- the clauses of a `not` node v with a child of the variable c
 abbrev pub not_clauses : ℕ → ℕ → List Clause
 not_clauses v c = ((v, false) ∷ (c, false) ∷ []) ∷ ((v, true) ∷ (c, true) ∷ []) ∷ []
 
 -- the clauses of an `all` node v with children of the variables vs
 abbrev pub all_clauses : ℕ → List ℕ → List Clause
-all_clauses v vs = pairs_with (v, false) true vs ++ ((v, true) ∷ literals_at false vs) ∷ []
+all_clauses v vs = pairs_with (v, false) true vs ++ long_with (v, true) false vs
 
 -- the clauses of a `one_of` node
 abbrev pub one_of_clauses : ℕ → List ℕ → List Clause
-one_of_clauses v vs = ((v, false) ∷ literals_at true vs) ∷ pairs_with (v, true) false vs
+one_of_clauses v vs = long_with (v, false) true vs ++ pairs_with (v, true) false vs
+
+-- the clauses that tie a node to its children, whose own nodes get the variables behind its own
+abbrev pub not_ties : ℕ → Tree → List Clause
+not_ties v t = not_clauses v (variable_of (v + 1) t)
+
+abbrev pub all_ties : ℕ → Trees → List Clause
+all_ties v ts = all_clauses v (variables_of (v + 1) ts)
+
+abbrev pub one_of_ties : ℕ → Trees → List Clause
+one_of_ties v ts = one_of_clauses v (variables_of (v + 1) ts)
 
 -- the clauses of each node that isn't a test, in prefix order
 abbrev mutual
@@ -57,14 +72,26 @@ abbrev mutual
   node_clauses next yes = ((next, true) ∷ []) ∷ []
   node_clauses next no = ((next, false) ∷ []) ∷ []
   node_clauses next (test n) = []
-  node_clauses next (not t) = not_clauses next (variable_of (next + 1) t) ++ node_clauses (next + 1) t
-  node_clauses next (all ts) = all_clauses next (variables_of (next + 1) ts) ++ node_clauses_in (next + 1) ts
-  node_clauses next (one_of ts) = one_of_clauses next (variables_of (next + 1) ts) ++ node_clauses_in (next + 1) ts
+  node_clauses next (not t) = not_ties next t ++ node_clauses (next + 1) t
+  node_clauses next (all ts) = all_ties next ts ++ node_clauses_in (next + 1) ts
+  node_clauses next (one_of ts) = one_of_ties next ts ++ node_clauses_in (next + 1) ts
 
   pub node_clauses_in : ℕ → Trees → List Clause
   node_clauses_in next none = []
   node_clauses_in next (more t ts) = node_clauses next t ++ node_clauses_in (next + nodes t) ts
 
--- Clause 0 says that the root is true. A clause whose number is above 4,294,967,295 isn't made.
+-- each clause has a number
+unfoldable pub HaveNumbers : List Clause → Type 0
+HaveNumbers clauses = length clauses ≤ MOST_CLAUSES
+
+-- the next clauses behind those that were made, as many as there are numbers left for
+unfoldable pub with_more : List Clause → List Clause → List Clause
+with_more made next = made ++ take (MOST_CLAUSES - length made) next
+
+-- where the call went well, the next clauses were added
+abbrev pub Adds : {X E : Type 0} → Result X E → List Clause → List Clause → List Clause → Type 0
+Adds result old new next = OnOk result (new ≡ with_more old next)
+
+-- clause 0 says that the root is true
 abbrev pub clauses_of : ℕ → Tree → List Clause
-clauses_of tests t = take (2 ^ 32) (((variable_of tests t, true) ∷ []) ∷ node_clauses tests t)
+clauses_of tests t = with_more [] (((variable_of tests t, true) ∷ []) ∷ node_clauses tests t)

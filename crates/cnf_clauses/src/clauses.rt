@@ -1,7 +1,8 @@
 //! The clauses of a formula, as they are kept for unit propagation.
-ghost use Rattle.std.specs.Prelude.{◌≡◌, ◌≤◌, ◌^◌, ℕ, Bool, List, [], length, slice_get, slice_index_or, Contains, Some, ◌⊎◌, IfOk};
+ghost use Rattle.std.specs.Prelude.{◌≡◌, [], length, slice_get, slice_index_or, IfOk};
 ghost use Rattle.std.specs.Option.{option_copied};
-ghost use Rattle.cnf_clauses.specs.Indexes.{HasTwoLiterals};
+ghost use Rattle.cnf_clauses.specs.Indexes.{NameHolding, NameShort};
+ghost use Rattle.cnf_clauses.specs.Numbering.{HaveNumbers};
 
 use crate::clause::{Clause, Literal};
 use crate::index::{Index, index_of};
@@ -34,7 +35,7 @@ impl Model for Clauses {
 
 impl Clauses {
     pub(crate) fn of(alloc: Global, clauses: Vec<Clause>) -> Result<Clauses, NoMemory>
-        requires { length clauses.items ≤ 2 ^ 32 }
+        requires { HaveNumbers clauses.items }
         ensures { IfOk result (λ c. c ≡ clauses.items) }
     {
         let index = index_of(alloc, clauses.as_slice())?;
@@ -61,7 +62,7 @@ impl Clauses {
 
     // The clauses in which the literal stands.
     pub(crate) fn holding(&self, literal: Literal) -> &[u32]
-        ensures { (i : ℕ) (c : List (ℕ × Bool)) → slice_get self.now i ≡ Some c → Contains c literal → Contains result.now i }
+        ensures { NameHolding self.now literal result.now }
     {
         if literal.1 {
             numbers_at(&self.index.yes, literal.0)
@@ -72,7 +73,7 @@ impl Clauses {
 
     // The clauses without two literals that differ.
     pub(crate) fn short(&self) -> &[u32]
-        ensures { (i : ℕ) (c : List (ℕ × Bool)) → slice_get self.now i ≡ Some c → HasTwoLiterals c ⊎ Contains result.now i }
+        ensures { NameShort self.now result.now }
     {
         self.index.short.as_slice()
     }

@@ -1,7 +1,8 @@
 //! The index of a list of clauses: in which of them each literal stands, and which have no two literals
 //! that differ.
-ghost use Rattle.std.specs.Prelude.{◌≡◌, ◌≤◌, ◌<◌, ◌^◌, ℕ, List, [], Bool, length, slice_index_or, Contains, ◌⊎◌, OnOk, IfOk};
-ghost use Rattle.cnf_clauses.specs.Indexes.{AreIndexed, HasTwoLiterals, held_at};
+ghost use Rattle.std.specs.Prelude.{◌≡◌, ◌<◌, ℕ, Bool, [], length, slice_index_or, Contains, ◌⊎◌, OnOk, IfOk};
+ghost use Rattle.cnf_clauses.specs.Indexes.{AreIndexed, HasSameLists, HasTwoLiterals, HoldsAll, KeepsHeld, KeepsNumbers, held_at};
+ghost use Rattle.cnf_clauses.specs.Numbering.{HaveNumbers};
 
 use crate::clause::{Clause, Found, Literal, look};
 use crate::decided::Decided;
@@ -17,9 +18,9 @@ pub(crate) struct Index {
     pub(crate) short: List<u32>,
 }
 
-// Makes the table long enough to have a list for the variable, with empty lists at the new places.
+// Makes the table long enough to have a list for the variable. What it adds is empty.
 fn make_room(alloc: Global, table: &mut Vec<List<u32>>, variable: u32) -> Result<(), NoMemory>
-    ensures same { (n : ℕ) → slice_index_or table.new.items n [] ≡ slice_index_or table.old.items n [] }
+    ensures same { HasSameLists table.old.items table.new.items }
     ensures room { OnOk result (variable < length table.new.items) }
 {
     'room: for _ in table.len()..variable as usize + 1 {
@@ -35,7 +36,7 @@ fn add_number(
     number: u32,
 ) -> Result<(), NoMemory>
     ensures named { OnOk result (Contains (slice_index_or table.new.items variable []) number) }
-    ensures kept { OnOk result ((v i : ℕ) → Contains (slice_index_or table.old.items v []) i → Contains (slice_index_or table.new.items v []) i) }
+    ensures kept { OnOk result (KeepsNumbers table.old.items table.new.items) }
 {
     make_room(alloc, table, variable)?;
     let list = &mut table[variable as usize];
@@ -50,7 +51,7 @@ fn add_literal(
     number: u32,
 ) -> Result<(), NoMemory>
     ensures named { OnOk result (Contains (held_at index.new literal) number) }
-    ensures kept { OnOk result ((l : ℕ × Bool) (i : ℕ) → Contains (held_at index.old l) i → Contains (held_at index.new l) i) }
+    ensures kept { OnOk result (KeepsHeld index.old index.new) }
     ensures short { index.new.short ≡ index.old.short }
 {
     if literal.1 {
@@ -66,8 +67,8 @@ fn add_literals(
     literals: &[Literal],
     number: u32,
 ) -> Result<(), NoMemory>
-    ensures named { OnOk result ((l : ℕ × Bool) → Contains literals.now l → Contains (held_at index.new l) number) }
-    ensures kept { OnOk result ((l : ℕ × Bool) (i : ℕ) → Contains (held_at index.old l) i → Contains (held_at index.new l) i) }
+    ensures named { OnOk result (HoldsAll index.new literals.now number) }
+    ensures kept { OnOk result (KeepsHeld index.old index.new) }
     ensures short { index.new.short ≡ index.old.short }
 {
     'literals: for literal in literals {
@@ -96,7 +97,7 @@ fn add_short(
 
 // The index of the clauses.
 pub(crate) fn index_of(alloc: Global, clauses: &[Clause]) -> Result<Index, NoMemory>
-    requires { length clauses.now ≤ 2 ^ 32 }
+    requires { HaveNumbers clauses.now }
     ensures { IfOk result (λ index. AreIndexed clauses.now index (length clauses.now)) }
 {
     let nothing = Decided::new(alloc);

@@ -1,11 +1,10 @@
 //! The clauses of a formula.
-ghost use Rattle.std.specs.Prelude.{◌≡◌, ◌+◌, ◌-◌, ◌^◌, ◌<◌, ◌≤◌, ◌++◌, min, length, take, OnOk, IfOk};
-ghost use Rattle.formula_tree.specs.Trees.{of_list, tree_of, trees_of};
-ghost use Rattle.cnf_clauses.specs.Numbering.{all_clauses, clauses_of, node_clauses, node_clauses_in, nodes, nodes_in, not_clauses, one_of_clauses, variable_of, variables_of};
+ghost use Rattle.std.specs.Prelude.{◌≡◌, ◌+◌, ◌-◌, ◌^◌, ◌<◌, min, IfOk};
+ghost use Rattle.formula_tree.specs.Trees.{children_of, tree_of};
+ghost use Rattle.cnf_clauses.specs.Numbering.{Adds, all_ties, clauses_of, node_clauses, node_clauses_in, nodes, nodes_in, not_ties, one_of_ties, variable_of, variables_of};
 
-use crate::clause::Clause;
 use crate::clauses::Clauses;
-use crate::making::{add_long, add_one, add_pairs, add_two};
+use crate::making::Made;
 use formula_tree::{Branches, Formula};
 use plain_lists::NoMemory;
 use std::alloc::{AllocError, Global};
@@ -27,7 +26,7 @@ fn count(formula: &Formula) -> u64
 
 #[cycle(count)]
 fn count_in(branches: &Branches) -> u64
-    ensures { result ≡ min (nodes_in (of_list (trees_of branches.now))) (2 ^ 64 - 1) }
+    ensures { result ≡ min (nodes_in (children_of branches.now)) (2 ^ 64 - 1) }
 {
     let mut sum = 0u64;
     'branches: for i in 0..branches.len() {
@@ -55,8 +54,8 @@ fn variable_of(formula: &Formula, next: u32) -> u32
 
 // The variables of the branches.
 fn variables_of(alloc: Global, branches: &Branches, next: u32) -> Result<Vec<u32>, NoMemory>
-    requires { next + nodes_in (of_list (trees_of branches.now)) < 2 ^ 32 }
-    ensures { IfOk result (λ vs. vs.items ≡ variables_of next (of_list (trees_of branches.now))) }
+    requires { next + nodes_in (children_of branches.now) < 2 ^ 32 }
+    ensures { IfOk result (λ vs. vs.items ≡ variables_of next (children_of branches.now)) }
 {
     let mut variables = Vec::new(alloc);
     let mut next = next;
@@ -71,106 +70,69 @@ fn variables_of(alloc: Global, branches: &Branches, next: u32) -> Result<Vec<u32
 }
 
 // Adds the clauses that tie a `Not` node to its child.
-fn tie_not(
-    alloc: Global,
-    made: &mut Vec<Clause>,
-    inner: &Formula,
-    next: u32,
-) -> Result<(), NoMemory>
-    requires room { next + 1 < 2 ^ 32 }
-    requires few { length made.old.items ≤ 2 ^ 32 }
-    ensures made { OnOk result (made.new.items ≡ take (2 ^ 32) (made.old.items ++ not_clauses next (variable_of (next + 1) (tree_of inner.now)))) }
-    ensures few { OnOk result (length made.new.items ≤ 2 ^ 32) }
+fn tie_not(made: &mut Made, inner: &Formula, next: u32) -> Result<(), NoMemory>
+    requires { next + 1 < 2 ^ 32 }
+    ensures { Adds result made.old made.new (not_ties next (tree_of inner.now)) }
 {
     let inside = variable_of(inner, next + 1);
-    add_two(alloc, made, (next, false), (inside, false))?;
-    add_two(alloc, made, (next, true), (inside, true))?;
-    Ok(())
+    made.add_two((next, false), (inside, false))?;
+    made.add_two((next, true), (inside, true))
 }
 
 // Adds the clauses that tie an `All` node to its branches.
-fn tie_all(
-    alloc: Global,
-    made: &mut Vec<Clause>,
-    branches: &Branches,
-    next: u32,
-) -> Result<(), NoMemory>
-    requires room { next + nodes_in (of_list (trees_of branches.now)) + 1 < 2 ^ 32 }
-    requires few { length made.old.items ≤ 2 ^ 32 }
-    ensures made { OnOk result (made.new.items ≡ take (2 ^ 32) (made.old.items ++ all_clauses next (variables_of (next + 1) (of_list (trees_of branches.now))))) }
-    ensures few { OnOk result (length made.new.items ≤ 2 ^ 32) }
+fn tie_all(alloc: Global, made: &mut Made, branches: &Branches, next: u32) -> Result<(), NoMemory>
+    requires { next + nodes_in (children_of branches.now) + 1 < 2 ^ 32 }
+    ensures { Adds result made.old made.new (all_ties next (children_of branches.now)) }
 {
     let variables = variables_of(alloc, branches, next + 1)?;
-    add_pairs(alloc, made, (next, false), true, variables.as_slice())?;
-    add_long(alloc, made, (next, true), false, variables.as_slice())?;
-    Ok(())
+    made.add_pairs((next, false), true, variables.as_slice())?;
+    made.add_long((next, true), false, variables.as_slice())
 }
 
 // Adds the clauses that tie a `OneOf` node to its branches.
 fn tie_one_of(
     alloc: Global,
-    made: &mut Vec<Clause>,
+    made: &mut Made,
     branches: &Branches,
     next: u32,
 ) -> Result<(), NoMemory>
-    requires room { next + nodes_in (of_list (trees_of branches.now)) + 1 < 2 ^ 32 }
-    requires few { length made.old.items ≤ 2 ^ 32 }
-    ensures made { OnOk result (made.new.items ≡ take (2 ^ 32) (made.old.items ++ one_of_clauses next (variables_of (next + 1) (of_list (trees_of branches.now))))) }
-    ensures few { OnOk result (length made.new.items ≤ 2 ^ 32) }
+    requires { next + nodes_in (children_of branches.now) + 1 < 2 ^ 32 }
+    ensures { Adds result made.old made.new (one_of_ties next (children_of branches.now)) }
 {
     let variables = variables_of(alloc, branches, next + 1)?;
-    add_long(alloc, made, (next, false), true, variables.as_slice())?;
-    add_pairs(alloc, made, (next, true), false, variables.as_slice())?;
-    Ok(())
+    made.add_long((next, false), true, variables.as_slice())?;
+    made.add_pairs((next, true), false, variables.as_slice())
 }
 
 // Adds the clauses of each node that isn't a test, in prefix order.
 #[cycle(make)]
-fn make(alloc: Global, made: &mut Vec<Clause>, formula: &Formula, next: u32) -> Result<(), NoMemory>
-    requires room { next + nodes (tree_of formula.now) < 2 ^ 32 }
-    requires few { length made.old.items ≤ 2 ^ 32 }
-    ensures made { OnOk result (made.new.items ≡ take (2 ^ 32) (made.old.items ++ node_clauses next (tree_of formula.now))) }
-    ensures few { OnOk result (length made.new.items ≤ 2 ^ 32) }
+fn make(alloc: Global, made: &mut Made, formula: &Formula, next: u32) -> Result<(), NoMemory>
+    requires { next + nodes (tree_of formula.now) < 2 ^ 32 }
+    ensures { Adds result made.old made.new (node_clauses next (tree_of formula.now)) }
 {
     match formula {
-        Formula::Yes => {
-            add_one(alloc, made, (next, true))?;
-            Ok(())
-        }
-        Formula::No => {
-            add_one(alloc, made, (next, false))?;
-            Ok(())
-        }
+        Formula::Yes => made.add_one((next, true)),
+        Formula::No => made.add_one((next, false)),
         Formula::Test(_) => Ok(()),
         Formula::Not(inner) => {
-            tie_not(alloc, made, inner, next)?;
-            make(alloc, made, inner, next + 1)?;
-            Ok(())
+            tie_not(made, inner, next)?;
+            make(alloc, made, inner, next + 1)
         }
         Formula::All(branches) => {
             tie_all(alloc, made, branches, next)?;
-            make_in(alloc, made, branches, next + 1)?;
-            Ok(())
+            make_in(alloc, made, branches, next + 1)
         }
         Formula::OneOf(branches) => {
             tie_one_of(alloc, made, branches, next)?;
-            make_in(alloc, made, branches, next + 1)?;
-            Ok(())
+            make_in(alloc, made, branches, next + 1)
         }
     }
 }
 
 #[cycle(make)]
-fn make_in(
-    alloc: Global,
-    made: &mut Vec<Clause>,
-    branches: &Branches,
-    next: u32,
-) -> Result<(), NoMemory>
-    requires room { next + nodes_in (of_list (trees_of branches.now)) < 2 ^ 32 }
-    requires few { length made.old.items ≤ 2 ^ 32 }
-    ensures made { OnOk result (made.new.items ≡ take (2 ^ 32) (made.old.items ++ node_clauses_in next (of_list (trees_of branches.now)))) }
-    ensures few { OnOk result (length made.new.items ≤ 2 ^ 32) }
+fn make_in(alloc: Global, made: &mut Made, branches: &Branches, next: u32) -> Result<(), NoMemory>
+    requires { next + nodes_in (children_of branches.now) < 2 ^ 32 }
+    ensures { Adds result made.old made.new (node_clauses_in next (children_of branches.now)) }
 {
     let mut next = next;
     'branches: for i in 0..branches.len() {
@@ -185,7 +147,7 @@ fn make_in(
 
 /// The clauses of the formula, over the tests from 0 up to `tests`, which come first among the
 /// variables. Each node that isn't a test gets the next variable, in prefix order, a shared part anew
-/// at each place, and clauses that tie it to its branches, in that order too: a Tseitin encoding.
+/// wherever it stands, and clauses that tie it to its branches, in that order too: a Tseitin encoding.
 /// Clause 0 says that the formula holds. Clauses beyond the number 4,294,967,295 aren't made.
 /// Where there are more than 4,294,967,295 variables there is no memory for them.
 pub fn clauses_of(alloc: Global, formula: &Formula, tests: u32) -> Result<Clauses, NoMemory>
@@ -194,8 +156,8 @@ pub fn clauses_of(alloc: Global, formula: &Formula, tests: u32) -> Result<Clause
     if u64::from(tests).saturating_add(count(formula)) > u64::from(u32::MAX) {
         return Err(AllocError);
     }
-    let mut made = Vec::new(alloc);
-    add_one(alloc, &mut made, (variable_of(formula, tests), true))?;
+    let mut made = Made::new(alloc);
+    made.add_one((variable_of(formula, tests), true))?;
     make(alloc, &mut made, formula, tests)?;
-    Clauses::of(alloc, made)
+    made.indexed()
 }

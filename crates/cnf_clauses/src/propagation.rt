@@ -1,11 +1,9 @@
 //! Unit propagation from a path. What is decided is followed in order: each clause that holds a
 //! literal that has become false is looked at again, and no other; it is read only where none of its
 //! two watched literals keeps it open.
-ghost use Rattle.std.specs.Prelude.{◌≡◌, ◌≤◌, ◌<◌, ◌^◌, ℕ, List, [], Bool, false, not, length, slice_get, Contains, Some, IfOk, IfSome, IfNone};
-ghost use Rattle.formula_tree.specs.Answers.{Answers};
-ghost use Rattle.cnf_clauses.specs.Found.{IsOpen};
-ghost use Rattle.cnf_clauses.specs.Propagates.{AreQuiet, IsQuiet, Steps};
-ghost use Rattle.cnf_clauses.specs.Replays.{Replays};
+ghost use Rattle.std.specs.Prelude.{[], IfOk, IfSome, IfNone};
+ghost use Rattle.cnf_clauses.specs.Propagates.{AreQuiet, AreQuietAt, IsOpenAt, Steps, Unless};
+ghost use Rattle.cnf_clauses.specs.Replays.{NoneReplay, Replays};
 
 use crate::clause::{Found, Literal};
 use crate::clauses::{Clauses, Hints};
@@ -24,8 +22,8 @@ fn settle(
     hints: &mut Hints,
     number: u32,
 ) -> Result<bool, NoMemory>
-    ensures steps { IfOk result (λ met. Steps clauses.now hints.old decided.old hints.new decided.new met) }
-    ensures settled { IfOk result (λ met. met ≡ false → (c : List (ℕ × Bool)) → slice_get clauses.now number ≡ Some c → IsOpen decided.new c) }
+    ensures steps { IfOk result (Steps clauses.now hints.old decided.old hints.new decided.new) }
+    ensures settled { IfOk result (Unless (IsOpenAt clauses.now decided.new number)) }
 {
     if watches.keep_open(clauses, decided, number)? {
         return Ok(false);
@@ -51,8 +49,8 @@ fn settle_short(
     watches: &mut Watches,
     hints: &mut Hints,
 ) -> Result<bool, NoMemory>
-    ensures steps { IfOk result (λ met. Steps clauses.now hints.old decided.old hints.new decided.new met) }
-    ensures quiet { IfOk result (λ met. met ≡ false → AreQuiet clauses.now [] decided.new) }
+    ensures steps { IfOk result (Steps clauses.now hints.old decided.old hints.new decided.new) }
+    ensures quiet { IfOk result (Unless (AreQuiet clauses.now [] decided.new)) }
 {
     'short: for number in clauses.short() {
         if settle(clauses, decided, watches, hints, *number)? {
@@ -70,8 +68,8 @@ fn follow(
     hints: &mut Hints,
     literal: Literal,
 ) -> Result<bool, NoMemory>
-    ensures steps { IfOk result (λ met. Steps clauses.now hints.old decided.old hints.new decided.new met) }
-    ensures quiet { IfOk result (λ met. met ≡ false → (i : ℕ) (c : List (ℕ × Bool)) → slice_get clauses.now i ≡ Some c → Contains c literal → IsQuiet decided.old decided.new c) }
+    ensures steps { IfOk result (Steps clauses.now hints.old decided.old hints.new decided.new) }
+    ensures quiet { IfOk result (Unless (AreQuietAt literal clauses.now decided.old decided.new)) }
 {
     'holding: for number in clauses.holding(literal) {
         if settle(clauses, decided, watches, hints, *number)? {
@@ -89,8 +87,8 @@ fn follow_all(
     hints: &mut Hints,
 ) -> Result<bool, NoMemory>
     requires { AreQuiet clauses.now [] decided.old }
-    ensures steps { IfOk result (λ met. Steps clauses.now hints.old decided.old hints.new decided.new met) }
-    ensures quiet { IfOk result (λ met. met ≡ false → AreQuiet clauses.now decided.new decided.new) }
+    ensures steps { IfOk result (Steps clauses.now hints.old decided.old hints.new decided.new) }
+    ensures quiet { IfOk result (Unless (AreQuiet clauses.now decided.new decided.new)) }
 {
     'next: for next in 0..usize::MAX {
         let Some((variable, value)) = decided.get(next) else {
@@ -108,8 +106,8 @@ fn follow_all(
 /// is where unit propagation from the path meets no conflict. It looks at the clauses that hold a
 /// literal which becomes false, and at no others.
 pub fn conflict(alloc: Global, clauses: &Clauses, path: &Path) -> Result<Option<Hints>, NoMemory>
-    ensures hints { IfOk result (λ met. IfSome met (λ hints. Replays clauses.now path.now hints)) }
-    ensures none { IfOk result (λ met. IfNone met ((hints : List ℕ) → Replays clauses.now path.now hints → ⊥)) }
+    ensures hints { IfOk result (λ met. IfSome met (Replays clauses.now path.now)) }
+    ensures none { IfOk result (λ met. IfNone met (NoneReplay clauses.now path.now)) }
 {
     let mut decided = Decided::of_path(alloc, path)?;
     let mut watches = Watches::new(alloc);

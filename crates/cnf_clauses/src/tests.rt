@@ -2,196 +2,178 @@ ghost use Rattle.std.specs.Prelude.{◌<◌};
 
 use crate::{Clauses, Hints, clauses_of, conflict, replay, replayed_hints_exclude_yes};
 use formula_tree::{Branches, Formula, Path};
-use std::alloc::Global;
 use std::process::Abort;
 use std::rc::Rc;
-use std::test::Fail;
 
 type Shared = Rc<Formula>;
 
-fn branches(alloc: Global, items: &[&Shared]) -> Result<Branches, Fail> {
-    let mut list = Branches::new(alloc);
-    for item in items {
-        list.push((*item).clone()?)?;
+fn shared(rt: &(impl Abort + AllocGlobal), formula: Formula) -> Shared {
+    Rc::new(rt.alloc(), formula).expect(rt, "memory")
+}
+
+fn copy_of(rt: &(impl Abort + AllocGlobal), tree: &Shared) -> Shared {
+    tree.clone().expect(rt, "memory")
+}
+
+// The last so many of the trees, in their order.
+fn taken(rt: &(impl Abort + AllocGlobal), trees: &mut Vec<Shared>, count: &str) -> Branches {
+    let mut list = Branches::new(rt.alloc());
+    let from = trees
+        .len()
+        .saturating_sub(count.parse::<usize>().unwrap_or(0));
+    for tree in trees.iter().skip(from) {
+        list.push(copy_of(rt, tree)).expect(rt, "memory");
     }
-    Ok(list)
+    trees.truncate(from);
+    list
 }
 
-fn yes(alloc: Global) -> Result<Shared, Fail> {
-    Ok(Rc::new(alloc, Formula::Yes)?)
+// The node of a word over the trees before it: a number is a test, `!` a Not, `&2` an All of the last
+// two trees, `|2` a OneOf.
+fn node(rt: &(impl Abort + AllocGlobal), trees: &mut Vec<Shared>, word: &str) -> Formula {
+    if let Some(count) = word.strip_prefix("&") {
+        return Formula::All(taken(rt, trees, count));
+    }
+    if let Some(count) = word.strip_prefix("|") {
+        return Formula::OneOf(taken(rt, trees, count));
+    }
+    match word {
+        "yes" => Formula::Yes,
+        "no" => Formula::No,
+        "!" => Formula::Not(trees.pop().expect(rt, "a tree before !")),
+        _ => Formula::Test(word.parse::<u32>().unwrap_or(0)),
+    }
 }
 
-fn leaf(alloc: Global, test: u32) -> Result<Shared, Fail> {
-    Ok(Rc::new(alloc, Formula::Test(test))?)
-}
-
-fn not(alloc: Global, inner: &Shared) -> Result<Shared, Fail> {
-    Ok(Rc::new(alloc, Formula::Not(inner.clone()?))?)
-}
-
-fn all(alloc: Global, items: &[&Shared]) -> Result<Shared, Fail> {
-    Ok(Rc::new(alloc, Formula::All(branches(alloc, items)?))?)
-}
-
-fn one_of(alloc: Global, items: &[&Shared]) -> Result<Shared, Fail> {
-    Ok(Rc::new(alloc, Formula::OneOf(branches(alloc, items)?))?)
+// The tree of words, in which `=` is the last tree once more.
+fn tree(rt: &(impl Abort + AllocGlobal), words: &str) -> Shared {
+    let mut trees = Vec::new(rt.alloc());
+    for word in words.split_whitespace() {
+        let made = match trees.last() {
+            Some(last) if word == "=" => copy_of(rt, last),
+            _ => shared(rt, node(rt, &mut trees, word)),
+        };
+        trees.push(made).expect(rt, "memory");
+    }
+    trees.pop().expect(rt, "a tree")
 }
 
 // Answers as a word: `a` is test 0 and `b` test 1, a capital is yes.
-fn path_of(alloc: Global, word: &str) -> Result<Path, Fail> {
-    let mut path = Path::new(alloc);
+fn path_of(rt: &(impl Abort + AllocGlobal), word: &str) -> Path {
+    let mut path = Path::new(rt.alloc());
     for letter in word.as_bytes() {
         let test = u32::from(letter.to_ascii_lowercase().saturating_sub(b'a'));
         if path.answer(test).is_none() {
-            path.push(test, letter.is_ascii_uppercase())?;
+            path.push(test, letter.is_ascii_uppercase())
+                .expect(rt, "memory");
         }
     }
-    Ok(path)
+    path
 }
 
 // ---- the clauses of a tree
 
 // A literal with its sign, as `+3` and `-3`.
-fn write_literal(text: &mut String, alloc: Global, literal: (u32, bool)) -> Result<(), Fail> {
-    let number = format!(in alloc; "{}", literal.0)?;
-    text.push_str(if literal.1 { "+" } else { "-" })?;
-    text.push_str(number.as_str())?;
-    Ok(())
+fn write_literal(rt: &(impl Abort + AllocGlobal), text: &mut String, literal: (u32, bool)) {
+    let number = format!(in rt.alloc(); "{}", literal.0).expect(rt, "memory");
+    text.push_str(if literal.1 { "+" } else { "-" })
+        .expect(rt, "memory");
+    text.push_str(number.as_str()).expect(rt, "memory");
 }
 
 // The literals of each clause, with a comma after each clause but the last.
-fn written(alloc: Global, clauses: &Clauses) -> Result<String, Fail> {
-    let mut text = String::new(alloc);
+fn written(rt: &(impl Abort + AllocGlobal), clauses: &Clauses) -> String {
+    let mut text = String::new(rt.alloc());
     for number in 0..clauses.len() {
         if number > 0 {
-            text.push_str(", ")?;
+            text.push_str(", ").expect(rt, "memory");
         }
         let literals = clauses.get(number).unwrap_or(&[]);
-        for (place, literal) in literals.iter().enumerate() {
-            if place > 0 {
-                text.push_str(" ")?;
+        for (index, literal) in literals.iter().enumerate() {
+            if index > 0 {
+                text.push_str(" ").expect(rt, "memory");
             }
-            write_literal(&mut text, alloc, *literal)?;
+            write_literal(rt, &mut text, *literal);
         }
     }
-    Ok(text)
+    text
 }
 
-fn gives(
-    rt: &(impl Abort + AllocGlobal),
-    formula: &Formula,
-    tests: u32,
-    wanted: &str,
-) -> Result<(), Fail> {
-    let clauses = clauses_of(rt.alloc(), formula, tests)?;
-    let text = written(rt.alloc(), &clauses)?;
-    assert_eq!(rt; text.as_str(), wanted);
+fn gives(rt: &(impl Abort + AllocGlobal), formula: &Formula, tests: u32, wanted: &str) {
+    let clauses = clauses_of(rt.alloc(), formula, tests).expect(rt, "memory");
+    let text = written(rt, &clauses);
+    assert!(rt; text.as_str() == wanted, "{text}");
     assert!(rt; clauses.get(clauses.len()).is_none());
-    Ok(())
 }
 
-#[test]
-fn clauses_of_each_kind_of_node(rt: HostRuntime) -> Result<(), Fail> {
-    let alloc = rt.alloc();
-    let (zero, one) = (leaf(alloc, 0)?, leaf(alloc, 1)?);
-    gives(&rt, &Formula::Yes, 2, "+2, +2")?;
-    gives(&rt, &Formula::No, 2, "+2, -2")?;
-    gives(&rt, &Formula::Test(1), 2, "+1")?;
-    gives(&rt, &*not(alloc, &zero)?, 2, "+2, -2 -0, +2 +0")?;
-    gives(&rt, &*not(alloc, &zero)?, 7, "+7, -7 -0, +7 +0")?;
-    gives(&rt, &*all(alloc, &[])?, 2, "+2, +2")?;
-    gives(&rt, &*one_of(alloc, &[])?, 2, "+2, -2")?;
-    let both = all(alloc, &[&zero, &one])?;
-    gives(&rt, &*both, 2, "+2, -2 +0, -2 +1, +2 -0 -1")?;
-    let some = one_of(alloc, &[&one, &zero])?;
-    gives(&rt, &*some, 2, "+2, -2 +1 +0, +2 -1, +2 -0")?;
-    let twice = one_of(alloc, &[&zero, &zero])?;
-    gives(&rt, &*twice, 1, "+1, -1 +0 +0, +1 -0, +1 -0")
-}
-
-#[test]
-fn nodes_are_numbered_in_prefix_order(rt: HostRuntime) -> Result<(), Fail> {
-    let alloc = rt.alloc();
-    let (zero, one) = (leaf(alloc, 0)?, leaf(alloc, 1)?);
-    let other = not(alloc, &zero)?;
-    // 2 is the root, 3 its first branch, 4 its second, and 5 is inside of that
-    let second = all(alloc, &[&one, &yes(alloc)?])?;
-    gives(
-        &rt,
-        &*one_of(alloc, &[&other, &second])?,
+// Trees, how many tests there are, and their clauses. A node has the next number after those before
+// it, the root first.
+const GIVEN: [(&str, u32, &str); 13] = [
+    ("yes", 2, "+2, +2"),
+    ("no", 2, "+2, -2"),
+    ("1", 2, "+1"),
+    ("0 !", 2, "+2, -2 -0, +2 +0"),
+    ("0 !", 7, "+7, -7 -0, +7 +0"),
+    ("&0", 2, "+2, +2"),
+    ("|0", 2, "+2, -2"),
+    ("0 1 &2", 2, "+2, -2 +0, -2 +1, +2 -0 -1"),
+    ("1 0 |2", 2, "+2, -2 +1 +0, +2 -1, +2 -0"),
+    ("0 = |2", 1, "+1, -1 +0 +0, +1 -0, +1 -0"),
+    (
+        "0 ! 1 yes &2 |2",
         2,
         "+2, -2 +3 +4, +2 -3, +2 -4, -3 -0, +3 +0, -4 +1, -4 +5, +4 -1 -5, +5",
-    )?;
-    // a shared branch is 2, and 3 at its next place
-    gives(
-        &rt,
-        &*all(alloc, &[&other, &other])?,
+    ),
+    (
+        "0 ! = &2",
         1,
         "+1, -1 +2, -1 +3, +1 -2 -3, -2 -0, +2 +0, -3 -0, +3 +0",
-    )
-}
+    ),
+    (AGAINST_ITSELF, 2, OF_ITSELF),
+];
 
-// One statement that allows where tests 0 and 1 hold, with the deny statements beside it: none.
-fn one_statement(alloc: Global) -> Result<Shared, Fail> {
-    let (zero, one) = (leaf(alloc, 0)?, leaf(alloc, 1)?);
-    let parts = [
-        &yes(alloc)?,
-        &one_of(alloc, &[&zero])?,
-        &one_of(alloc, &[&one])?,
-        &all(alloc, &[])?,
-    ];
-    let statement = all(alloc, parts.as_slice())?;
-    let denied = one_of(alloc, &[])?;
-    let allowed = one_of(alloc, &[&statement])?;
-    all(alloc, &[&allowed, &not(alloc, &denied)?])
+fn gives_each(rt: &(impl Abort + AllocGlobal), cases: &[(&str, u32, &str)]) {
+    for (words, tests, wanted) in cases {
+        let formula = tree(rt, words);
+        gives(rt, &*formula, *tests, wanted);
+    }
 }
-
-// That a set of one statement allows, and the same set doesn't.
-fn against_itself(alloc: Global) -> Result<Shared, Fail> {
-    let set = one_statement(alloc)?;
-    all(alloc, &[&set, &not(alloc, &set)?])
-}
-
-// The variables 2 to 11 are nodes of the first set with the root before them, 12 to 21 of the second.
-const AGAINST_ITSELF: &str =
-    "+2, -2 +3, -2 +12, +2 -3 -12, -3 +4, -3 +10, +3 -4 -10, -4 +5, +4 -5, -5 +6, -5 +7, -5 +8, -5 +9, +5 -6 -7 -8 -9, +6, -7 +0, +7 -0, -8 +1, +8 -1, +9, -10 -11, +10 +11, -11, -12 -13, +12 +13, -13 +14, -13 +20, +13 -14 -20, -14 +15, +14 -15, -15 +16, -15 +17, -15 +18, -15 +19, +15 -16 -17 -18 -19, +16, -17 +0, +17 -0, -18 +1, +18 -1, +19, -20 -21, +20 +21, -21";
 
 #[test]
-fn clauses_of_a_policy_against_itself(rt: HostRuntime) -> Result<(), Fail> {
-    let alloc = rt.alloc();
-    let query = against_itself(alloc)?;
-    gives(&rt, &*query, 2, AGAINST_ITSELF)?;
-    assert_eq!(rt; clauses_of(alloc, &*query, 2)?.len(), 44);
-    Ok(())
+fn clauses_of_trees(rt: HostRuntime) {
+    gives_each(&rt, &GIVEN);
 }
+
+// One statement that allows where tests 0 and 1 hold beside no deny statement, and not the same.
+const AGAINST_ITSELF: &str = "yes 0 |1 1 |1 &0 &4 |1 |0 ! &2 = ! &2";
+
+// The variables 2 to 11 are nodes of the first set with the root before them, 12 to 21 of the second.
+const OF_ITSELF: &str =
+    "+2, -2 +3, -2 +12, +2 -3 -12, -3 +4, -3 +10, +3 -4 -10, -4 +5, +4 -5, -5 +6, -5 +7, -5 +8, -5 +9, +5 -6 -7 -8 -9, +6, -7 +0, +7 -0, -8 +1, +8 -1, +9, -10 -11, +10 +11, -11, -12 -13, +12 +13, -13 +14, -13 +20, +13 -14 -20, -14 +15, +14 -15, -15 +16, -15 +17, -15 +18, -15 +19, +15 -16 -17 -18 -19, +16, -17 +0, +17 -0, -18 +1, +18 -1, +19, -20 -21, +20 +21, -21";
 
 // ---- replay
 
-fn hints_of(alloc: Global, numbers: &[u32]) -> Result<Hints, Fail> {
-    let mut hints = Hints::new(alloc);
+fn hints_of(rt: &(impl Abort + AllocGlobal), numbers: &[u32]) -> Hints {
+    let mut hints = Hints::new(rt.alloc());
     for number in numbers {
-        hints.push(*number)?;
+        hints.push(*number).expect(rt, "memory");
     }
-    Ok(hints)
+    hints
 }
 
 // Hints below ten as a word.
-fn digits_of(alloc: Global, word: &str) -> Result<Hints, Fail> {
-    let mut hints = Hints::new(alloc);
+fn digits_of(rt: &(impl Abort + AllocGlobal), word: &str) -> Hints {
+    let mut hints = Hints::new(rt.alloc());
     for digit in word.as_bytes() {
-        hints.push(u32::from(digit.saturating_sub(b'0')))?;
+        hints
+            .push(u32::from(digit.saturating_sub(b'0')))
+            .expect(rt, "memory");
     }
-    Ok(hints)
+    hints
 }
 
-// The clauses +1, -1 +2, -1 +3, +1 -2 -3, -2 +0 +0, +2 -0, +2 -0, -3 -0 and +3 +0.
-fn yes_and_no(alloc: Global) -> Result<Clauses, Fail> {
-    let zero = leaf(alloc, 0)?;
-    let twice = one_of(alloc, &[&zero, &zero])?;
-    let tree = all(alloc, &[&twice, &not(alloc, &zero)?])?;
-    let clauses = clauses_of(alloc, &*tree, 1)?;
-    Ok(clauses)
-}
+// Its clauses are +1, -1 +2, -1 +3, +1 -2 -3, -2 +0 +0, +2 -0, +2 -0, -3 -0 and +3 +0.
+const YES_AND_NO: &str = "0 = |2 0 ! &2";
 
 // Answers and hints, and whether they replay.
 const REPLAYED: [(&str, &str, bool); 19] = [
@@ -225,106 +207,113 @@ const REPLAYED: [(&str, &str, bool); 19] = [
     ("", "30127", false),
 ];
 
-#[test]
-fn replays_by_hand(rt: HostRuntime) -> Result<(), Fail> {
-    let alloc = rt.alloc();
-    let clauses = yes_and_no(alloc)?;
-    for (answers, numbers, wanted) in REPLAYED {
-        let path = path_of(alloc, answers)?;
-        let hints = digits_of(alloc, numbers)?;
-        let accepted = replay(alloc, &clauses, &path, &hints)?;
-        assert_eq!(rt; accepted, wanted, "{answers} and {numbers}");
+fn replays_each(rt: &(impl Abort + AllocGlobal), clauses: &Clauses, cases: &[(&str, &str, bool)]) {
+    for (answers, numbers, wanted) in cases {
+        let path = path_of(rt, answers);
+        let hints = digits_of(rt, numbers);
+        let accepted = replay(rt.alloc(), clauses, &path, &hints).expect(rt, "memory");
+        assert!(rt; accepted == *wanted, "{answers} and {numbers}");
     }
-    Ok(())
 }
 
-// The hints that refute a policy against itself, but for the last one.
-const REFUTING: [u32; 18] = [
-    0, 1, 2, 4, 7, 10, 15, 11, 17, 23, 35, 37, 39, 40, 34, 29, 43, 42,
+#[test]
+fn replays_by_hand(rt: HostRuntime) {
+    let formula = tree(&rt, YES_AND_NO);
+    let clauses = clauses_of(rt.alloc(), &*formula, 1).expect(&rt, "memory");
+    replays_each(&rt, &clauses, &REPLAYED);
+}
+
+// Hints that refute a policy against itself, but for the last one, those, and those with a number past
+// the last clause in its place; and whether they replay.
+const REFUTING: [(&[u32], bool); 3] = [
+    (
+        &[
+            0, 1, 2, 4, 7, 10, 15, 11, 17, 23, 35, 37, 39, 40, 34, 29, 43, 42,
+        ],
+        false,
+    ),
+    (
+        &[
+            0, 1, 2, 4, 7, 10, 15, 11, 17, 23, 35, 37, 39, 40, 34, 29, 43, 42, 27,
+        ],
+        true,
+    ),
+    (
+        &[
+            0, 1, 2, 4, 7, 10, 15, 11, 17, 23, 35, 37, 39, 40, 34, 29, 43, 42, 44,
+        ],
+        false,
+    ),
 ];
 
+fn refutes_each(rt: &(impl Abort + AllocGlobal), clauses: &Clauses, cases: &[(&[u32], bool)]) {
+    for (numbers, wanted) in cases {
+        let hints = hints_of(rt, numbers);
+        let accepted = replay(rt.alloc(), clauses, &Path::new(rt.alloc()), &hints).expect(
+            rt, "memory",
+        );
+        assert!(rt; accepted == *wanted);
+    }
+}
+
 #[test]
-fn hints_of_a_policy_against_itself(rt: HostRuntime) -> Result<(), Fail> {
-    let alloc = rt.alloc();
-    let clauses = clauses_of(alloc, &*against_itself(alloc)?, 2)?;
-    let path = Path::new(alloc);
-    let mut hints = hints_of(alloc, REFUTING.as_slice())?;
-    assert!(rt; !replay(alloc, &clauses, &path, &hints)?);
-    hints.push(27)?;
-    assert!(rt; replay(alloc, &clauses, &path, &hints)?);
-    // a number past the last clause in its place
-    let mut past = hints_of(alloc, REFUTING.as_slice())?;
-    past.push(44)?;
-    assert!(rt; !replay(alloc, &clauses, &path, &past)?);
-    Ok(())
+fn hints_of_a_policy_against_itself(rt: HostRuntime) {
+    let formula = tree(&rt, AGAINST_ITSELF);
+    let clauses = clauses_of(rt.alloc(), &*formula, 2).expect(&rt, "memory");
+    refutes_each(&rt, &clauses, &REFUTING);
 }
 
 // ---- conflict
 
-// Whether there is a conflict is as wanted, and the hints of one replay.
-fn meets(
-    rt: &(impl Abort + AllocGlobal),
-    formula: &Formula,
-    answers: &str,
-    wanted: bool,
-) -> Result<(), Fail> {
-    let alloc = rt.alloc();
-    let clauses = clauses_of(alloc, formula, 2)?;
-    let path = path_of(alloc, answers)?;
-    match conflict(alloc, &clauses, &path)? {
+// Whether these clauses conflict is as wanted, and the hints of a conflict replay.
+fn conflicts(rt: &(impl Abort + AllocGlobal), clauses: &Clauses, path: &Path, wanted: bool) {
+    match conflict(rt.alloc(), clauses, path).expect(rt, "memory") {
         Some(hints) => {
-            assert!(rt; wanted);
-            assert!(rt; replay(alloc, &clauses, &path, &hints)?);
+            let accepted = replay(rt.alloc(), clauses, path, &hints).expect(rt, "memory");
+            assert!(rt; wanted && accepted);
         }
         None => assert!(rt; !wanted),
     }
-    Ok(())
+}
+
+fn meets(rt: &(impl Abort + AllocGlobal), formula: &Formula, answers: &str, wanted: bool) {
+    let clauses = clauses_of(rt.alloc(), formula, 2).expect(rt, "memory");
+    conflicts(rt, &clauses, &path_of(rt, answers), wanted);
+}
+
+// Trees, answers, and whether they conflict. No answers meet all four branches of the last tree, but
+// only an answer makes one of their literals follow.
+const MET: [(&str, &str, bool); 17] = [
+    ("yes", "", false),
+    ("no", "", true),
+    ("&0", "", false),
+    ("|0", "", true),
+    ("0", "", false),
+    ("0", "A", false),
+    ("0", "a", true),
+    ("0 1 &2", "A", false),
+    ("0 1 &2", "Ab", true),
+    ("0 1 &2", "b", true),
+    ("0 1 |2", "b", false),
+    ("0 1 |2", "ba", true),
+    ("0 1 |2 !", "B", true),
+    (AGAINST_ITSELF, "", true),
+    ("0 1 |2 0 1 ! |2 0 ! 1 |2 0 ! 1 ! |2 &4", "", false),
+    ("0 1 |2 0 1 ! |2 0 ! 1 |2 0 ! 1 ! |2 &4", "A", true),
+    ("0 1 |2 0 1 ! |2 0 ! 1 |2 0 ! 1 ! |2 &4", "a", true),
+];
+
+fn meets_each(rt: &(impl Abort + AllocGlobal), cases: &[(&str, &str, bool)]) {
+    for (words, answers, wanted) in cases {
+        let formula = tree(rt, words);
+        meets(rt, &*formula, answers, *wanted);
+    }
 }
 
 #[test]
-fn conflicts_of_leaves_and_empty_lists(rt: HostRuntime) -> Result<(), Fail> {
-    let alloc = rt.alloc();
-    meets(&rt, &Formula::Yes, "", false)?;
-    meets(&rt, &Formula::No, "", true)?;
-    meets(&rt, &*all(alloc, &[])?, "", false)?;
-    meets(&rt, &*one_of(alloc, &[])?, "", true)?;
-    meets(&rt, &Formula::Test(0), "", false)?;
-    meets(&rt, &Formula::Test(0), "A", false)?;
-    meets(&rt, &Formula::Test(0), "a", true)
-}
-
-#[test]
-fn conflicts_by_hand(rt: HostRuntime) -> Result<(), Fail> {
-    let alloc = rt.alloc();
-    let (zero, one) = (leaf(alloc, 0)?, leaf(alloc, 1)?);
-    let both = all(alloc, &[&zero, &one])?;
-    meets(&rt, &*both, "A", false)?;
-    meets(&rt, &*both, "Ab", true)?;
-    meets(&rt, &*both, "b", true)?;
-    let some = one_of(alloc, &[&zero, &one])?;
-    meets(&rt, &*some, "b", false)?;
-    meets(&rt, &*some, "ba", true)?;
-    meets(&rt, &*not(alloc, &some)?, "B", true)?;
-    meets(&rt, &*against_itself(alloc)?, "", true)
-}
-
-// No answers meet all four branches, but only an answer makes one of their literals follow.
-#[test]
-fn a_tree_that_is_no_may_be_without_conflict(rt: HostRuntime) -> Result<(), Fail> {
-    let alloc = rt.alloc();
+fn conflicts_by_hand(rt: HostRuntime) {
     replayed_hints_exclude_yes();
-    let (zero, one) = (leaf(alloc, 0)?, leaf(alloc, 1)?);
-    let (not_zero, not_one) = (not(alloc, &zero)?, not(alloc, &one)?);
-    let parts = [
-        &one_of(alloc, &[&zero, &one])?,
-        &one_of(alloc, &[&zero, &not_one])?,
-        &one_of(alloc, &[&not_zero, &one])?,
-        &one_of(alloc, &[&not_zero, &not_one])?,
-    ];
-    let tree = all(alloc, parts.as_slice())?;
-    meets(&rt, &*tree, "", false)?;
-    meets(&rt, &*tree, "A", true)?;
-    meets(&rt, &*tree, "a", true)
+    meets_each(&rt, &MET);
 }
 
 // ---- conflict beside the plain propagation
@@ -338,14 +327,14 @@ struct Plain {
 }
 
 impl Plain {
-    fn of(alloc: Global, variables: u32, path: &Path) -> Result<Plain, Fail> {
-        let mut values = Vec::new(alloc);
+    fn of(rt: &(impl Abort + AllocGlobal), variables: u32, path: &Path) -> Plain {
+        let mut values = Vec::new(rt.alloc());
         for variable in 0..variables {
-            values.push(path.answer(variable))?;
+            values.push(path.answer(variable)).expect(rt, "memory");
         }
-        let hints = Hints::new(alloc);
+        let hints = Hints::new(rt.alloc());
         let met = false;
-        Ok(Plain { values, hints, met })
+        Plain { values, hints, met }
     }
 
     fn value(&self, variable: u32) -> Option<bool> {
@@ -377,43 +366,41 @@ impl Plain {
     }
 
     fn decide(&mut self, variable: u32, value: bool) {
-        if let Some(place) = self.values.as_mut_slice().get_mut(variable as usize) {
-            *place = Some(value);
+        if let Some(decided) = self.values.as_mut_slice().get_mut(variable as usize) {
+            *decided = Some(value);
         }
     }
 
     // Looks at each clause once, up to a conflict.
-    fn pass(&mut self, clauses: &Clauses) -> Result<(), Fail> {
+    fn pass(&mut self, rt: &impl Abort, clauses: &Clauses) {
         for number in 0..u32::MAX {
             let Some(literals) = clauses.get(number as usize) else {
-                return Ok(());
+                return;
             };
             let (is_open, left) = self.left(literals);
             if is_open {
                 continue;
             }
-            self.hints.push(number)?;
+            self.hints.push(number).expect(rt, "memory");
             match left {
                 Some((variable, value)) => self.decide(variable, value),
                 None => {
                     self.met = true;
-                    return Ok(());
+                    return;
                 }
             }
         }
-        Ok(())
     }
 
     // Passes until nothing is derived.
-    fn run(&mut self, clauses: &Clauses) -> Result<(), Fail> {
+    fn run(&mut self, rt: &impl Abort, clauses: &Clauses) {
         for _ in 0..clauses.len() {
             let before = self.hints.len();
-            self.pass(clauses)?;
+            self.pass(rt, clauses);
             if self.met || self.hints.len() == before {
-                return Ok(());
+                return;
             }
         }
-        Ok(())
     }
 }
 
@@ -437,92 +424,95 @@ impl Draw {
     }
 
     // Up to three trees out of the pool.
-    fn branches(&mut self, alloc: Global, pool: &[Shared]) -> Result<Branches, Fail> {
-        let mut list = Branches::new(alloc);
+    fn branches(&mut self, rt: &(impl Abort + AllocGlobal), pool: &[Shared]) -> Branches {
+        let mut list = Branches::new(rt.alloc());
         for _ in 0..self.below(4) {
-            let place = self.below(12);
-            if let Some(tree) = pool.get(place as usize) {
-                list.push(tree.clone()?)?;
+            let index = self.below(12);
+            if let Some(tree) = pool.get(index as usize) {
+                list.push(copy_of(rt, tree)).expect(rt, "memory");
             }
         }
-        Ok(list)
+        list
     }
 
-    fn tree(&mut self, alloc: Global, pool: &[Shared]) -> Result<Shared, Fail> {
+    fn tree(&mut self, rt: &(impl Abort + AllocGlobal), pool: &[Shared]) -> Shared {
         let kind = self.below(3);
         if kind == 0 {
-            return Ok(Rc::new(alloc, Formula::All(self.branches(alloc, pool)?))?);
+            return shared(rt, Formula::All(self.branches(rt, pool)));
         }
         if kind == 1 {
-            return Ok(Rc::new(alloc, Formula::OneOf(self.branches(alloc, pool)?))?);
+            return shared(rt, Formula::OneOf(self.branches(rt, pool)));
         }
-        let place = self.below(12);
-        match pool.get(place as usize) {
-            Some(inner) => not(alloc, inner),
-            None => yes(alloc),
+        let index = self.below(12);
+        match pool.get(index as usize) {
+            Some(inner) => shared(rt, Formula::Not(copy_of(rt, inner))),
+            None => shared(rt, Formula::Yes),
         }
     }
 
     // Trees over five tests, each over some of those before it.
-    fn pool(&mut self, alloc: Global) -> Result<Vec<Shared>, Fail> {
-        let mut pool = Vec::new(alloc);
+    fn pool(&mut self, rt: &(impl Abort + AllocGlobal)) -> Vec<Shared> {
+        let mut pool = Vec::new(rt.alloc());
         for test in 0..5 {
-            pool.push(leaf(alloc, test)?)?;
+            pool.push(shared(rt, Formula::Test(test)))
+                .expect(rt, "memory");
         }
         for _ in 0..7 {
-            let tree = self.tree(alloc, pool.as_slice())?;
-            pool.push(tree)?;
+            let tree = self.tree(rt, pool.as_slice());
+            pool.push(tree).expect(rt, "memory");
         }
-        Ok(pool)
+        pool
     }
 
-    fn path(&mut self, alloc: Global) -> Result<Path, Fail> {
-        let mut path = Path::new(alloc);
+    fn path(&mut self, rt: &(impl Abort + AllocGlobal)) -> Path {
+        let mut path = Path::new(rt.alloc());
         for _ in 0..self.below(5) {
             let test = self.below(5);
             let answer = self.below(2) == 0;
             if path.answer(test).is_none() {
-                path.push(test, answer)?;
+                path.push(test, answer).expect(rt, "memory");
             }
         }
-        Ok(path)
+        path
     }
+}
+
+// What the plain propagation finds.
+fn plainly(rt: &(impl Abort + AllocGlobal), clauses: &Clauses, path: &Path) -> Plain {
+    let mut plain = Plain::of(rt, 2000, path);
+    plain.run(rt, clauses);
+    plain
 }
 
 // Whether there is a conflict, where the plain propagation finds the same, and both give hints.
-fn agrees(rt: &(impl Abort + AllocGlobal), formula: &Formula, path: &Path) -> Result<bool, Fail> {
-    let alloc = rt.alloc();
-    let clauses = clauses_of(alloc, formula, 5)?;
-    let mut plain = Plain::of(alloc, 2000, path)?;
-    plain.run(&clauses)?;
-    assert_eq!(rt; replay(alloc, &clauses, path, &plain.hints)?, plain.met);
-    match conflict(alloc, &clauses, path)? {
-        Some(hints) => {
-            assert!(rt; plain.met);
-            assert!(rt; replay(alloc, &clauses, path, &hints)?);
+fn agrees(rt: &(impl Abort + AllocGlobal), formula: &Formula, path: &Path) -> bool {
+    let clauses = clauses_of(rt.alloc(), formula, 5).expect(rt, "memory");
+    let plain = plainly(rt, &clauses, path);
+    let met = replay(rt.alloc(), &clauses, path, &plain.hints).expect(rt, "memory");
+    assert!(rt; met == plain.met);
+    conflicts(rt, &clauses, path, met);
+    met
+}
+
+// How many of the trees conflict with a drawn path.
+fn conflicting(rt: &(impl Abort + AllocGlobal), draw: &mut Draw, pool: &[Shared]) -> u32 {
+    let mut met = 0u32;
+    for tree in pool {
+        let path = draw.path(rt);
+        if agrees(rt, &**tree, &path) {
+            met = met.saturating_add(1);
         }
-        None => assert!(rt; !plain.met),
     }
-    Ok(plain.met)
+    met
 }
 
 #[test]
-fn conflicts_are_those_of_the_plain_propagation(rt: HostRuntime) -> Result<(), Fail> {
-    let alloc = rt.alloc();
+fn conflicts_are_those_of_the_plain_propagation(rt: HostRuntime) {
     let mut draw = Draw { state: 2026 };
-    let mut met = false;
-    let mut missed = false;
+    let mut met = 0u32;
     for _ in 0..30 {
-        let pool = draw.pool(alloc)?;
-        for tree in &pool {
-            let path = draw.path(alloc)?;
-            if agrees(&rt, &**tree, &path)? {
-                met = true;
-            } else {
-                missed = true;
-            }
-        }
+        let pool = draw.pool(&rt);
+        met = met.saturating_add(conflicting(&rt, &mut draw, pool.as_slice()));
     }
-    assert!(rt; met && missed);
-    Ok(())
+    assert!(rt; 0 < met && met < 360);
 }

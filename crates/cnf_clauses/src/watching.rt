@@ -1,7 +1,8 @@
 //! Two watched literals a clause. While a watched literal is true, or both are undecided and differ, the
 //! clause is open, and needn't be read.
-ghost use Rattle.std.specs.Prelude.{◌≡◌, ℕ, Bool, List, Some, IsTrue, IfOk, slice_get};
+ghost use Rattle.std.specs.Prelude.{IsTrue, IfOk};
 ghost use Rattle.cnf_clauses.specs.Found.{IsOpen};
+ghost use Rattle.cnf_clauses.specs.Propagates.{IsOpenAt};
 
 use crate::clause::{Found, Literal, look, noted};
 use crate::clauses::Clauses;
@@ -10,7 +11,7 @@ use plain_lists::NoMemory;
 use std::alloc::Global;
 use std::collections::HashMap;
 
-// The places of two watched literals. They are tested where they are used, so nothing is asked of them.
+// Where two watched literals stand in their clause. They are tested where they are used, so nothing is asked of them.
 #[derive(Clone, Copy)]
 struct Watch {
     first: usize,
@@ -21,13 +22,13 @@ struct Watch {
 // which are as soon read.
 #[derive(Drop)]
 pub(crate) struct Watches {
-    places: HashMap<u32, Watch>,
+    watched: HashMap<u32, Watch>,
 }
 
 impl Watches {
     pub(crate) fn new(alloc: Global) -> Watches {
         Watches {
-            places: HashMap::new(alloc),
+            watched: HashMap::new(alloc),
         }
     }
 
@@ -38,7 +39,7 @@ impl Watches {
         decided: &Decided,
         number: u32,
     ) -> Result<bool, NoMemory>
-        ensures { IfOk result (λ kept. IsTrue kept → (c : List (ℕ × Bool)) → slice_get clauses.now number ≡ Some c → IsOpen decided.now c) }
+        ensures { IfOk result (λ kept. IsTrue kept → IsOpenAt clauses.now decided.now number) }
     {
         match clauses.get(number as usize) {
             Some(literals) => self.keep_read_open(decided, literals, number),
@@ -57,7 +58,7 @@ impl Watches {
         if literals.len() < 3 {
             return Ok(false);
         }
-        let last = self.places.get(&number).copied();
+        let last = self.watched.get(&number).copied();
         if let Some(watch) = last {
             if keeps_open(decided, literals, watch) {
                 return Ok(true);
@@ -68,7 +69,7 @@ impl Watches {
         if !keeps_open(decided, literals, next) {
             return Ok(false);
         }
-        self.places.insert(number, next)?;
+        self.watched.insert(number, next)?;
         Ok(true)
     }
 }
@@ -86,28 +87,28 @@ fn keeps_open(decided: &Decided, literals: &[Literal], watch: Watch) -> bool
     matches!(look(decided, &[*first, *second]), Found::Open)
 }
 
-// The next two literals that may keep a clause open, from a place on and going round: the places before
-// it were passed since their literals are false, so that in all each clause is gone round few times.
+// The next two literals that may keep a clause open, from an index on and going round: the literals
+// before it were passed since they are false, so that in all each clause is gone round few times.
 fn next_watch(decided: &Decided, literals: &[Literal], from: usize) -> Watch {
     let mut found = Found::Refuted;
     let mut first = from;
-    let mut place = from;
+    let mut index = from;
     'round: for _ in literals {
-        if place >= literals.len() {
-            place = 0;
+        if index >= literals.len() {
+            index = 0;
         }
         if let Found::Refuted = found {
-            first = place;
+            first = index;
         }
-        let literal = literals[place];
+        let literal = literals[index];
         found = noted(found, literal, decided.value(literal.0));
         if let Found::Open = found {
             break;
         }
-        place += 1;
+        index += 1;
     }
     Watch {
         first,
-        second: place,
+        second: index,
     }
 }

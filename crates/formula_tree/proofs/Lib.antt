@@ -1,5 +1,6 @@
-pub mod AnswerLists
-pub mod Keeping
-pub mod Looking
-pub mod Running
-pub mod TreeLists
+mod AnswerLists
+mod Keeping
+pub mod Laws
+mod Looking
+mod Running
+mod TreeLists

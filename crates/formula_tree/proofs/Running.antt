@@ -1,14 +1,19 @@
--- Runs: there is one from a path, it splits less than the open tests allow, and it ends where the tree can be met.
+-- Runs: there is one from each path, it splits less often than the open tests allow, and it ends where the tree can be met.
 use Rattle.std.proofs.Common.{◌≡◌, ◌≢◌, ℕ, zero, suc, ◌+◌, ◌^◌, ◌<◌, ◌≤◌, [], ◌∷◌, Bool, true, false, Option, Some, None, ◌⊎◌, inl, inr, refl, sym, subst, ◌∙◌, arith}
 use Rattle.std.proofs.lemmas.Nat.{pow_pos}
 use Rattle.std.proofs.Math.Nat.{pow-succ'}
 use Rattle.formula_tree.specs.Answers.{Answers, answer_of, Contained}
-use Rattle.formula_tree.specs.Runs.{answered, Run, closed_by_value, closed_by_path, ended, ended_after, went_on, unanswered, CanBeMet, IsHarderAlong, CanGoOn}
+use Rattle.formula_tree.specs.Runs.{answered, Run, no_by_value, no_by_path, yes_by_value, yes_side, no_side, NeedsMore, unanswered, CanBeMet, IsHarderAlong, CanGoOn}
 use Rattle.formula_tree.specs.Trees.{Tree}
-use Rattle.formula_tree.specs.Values.{AreBelow}
+use Rattle.formula_tree.specs.Values.{AreBelow, value, pick}
+use Rattle.formula_tree.specs.declared.value.Three.{Three}
+use Rattle.formula_tree.specs.declared.value.Three.TheVariants.{Yes, No, Unknown}
+use Rattle.formula_tree.specs.declared.value.Looked.{Looked}
+use Rattle.formula_tree.specs.declared.value.Looked.TheVariants as looks
+use Rattle.formula_tree.specs.Looks.{value_in, pick_in, looked}
 use Rattle.formula_tree.proofs.AnswerLists.{answer_of-more, answer_of-besides, answer_of-last, cases_eq}
 use Rattle.formula_tree.proofs.Keeping.{keeps-yes, keeps-no}
-use Rattle.formula_tree.proofs.Looking.{pick-unknown, pick-unanswered, pick-within}
+use Rattle.formula_tree.proofs.Looking.{value_is, pick_is, pick-unknown, pick-unanswered, pick-within}
 
 -- ---- the open tests of a path
 
@@ -83,46 +88,46 @@ module _ (possible : Answers → Type 0) (tree : Tree) where
   R = Run possible tree
 
   pub same_run : (p : Answers) (b c : Bool) (n m : ℕ) → R p b n → R p c m → (b ≡ c) × (n ≡ m)
-  same_run p b c n m (closed_by_value p1 v1) (closed_by_value p2 v2) = (refl, refl)
-  same_run p b c n m (closed_by_value p1 v1) (closed_by_path p2 x2) = (refl, refl)
-  same_run p b c n m (closed_by_value p1 v1) (ended p2 v2 h2) = absurd (cc)
-  same_run p b c n m (closed_by_value p1 v1) (ended_after p2 t2 k2 a2 h2 e2 y2 c2) = let u2 = pick-unknown p tree t2 e2 in absurd (cc)
-  same_run p b c n m (closed_by_value p1 v1) (went_on p2 t2 end2 k2 m2 a2 h2 e2 y2 z2 c2) = let u2 = pick-unknown p tree t2 e2 in absurd (cc)
-  same_run p b c n m (closed_by_path p1 x1) (closed_by_value p2 v2) = (refl, refl)
-  same_run p b c n m (closed_by_path p1 x1) (closed_by_path p2 x2) = (refl, refl)
-  same_run p b c n m (closed_by_path p1 x1) (ended p2 v2 h2) = absurd (x1 h2)
-  same_run p b c n m (closed_by_path p1 x1) (ended_after p2 t2 k2 a2 h2 e2 y2 c2) = absurd (x1 h2)
-  same_run p b c n m (closed_by_path p1 x1) (went_on p2 t2 end2 k2 m2 a2 h2 e2 y2 z2 c2) = absurd (x1 h2)
-  same_run p b c n m (ended p1 v1 h1) (closed_by_value p2 v2) = absurd (cc)
-  same_run p b c n m (ended p1 v1 h1) (closed_by_path p2 x2) = absurd (x2 h1)
-  same_run p b c n m (ended p1 v1 h1) (ended p2 v2 h2) = (refl, refl)
-  same_run p b c n m (ended p1 v1 h1) (ended_after p2 t2 k2 a2 h2 e2 y2 c2) = let u2 = pick-unknown p tree t2 e2 in absurd (cc)
-  same_run p b c n m (ended p1 v1 h1) (went_on p2 t2 end2 k2 m2 a2 h2 e2 y2 z2 c2) = let u2 = pick-unknown p tree t2 e2 in absurd (cc)
-  same_run p b c n m (ended_after p1 t1 k1 a1 h1 e1 y1 c1) (closed_by_value p2 v2) = let u1 = pick-unknown p tree t1 e1 in absurd (cc)
-  same_run p b c n m (ended_after p1 t1 k1 a1 h1 e1 y1 c1) (closed_by_path p2 x2) = absurd (x2 h1)
-  same_run p b c n m (ended_after p1 t1 k1 a1 h1 e1 y1 c1) (ended p2 v2 h2) = let u1 = pick-unknown p tree t1 e1 in absurd (cc)
-  same_run p b c n m (ended_after p1 t1 k1 a1 h1 e1 y1 c1) (ended_after p2 t2 k2 a2 h2 e2 y2 c2) =
+  same_run p b c n m (no_by_value p1 v1) (no_by_value p2 v2) = (refl, refl)
+  same_run p b c n m (no_by_value p1 v1) (no_by_path p2 x2) = (refl, refl)
+  same_run p b c n m (no_by_value p1 v1) (yes_by_value p2 v2 h2) = absurd (cc)
+  same_run p b c n m (no_by_value p1 v1) (yes_side p2 t2 k2 a2 h2 e2 y2 c2) = let u2 = pick-unknown p tree t2 e2 in absurd (cc)
+  same_run p b c n m (no_by_value p1 v1) (no_side p2 t2 end2 k2 m2 a2 h2 e2 y2 z2 c2) = let u2 = pick-unknown p tree t2 e2 in absurd (cc)
+  same_run p b c n m (no_by_path p1 x1) (no_by_value p2 v2) = (refl, refl)
+  same_run p b c n m (no_by_path p1 x1) (no_by_path p2 x2) = (refl, refl)
+  same_run p b c n m (no_by_path p1 x1) (yes_by_value p2 v2 h2) = absurd (x1 h2)
+  same_run p b c n m (no_by_path p1 x1) (yes_side p2 t2 k2 a2 h2 e2 y2 c2) = absurd (x1 h2)
+  same_run p b c n m (no_by_path p1 x1) (no_side p2 t2 end2 k2 m2 a2 h2 e2 y2 z2 c2) = absurd (x1 h2)
+  same_run p b c n m (yes_by_value p1 v1 h1) (no_by_value p2 v2) = absurd (cc)
+  same_run p b c n m (yes_by_value p1 v1 h1) (no_by_path p2 x2) = absurd (x2 h1)
+  same_run p b c n m (yes_by_value p1 v1 h1) (yes_by_value p2 v2 h2) = (refl, refl)
+  same_run p b c n m (yes_by_value p1 v1 h1) (yes_side p2 t2 k2 a2 h2 e2 y2 c2) = let u2 = pick-unknown p tree t2 e2 in absurd (cc)
+  same_run p b c n m (yes_by_value p1 v1 h1) (no_side p2 t2 end2 k2 m2 a2 h2 e2 y2 z2 c2) = let u2 = pick-unknown p tree t2 e2 in absurd (cc)
+  same_run p b c n m (yes_side p1 t1 k1 a1 h1 e1 y1 c1) (no_by_value p2 v2) = let u1 = pick-unknown p tree t1 e1 in absurd (cc)
+  same_run p b c n m (yes_side p1 t1 k1 a1 h1 e1 y1 c1) (no_by_path p2 x2) = absurd (x2 h1)
+  same_run p b c n m (yes_side p1 t1 k1 a1 h1 e1 y1 c1) (yes_by_value p2 v2 h2) = let u1 = pick-unknown p tree t1 e1 in absurd (cc)
+  same_run p b c n m (yes_side p1 t1 k1 a1 h1 e1 y1 c1) (yes_side p2 t2 k2 a2 h2 e2 y2 c2) =
       let same_test : t1 ≡ t2 = cc in
       let y : R (answered p t2 true) true k1 = subst (λ (x : ℕ). R (answered p x true) true k1) same_test y1 in
       let first = same_run (answered p t2 true) true true k1 k2 y y2 in
       let count = first.1 in
       (refl, omega arith)
-  same_run p b c n m (ended_after p1 t1 k1 a1 h1 e1 y1 c1) (went_on p2 t2 end2 k2 m2 a2 h2 e2 y2 z2 c2) =
+  same_run p b c n m (yes_side p1 t1 k1 a1 h1 e1 y1 c1) (no_side p2 t2 end2 k2 m2 a2 h2 e2 y2 z2 c2) =
       let same_test : t1 ≡ t2 = cc in
       let y : R (answered p t2 true) true k1 = subst (λ (x : ℕ). R (answered p x true) true k1) same_test y1 in
       let first = same_run (answered p t2 true) true false k1 k2 y y2 in
       let bad = first.0 in
       absurd (cc)
-  same_run p b c n m (went_on p1 t1 end1 k1 m1 a1 h1 e1 y1 z1 c1) (closed_by_value p2 v2) = let u1 = pick-unknown p tree t1 e1 in absurd (cc)
-  same_run p b c n m (went_on p1 t1 end1 k1 m1 a1 h1 e1 y1 z1 c1) (closed_by_path p2 x2) = absurd (x2 h1)
-  same_run p b c n m (went_on p1 t1 end1 k1 m1 a1 h1 e1 y1 z1 c1) (ended p2 v2 h2) = let u1 = pick-unknown p tree t1 e1 in absurd (cc)
-  same_run p b c n m (went_on p1 t1 end1 k1 m1 a1 h1 e1 y1 z1 c1) (ended_after p2 t2 k2 a2 h2 e2 y2 c2) =
+  same_run p b c n m (no_side p1 t1 end1 k1 m1 a1 h1 e1 y1 z1 c1) (no_by_value p2 v2) = let u1 = pick-unknown p tree t1 e1 in absurd (cc)
+  same_run p b c n m (no_side p1 t1 end1 k1 m1 a1 h1 e1 y1 z1 c1) (no_by_path p2 x2) = absurd (x2 h1)
+  same_run p b c n m (no_side p1 t1 end1 k1 m1 a1 h1 e1 y1 z1 c1) (yes_by_value p2 v2 h2) = let u1 = pick-unknown p tree t1 e1 in absurd (cc)
+  same_run p b c n m (no_side p1 t1 end1 k1 m1 a1 h1 e1 y1 z1 c1) (yes_side p2 t2 k2 a2 h2 e2 y2 c2) =
       let same_test : t1 ≡ t2 = cc in
       let y : R (answered p t2 true) false k1 = subst (λ (x : ℕ). R (answered p x true) false k1) same_test y1 in
       let first = same_run (answered p t2 true) false true k1 k2 y y2 in
       let bad = first.0 in
       absurd (cc)
-  same_run p b c n m (went_on p1 t1 end1 k1 m1 a1 h1 e1 y1 z1 c1) (went_on p2 t2 end2 k2 m2 a2 h2 e2 y2 z2 c2) =
+  same_run p b c n m (no_side p1 t1 end1 k1 m1 a1 h1 e1 y1 z1 c1) (no_side p2 t2 end2 k2 m2 a2 h2 e2 y2 z2 c2) =
       let same_test : t1 ≡ t2 = cc in
       let y : R (answered p t2 true) false k1 = subst (λ (x : ℕ). R (answered p x true) false k1) same_test y1 in
       let first = same_run (answered p t2 true) false false k1 k2 y y2 in
@@ -133,14 +138,14 @@ module _ (possible : Answers → Type 0) (tree : Tree) where
       (second.0, omega arith)
 
   pub bounded : (t : ℕ) → AreBelow t tree → (p : Answers) (b : Bool) (n : ℕ) → R p b n → n < 2 ^ unanswered p t
-  bounded t h p b n (closed_by_value p1 v1) = power (unanswered p t)
-  bounded t h p b n (closed_by_path p1 x1) = power (unanswered p t)
-  bounded t h p b n (ended p1 v1 h1) = power (unanswered p t)
-  bounded t h p b n (ended_after p1 t1 k1 a1 h1 e1 y1 c1) =
+  bounded t h p b n (no_by_value p1 v1) = power (unanswered p t)
+  bounded t h p b n (no_by_path p1 x1) = power (unanswered p t)
+  bounded t h p b n (yes_by_value p1 v1 h1) = power (unanswered p t)
+  bounded t h p b n (yes_side p1 t1 k1 a1 h1 e1 y1 c1) =
       let less = unanswered-more p t1 true t (pick-within t p tree t1 h e1) (pick-unanswered p tree t1 e1) in
       let first = bounded t h (answered p t1 true) true k1 y1 in
       rw less (twice (unanswered (answered p t1 true) t) k1 0 n first (power (unanswered (answered p t1 true) t)) (omega arith))
-  bounded t h p b n (went_on p1 t1 end1 k1 m1 a1 h1 e1 y1 z1 c1) =
+  bounded t h p b n (no_side p1 t1 end1 k1 m1 a1 h1 e1 y1 z1 c1) =
       let less = unanswered-more p t1 true t (pick-within t p tree t1 h e1) (pick-unanswered p tree t1 e1) in
       let also = unanswered-more p t1 false t (pick-within t p tree t1 h e1) (pick-unanswered p tree t1 e1) in
       let same : unanswered (answered p t1 false) t ≡ unanswered (answered p t1 true) t = omega arith in
@@ -152,18 +157,18 @@ module _ (possible : Answers → Type 0) (tree : Tree) where
   widened p t a (longer, c, v, h) = (longer, λ m d k. c m d (contained-answered p t a m d k), v, h)
 
   pub found : (p : Answers) (b : Bool) (n : ℕ) → R p b n → b ≡ true → CanBeMet possible tree p
-  found p b n (closed_by_value p1 v1) e = absurd (cc)
-  found p b n (closed_by_path p1 x1) e = absurd (cc)
-  found p b n (ended p1 v1 h1) e = (p, λ m c h. h, v1, h1)
-  found p b n (ended_after p1 t1 k1 a1 h1 e1 y1 c1) e = widened p t1 true (found (answered p t1 true) true k1 y1 refl)
-  found p b n (went_on p1 t1 end1 k1 m1 a1 h1 e1 y1 z1 c1) e = widened p t1 false (found (answered p t1 false) b m1 z1 e)
+  found p b n (no_by_value p1 v1) e = absurd (cc)
+  found p b n (no_by_path p1 x1) e = absurd (cc)
+  found p b n (yes_by_value p1 v1 h1) e = (p, λ m c h. h, v1, h1)
+  found p b n (yes_side p1 t1 k1 a1 h1 e1 y1 c1) e = widened p t1 true (found (answered p t1 true) true k1 y1 refl)
+  found p b n (no_side p1 t1 end1 k1 m1 a1 h1 e1 y1 z1 c1) e = widened p t1 false (found (answered p t1 false) b m1 z1 e)
 
   pub lost : IsHarderAlong possible → CanGoOn possible → (p : Answers) (b : Bool) (n : ℕ) → R p b n → b ≡ false → CanBeMet possible tree p → ⊥
-  lost harder goes p b n (closed_by_value p1 v1) e (longer, c, v, h) = let no = keeps-no p longer tree c v1 in absurd (cc)
-  lost harder goes p b n (closed_by_path p1 x1) e (longer, c, v, h) = x1 (harder p longer c h)
-  lost harder goes p b n (ended p1 v1 h1) e met = absurd (cc)
-  lost harder goes p b n (ended_after p1 t1 k1 a1 h1 e1 y1 c1) e met = absurd (cc)
-  lost harder goes p b n (went_on p1 t1 end1 k1 m1 a1 h1 e1 y1 z1 c1) e (longer, c, v, h) =
+  lost harder goes p b n (no_by_value p1 v1) e (longer, c, v, h) = let no = keeps-no p longer tree c v1 in absurd (cc)
+  lost harder goes p b n (no_by_path p1 x1) e (longer, c, v, h) = x1 (harder p longer c h)
+  lost harder goes p b n (yes_by_value p1 v1 h1) e met = absurd (cc)
+  lost harder goes p b n (yes_side p1 t1 k1 a1 h1 e1 y1 c1) e met = absurd (cc)
+  lost harder goes p b n (no_side p1 t1 end1 k1 m1 a1 h1 e1 y1 z1 c1) e (longer, c, v, h) =
       let new = pick-unanswered p tree t1 e1 in
       elim (cases_answer (answer_of longer t1)) [
         | inl is_yes ↦ lost harder goes (answered p t1 true) false k1 y1 refl (longer, contained-by p longer t1 true c new is_yes, v, h)
@@ -177,9 +182,64 @@ module _ (possible : Answers → Type 0) (tree : Tree) where
             ]
       ]
 
-  pub met_is : IsHarderAlong possible → CanGoOn possible → (p : Answers) (b : Bool) (n : ℕ) → R p b n → (b ≡ true → CanBeMet possible tree p) × (CanBeMet possible tree p → b ≡ true)
-  met_is harder goes p b n run = (found p b n run, λ met. not_false b (λ e. lost harder goes p b n run e met))
+  pub missed : IsHarderAlong possible → CanGoOn possible → (p : Answers) (b : Bool) (n : ℕ) → CanBeMet possible tree p → R p b n → b ≡ true
+  missed harder goes p b n met run = not_false b (λ e. lost harder goes p b n run e met)
 
-  pub stays_closed : IsHarderAlong possible → CanGoOn possible → (few many : Answers) (b : Bool) (n m : ℕ) → Contained few many → R few false n → R many b m → b ≡ false
-  stays_closed harder goes few many b n m c closed run =
-      not_true b (λ e. let (longer, more, v, h) = found many b m run e in lost harder goes few false n closed refl (longer, λ k d a. more k d (c k d a), v, h))
+  pub stays_unmet : IsHarderAlong possible → CanGoOn possible → (few many : Answers) (b : Bool) (n m : ℕ) → Contained few many → R few false n → R many b m → b ≡ false
+  stays_unmet harder goes few many b n m c unmet run =
+      not_true b (λ e. let (longer, more, v, h) = found many b m run e in lost harder goes few false n unmet refl (longer, λ k d a. more k d (c k d a), v, h))
+
+-- ---- there is a run from each path
+
+cases_value : (v : Three) → (v ≡ Yes) ⊎ ((v ≡ No) ⊎ (v ≡ Unknown))
+cases_value Yes = inl refl
+cases_value No = inr (inl refl)
+cases_value Unknown = inr (inr refl)
+
+looked-unknown : (r : Looked) → value_in r ≡ Unknown → (n : ℕ) × (pick_in r ≡ Some n)
+looked-unknown looks.Yes e = absurd (cc)
+looked-unknown looks.No e = absurd (cc)
+looked-unknown (looks.Unknown n) e = (n, refl)
+
+some-pick : (p : Answers) (tree : Tree) → value p tree ≡ Unknown → (n : ℕ) × (pick p tree ≡ Some n)
+some-pick p tree e = let (n, is) = looked-unknown (looked p tree) (value_is p tree ∙ e) in (n, sym (pick_is p tree) ∙ is)
+
+module _ (possible : Answers → Type 0) (tree : Tree) (p : Answers) (n : ℕ) (ok : possible p) (is : pick p tree ≡ Some n) where
+  after : ((k : ℕ) → Run possible tree (answered p n true) false k → ⊥) → ((b : Bool) (m : ℕ) → Run possible tree p b m → ⊥) → (b : Bool) (k : ℕ) → Run possible tree (answered p n true) b k → ⊥
+  after unmet none true k y = none true (k + 1) (yes_side p n k (k + 1) ok is y refl)
+  after unmet none false k y = unmet k y
+
+module _ (possible : Answers → Type 0) (tree : Tree) (t : ℕ) (h : AreBelow t tree) where
+  pub some-run : (u : ℕ) (p : Answers) → unanswered p t ≡ u → ((b : Bool) (n : ℕ) → Run possible tree p b n → ⊥) → ⊥
+  some-run zero p e none =
+      elim (cases_value (value p tree)) [
+        | inl v ↦ none false 0 (no_by_path p (λ ok. none true 0 (yes_by_value p v ok)))
+        | inr (inl v) ↦ none false 0 (no_by_value p v)
+        | inr (inr v) ↦
+            let (n, is) = some-pick p tree v in
+            let less = unanswered-more p n true t (pick-within t p tree n h is) (pick-unanswered p tree n is) in
+            absurd (omega arith)
+      ]
+  some-run (suc u) p e none =
+      elim (cases_value (value p tree)) [
+        | inl v ↦ none false 0 (no_by_path p (λ ok. none true 0 (yes_by_value p v ok)))
+        | inr (inl v) ↦ none false 0 (no_by_value p v)
+        | inr (inr v) ↦
+            let (n, is) = some-pick p tree v in
+            let less = unanswered-more p n true t (pick-within t p tree n h is) (pick-unanswered p tree n is) in
+            let also = unanswered-more p n false t (pick-within t p tree n h is) (pick-unanswered p tree n is) in
+            let yes_left : unanswered (answered p n true) t ≡ u = omega arith in
+            let no_left : unanswered (answered p n false) t ≡ u = omega arith in
+            none false 0 (no_by_path p (λ ok.
+            some-run u (answered p n true) yes_left (after possible tree p n ok is
+            (λ k y. some-run u (answered p n false) no_left (λ c m z. none c (k + m + 1) (no_side p n c k m (k + m + 1) ok is y z refl)))
+            none)))
+      ]
+
+  pub start_fits : (b : Bool) (n : ℕ) → Run possible tree [] b n → n < 2 ^ t
+  start_fits b n run = rw (unanswered-start t) at (bounded possible tree t h [] b n run)
+
+  -- a run that needs more has more splits than the tests allow, so there is none
+  pub few_fit : (splits : ℕ) → 2 ^ t ≤ splits + 1 → NeedsMore possible tree [] splits → ⊥
+  few_fit splits few more =
+      some-run t [] (unanswered-start t) (λ b n run. let long : splits < n = more b n run in let short : n < 2 ^ t = start_fits b n run in omega arith)

@@ -1,4 +1,4 @@
--- Branches, place by place.
+-- Branches, index by index.
 use Rattle.std.proofs.Common.{◌≡◌, ℕ, ◌<◌, ◌≤◌, List, length, map, get_or, Some, None, slice_get, option_map, sym, ap, ◌∙◌, rules}
 use Rattle.std.proofs.lemmas.Option.{slice_get-map, slice_get-get_or, slice_get_past}
 use Rattle.formula_tree.specs.declared.formula.Branch.{Branch}

@@ -27,3 +27,7 @@ Completes total path = (n : ℕ) (b : Bool) → answer_of path n ≡ Some b → 
 pub record IsTabled (path : Answers) (table : List (Option Bool)) : Type 0 where
   pub distinct : IsDistinct path
   pub same : (n : ℕ) → slice_index_or table n None ≡ answer_of path n
+
+-- two tables have one answer to each test
+abbrev pub AnswerAlike : List (Option Bool) → List (Option Bool) → Type 0
+AnswerAlike old new = (n : ℕ) → slice_index_or new n None ≡ slice_index_or old n None

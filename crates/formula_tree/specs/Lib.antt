@@ -1,4 +1,5 @@
 pub mod Answers
+pub mod Laws
 pub mod Looks
 pub mod Runs
 pub mod Trees

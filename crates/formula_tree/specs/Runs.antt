@@ -1,5 +1,5 @@
 -- The plain run of a tree: a search that splits on the picked test, yes first.
-use Rattle.std.specs.Prelude.{◌≡◌, ℕ, suc, zero, ◌+◌, [], ◌∷◌, ◌++◌, Bool, true, false, Option, Some, None, ◌⊎◌}
+use Rattle.std.specs.Prelude.{◌≡◌, ◌<◌, ℕ, suc, zero, ◌+◌, [], ◌∷◌, ◌++◌, Bool, true, false, Option, Some, None, ◌⊎◌}
 use Rattle.formula_tree.specs.declared.value.Three.TheVariants.{Yes, No}
 use Rattle.formula_tree.specs.Answers.{Answers, answer_of, Contained}
 use Rattle.formula_tree.specs.Trees.{Tree}
@@ -9,21 +9,26 @@ use Rattle.formula_tree.specs.Values.{value, pick}
 abbrev pub answered : Answers → ℕ → Bool → Answers
 answered path n b = path ++ (n, b) ∷ []
 
--- The run from a path, where `possible` says which paths can be met: it has ended where the Bool is true and has closed
--- where it is false, with so many splits.
+-- The run from a path, where `possible` says which paths can be met: it ends with a path that can be met and makes the
+-- tree yes where the Bool is true, and without one where it is false, after so many splits.
 pub data Run (possible : Answers → Type 0) (tree : Tree) : Answers → Bool → ℕ → Type 0 where
-  -- the value is no
-  closed_by_value : (path : Answers) → value path tree ≡ No → Run possible tree path false 0
-  -- the path can't be met
-  closed_by_path : (path : Answers) → ¬ possible path → Run possible tree path false 0
-  -- the value is yes, and the path can be met
-  ended : (path : Answers) → value path tree ≡ Yes → possible path → Run possible tree path true 0
-  -- a split whose yes side ends
-  ended_after : (path : Answers) (n k all : ℕ) → possible path → pick path tree ≡ Some n →
+  -- without one: the value is no
+  no_by_value : (path : Answers) → value path tree ≡ No → Run possible tree path false 0
+  -- without one: the path can't be met
+  no_by_path : (path : Answers) → ¬ possible path → Run possible tree path false 0
+  -- with the path itself: the value is yes, and the path can be met
+  yes_by_value : (path : Answers) → value path tree ≡ Yes → possible path → Run possible tree path true 0
+  -- a split whose yes side ends with one: its no side isn't run
+  yes_side : (path : Answers) (n k all : ℕ) → possible path → pick path tree ≡ Some n →
       Run possible tree (answered path n true) true k → all ≡ k + 1 → Run possible tree path true all
-  -- a split whose yes side closes: then its no side is run
-  went_on : (path : Answers) (n : ℕ) (end : Bool) (k m all : ℕ) → possible path → pick path tree ≡ Some n →
-      Run possible tree (answered path n true) false k → Run possible tree (answered path n false) end m → all ≡ k + m + 1 → Run possible tree path end all
+  -- a split whose yes side ends without one: its no side says how it ends
+  no_side : (path : Answers) (n : ℕ) (end : Bool) (k m all : ℕ) → possible path → pick path tree ≡ Some n →
+      Run possible tree (answered path n true) false k → Run possible tree (answered path n false) end m →
+      all ≡ k + m + 1 → Run possible tree path end all
+
+-- the run from the path needs more splits than the number
+abbrev pub NeedsMore : (Answers → Type 0) → Tree → Answers → ℕ → Type 0
+NeedsMore possible tree path splits = (end : Bool) (n : ℕ) → Run possible tree path end n → splits < n
 
 -- how many of the tests below t the path leaves unanswered
 abbrev pub one_if_none : Option Bool → ℕ
@@ -44,4 +49,5 @@ IsHarderAlong possible = (few many : Answers) → Contained few many → possibl
 
 -- a path that can be met can be met with one of the two answers to any further test
 abbrev pub CanGoOn : (Answers → Type 0) → Type 0
-CanGoOn possible = (path : Answers) (n : ℕ) → possible path → answer_of path n ≡ None → possible (answered path n true) ⊎ possible (answered path n false)
+CanGoOn possible = (path : Answers) (n : ℕ) → possible path → answer_of path n ≡ None →
+    possible (answered path n true) ⊎ possible (answered path n false)

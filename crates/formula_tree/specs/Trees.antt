@@ -48,5 +48,9 @@ tree_of = fold-Formula Tree Tree (List Tree) formula_step branch_step branches_s
 abbrev pub trees_of : Branches → List Tree
 trees_of = fold-Branches Tree Tree (List Tree) formula_step branch_step branches_step
 
+-- the branches as a node of a tree has them
+abbrev pub children_of : Branches → Trees
+children_of branches = of_list (trees_of branches)
+
 abbrev pub branch_tree : Branch → Tree
 branch_tree = fold-Branch Tree Tree (List Tree) formula_step branch_step branches_step

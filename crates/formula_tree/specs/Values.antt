@@ -108,3 +108,7 @@ abbrev mutual
   pub EachBelow : ℕ → Trees → Type 0
   EachBelow t none = Unit {0}
   EachBelow t (more f fs) = AreBelow t f × EachBelow t fs
+
+-- the number is below each that the tree's tests are below
+abbrev pub IsWithin : Tree → ℕ → Type 0
+IsWithin tree n = (t : ℕ) → AreBelow t tree → n < t

@@ -61,7 +61,7 @@ impl Branches {
         self.items.as_slice()
     }
 
-    /// The branch at a place, counted from 0, or none where the list has no such place.
+    /// The branch at an index, counted from 0, or none where the list has no such index.
     pub fn get(&self, i: usize) -> Option<&Rc<Formula>>
         ensures { option_map (λ r. tree_of r.now.value) result ≡ slice_get (trees_of self.now) i }
     {
@@ -75,11 +75,11 @@ impl Branches {
 
     /// Adds a branch at the end. Where there is no memory the list stays as it was, and the branch
     /// is dropped.
-    pub fn push(&mut self, item: Rc<Formula>) -> Result<(), NoMemory>
-        ensures ok { OnOk result (trees_of self.new ≡ trees_of self.old ++ tree_of item.value ∷ []) }
+    pub fn push(&mut self, one: Rc<Formula>) -> Result<(), NoMemory>
+        ensures ok { OnOk result (trees_of self.new ≡ trees_of self.old ++ tree_of one.value ∷ []) }
         ensures err { OnErr result (trees_of self.new ≡ trees_of self.old) }
     {
-        self.items.push(Branch { formula: item })?;
+        self.items.push(Branch { formula: one })?;
         Ok(())
     }
 }

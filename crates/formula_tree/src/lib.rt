@@ -2,18 +2,18 @@
 #![tactic(auto)]
 
 mod formula;
-mod laws;
 mod path;
+mod runs;
 mod value;
 
 pub use formula::{Branches, Formula};
-pub use laws::{
-    Possibility, closed_runs_stay_closed, longer_paths_keep_values, runs_are_bounded,
-    runs_are_determined, runs_end_where_met, values_hold_for_completions,
-};
 pub use path::Path;
 pub use plain_lists::NoMemory;
-pub use value::{Three, pick, value3};
+pub use runs::{
+    Extensible, Possible, few_tests_need_few_splits, paths_have_runs, runs_are_bounded,
+    runs_are_determined, runs_end_where_met, runs_miss_none, unmet_stays_unmet,
+};
+pub use value::{Three, longer_paths_keep_values, pick, value3, values_hold_for_completions};
 
 #[cfg(test)]
 mod tests;

@@ -1,7 +1,7 @@
 //! Paths: lists of answered tests. Beside the list a path keeps a table by test numbers, so that an
 //! answer is read at once.
 ghost use Rattle.std.specs.Prelude.{◌≡◌, ◌++◌, ◌∷◌, [], ℕ, None, Option, Bool, List, length, slice_get, slice_index_or, option_to_list, OnOk, OnErr, IfOk, ◌<◌, ◌↔◌, IsSome};
-ghost use Rattle.formula_tree.specs.Answers.{IsDistinct, answer_of};
+ghost use Rattle.formula_tree.specs.Answers.{AnswerAlike, IsDistinct, answer_of};
 
 use plain_lists::NoMemory;
 use std::alloc::Global;
@@ -56,8 +56,8 @@ impl Path {
         self.pairs.len()
     }
 
-    /// The answered test at a place, counted from 0, with its answer, or none where the path has no
-    /// such place.
+    /// The answered test at an index, counted from 0, with its answer, or none where the path has
+    /// no such index.
     pub fn get(&self, i: usize) -> Option<(u32, bool)>
         ensures { result ≡ slice_get self.now i }
     {
@@ -109,9 +109,9 @@ impl Path {
     }
 }
 
-// Makes the table long enough to have a place for the test, with no answer at the new places.
+// Makes the table long enough for the test. What it adds answers nothing.
 fn make_room(table: &mut Vec<Option<bool>>, test: u32) -> Result<(), NoMemory>
-    ensures same { (n : ℕ) → slice_index_or table.new.items n None ≡ slice_index_or table.old.items n None }
+    ensures same { AnswerAlike table.old.items table.new.items }
     ensures room { OnOk result (test < length table.new.items) }
 {
     'room: for _ in table.len()..test as usize + 1 {

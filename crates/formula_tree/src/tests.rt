@@ -1,156 +1,170 @@
-use crate::laws::Possibility;
 use crate::{
-    Branches, Formula, Path, Three, closed_runs_stay_closed, pick, runs_are_bounded,
-    runs_are_determined, runs_end_where_met, value3,
+    Branches, Extensible, Formula, Path, Possible, Three, few_tests_need_few_splits,
+    paths_have_runs, pick, runs_are_bounded, runs_are_determined, runs_end_where_met,
+    runs_miss_none, unmet_stays_unmet, value3,
 };
-use std::alloc::Global;
 use std::process::Abort;
 use std::rc::Rc;
-use std::test::Fail;
 
 type Shared = Rc<Formula>;
 
-fn branches(alloc: Global, items: &[&Shared]) -> Result<Branches, Fail> {
-    let mut list = Branches::new(alloc);
+fn branches(rt: &(impl Abort + AllocGlobal), items: &[&Shared]) -> Branches {
+    let mut list = Branches::new(rt.alloc());
     for item in items {
-        list.push((*item).clone()?)?;
+        let one = (*item).clone().expect(rt, "memory");
+        list.push(one).expect(rt, "memory");
     }
-    Ok(list)
+    list
 }
 
-fn leaf(alloc: Global, test: u32) -> Result<Shared, Fail> {
-    Ok(Rc::new(alloc, Formula::Test(test))?)
+fn node(rt: &(impl Abort + AllocGlobal), formula: Formula) -> Shared {
+    Rc::new(rt.alloc(), formula).expect(rt, "memory")
 }
 
-fn not(alloc: Global, inner: &Shared) -> Result<Shared, Fail> {
-    Ok(Rc::new(alloc, Formula::Not(inner.clone()?))?)
+fn leaf(rt: &(impl Abort + AllocGlobal), test: u32) -> Shared {
+    node(rt, Formula::Test(test))
 }
 
-fn all(alloc: Global, items: &[&Shared]) -> Result<Shared, Fail> {
-    Ok(Rc::new(alloc, Formula::All(branches(alloc, items)?))?)
+fn not(rt: &(impl Abort + AllocGlobal), inner: &Shared) -> Shared {
+    node(rt, Formula::Not(inner.clone().expect(rt, "memory")))
 }
 
-fn one_of(alloc: Global, items: &[&Shared]) -> Result<Shared, Fail> {
-    Ok(Rc::new(alloc, Formula::OneOf(branches(alloc, items)?))?)
+fn all(rt: &(impl Abort + AllocGlobal), items: &[&Shared]) -> Shared {
+    node(rt, Formula::All(branches(rt, items)))
 }
 
-fn path_of(alloc: Global, answers: &[(u32, bool)]) -> Result<Path, Fail> {
-    let mut path = Path::new(alloc);
+fn one_of(rt: &(impl Abort + AllocGlobal), items: &[&Shared]) -> Shared {
+    node(rt, Formula::OneOf(branches(rt, items)))
+}
+
+fn path_of(rt: &(impl Abort + AllocGlobal), answers: &[(u32, bool)]) -> Path {
+    let mut path = Path::new(rt.alloc());
     for (test, answer) in answers {
         if path.answer(*test).is_none() {
-            path.push(*test, *answer)?;
+            path.push(*test, *answer).expect(rt, "memory");
         }
     }
-    Ok(path)
+    path
 }
 
-fn shows(
-    rt: &(impl Abort + AllocGlobal),
-    formula: &Formula,
-    answers: &[(u32, bool)],
-    value: Three,
-    picked: Option<u32>,
-) -> Result<(), Fail> {
-    let path = path_of(rt.alloc(), answers)?;
-    assert_eq!(rt; value3(formula, &path), value);
-    assert_eq!(rt; pick(formula, &path), picked);
-    Ok(())
+// Answers, the value under them, and the test that is picked.
+type Case = (&'static [(u32, bool)], Three, Option<u32>);
+
+fn shows(rt: &(impl Abort + AllocGlobal), formula: &Formula, cases: &[Case]) {
+    for (answers, value, picked) in cases {
+        let path = path_of(rt, answers);
+        assert!(rt;
+            value3(formula, &path) == *value,
+            "the value under {answers:?}"
+        );
+        assert!(rt;
+            pick(formula, &path) == *picked,
+            "the test under {answers:?}"
+        );
+    }
 }
+
+const YES: [Case; 1] = [(&[], Three::Yes, None)];
+
+const NO: [Case; 1] = [(&[], Three::No, None)];
+
+const OF_THREE: [Case; 3] = [
+    (&[], Three::Unknown, Some(3)),
+    (&[(2, true)], Three::Unknown, Some(3)),
+    (&[(2, true), (3, false)], Three::No, None),
+];
+
+const OF_NOT_THREE: [Case; 3] = [
+    (&[], Three::Unknown, Some(3)),
+    (&[(3, false)], Three::Yes, None),
+    (&[(3, true)], Three::No, None),
+];
 
 #[test]
-fn leaves_and_empty_lists(rt: HostRuntime) -> Result<(), Fail> {
-    let alloc = rt.alloc();
-    shows(&rt, &Formula::Yes, &[], Three::Yes, None)?;
-    shows(&rt, &Formula::No, &[], Three::No, None)?;
-    shows(&rt, &*all(alloc, &[])?, &[], Three::Yes, None)?;
-    shows(&rt, &*one_of(alloc, &[])?, &[], Three::No, None)?;
-    let three = leaf(alloc, 3)?;
-    shows(&rt, &*three, &[], Three::Unknown, Some(3))?;
-    shows(&rt, &*three, &[(2, true)], Three::Unknown, Some(3))?;
-    shows(&rt, &*three, &[(2, true), (3, false)], Three::No, None)?;
-    let other = not(alloc, &three)?;
-    shows(&rt, &*other, &[], Three::Unknown, Some(3))?;
-    shows(&rt, &*other, &[(3, false)], Three::Yes, None)?;
-    shows(&rt, &*other, &[(3, true)], Three::No, None)
+fn leaves_and_empty_lists(rt: HostRuntime) {
+    shows(&rt, &Formula::Yes, &YES);
+    shows(&rt, &Formula::No, &NO);
+    shows(&rt, &*all(&rt, &[]), &YES);
+    shows(&rt, &*one_of(&rt, &[]), &NO);
+    let three = leaf(&rt, 3);
+    shows(&rt, &*three, &OF_THREE);
+    shows(&rt, &*not(&rt, &three), &OF_NOT_THREE);
 }
+
+const BY_HAND: [Case; 9] = [
+    (&[], Three::Unknown, Some(0)),
+    (&[(0, true)], Three::Unknown, Some(1)),
+    (&[(0, false)], Three::Unknown, Some(1)),
+    (&[(1, true)], Three::Unknown, Some(2)),
+    (&[(2, false)], Three::Unknown, Some(0)),
+    (&[(2, true), (1, true)], Three::No, None),
+    (&[(0, false), (1, false)], Three::No, None),
+    (&[(0, true), (1, false)], Three::Yes, None),
+    (&[(1, true), (2, false)], Three::Yes, None),
+];
 
 // All[OneOf[0, 1], Not(All[1, 2])], in which 1 is shared
-#[test]
-fn values_and_picks_by_hand(rt: HostRuntime) -> Result<(), Fail> {
-    let alloc = rt.alloc();
-    let (zero, one, two) = (leaf(alloc, 0)?, leaf(alloc, 1)?, leaf(alloc, 2)?);
-    let first = one_of(alloc, &[&zero, &one])?;
-    let second = not(alloc, &all(alloc, &[&one, &two])?)?;
-    let tree = all(alloc, &[&first, &second])?;
-    shows(&rt, &*tree, &[], Three::Unknown, Some(0))?;
-    shows(&rt, &*tree, &[(0, true)], Three::Unknown, Some(1))?;
-    shows(&rt, &*tree, &[(0, false)], Three::Unknown, Some(1))?;
-    shows(&rt, &*tree, &[(1, true)], Three::Unknown, Some(2))?;
-    shows(&rt, &*tree, &[(2, false)], Three::Unknown, Some(0))?;
-    shows(&rt, &*tree, &[(2, true), (1, true)], Three::No, None)?;
-    shows(&rt, &*tree, &[(0, false), (1, false)], Three::No, None)?;
-    shows(&rt, &*tree, &[(0, true), (1, false)], Three::Yes, None)?;
-    shows(&rt, &*tree, &[(1, true), (2, false)], Three::Yes, None)
+fn by_hand(rt: &(impl Abort + AllocGlobal)) -> Shared {
+    let (zero, one, two) = (leaf(rt, 0), leaf(rt, 1), leaf(rt, 2));
+    let first = one_of(rt, &[&zero, &one]);
+    let second = not(rt, &all(rt, &[&one, &two]));
+    all(rt, &[&first, &second])
 }
 
 #[test]
-fn deep_and_wide_trees(rt: HostRuntime) -> Result<(), Fail> {
-    let alloc = rt.alloc();
-    let mut deep = leaf(alloc, 7)?;
+fn values_and_picks_by_hand(rt: HostRuntime) {
+    shows(&rt, &*by_hand(&rt), &BY_HAND);
+}
+
+const OF_DEEP: [Case; 2] = [
+    (&[], Three::Unknown, Some(7)),
+    (&[(7, true)], Three::Yes, None),
+];
+
+const OF_WIDE: [Case; 2] = [
+    (&[(0, false), (1, false)], Three::Unknown, Some(2)),
+    (&[(19_999, true)], Three::Yes, None),
+];
+
+fn deep(rt: &(impl Abort + AllocGlobal)) -> Shared {
+    let mut deep = leaf(rt, 7);
     for _ in 0..3000 {
-        let once = not(alloc, &deep)?;
-        deep = all(alloc, &[&once])?;
+        let once = not(rt, &deep);
+        deep = all(rt, &[&once]);
     }
-    shows(&rt, &*deep, &[], Three::Unknown, Some(7))?;
-    shows(&rt, &*deep, &[(7, true)], Three::Yes, None)?;
-    let mut wide = Branches::new(alloc);
+    deep
+}
+
+fn wide(rt: &(impl Abort + AllocGlobal)) -> Formula {
+    let mut wide = Branches::new(rt.alloc());
     for test in 0..20_000 {
-        wide.push(leaf(alloc, test)?)?;
+        wide.push(leaf(rt, test)).expect(rt, "memory");
     }
-    assert_eq!(rt; wide.len(), 20_000);
-    assert!(rt; wide.get(20_000).is_none());
-    assert!(rt; wide.get(19_999).is_some());
-    let wide = Formula::OneOf(wide);
-    shows(
-        &rt,
-        &wide,
-        &[(0, false), (1, false)],
-        Three::Unknown,
-        Some(2),
-    )?;
-    shows(&rt, &wide, &[(19_999, true)], Three::Yes, None)
+    Formula::OneOf(wide)
 }
 
 #[test]
-fn paths_grow_and_shrink(rt: HostRuntime) -> Result<(), Fail> {
-    let alloc = rt.alloc();
-    let mut path = path_of(alloc, &[(5, true), (0, false), (9, true)])?;
-    let kept = path.copy()?;
-    assert_eq!(rt; path.len(), 3);
-    assert_eq!(rt; path.get(1), Some((0, false)));
-    assert_eq!(rt; path.get(3), None);
-    assert_eq!(rt; path.pop(), Some((9, true)));
-    assert_eq!(rt; path.answer(9), None);
-    assert_eq!(rt; path.answer(5), Some(true));
-    assert_eq!(rt; path.answer(4_294_967_295), None);
-    assert_eq!(rt; path.pop(), Some((0, false)));
-    assert_eq!(rt; path.pop(), Some((5, true)));
-    assert_eq!(rt; path.pop(), None);
-    assert_eq!(rt;
-        kept.as_slice(),
-        [(5, true), (0, false), (9, true)].as_slice()
-    );
-    assert_eq!(rt; kept.answer(9), Some(true));
-    Ok(())
+fn deep_and_wide_trees(rt: HostRuntime) {
+    shows(&rt, &*deep(&rt), &OF_DEEP);
+    shows(&rt, &wide(&rt), &OF_WIDE);
+}
+
+// No contract says that there is memory for a copy.
+#[test]
+fn a_path_is_copied(rt: HostRuntime) {
+    let path = path_of(&rt, &[(5, true), (0, false), (9, true)]);
+    assert!(rt; path.copy().expect(&rt, "memory").len() == 3);
 }
 
 // Where each path can be met the laws on runs hold too.
 struct Any;
 
-impl Possibility for Any {
-    ghost use Rattle.std.proofs.Common.{inl};
-
+impl Possible for Any {
     ghost possible = { λ s path. Unit {0} };
+}
+
+impl Extensible for Any {
+    ghost use Rattle.std.proofs.Common.{inl};
 
     ghost harder = { λ s few many inside met. tt };
 
@@ -161,6 +175,9 @@ impl Possibility for Any {
 fn laws_stand_at_a_type(_rt: HostRuntime) {
     runs_are_determined(&Any);
     runs_are_bounded(&Any);
+    paths_have_runs(&Any);
+    few_tests_need_few_splits(&Any);
     runs_end_where_met(&Any);
-    closed_runs_stay_closed(&Any);
+    runs_miss_none(&Any);
+    unmet_stays_unmet(&Any);
 }

@@ -1,10 +1,11 @@
 //! The value of a formula under a path, and the test that it waits for where the value is unknown.
 //! One walk finds both; it takes no memory, and its depth is that of the formula alone.
-ghost use Rattle.std.specs.Prelude.{◌≡◌, ◌↔◌, ◌<◌, ℕ, None, IsSome, IfSome};
+ghost use Rattle.std.specs.Prelude.{◌≡◌, ◌↔◌, None, IsSome, IfSome, true, false};
 ghost use Rattle.formula_tree.specs.Answers.{answer_of};
+ghost use Rattle.formula_tree.specs.Laws.{IsTruth, StaysAlong};
 ghost use Rattle.formula_tree.specs.Looks.{least, looked, looked_at_all, looked_at_some, most, pick_in, turned, value_in};
-ghost use Rattle.formula_tree.specs.Trees.{of_list, tree_of, trees_of};
-ghost use Rattle.formula_tree.specs.Values.{AreBelow, pick, value};
+ghost use Rattle.formula_tree.specs.Trees.{children_of, tree_of};
+ghost use Rattle.formula_tree.specs.Values.{IsWithin, pick, value};
 
 use crate::formula::{Branches, Formula};
 use crate::path::Path;
@@ -94,7 +95,7 @@ fn look(formula: &Formula, path: &Path) -> Looked
 
 #[cycle(look)]
 fn look_at_all(branches: &Branches, path: &Path) -> Looked
-    ensures { result ≡ looked_at_all path.now (of_list (trees_of branches.now)) }
+    ensures { result ≡ looked_at_all path.now (children_of branches.now) }
 {
     let mut all = Looked::Yes;
     'all: for branch in &branches.items {
@@ -109,7 +110,7 @@ fn look_at_all(branches: &Branches, path: &Path) -> Looked
 
 #[cycle(look)]
 fn look_at_some(branches: &Branches, path: &Path) -> Looked
-    ensures { result ≡ looked_at_some path.now (of_list (trees_of branches.now)) }
+    ensures { result ≡ looked_at_some path.now (children_of branches.now) }
 {
     let mut some = Looked::No;
     'some: for branch in &branches.items {
@@ -138,7 +139,20 @@ pub fn pick(formula: &Formula, path: &Path) -> Option<u32>
     ensures value { result ≡ pick path.now (tree_of formula.now) }
     ensures unknown { IsSome result ↔ (value path.now (tree_of formula.now) ≡ Three.Unknown) }
     ensures unanswered { IfSome result (λ test. answer_of path.now test ≡ None) }
-    ensures within { IfSome result (λ test. (t : ℕ) → AreBelow t (tree_of formula.now) → test < t) }
+    ensures within { IfSome result (IsWithin (tree_of formula.now)) }
 {
     pick_in(look(formula, path))
 }
+
+/// A value that is yes or no is the tree's truth under each completion of the path, which answers
+/// every test, and those of the path as the path does.
+pub fn values_hold_for_completions()
+    ensures yes { IsTruth Three.Yes true }
+    ensures no { IsTruth Three.No false }
+{}
+
+/// A path that contains the answers of another keeps each value that is yes or no.
+pub fn longer_paths_keep_values()
+    ensures yes { StaysAlong Three.Yes }
+    ensures no { StaysAlong Three.No }
+{}

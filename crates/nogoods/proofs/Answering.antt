@@ -1,10 +1,10 @@
--- Answers of a list, by their places in it.
+-- Answers of a list, by their indices in it.
 use Rattle.std.proofs.Common.{◌≡◌, ℕ, ◌<◌, ◌≤◌, ◌==◌, [], ◌∷◌, length, get_or, Bool, true, false, Some, None, zero, suc, refl, sym, subst, arith, if◌then◌else◌}
 use Rattle.std.proofs.lemmas.Bool.Decides.{nat_tests}
 use Rattle.std.proofs.lemmas.Grind.{common_steps}
 use Rattle.formula_tree.specs.Answers.{Answers, answer_of, IsDistinct, Contained}
 
--- where a list has an answer, it has it at a place
+-- where a list has an answer, it has it at an index
 pub answer_of-found : (ps : Answers) (n : ℕ) (b : Bool) → answer_of ps n ≡ Some b → (k : ℕ) × (k < length ps) × ((d : ℕ × Bool) → get_or ps k d ≡ (n, b))
 answer_of-found [] n b h = absurd (cc)
 answer_of-found (p ∷ ps) n b h = elim (p.0 == n) as (λ v. (p.0 == n) ≡ v → (if v then Some p.1 else answer_of ps n) ≡ Some b → (k : ℕ) × (k < suc (length ps)) × ((d : ℕ × Bool) → get_or (p ∷ ps) k d ≡ (n, b))) [
@@ -18,7 +18,7 @@ answer_of-found (p ∷ ps) n b h = elim (p.0 == n) as (λ v. (p.0 == n) ≡ v �
 later_test : (p : ℕ × Bool) (ps : Answers) (n : ℕ) (b : Bool) → answer_of ps p.0 ≡ None → answer_of ps n ≡ Some b → answer_of (p ∷ ps) n ≡ Some b
 later_test p ps n b new h = grind (arith, nat_tests, common_steps)
 
--- the answer at a place is the answer to its test
+-- the answer at an index is the answer to its test
 pub answer_of-at : (ps : Answers) (k : ℕ) (d : ℕ × Bool) → IsDistinct ps → k < length ps → answer_of ps (get_or ps k d).0 ≡ Some (get_or ps k d).1
 answer_of-at [] k d distinct lt = absurd (omega arith)
 answer_of-at (p ∷ ps) zero d distinct lt = grind (arith, nat_tests)

@@ -1,3 +1,3 @@
-pub mod Answering
-pub mod Indexing
-pub mod Zipping
+mod Answering
+mod Entering
+mod Zipping

@@ -4,8 +4,8 @@ use Rattle.std.proofs.lemmas.Grind.{common_steps}
 use Rattle.std.specs.declared.rc.Rc.{Rc}
 use Rattle.std.specs.Global.{Global}
 use Rattle.formula_tree.specs.Answers.{Answers, Contained}
-use Rattle.nogoods.specs.Hits.{list_at, IsFirstHit, NoHit}
-use Rattle.nogoods.specs.Stored.{lists_of, AllClose, shared_values}
+use Rattle.nogoods.specs.Hits.{answers_at, IsFirstHit, NoHit}
+use Rattle.nogoods.specs.Stored.{stored_lists, AllClose, shared_values}
 
 pub zip-push : {A B : Type 0} (xs : List A) (ys : List B) (x : A) (y : B) → length xs ≡ length ys → zip (xs ++ x ∷ []) (ys ++ y ∷ []) ≡ zip xs ys ++ (x, y) ∷ []
 zip-push [] [] x y h = refl
@@ -13,10 +13,10 @@ zip-push [] (b ∷ ys) x y h = absurd (omega (arith, h))
 zip-push (a ∷ xs) [] x y h = absurd (omega (arith, h))
 zip-push (a ∷ xs) (b ∷ ys) x y h = ap (λ zs. (a, b) ∷ zs) (zip-push xs ys x y (omega (arith, h)))
 
-pub lists_of-zip : {B : Type 0} (xs : List Answers) (ys : List B) → length xs ≡ length ys → lists_of (zip xs ys) ≡ xs
-lists_of-zip [] ys h = refl
-lists_of-zip (a ∷ xs) [] h = absurd (omega (arith, h))
-lists_of-zip (a ∷ xs) (b ∷ ys) h = ap (λ zs. a ∷ zs) (lists_of-zip xs ys (omega (arith, h)))
+pub stored_lists-zip : {B : Type 0} (xs : List Answers) (ys : List B) → length xs ≡ length ys → stored_lists (zip xs ys) ≡ xs
+stored_lists-zip [] ys h = refl
+stored_lists-zip (a ∷ xs) [] h = absurd (omega (arith, h))
+stored_lists-zip (a ∷ xs) (b ∷ ys) h = ap (λ zs. a ∷ zs) (stored_lists-zip xs ys (omega (arith, h)))
 
 pub slice_get-zip : {A B : Type 0} (xs : List A) (ys : List B) (i : ℕ) (x : A) (y : B) → slice_get xs i ≡ Some x → slice_get ys i ≡ Some y → slice_get (zip xs ys) i ≡ Some (x, y)
 slice_get-zip [] ys i x y h g = absurd (cc)
@@ -30,10 +30,10 @@ close-push closes [] answers what all one (suc i) a w h = absurd (cc)
 close-push closes (p ∷ store) answers what all one zero a w h = all zero a w h
 close-push closes (p ∷ store) answers what all one (suc i) a w h = close-push closes store answers what (λ j b v g. all (suc j) b v g) one i a w h
 
-pub list_at-get : (lists : List Answers) (i : ℕ) (list : Answers) → slice_get lists i ≡ Some list → list_at lists i ≡ list
-list_at-get [] i list h = absurd (cc)
-list_at-get (a ∷ lists) zero list h = cc
-list_at-get (a ∷ lists) (suc i) list h = list_at-get lists i list h
+pub answers_at-get : (lists : List Answers) (i : ℕ) (list : Answers) → slice_get lists i ≡ Some list → answers_at lists i ≡ list
+answers_at-get [] i list h = absurd (cc)
+answers_at-get (a ∷ lists) zero list h = cc
+answers_at-get (a ∷ lists) (suc i) list h = answers_at-get lists i list h
 
 pub shared-length : {T : Type 0} (items : List (Rc T Global)) → length (shared_values items) ≡ length items
 shared-length [] = refl
@@ -52,25 +52,25 @@ shared-push (a ∷ items) r = ap (λ xs. a.value ∷ xs) (shared-push items r)
 abbrev pub pairs : {T : Type 0} → List Answers → List (Rc T Global) → List (Answers × T)
 pairs lists items = zip lists (shared_values items)
 
-pub lists_of-pairs : {T : Type 0} (lists : List Answers) (items : List (Rc T Global)) → length lists ≡ length items → lists_of (pairs lists items) ≡ lists
-lists_of-pairs lists items e = lists_of-zip lists (shared_values items) (e ∙ sym (shared-length items))
+pub stored_lists-pairs : {T : Type 0} (lists : List Answers) (items : List (Rc T Global)) → length lists ≡ length items → stored_lists (pairs lists items) ≡ lists
+stored_lists-pairs lists items e = stored_lists-zip lists (shared_values items) (e ∙ sym (shared-length items))
 
 pub pairs-push : {T : Type 0} (lists : List Answers) (items : List (Rc T Global)) (list : Answers) (r : Rc T Global) → length lists ≡ length items → pairs (lists ++ list ∷ []) (items ++ r ∷ []) ≡ pairs lists items ++ (list, r.value) ∷ []
 pairs-push lists items list r e = ap (λ xs. zip (lists ++ list ∷ []) xs) (shared-push items r) ∙ zip-push lists (shared_values items) list r.value (e ∙ sym (shared-length items))
 
-pub no-hit-in : {T : Type 0} (lists : List Answers) (items : List (Rc T Global)) (store : List (Answers × T)) (path : Answers) → length lists ≡ length items → pairs lists items ≡ store → NoHit lists path → NoHit (lists_of store) path
-no-hit-in lists items store path e is none = let P : List Answers → Type 0 = λ xs. NoHit xs path in subst P (sym (ap lists_of (sym is) ∙ lists_of-pairs lists items e)) none
+pub no-hit-in : {T : Type 0} (lists : List Answers) (items : List (Rc T Global)) (store : List (Answers × T)) (path : Answers) → length lists ≡ length items → pairs lists items ≡ store → NoHit lists path → NoHit (stored_lists store) path
+no-hit-in lists items store path e is none = let P : List Answers → Type 0 = λ xs. NoHit xs path in subst P (sym (ap stored_lists (sym is) ∙ stored_lists-pairs lists items e)) none
 
-pub first-hit-in : {T : Type 0} (lists : List Answers) (items : List (Rc T Global)) (store : List (Answers × T)) (path : Answers) (i : ℕ) → length lists ≡ length items → pairs lists items ≡ store → IsFirstHit lists path i → IsFirstHit (lists_of store) path i
-first-hit-in lists items store path i e is first = let P : List Answers → Type 0 = λ xs. IsFirstHit xs path i in subst P (sym (ap lists_of (sym is) ∙ lists_of-pairs lists items e)) first
+pub first-hit-in : {T : Type 0} (lists : List Answers) (items : List (Rc T Global)) (store : List (Answers × T)) (path : Answers) (i : ℕ) → length lists ≡ length items → pairs lists items ≡ store → IsFirstHit lists path i → IsFirstHit (stored_lists store) path i
+first-hit-in lists items store path i e is first = let P : List Answers → Type 0 = λ xs. IsFirstHit xs path i in subst P (sym (ap stored_lists (sym is) ∙ stored_lists-pairs lists items e)) first
 
--- the pair at a place
+-- the pair at an index
 pub pair-at : {T : Type 0} (lists : List Answers) (items : List (Rc T Global)) (i : ℕ) (list : Answers) (r : Rc T Global) → length lists ≡ length items → i < length lists → slice_get lists i ≡ Some list → r ≡ get_or items i r → slice_get (pairs lists items) i ≡ Some (list, r.value)
 pair-at lists items i list r e lt h is = slice_get-zip lists (shared_values items) i list r.value h (shared-get items i r (omega (arith, lt, e)) is)
 
 -- its answers are contained in the path
 pub contained-at : (lists : List Answers) (path : Answers) (i : ℕ) (list : Answers) → IsFirstHit lists path i → slice_get lists i ≡ Some list → Contained list path
-contained-at lists path i list first h = let P : Answers → Type 0 = λ xs. Contained xs path in subst P (list_at-get lists i list h) first.hit
+contained-at lists path i list first h = let P : Answers → Type 0 = λ xs. Contained xs path in subst P (answers_at-get lists i list h) first.hit
 
 -- one pair more
 pub lengths-push : {T : Type 0} (lists longer : List Answers) (items more : List (Rc T Global)) (list : Answers) (r : Rc T Global) → longer ≡ lists ++ list ∷ [] → more ≡ items ++ r ∷ [] → length lists ≡ length items → length longer ≡ length more

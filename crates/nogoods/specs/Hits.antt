@@ -2,19 +2,19 @@
 use Rattle.std.specs.Prelude.{ℕ, ◌<◌, ◌≤◌, List, [], length, slice_index_or}
 use Rattle.formula_tree.specs.Answers.{Answers, Contained}
 
--- the list at a place, counted from 0; none of its answers past the end
-abbrev pub list_at : List Answers → ℕ → Answers
-list_at lists i = slice_index_or lists i []
+-- the list at an index, counted from 0; none of its answers past the end
+abbrev pub answers_at : List Answers → ℕ → Answers
+answers_at lists i = slice_index_or lists i []
 
--- each answer of the list at that place is one of the path
+-- each answer of the list at that index is one of the path
 abbrev pub IsHit : List Answers → Answers → ℕ → Type 0
-IsHit lists path i = Contained (list_at lists i) path
+IsHit lists path i = Contained (answers_at lists i) path
 
--- no list before that place is contained in the path
+-- no list before that index is contained in the path
 abbrev pub NoneBefore : List Answers → Answers → ℕ → Type 0
 NoneBefore lists path end = (i : ℕ) → i < length lists → IsHit lists path i → end ≤ i
 
--- the list at that place is the first that is contained in the path
+-- the list at that index is the first that is contained in the path
 pub record IsFirstHit (lists : List Answers) (path : Answers) (i : ℕ) : Type 0 where
   pub there : i < length lists
   pub hit : IsHit lists path i

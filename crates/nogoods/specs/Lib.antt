@@ -1,4 +1,4 @@
+pub mod Buckets
 pub mod Choices
 pub mod Hits
-pub mod Index
 pub mod Stored

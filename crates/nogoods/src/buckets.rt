@@ -1,16 +1,16 @@
 //! Buckets of entries, by answered tests.
 ghost use Rattle.std.specs.Prelude.{◌≡◌, ◌<◌, ◌^◌, ℕ, List, [], length, OnOk, Contains, MatchOption};
-ghost use Rattle.nogoods.specs.Choices.{AreAnswers, IsRarer};
-ghost use Rattle.nogoods.specs.Index.{bucket_of, entries_in, IsKept, KeepsEntries, KeepsLists};
+ghost use Rattle.nogoods.specs.Choices.{AreChoicesOf, IsRarer};
+ghost use Rattle.nogoods.specs.Buckets.{bucket_of, entries_in, HasSameEntries, IsEntered, KeepsEntries, KeepsLists};
 
 use formula_tree::Path;
 use plain_lists::{List, NoMemory};
 
-/// The place of a stored list, and one of its answers. A path without that answer doesn't contain
+/// The index of a stored list, and one of its answers. A path without that answer doesn't contain
 /// the list, so that most lists are passed over without being read.
 #[derive(Clone, Copy)]
 pub(crate) struct Entry {
-    pub(crate) place: usize,
+    pub(crate) index: usize,
     pub(crate) test: u32,
     pub(crate) answer: bool,
 }
@@ -54,7 +54,7 @@ pub(crate) struct Pair {
 /// The two answers of a list whose buckets have the fewest entries, or one answer twice where it has
 /// no other; none where it has none.
 pub(crate) fn rarest(buckets: &[List<Entry>], answers: &Path) -> Option<Pair>
-    ensures { MatchOption result (answers.now ≡ []) (λ pair. AreAnswers answers.now pair) }
+    ensures { MatchOption result (answers.now ≡ []) (λ pair. AreChoicesOf answers.now pair) }
 {
     let items = answers.as_slice();
     if items.is_empty() {
@@ -103,21 +103,21 @@ fn rarer(best: Pair, next: Choice) -> Pair
     best
 }
 
-/// Enters a list at a place: in a bucket of one of its answers, or among the places of lists
-/// without answers. Where there is no memory what was entered before is kept.
+/// Enters the list of an index: in a bucket of one of its answers, or among those without answers.
+/// Where there is no memory what was entered before is kept.
 pub(crate) fn enter(
     buckets: &mut Buckets,
     without: &mut List<usize>,
     answers: &Path,
-    place: usize,
+    index: usize,
 ) -> Result<(), NoMemory>
     ensures kept { KeepsLists buckets.old.items without.old buckets.new.items without.new }
-    ensures ok { OnOk result (IsKept buckets.new.items without.new answers.now place) }
+    ensures ok { OnOk result (IsEntered buckets.new.items without.new answers.now index) }
 {
     match rarest(buckets.as_slice(), answers) {
         Some(best) => {
             let entry = Entry {
-                place,
+                index,
                 test: best.second.test,
                 answer: best.second.answer,
             };
@@ -127,7 +127,7 @@ pub(crate) fn enter(
                 entry,
             )
         }
-        None => without.push(place),
+        None => without.push(index),
     }
 }
 
@@ -145,7 +145,7 @@ fn put(buckets: &mut Buckets, bucket: usize, entry: Entry) -> Result<(), NoMemor
 // Makes new buckets up to that one, without entries.
 fn make_room(buckets: &mut Buckets, bucket: usize) -> Result<(), NoMemory>
     requires { bucket < 2 ^ 40 }
-    ensures same { (n : ℕ) → entries_in buckets.new.items n ≡ entries_in buckets.old.items n }
+    ensures same { HasSameEntries buckets.old.items buckets.new.items }
     ensures room { OnOk result (bucket < length buckets.new.items) }
 {
     let alloc = *buckets.allocator();

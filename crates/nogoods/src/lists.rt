@@ -1,9 +1,10 @@
-//! Lists of answers with an index, so that the first one that a path contains is found without
+//! Lists of answers with buckets, so that the first one that a path contains is found without
 //! reading each list.
 ghost use Rattle.std.specs.Prelude.{◌≡◌, ◌++◌, ◌∷◌, [], ◌<◌, ◌≤◌, Some, length, OnOk, OnErr, MatchOption, MatchBool, slice_get};
-ghost use Rattle.formula_tree.specs.Answers.{Contained, answer_of};
+ghost use Rattle.formula_tree.specs.Answers.{Contained};
+ghost use Rattle.nogoods.specs.Choices.{HasAnswer};
 ghost use Rattle.nogoods.specs.Hits.{IsFirstHit, NoHit, IsHit};
-ghost use Rattle.nogoods.specs.Index.{IsFound, NoneEarlier, IsPassed, ArePassed, AreSearched};
+ghost use Rattle.nogoods.specs.Buckets.{AllSearched, ArePassed, IsFound, IsPassed, NoneEarlier};
 
 use crate::buckets::{Buckets, Entry, bucket_of, enter, entries_in};
 use formula_tree::Path;
@@ -26,11 +27,11 @@ impl Model for Lists {
 
     ghost Value = { List (List (ℕ × Bool)) };
 
-    ghost use Rattle.nogoods.specs.Index.{IsIndexed};
+    ghost use Rattle.nogoods.specs.Buckets.{AreEntered};
 
     ghost view = { λ l. l.lists };
 
-    ghost invariant = { λ l. IsIndexed l.lists l.buckets.items l.without };
+    ghost invariant = { λ l. AreEntered l.lists l.buckets.items l.without };
 }
 
 impl Lists {
@@ -45,12 +46,12 @@ impl Lists {
         }
     }
 
-    /// The list at a place, counted from 0.
-    pub(crate) fn at(&self, place: usize) -> &Path
-        requires { place < length self.now }
-        ensures { slice_get self.now place ≡ Some result.now }
+    /// The list at an index, counted from 0.
+    pub(crate) fn at(&self, index: usize) -> &Path
+        requires { index < length self.now }
+        ensures { slice_get self.now index ≡ Some result.now }
     {
-        &self.lists.as_slice()[place]
+        &self.lists.as_slice()[index]
     }
 
     /// Adds a list. Where there is no memory the lists stay as they were.
@@ -58,15 +59,15 @@ impl Lists {
         ensures ok { OnOk result (self.new ≡ self.old ++ answers ∷ []) }
         ensures err { OnErr result (self.new ≡ self.old) }
     {
-        let place = self.lists.len();
-        enter(&mut self.buckets, &mut self.without, &answers, place)?;
+        let index = self.lists.len();
+        enter(&mut self.buckets, &mut self.without, &answers, index)?;
         self.lists.push(answers)?;
         Ok(())
     }
 
-    /// The place of the first list that a path contains, or none where it contains none.
+    /// The index of the first list that a path contains, or none where it contains none.
     pub(crate) fn first(&self, path: &Path) -> Option<usize>
-        ensures { MatchOption result (NoHit self.now path.now) (λ i. IsFirstHit self.now path.now i) }
+        ensures { MatchOption result (NoHit self.now path.now) (IsFirstHit self.now path.now) }
     {
         let lists = self.lists.as_slice();
         let before = earliest(lists, self.without.as_slice(), path, lists.len());
@@ -79,27 +80,27 @@ impl Lists {
     }
 }
 
-// The earliest of a place that was found before and the places of lists that the path contains.
-fn earliest(lists: &[Path], places: &[usize], path: &Path, before: usize) -> usize
+// The least of an index that was found before and the indices of lists that the path contains.
+fn earliest(lists: &[Path], indices: &[usize], path: &Path, before: usize) -> usize
     requires { IsFound lists.now path.now before }
     ensures found { IsFound lists.now path.now result }
     ensures least { result ≤ before }
-    ensures earlier { NoneEarlier lists.now path.now result (length places.now) places.now }
+    ensures earlier { NoneEarlier lists.now path.now result (length indices.now) indices.now }
 {
     let mut found = before;
-    'places: for place in places {
-        found = earlier(lists, *place, path, found);
+    'indices: for index in indices {
+        found = earlier(lists, *index, path, found);
     }
     found
 }
 
-// The earliest of a place that was found before and the places of lists that the path contains,
-// among those in the buckets of its answers.
+// The least of an index that was found before and the indices of lists that the path contains, among
+// those in the buckets of its answers.
 fn earliest_under(lists: &[Path], buckets: &[List<Entry>], path: &Path, before: usize) -> usize
     requires { IsFound lists.now path.now before }
     ensures found { IsFound lists.now path.now result }
     ensures least { result ≤ before }
-    ensures searched { AreSearched lists.now buckets.now path.now result (length path.now) path.now }
+    ensures searched { AllSearched lists.now buckets.now path.now result }
 {
     let mut found = before;
     'answers: for (test, answer) in path.as_slice() {
@@ -109,7 +110,7 @@ fn earliest_under(lists: &[Path], buckets: &[List<Entry>], path: &Path, before: 
     found
 }
 
-// The earliest of a place that was found before and the places of entries whose lists the path
+// The least of an index that was found before and the indices of entries whose lists the path
 // contains.
 fn earliest_entry(lists: &[Path], entries: &[Entry], path: &Path, before: usize) -> usize
     requires { IsFound lists.now path.now before }
@@ -124,8 +125,8 @@ fn earliest_entry(lists: &[Path], entries: &[Entry], path: &Path, before: usize)
     found
 }
 
-// The place of the entry, where its list is contained in the path and it is before the one that was
-// found.
+// The index of the entry, where its list is contained in the path and it is before the one that was
+// found; else that one.
 fn pass(lists: &[Path], entry: Entry, path: &Path, found: usize) -> usize
     requires { IsFound lists.now path.now found }
     ensures found { IsFound lists.now path.now result }
@@ -135,21 +136,22 @@ fn pass(lists: &[Path], entry: Entry, path: &Path, found: usize) -> usize
     if !has_answer(path, entry.test, entry.answer) {
         return found;
     }
-    earlier(lists, entry.place, path, found)
+    earlier(lists, entry.index, path, found)
 }
 
-// The place, where its list is contained in the path and it is before the one that was found.
-fn earlier(lists: &[Path], place: usize, path: &Path, found: usize) -> usize
+// The index, where its list is contained in the path and it is before the one that was found; else
+// that one.
+fn earlier(lists: &[Path], index: usize, path: &Path, found: usize) -> usize
     requires { IsFound lists.now path.now found }
     ensures found { IsFound lists.now path.now result }
     ensures least { result ≤ found }
-    ensures hit { IsHit lists.now path.now place → result ≤ place }
+    ensures hit { IsHit lists.now path.now index → result ≤ index }
 {
-    if place >= found {
+    if index >= found {
         return found;
     }
-    if is_contained(&lists[place], path) {
-        place
+    if is_contained(&lists[index], path) {
+        index
     } else {
         found
     }
@@ -169,7 +171,7 @@ fn is_contained(answers: &Path, path: &Path) -> bool
 
 // Whether a path answers the test so.
 fn has_answer(path: &Path, test: u32, answer: bool) -> bool
-    ensures { MatchBool result (answer_of path.now test ≡ Some answer) (¬ (answer_of path.now test ≡ Some answer)) }
+    ensures { MatchBool result (HasAnswer path.now test answer) (¬ HasAnswer path.now test answer) }
 {
     match path.answer(test) {
         Some(given) => given == answer,

@@ -1,8 +1,7 @@
 //! The store of learned refutations.
-ghost use Rattle.std.specs.Prelude.{◌≡◌, ◌++◌, ◌∷◌, [], ℕ, true, Some, List, Bool, OnOk, OnErr, IfSome, IfNone, slice_get, length};
-ghost use Rattle.formula_tree.specs.Answers.{Contained};
-ghost use Rattle.nogoods.specs.Hits.{IsFirstHit, NoHit};
-ghost use Rattle.nogoods.specs.Stored.{lists_of};
+ghost use Rattle.std.specs.Prelude.{◌≡◌, ◌++◌, ◌∷◌, [], ℕ, true, List, Bool, OnOk, OnErr, IfSome, IfNone};
+ghost use Rattle.nogoods.specs.Hits.{NoHit};
+ghost use Rattle.nogoods.specs.Stored.{IsFirstOf, StillCloses, stored_lists};
 
 use crate::lists::Lists;
 use formula_tree::Path;
@@ -22,7 +21,7 @@ pub trait Closes {
         ensures { result ≡ closes self.now path.now };
 
     /// What closes under some answers closes under all answers that contain them.
-    ghost stays_closed: { (x : Self) (few many : List (ℕ × Bool)) → Contained few many → closes x few ≡ true → closes x many ≡ true };
+    ghost still_closes: { (x : Self) → StillCloses (closes x) };
 }
 
 /// Learned refutations: pairs of a list of answers and a value that closes under them, in the order
@@ -60,12 +59,12 @@ impl<T: Closes> Store<T> {
     /// The first stored pair whose answers the path contains, or none exactly where the path
     /// contains the answers of no pair. Its value closes under the path. It takes no memory.
     pub fn hit(&self, path: &Path) -> Option<(&Path, &Rc<T>)>
-        ensures first { IfSome result (λ pair. (i : ℕ) × IsFirstHit (lists_of self.now) path.now i × (slice_get self.now i ≡ Some (pair.0.now, pair.1.now.value))) }
-        ensures none { IfNone result (NoHit (lists_of self.now) path.now) }
-        ensures closes { IfSome result (λ pair. T.closes pair.1.now.value path.now ≡ true) }
+        ensures first { IfSome result (λ p. IsFirstOf self.now path.now (p.0.now, p.1.now.value)) }
+        ensures none { IfNone result (NoHit (stored_lists self.now) path.now) }
+        ensures closes { IfSome result (λ p. T.closes p.1.now.value path.now ≡ true) }
     {
         match self.lists.first(path) {
-            Some(place) => Some((self.lists.at(place), &self.values[place])),
+            Some(index) => Some((self.lists.at(index), &self.values[index])),
             None => None,
         }
     }

@@ -1,11 +1,9 @@
 ghost use Rattle.std.specs.Prelude.{◌≡◌, ◌<◌, true, refl};
 
-use crate::{Closes, NoMemory, Store};
+use crate::{Closes, Store};
 use formula_tree::Path;
-use std::alloc::Global;
 use std::process::Abort;
 use std::rc::Rc;
-use std::test::Fail;
 
 // A value with a number, which closes under all answers.
 #[derive(Drop)]
@@ -20,71 +18,76 @@ impl Closes for Numbered {
         true
     }
 
-    ghost stays_closed = { λ _ _ _ _ _. refl };
+    ghost still_closes = { λ _ _ _ _ _. refl };
 }
 
 // Answers as a word: a test is a letter, a capital is yes.
-fn path_of(alloc: Global, word: &str) -> Result<Path, NoMemory> {
-    let mut path = Path::new(alloc);
+fn path_of(rt: &(impl Abort + AllocGlobal), word: &str) -> Path {
+    let mut path = Path::new(rt.alloc());
     for letter in word.as_bytes() {
         let test = u32::from(letter.to_ascii_lowercase());
         if path.answer(test).is_none() {
-            path.push(test, letter.is_ascii_uppercase())?;
+            path.push(test, letter.is_ascii_uppercase())
+                .expect(rt, "memory");
         }
     }
-    Ok(path)
+    path
 }
 
-fn stored(alloc: Global, words: &[&str]) -> Result<Store<Numbered>, NoMemory> {
-    let mut store = Store::new(alloc);
-    for (number, word) in words.iter().enumerate() {
-        store.learn(path_of(alloc, word)?, Rc::new(alloc, Numbered { number })?)?;
-    }
-    Ok(store)
-}
-
-// Looks for the first of the words that stands in the path.
-fn hits(
+fn learn(
     rt: &(impl Abort + AllocGlobal),
-    words: &[&str],
-    path: &str,
-    wanted: Option<usize>,
-) -> Result<(), Fail> {
-    let alloc = rt.alloc();
-    let store = stored(alloc, words)?;
-    let asked = path_of(alloc, path)?;
-    match store.hit(&asked) {
-        Some((answers, what)) => {
-            assert_eq!(rt; Some(what.number), wanted, "of {path}");
-            assert!(rt; what.closes_under(&asked), "of {path}");
-            let learned = match words.get(what.number) {
-                Some(word) => path_of(alloc, word)?,
-                None => Path::new(alloc),
-            };
-            assert!(rt; answers.as_slice() == learned.as_slice(), "of {path}");
-        }
-        None => assert_eq!(rt; None, wanted, "of {path}"),
+    store: &mut Store<Numbered>,
+    answers: Path,
+    number: usize,
+) {
+    let what = Rc::new(rt.alloc(), Numbered { number }).expect(rt, "memory");
+    store.learn(answers, what).expect(rt, "memory");
+}
+
+fn hit(store: &Store<Numbered>, path: &Path) -> Option<usize> {
+    match store.hit(path) {
+        Some((_, what)) => Some(what.number),
+        None => None,
     }
-    Ok(())
+}
+
+fn stored(rt: &(impl Abort + AllocGlobal), words: &str) -> Store<Numbered> {
+    let mut store = Store::new(rt.alloc());
+    for (number, word) in words.split(' ').enumerate() {
+        learn(rt, &mut store, path_of(rt, word), number);
+    }
+    store
+}
+
+// Words that are learned in turn, answers, and which of the words is hit.
+const HIT: [(&str, &str, Option<usize>); 14] = [
+    ("Ab", "Ab", Some(0)),
+    ("Ab", "bA", Some(0)),
+    ("Ab", "zbyAx", Some(0)),
+    ("Ab", "AB", None),
+    ("Ab", "ab", None),
+    ("Ab", "A", None),
+    ("Ab", "", None),
+    ("Ab b bA", "Ab", Some(0)),
+    ("AbC b bA", "Ab", Some(1)),
+    ("AbC bA b", "bAd", Some(1)),
+    ("AbC bA b", "bad", Some(2)),
+    // the second list has no answers
+    ("Ab  b", "c", Some(1)),
+    ("Ab  b", "", Some(1)),
+    ("Ab  b", "bA", Some(0)),
+];
+
+fn hits_each(rt: &(impl Abort + AllocGlobal), cases: &[(&str, &str, Option<usize>)]) {
+    for (words, path, wanted) in cases {
+        let found = hit(&stored(rt, words), &path_of(rt, path));
+        assert!(rt; found == *wanted, "{words} under {path}");
+    }
 }
 
 #[test]
-fn the_first_contained_list_is_hit(rt: HostRuntime) -> Result<(), Fail> {
-    hits(&rt, &[], "Ab", None)?;
-    hits(&rt, &["Ab"], "Ab", Some(0))?;
-    hits(&rt, &["Ab"], "bA", Some(0))?;
-    hits(&rt, &["Ab"], "zbyAx", Some(0))?;
-    hits(&rt, &["Ab"], "AB", None)?;
-    hits(&rt, &["Ab"], "ab", None)?;
-    hits(&rt, &["Ab"], "A", None)?;
-    hits(&rt, &["Ab"], "", None)?;
-    hits(&rt, &["Ab", "b", "bA"], "Ab", Some(0))?;
-    hits(&rt, &["AbC", "b", "bA"], "Ab", Some(1))?;
-    hits(&rt, &["AbC", "bA", "b"], "bAd", Some(1))?;
-    hits(&rt, &["AbC", "bA", "b"], "bad", Some(2))?;
-    hits(&rt, &["Ab", "", "b"], "c", Some(1))?;
-    hits(&rt, &["Ab", "", "b"], "", Some(1))?;
-    hits(&rt, &["Ab", "", "b"], "bA", Some(0))
+fn the_first_contained_list_is_hit(rt: HostRuntime) {
+    hits_each(&rt, &HIT);
 }
 
 // Numbers that look as if drawn by chance.
@@ -106,16 +109,16 @@ impl Draw {
         drawn as u32
     }
 
-    fn path(&mut self, alloc: Global, most: u32) -> Result<Path, NoMemory> {
-        let mut path = Path::new(alloc);
+    fn path(&mut self, rt: &(impl Abort + AllocGlobal), most: u32) -> Path {
+        let mut path = Path::new(rt.alloc());
         for _ in 0..most {
             let test = self.below(10);
             let answer = self.below(2) == 0;
             if path.answer(test).is_none() {
-                path.push(test, answer)?;
+                path.push(test, answer).expect(rt, "memory");
             }
         }
-        Ok(path)
+        path
     }
 }
 
@@ -135,23 +138,28 @@ fn first_by_reading_all(lists: &[Path], path: &Path) -> Option<usize> {
     None
 }
 
+// Learns one list more, and looks for a path.
+fn goes_on(
+    rt: &(impl Abort + AllocGlobal),
+    draw: &mut Draw,
+    store: &mut Store<Numbered>,
+    lists: &mut Vec<Path>,
+) {
+    let number = lists.len();
+    let list = draw.path(rt, 6);
+    learn(rt, store, list.copy().expect(rt, "memory"), number);
+    lists.push(list).expect(rt, "memory");
+    let path = draw.path(rt, 9);
+    let wanted = first_by_reading_all(lists.as_slice(), &path);
+    assert!(rt; hit(store, &path) == wanted, "after {number}");
+}
+
 #[test]
-fn the_index_answers_as_reading_all_lists_does(rt: HostRuntime) -> Result<(), Fail> {
-    let alloc = rt.alloc();
+fn hits_are_those_of_reading_all_lists(rt: HostRuntime) {
     let mut draw = Draw { state: 2026 };
-    let mut store = Store::new(alloc);
-    let mut lists = Vec::new(alloc);
-    for number in 0..200usize {
-        let list = draw.path(alloc, 6)?;
-        store.learn(list.copy()?, Rc::new(alloc, Numbered { number })?)?;
-        lists.push(list)?;
-        let path = draw.path(alloc, 9)?;
-        let wanted = first_by_reading_all(lists.as_slice(), &path);
-        let found = match store.hit(&path) {
-            Some((_, what)) => Some(what.number),
-            None => None,
-        };
-        assert_eq!(rt; found, wanted, "after {number}");
+    let mut store = Store::new(rt.alloc());
+    let mut lists = Vec::new(rt.alloc());
+    for _ in 0..200 {
+        goes_on(&rt, &mut draw, &mut store, &mut lists);
     }
-    Ok(())
 }

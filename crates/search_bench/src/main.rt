@@ -103,8 +103,8 @@ fn query(alloc: Global, draw: &mut Draw, statements: u32) -> Result<Formula, NoM
 }
 
 /// Prints how long a call took.
-fn print_time(rt: &HostRuntime, micros: u128, calls: u32) -> io::Result<()> {
-    let each = micros / u128::from(calls.max(1));
+fn print_time(rt: &HostRuntime, micros: u128, calls: usize) -> io::Result<()> {
+    let each = micros / (calls.max(1) as u128);
     println!(rt; "    {each} microseconds a call")
 }
 
@@ -135,6 +135,25 @@ fn draw_paths(
     Ok(paths)
 }
 
+/// Looks for conflicts from paths of a length.
+fn time_conflicts(
+    rt: &HostRuntime,
+    clauses: &Clauses,
+    length: u32,
+    paths: &[Path],
+    timed: bool,
+) -> io::Result<()> {
+    let start = Instant::now(rt)?;
+    let found = count_conflicts(rt.alloc(), clauses, paths)?;
+    let micros = start.elapsed(rt)?.as_micros();
+    let calls = paths.len();
+    println!(rt; "  {length} answers: {found} conflicts from {calls} paths")?;
+    if timed {
+        print_time(rt, micros, calls)?;
+    }
+    Ok(())
+}
+
 /// Looks for conflicts from paths of each length.
 fn run_conflicts(
     rt: &HostRuntime,
@@ -152,44 +171,38 @@ fn run_conflicts(
     println!(rt; "{statements} statements, {made} clauses, one answer in {one_in} yes")?;
     for length in LENGTHS {
         let paths = draw_paths(alloc, &mut draw, calls, length, one_in)?;
-        let start = Instant::now(rt)?;
-        let found = count_conflicts(alloc, &clauses, paths.as_slice())?;
-        let micros = start.elapsed(rt)?.as_micros();
-        println!(rt; "  {length} answers: {found} conflicts from {calls} paths")?;
-        if timed {
-            print_time(rt, micros, calls)?;
-        }
+        time_conflicts(rt, &clauses, length, paths.as_slice(), timed)?;
     }
     Ok(())
 }
 
 /// A value that closes under all answers.
 #[derive(Drop)]
-struct Closed;
+struct Always;
 
-impl Closes for Closed {
+impl Closes for Always {
     ghost closes = { λ _ _. true };
 
     fn closes_under(&self, _path: &Path) -> bool {
         true
     }
 
-    ghost stays_closed = { λ _ _ _ _ _. refl };
+    ghost still_closes = { λ _ _ _ _ _. refl };
 }
 
 /// The lists have two to six drawn answers.
-fn store(alloc: Global, draw: &mut Draw) -> Result<Store<Closed>, NoMemory> {
-    let closed = Rc::new(alloc, Closed)?;
+fn store(alloc: Global, draw: &mut Draw) -> Result<Store<Always>, NoMemory> {
+    let always = Rc::new(alloc, Always)?;
     let mut store = Store::new(alloc);
     for _ in 0..LISTS {
         let length = 2 + draw.below(5);
         let answers = draw.path(alloc, length, 2)?;
-        store.learn(answers, closed.clone()?)?;
+        store.learn(answers, always.clone()?)?;
     }
     Ok(store)
 }
 
-fn count_hits(store: &Store<Closed>, paths: &[Path]) -> u32 {
+fn count_hits(store: &Store<Always>, paths: &[Path]) -> u32 {
     let mut found = 0u32;
     for path in paths {
         if store.hit(path).is_some() {
@@ -197,6 +210,25 @@ fn count_hits(store: &Store<Closed>, paths: &[Path]) -> u32 {
         }
     }
     found
+}
+
+/// Looks for hits with paths of a length.
+fn time_hits(
+    rt: &HostRuntime,
+    store: &Store<Always>,
+    length: u32,
+    paths: &[Path],
+    timed: bool,
+) -> io::Result<()> {
+    let start = Instant::now(rt)?;
+    let found = count_hits(store, paths);
+    let micros = start.elapsed(rt)?.as_micros();
+    let calls = paths.len();
+    println!(rt; "  {length} answers: {found} hits with {calls} paths")?;
+    if timed {
+        print_time(rt, micros, calls)?;
+    }
+    Ok(())
 }
 
 /// Looks for hits with paths of each length.
@@ -209,19 +241,13 @@ fn run_hits(rt: &HostRuntime, one_in: u32, calls: u32, timed: bool) -> io::Resul
     println!(rt; "{LISTS} lists, one answer in {one_in} yes")?;
     for length in LENGTHS {
         let paths = draw_paths(alloc, &mut draw, calls, length, one_in)?;
-        let start = Instant::now(rt)?;
-        let found = count_hits(&store, paths.as_slice());
-        let micros = start.elapsed(rt)?.as_micros();
-        println!(rt; "  {length} answers: {found} hits with {calls} paths")?;
-        if timed {
-            print_time(rt, micros, calls)?;
-        }
+        time_hits(rt, &store, length, paths.as_slice(), timed)?;
     }
     Ok(())
 }
 
 fn main(rt: HostRuntime) -> io::Result<()> {
-    let timed = env::args(&rt)?.any(|word| word.as_str() == "time");
+    let timed = env::args(&rt)?.any(|argument| argument.as_str() == "time");
     run_conflicts(&rt, 200, 2, 20, timed)?;
     run_conflicts(&rt, 200, 50, 20, timed)?;
     run_conflicts(&rt, 4_000, 2, 5, timed)?;

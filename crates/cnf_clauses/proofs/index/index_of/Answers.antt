@@ -1,5 +1,10 @@
+use Rattle.std.proofs.Common.{arith}
 use Rattle.cnf_clauses.proofs.Indexing.{indexed-none, indexed-step}
+use Rattle.cnf_clauses.proofs.Limits.{have-numbers-fits}
 use Rattle.cnf_clauses.proofs.index.index_of.Goals as goal
+
+pub overflow_cast-number : goal.overflow_cast-number
+overflow_cast-number c = let small = have-numbers-fits c.args.clauses.now c.clauses.i c.requires c.clauses-test.true in omega arith
 
 pub clauses-init : goal.clauses-init
 clauses-init c = indexed-none _ _

@@ -1,6 +1,6 @@
-use Rattle.std.proofs.Common.{◌≡◌, ◌+◌, ◌++◌, ◌^◌, ◌≤◌, take, length}
+use Rattle.std.proofs.Common.{◌≡◌, ◌+◌, take}
 use Rattle.formula_tree.specs.Trees.{of_list, tree_of, trees_of}
-use Rattle.cnf_clauses.specs.Numbering.{nodes_in, node_clauses_in}
+use Rattle.cnf_clauses.specs.Numbering.{nodes_in, node_clauses_in, with_more}
 use Rattle.cnf_clauses.proofs.Walking.{size, size_in}
 use Rattle.cnf_clauses.proofs.numbering.+make.Given as goal
 
@@ -12,6 +12,5 @@ decreases-make_in l = size_in (of_list (trees_of l.branches.now))
 
 abbrev pub invariant-make_in-branches : goal.invariant-make_in-branches
 invariant-make_in-branches l =
-    (l.made.items ≡ take (2 ^ 32) (l.initial.made.items ++ node_clauses_in l.initial.next (of_list (take l.i (trees_of l.branches)))))
+    (l.made ≡ with_more l.initial.made (node_clauses_in l.initial.next (of_list (take l.i (trees_of l.branches)))))
     × (l.next ≡ l.initial.next + nodes_in (of_list (take l.i (trees_of l.branches))))
-    × (length l.made.items ≤ 2 ^ 32)

@@ -1,5 +1,5 @@
 use Rattle.std.proofs.Common.{◌≡◌, ℕ, vec_len}
-use Rattle.nogoods.specs.Index.{entries_in}
+use Rattle.nogoods.specs.Buckets.{entries_in}
 use Rattle.nogoods.proofs.buckets.make_room.Given as goal
 
 abbrev pub invariant-room : goal.invariant-room

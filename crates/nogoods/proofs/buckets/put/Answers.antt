@@ -1,8 +1,8 @@
 use Rattle.std.proofs.Common.{List, [], ◌∷◌, ◌++◌, ◌∙◌, sym, ap}
 use Rattle.std.proofs.lemmas.List.{get_or_read, append-nil}
 use Rattle.nogoods.specs.declared.buckets.Entry.{Entry}
-use Rattle.nogoods.specs.Index.{entries_in}
-use Rattle.nogoods.proofs.Indexing.{keeps-put, holds-put}
+use Rattle.nogoods.specs.Buckets.{entries_in}
+use Rattle.nogoods.proofs.Entering.{keeps-put, holds-put}
 use Rattle.nogoods.proofs.buckets.put.Goals as goal
 
 pub returns-in_err-push-clause-kept : goal.returns-in_err-push-clause-kept

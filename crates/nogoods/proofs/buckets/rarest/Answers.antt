@@ -1,5 +1,5 @@
 use Rattle.std.proofs.Common.{◌<◌, length, rules}
-use Rattle.nogoods.proofs.Indexing.{is-answer, are-answers}
+use Rattle.nogoods.proofs.Entering.{is-answer, are-answers}
 use Rattle.nogoods.proofs.buckets.rarest.Goals as goal
 
 pub answers-init : goal.answers-init

@@ -1,5 +1,5 @@
-use Rattle.nogoods.specs.Choices.{AreAnswers}
+use Rattle.nogoods.specs.Choices.{AreChoicesOf}
 use Rattle.nogoods.proofs.buckets.rarest.Given as goal
 
 abbrev pub invariant-answers : goal.invariant-answers
-invariant-answers l = AreAnswers l.answers l.best
+invariant-answers l = AreChoicesOf l.answers l.best

@@ -1,5 +1,5 @@
 use Rattle.std.proofs.Common.{◌≤◌}
-use Rattle.nogoods.specs.Index.{IsFound, ArePassed}
+use Rattle.nogoods.specs.Buckets.{IsFound, ArePassed}
 use Rattle.nogoods.proofs.lists.earliest_entry.Given as goal
 
 abbrev pub invariant-entries : goal.invariant-entries

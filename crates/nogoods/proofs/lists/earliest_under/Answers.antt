@@ -1,5 +1,5 @@
 use Rattle.std.proofs.Common.{arith}
-use Rattle.nogoods.proofs.Indexing.{searched-more, searched-next, searched-in}
+use Rattle.nogoods.proofs.Entering.{searched-more, searched-next, searched-in}
 use Rattle.nogoods.proofs.lists.earliest_under.Goals as goal
 
 pub answers-preserved : goal.answers-preserved

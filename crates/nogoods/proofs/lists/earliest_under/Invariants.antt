@@ -1,5 +1,5 @@
 use Rattle.std.proofs.Common.{◌≤◌}
-use Rattle.nogoods.specs.Index.{IsFound, AreSearched}
+use Rattle.nogoods.specs.Buckets.{IsFound, AreSearched}
 use Rattle.nogoods.proofs.lists.earliest_under.Given as goal
 
 abbrev pub invariant-answers : goal.invariant-answers

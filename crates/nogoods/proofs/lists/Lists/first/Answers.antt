@@ -1,5 +1,5 @@
 use Rattle.std.proofs.Common.{◌∙◌}
-use Rattle.nogoods.proofs.Indexing.{without-passed, without-less, all-searched, first-hit, no-hit}
+use Rattle.nogoods.proofs.Entering.{without-passed, without-less, all-searched, first-hit, no-hit}
 use Rattle.nogoods.proofs.lists.Lists.first.Goals as goal
 
 pub returns-then-found-lists : goal.returns-then-found-lists

@@ -8,11 +8,11 @@ returns-in-None-clause-none g c = no-hit-in c.self.inside.lists c.self.inside.va
 
 pub returns-in-Some-clause-first : goal.returns-in-Some-clause-first
 returns-in-Some-clause-first g c =
-    let pair = pair-at c.self.inside.lists c.self.inside.values.items c.in-Some.place c.at.result.now c.index.result.now c.self.invariant.0 c.in-Some.ensures.there c.at.ensures c.index.ensures in
-    (c.in-Some.place, first-hit-in c.self.inside.lists c.self.inside.values.items c.args.self.now c.args.path.now c.in-Some.place c.self.invariant.0 c.self.view_is c.in-Some.ensures, ap (λ s. slice_get s c.in-Some.place) (sym c.self.view_is) ∙ pair)
+    let pair = pair-at c.self.inside.lists c.self.inside.values.items c.in-Some.index c.at.result.now c.index.result.now c.self.invariant.0 c.in-Some.ensures.there c.at.ensures c.index.ensures in
+    (c.in-Some.index, first-hit-in c.self.inside.lists c.self.inside.values.items c.args.self.now c.args.path.now c.in-Some.index c.self.invariant.0 c.self.view_is c.in-Some.ensures, ap (λ s. slice_get s c.in-Some.index) (sym c.self.view_is) ∙ pair)
 
 pub returns-in-Some-clause-closes : goal.returns-in-Some-clause-closes
 returns-in-Some-clause-closes g c =
-    let pair = pair-at c.self.inside.lists c.self.inside.values.items c.in-Some.place c.at.result.now c.index.result.now c.self.invariant.0 c.in-Some.ensures.there c.at.ensures c.index.ensures in
-    let contained = contained-at c.self.inside.lists c.args.path.now c.in-Some.place c.at.result.now c.in-Some.ensures c.at.ensures in
-    g.met.T.Closes.stays_closed c.index.result.now.value c.at.result.now c.args.path.now contained (c.self.invariant.1 c.in-Some.place c.at.result.now c.index.result.now.value pair)
+    let pair = pair-at c.self.inside.lists c.self.inside.values.items c.in-Some.index c.at.result.now c.index.result.now c.self.invariant.0 c.in-Some.ensures.there c.at.ensures c.index.ensures in
+    let contained = contained-at c.self.inside.lists c.args.path.now c.in-Some.index c.at.result.now c.in-Some.ensures c.at.ensures in
+    g.met.T.Closes.still_closes c.index.result.now.value c.at.result.now c.args.path.now contained (c.self.invariant.1 c.in-Some.index c.at.result.now c.index.result.now.value pair)

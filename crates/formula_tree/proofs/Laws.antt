@@ -1,0 +1,59 @@
+-- The lemmas on paths, values and runs that crates above cite.
+use Rattle.std.proofs.Common.{◌≡◌, ◌≢◌, ℕ, ◌<◌, suc, [], ◌∷◌, ◌++◌, Bool, true, false, Some, None, ◌⊎◌}
+use Rattle.formula_tree.specs.Answers.{Answers, answer_of, Completes}
+use Rattle.formula_tree.specs.Runs.{answered, Run, unanswered}
+use Rattle.formula_tree.specs.Trees.{Tree}
+use Rattle.formula_tree.specs.Values.{holds, pick, value}
+use Rattle.formula_tree.specs.declared.value.Three.TheVariants.{Yes, No, Unknown}
+use Rattle.formula_tree.proofs.AnswerLists as lists
+use Rattle.formula_tree.proofs.Looking as looks
+use Rattle.formula_tree.proofs.Running as runs
+use Rattle.formula_tree.proofs.Keeping as values
+
+-- two numbers are equal, or they aren't
+pub cases_eq : (k n : ℕ) → (k ≡ n) ⊎ (k ≢ n)
+cases_eq = lists.cases_eq
+
+-- a longer list keeps each answer
+pub answer_of-more : (ps qs : Answers) (n : ℕ) (b : Bool) → answer_of ps n ≡ Some b → answer_of (ps ++ qs) n ≡ Some b
+answer_of-more = lists.answer_of-more
+
+-- a test without an answer in the first part has that of the second
+pub answer_of-rest : (ps qs : Answers) (n : ℕ) → answer_of ps n ≡ None → answer_of (ps ++ qs) n ≡ answer_of qs n
+answer_of-rest = lists.answer_of-rest
+
+-- one more answer leaves those to other tests
+pub answer_of-besides : (ps : Answers) (n : ℕ) (b : Bool) (k : ℕ) → k ≢ n → answer_of (ps ++ (n, b) ∷ []) k ≡ answer_of ps k
+answer_of-besides = lists.answer_of-besides
+
+-- and it is the answer to its own test, where that had none
+pub answer_of-last : (ps : Answers) (n : ℕ) (b : Bool) → answer_of ps n ≡ None → answer_of (ps ++ (n, b) ∷ []) n ≡ Some b
+answer_of-last = lists.answer_of-last
+
+-- a tree whose value is yes holds under each completion of the path
+pub says-yes : (path : Answers) (t : Tree) (total : ℕ → Bool) → Completes total path → value path t ≡ Yes → holds total t ≡ true
+says-yes = values.says-yes
+
+-- and one whose value is no doesn't
+pub says-no : (path : Answers) (t : Tree) (total : ℕ → Bool) → Completes total path → value path t ≡ No → holds total t ≡ false
+says-no = values.says-no
+
+-- a tree that waits for a test has the value unknown
+pub pick-unknown : (path : Answers) (t : Tree) (n : ℕ) → pick path t ≡ Some n → value path t ≡ Unknown
+pick-unknown = looks.pick-unknown
+
+-- and the path doesn't answer that test
+pub pick-unanswered : (path : Answers) (t : Tree) (n : ℕ) → pick path t ≡ Some n → answer_of path n ≡ None
+pick-unanswered = looks.pick-unanswered
+
+-- a path has one run
+pub same_run : (possible : Answers → Type 0) (tree : Tree) (p : Answers) (b c : Bool) (n m : ℕ) → Run possible tree p b n → Run possible tree p c m → (b ≡ c) × (n ≡ m)
+same_run = runs.same_run
+
+-- one more answer leaves one open test less
+pub unanswered-more : (path : Answers) (n : ℕ) (b : Bool) (t : ℕ) → n < t → answer_of path n ≡ None → unanswered path t ≡ suc (unanswered (answered path n b) t)
+unanswered-more = runs.unanswered-more
+
+-- the empty path leaves every test open
+pub unanswered-start : (t : ℕ) → unanswered [] t ≡ t
+unanswered-start = runs.unanswered-start

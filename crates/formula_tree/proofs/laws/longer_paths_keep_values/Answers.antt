@@ -1,5 +1,0 @@
-use Rattle.formula_tree.proofs.Keeping.{keeps-yes, keeps-no}
-use Rattle.formula_tree.proofs.laws.longer_paths_keep_values.Goals as goal
-
-pub returns : goal.returns
-returns c = record { yes = keeps-yes; no = keeps-no }

@@ -1,5 +1,0 @@
-use Rattle.formula_tree.proofs.Keeping.{says-yes, says-no}
-use Rattle.formula_tree.proofs.laws.values_hold_for_completions.Goals as goal
-
-pub returns : goal.returns
-returns c = record { yes = says-yes; no = says-no }
