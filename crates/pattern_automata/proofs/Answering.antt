@@ -1,12 +1,12 @@
 -- What the search comes to answers the wants.
-use Rattle.std.proofs.Common.{◌≡◌, ℕ, zero, suc, ◌+◌, ◌*◌, ◌-◌, ◌<◌, ◌≤◌, ◌↔◌, List, [], ◌∷◌, ◌++◌, length, get_or, Bool, true, false, cond, All, Contains, IsTrue, IfOk, Result, Ok, Err, refl, sym, ap, ◌∙◌, subst, inl, inr, arith, take}
+use Rattle.std.proofs.Common.{◌≡◌, ℕ, zero, suc, ◌+◌, ◌-◌, ◌<◌, ◌≤◌, List, [], ◌∷◌, ◌++◌, length, get_or, Bool, true, false, cond, Contains, IfOk, Result, Ok, Err, refl, sym, ap, ◌∙◌, subst, inl, inr, arith, take}
 use Rattle.std.proofs.lemmas.Bool.{and_from}
 use Rattle.std.proofs.lemmas.Bool.Decides.{nat_tests}
 use Rattle.std.proofs.lemmas.List.{get_or_default, ext_get_or}
 use Rattle.wildcard_lang.specs.declared.piece.Piece.{Piece}
 use Rattle.std.specs.Char.{IsScalar}
 use Rattle.wildcard_lang.specs.Accepts.{accepts, marks_of}
-use Rattle.wildcard_lang.proofs.Accept.{length-marks_of, get_or-marks_of}
+use Rattle.wildcard_lang.proofs.Laws.{length-marks_of, get_or-marks_of, has-places, step_lists-of}
 use Rattle.pattern_automata.specs.declared.wants.Literal.{Literal}
 use Rattle.pattern_automata.specs.declared.tree.Parent.{Parent}
 use Rattle.pattern_automata.specs.declared.tree.Step.{Step}
@@ -18,15 +18,14 @@ use Rattle.pattern_automata.specs.Closed.{InRange, Meets, lists_meet, IsRepresen
 use Rattle.pattern_automata.specs.Marks.{all_marks, total}
 use Rattle.pattern_automata.specs.Packed.{all_words, pack, words_for}
 use Rattle.pattern_automata.specs.Tree.{IsEnds, IsMet, IsFull, IsLeft, IsOver, IsOutcome, Spells, words_meet}
+use Rattle.pattern_automata.specs.Machine.{StandForAll}
 use Rattle.pattern_automata.specs.Answer.{IsProduct, AreLists, AreTexts, IsReport}
 use Rattle.wildcard_lang.specs.Text.{IsText}
 use Rattle.pattern_automata.proofs.Scalars.{text-from_all}
 use Rattle.pattern_automata.proofs.Wanting.{meets-to}
-use Rattle.wildcard_lang.proofs.Stepping.{has-places, step_lists-of}
 use Rattle.pattern_automata.proofs.Empty.{meets-of}
 use Rattle.pattern_automata.proofs.Meeting.{words_meet-meets, ends-within}
 use Rattle.pattern_automata.proofs.Searching.{text, words-length}
-use Rattle.pattern_automata.proofs.Packing.{length-all_words}
 use Rattle.pattern_automata.proofs.Spelling.{spelled}
 
 from-lower : (i k : ℕ) (js : List ℕ) → i ≤ k → rises_from k js ≡ true → rises_from i js ≡ true
@@ -52,7 +51,7 @@ all-rising (p ∷ ps) t = and_from _ _ (from-rising (λ i. accepts (take i p) t)
 pub shaped-lists : (ps : List (List Piece)) (t : List ℕ) → IsShaped ps (lists_of ps t)
 shaped-lists ps t = (length-lists_of ps t, all-rising ps t)
 
--- the lists of places tell the marks
+-- the product state tells the marks
 marks-from_places : (p : List Piece) (t u : List ℕ) → places_of p t ≡ places_of p u → marks_of p t ≡ marks_of p u
 marks-from_places p t u e =
     ext_get_or false (marks_of p t) (marks_of p u) (length-marks_of p t ∙ sym (length-marks_of p u))
@@ -122,7 +121,7 @@ module _ (patterns : List (List Piece)) (ends : List ℕ) (clauses : List (List 
     }
 
     module _ (closed : List (List (List ℕ))) (over : IsOver patterns ends clauses characters found parents limit) (lists : AreLists patterns found closed)
-        (represent : (c : ℕ) → IsScalar c → IsRepresentative patterns c ↔ IsTrue (has characters c)) where
+        (stand : StandForAll patterns characters) where
       text-at : (k : ℕ) → k < length closed → (t : List ℕ) × (get_or found k [] ≡ all_words patterns t) × (get_or closed k [] ≡ lists_of patterns t)
       text-at k h =
           let x = text patterns found parents over.left.base.tree k (omega (arith, lists.count)) in
@@ -141,12 +140,13 @@ module _ (patterns : List (List Piece)) (ends : List ℕ) (clauses : List (List 
       steps ls c inside r =
           let x = text-at inside.0 inside.1 in
           let are : ls ≡ lists_of patterns x.0 = sym inside.2 ∙ (get_or_default closed inside.0 ls [] inside.1 ∙ x.2) in
-          let known : has characters c ≡ true = (represent c (scalar-of c r)).0 r in
-          let led = over.left.search.done inside.0 c (omega (arith, inside.1, lists.count, over.all)) known in
-          let marks : led.0 ≡ all_words patterns (x.0 ++ c ∷ []) = led.2 x.0 x.1 in
-          let there : get_or found led.1.0 [] ≡ all_words patterns (x.0 ++ c ∷ []) = get_or_default found led.1.0 [] led.0 led.1.1 ∙ (led.1.2 ∙ marks) in
+          let s = stand c (scalar-of c r) in
+          let d : ℕ = s.0 in
+          let led = over.left.search.done inside.0 d (omega (arith, inside.1, lists.count, over.all)) s.2 in
+          let marks : led.0 ≡ all_words patterns (x.0 ++ d ∷ []) = led.2 x.0 x.1 in
+          let there : get_or found led.1.0 [] ≡ all_words patterns (x.0 ++ d ∷ []) = get_or_default found led.1.0 [] led.0 led.1.1 ∙ (led.1.2 ∙ marks) in
           let h : led.1.0 < length closed = omega (arith, led.1.1, lists.count) in
-          let next : step_lists patterns ls c ≡ lists_of patterns (x.0 ++ c ∷ []) = ap (λ y. step_lists patterns y c) are ∙ step_lists-of patterns x.0 c in
+          let next : step_lists patterns ls c ≡ lists_of patterns (x.0 ++ d ∷ []) = s.3 ls ∙ (ap (λ y. step_lists patterns y d) are ∙ step_lists-of patterns x.0 d) in
           (led.1.0, h, get_or_default closed led.1.0 (step_lists patterns ls c) [] h ∙ (lists.each led.1.0 _ h there ∙ sym next))
 
       none-meets : (ls : List (List ℕ)) → Contains closed ls → lists_meet patterns clauses ls ≡ false
@@ -168,7 +168,7 @@ module _ (patterns : List (List Piece)) (ends : List ℕ) (clauses : List (List 
       )
 
     product-of : (step : Step) (result : Product) → IsOutcome patterns ends clauses characters found parents limit step → IsReport patterns found parents step result →
-        ((c : ℕ) → IsScalar c → IsRepresentative patterns c ↔ IsTrue (has characters c)) → IsProduct patterns clauses limit result
+        StandForAll patterns characters → IsProduct patterns clauses limit result
     product-of Left (Empty closed) o r reps = closed-set closed o r reps
     product-of Left (Found t) o r reps = absurd r
     product-of Left (TooMany texts) o r reps = absurd r
@@ -180,14 +180,10 @@ module _ (patterns : List (List Piece)) (ends : List ℕ) (clauses : List (List 
     product-of Full (Empty closed) o r reps = absurd r
 
     pub product-answer : {E : Type 0} (step : Step) (result : Result Product E) → IsOutcome patterns ends clauses characters found parents limit step →
-        IfOk result (IsReport patterns found parents step) → ((c : ℕ) → IsScalar c → IsRepresentative patterns c ↔ IsTrue (has characters c)) →
+        IfOk result (IsReport patterns found parents step) → StandForAll patterns characters →
         IfOk result (IsProduct patterns clauses limit)
     product-answer step (Ok result) o r reps = product-of step result o r reps
     product-answer step (Err e) o r reps = r
-
--- the ends lie within the marks of the empty text
-pub ends-in : (patterns : List (List Piece)) (ends : List ℕ) (view : List ℕ) → IsEnds patterns ends → view ≡ all_words patterns [] → All (λ e. e < 64 * length view) ends
-ends-in patterns ends view are is k d h = omega (arith, ap length is, length-all_words patterns [], ends-within patterns ends are k d h)
 
 -- the empty text meets the wants
 pub empty-text : (patterns : List (List Piece)) (ends : List ℕ) (clauses : List (List Literal)) (view : List ℕ) (t : List ℕ) → IsEnds patterns ends → InRange (length patterns) clauses →

@@ -6,7 +6,7 @@ use Rattle.std.proofs.lemmas.Nat.Bits.{bit_at_and, bit_at_or, bit_at-lt, bit_at_
 use mir.Val.{bool_byte}
 use Rattle.std.proofs.Math.Pow.{pow_mono}
 use Rattle.std.proofs.lemmas.List.{at_drop_more, length-drop, drop-drop, take_all}
-use Rattle.pattern_automata.specs.Packed.{on, before, filled, moved, number, packed}
+use Rattle.pattern_automata.specs.Packed.{on, before, filled, moved, word_with, packed}
 
 both-set : (x y : ℕ) → x < 2 → y < 2 → eqb (min x y) 1 ≡ (eqb x 1 && eqb y 1)
 both-set zero zero h k = refl
@@ -109,35 +109,35 @@ pub on-moved : (shifted one old stay : ℕ) (first : Bool) → ((i : ℕ) → i 
 on-moved shifted one old stay first moves i h =
     on-or (bit_and shifted one) (bit_and old stay) i ∙ rw (on-and shifted one i, on-and old stay i, moves i h) refl
 
--- a number of so many bits
-small : (xs : List Bool) → number xs < 2 ^ length xs
+-- a word_with of so many bits
+small : (xs : List Bool) → word_with xs < 2 ^ length xs
 small [] = omega arith
 small (b ∷ bs) =
     let h = small bs in
     let p : 2 ^ suc (length bs) ≡ 2 ^ length bs * 2 = pow-suc 2 (length bs) in
     omega (arith, h, p, first-small b)
 
-pub half-small : (xs : List Bool) → length xs ≤ 63 → number xs < 9223372036854775808
+pub half-small : (xs : List Bool) → length xs ≤ 63 → word_with xs < 9223372036854775808
 half-small xs h = let a = small xs in let b = pow_mono {i = length xs} {j = 63} h in omega (arith, a, b)
 
-pub word-small : (xs : List Bool) → length xs ≤ 64 → number xs < 18446744073709551616
+pub word-small : (xs : List Bool) → length xs ≤ 64 → word_with xs < 18446744073709551616
 word-small xs h = let a = small xs in let b = pow_mono {i = length xs} {j = 64} h in omega (arith, a, b)
 
-pub number-more : (xs : List Bool) (i : ℕ) (d : Bool) → i < length xs → number (drop i xs) ≡ cond (get_or xs i d) 1 0 + 2 * number (drop (i + 1) xs)
-number-more xs i d h = at_drop_more number xs i d h
+pub word_with-more : (xs : List Bool) (i : ℕ) (d : Bool) → i < length xs → word_with (drop i xs) ≡ cond (get_or xs i d) 1 0 + 2 * word_with (drop (i + 1) xs)
+word_with-more xs i d h = at_drop_more word_with xs i d h
 
-pub rest-small : (xs : List Bool) (i : ℕ) → 0 < i → length xs ≤ 64 → number (drop i xs) < 9223372036854775808
+pub rest-small : (xs : List Bool) (i : ℕ) → 0 < i → length xs ≤ 64 → word_with (drop i xs) < 9223372036854775808
 rest-small xs i h l = half-small (drop i xs) (omega (arith, length-drop i xs))
 
-packed-next : (n : ℕ) (marks : List Bool) → packed (suc n) marks ≡ packed n marks ++ number (take 64 (drop (64 * n) marks)) ∷ []
+packed-next : (n : ℕ) (marks : List Bool) → packed (suc n) marks ≡ packed n marks ++ word_with (take 64 (drop (64 * n) marks)) ∷ []
 packed-next zero marks = refl
 packed-next (suc n) marks =
     let e : 64 + 64 * n ≡ 64 * suc n = omega arith in
     let d : drop (64 * n) (drop 64 marks) ≡ drop (64 * suc n) marks = drop-drop (64 * n) 64 marks ∙ ap (λ k. drop k marks) e in
-    ap (λ x. number (take 64 marks) ∷ x) (packed-next n (drop 64 marks) ∙ ap (λ x. packed n (drop 64 marks) ++ number (take 64 x) ∷ []) d)
+    ap (λ x. word_with (take 64 marks) ∷ x) (packed-next n (drop 64 marks) ∙ ap (λ x. packed n (drop 64 marks) ++ word_with (take 64 x) ∷ []) d)
 
 -- one more word of marks
-pub packed-more : (n : ℕ) (marks rest first : List Bool) (word : ℕ) (words new : List ℕ) → words ≡ packed n marks → rest ≡ drop (64 * n) marks → first ≡ take 64 rest → word ≡ number first →
+pub packed-more : (n : ℕ) (marks rest first : List Bool) (word : ℕ) (words new : List ℕ) → words ≡ packed n marks → rest ≡ drop (64 * n) marks → first ≡ take 64 rest → word ≡ word_with first →
     new ≡ words ++ word ∷ [] → new ≡ packed (n + 1) marks
 packed-more n marks rest first word words new are is cut made pushed =
     let one : n + 1 ≡ suc n = omega arith in
@@ -149,12 +149,12 @@ rest-more n marks rest back is cut =
     cut ∙ (ap (drop 64) is ∙ (drop-drop 64 (64 * n) marks ∙ ap (λ k. drop k marks) e))
 
 -- the last word
-pub packed-last : (n : ℕ) (marks rest : List Bool) (word : ℕ) (words new : List ℕ) → words ≡ packed n marks → rest ≡ drop (64 * n) marks → length marks / 64 ≤ n → n ≤ length marks / 64 → word ≡ number rest →
+pub packed-last : (n : ℕ) (marks rest : List Bool) (word : ℕ) (words new : List ℕ) → words ≡ packed n marks → rest ≡ drop (64 * n) marks → length marks / 64 ≤ n → n ≤ length marks / 64 → word ≡ word_with rest →
     new ≡ words ++ word ∷ [] → new ≡ packed (length marks / 64 + 1) marks
 packed-last n marks rest word words new are is low high made pushed =
     let all : take 64 rest ≡ rest = take_all 64 rest (omega (arith, ap length is, length-drop (64 * n) marks)) in
     let e : n + 1 ≡ length marks / 64 + 1 = omega arith in
-    packed-more n marks rest (take 64 rest) word words new are is refl (made ∙ ap number (sym all)) pushed ∙ ap (λ k. packed k marks) e
+    packed-more n marks rest (take 64 rest) word words new are is refl (made ∙ ap word_with (sym all)) pushed ∙ ap (λ k. packed k marks) e
 
 pub bit-small : (f : Bool) (b : ℕ) → b ≡ bool_byte f → b < 2
 bit-small true b e = omega (arith, e)

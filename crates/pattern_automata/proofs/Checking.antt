@@ -1,24 +1,26 @@
 -- The check of a closed set: the marks of its lists tell the lists, where their places fit.
-use Rattle.std.proofs.Common.{◌≡◌, ℕ, zero, suc, ◌+◌, ◌<◌, ◌≤◌, List, [], ◌∷◌, ◌++◌, length, get_or, Bool, true, false, cond, nat_le, All, Contains, refl, sym, ap, ◌∙◌, inl, inr, arith, take, drop, add-one}
+use Rattle.std.proofs.Common.{◌≡◌, ℕ, zero, suc, ◌+◌, ◌<◌, ◌≤◌, List, [], ◌∷◌, ◌++◌, length, get_or, Bool, true, false, cond, nat_le, slice_get, Some, Result, Ok, Err, IfOk, ◌↔◌, All, Contains, refl, sym, ap, ◌∙◌, subst, inl, inr, arith, take, drop, add-one}
 use Rattle.std.specs.List.{list_all}
 use Rattle.std.proofs.lemmas.Bool.{cases_eq, and_parts, and_from}
 use Rattle.std.proofs.lemmas.Bool.Decides.{nat_tests}
-use Rattle.std.proofs.lemmas.List.{append_assoc, append-nil, take_at, drop_at, get_or_default, get_or_append_left, get_or-append-add}
+use Rattle.std.proofs.lemmas.List.{append_assoc, append-nil, take_at, drop_at, get_or_default, get_or_append_left, get_or-append-add, get_or-drop, length-drop, at_drop_more}
+use Rattle.std.proofs.lemmas.Option.{slice_get_within, get_or_from_slice_get, slice_get-get_or}
+use mir.Val.{bool_byte}
 use Rattle.wildcard_lang.specs.declared.piece.Piece.{Piece}
 use Rattle.std.specs.Char.{IsScalar}
 use Rattle.wildcard_lang.specs.Accepts.{tests, reaches, accepts}
-use Rattle.wildcard_lang.proofs.Accept.{length-tests, get_or-tests}
+use Rattle.wildcard_lang.proofs.Laws.{length-tests, get_or-tests, rising-same}
 use Rattle.pattern_automata.specs.declared.wants.Literal.{Literal}
 use Rattle.wildcard_lang.specs.Places.{has, rising, lists_of, step_lists}
-use Rattle.pattern_automata.specs.Closed.{rises_from, IsShaped, InRange, lists_meet, Represent, IsClosed}
+use Rattle.pattern_automata.specs.Closed.{rises_from, all_rise, IsShaped, InRange, lists_meet, IsClosed}
+use Rattle.pattern_automata.specs.Machine.{StandForAll}
 use Rattle.pattern_automata.specs.Marks.{marks_from, total}
 use Rattle.pattern_automata.specs.Tree.{IsEnds, words_meet}
 use Rattle.pattern_automata.specs.Packed.{all_words, pack}
 use Rattle.pattern_automata.proofs.Packing.{mark-pack, pack-same}
 use Rattle.pattern_automata.proofs.Indexing.{length-marks_from}
 use Rattle.pattern_automata.specs.Checked.{fits, IsIndex, Passes}
-use Rattle.wildcard_lang.proofs.Stepping.{rising-same}
-use Rattle.pattern_automata.proofs.Empty.{clauses_hold-same}
+use Rattle.pattern_automata.proofs.Empty.{clauses_hold-same, representative}
 use Rattle.pattern_automata.proofs.Leading.{reached-from, all_marks-from}
 use Rattle.pattern_automata.proofs.Answering.{from-rising, shaped-lists}
 
@@ -28,12 +30,77 @@ tests-push f i (suc k) =
     let e : i + 1 + k ≡ i + suc k = omega arith in
     ap (λ x. f i ∷ x) (rw e at (tests-push f (i + 1) k))
 
-pub push-mark : (list : List ℕ) (j : ℕ) (old marks new : List Bool) (b : Bool) → b ≡ has list j → marks ≡ old ++ tests (has list) 0 j → new ≡ marks ++ b ∷ [] →
+push-mark : (list : List ℕ) (j : ℕ) (old marks new : List Bool) (b : Bool) → b ≡ has list j → marks ≡ old ++ tests (has list) 0 j → new ≡ marks ++ b ∷ [] →
     new ≡ old ++ tests (has list) 0 (j + 1)
 push-mark list j old marks new b is are pushed =
     let z : 0 + j ≡ j = omega arith in
     let t : tests (has list) 0 (suc j) ≡ tests (has list) 0 j ++ has list j ∷ [] = rw z at (tests-push (has list) 0 j) in
     rw (pushed, are, is, add-one, t) (append_assoc old (tests (has list) 0 j) (has list j ∷ []))
+
+-- ---- a rising list, place by place
+
+none-below : (i j : ℕ) (l : List ℕ) → j < i → rises_from i l ≡ true → has l j ≡ false
+none-below i j [] h r = refl
+none-below i j (k ∷ ks) h r = grind (arith, nat_tests, none-below (k + 1) j ks)
+
+has-next : (i j : ℕ) (js : List ℕ) → i < j → has (i ∷ js) j ≡ has js j
+has-next i j js h = grind (arith, nat_tests)
+
+-- the places from the one at `next` on are at least j; `there` says whether that is j
+module _ (j : ℕ) (rest : List ℕ) (rises : rises_from j rest ≡ true) where
+  pub next-there : (k : ℕ) (ks : List ℕ) → rest ≡ k ∷ ks → k ≡ j → (has rest j ≡ true) × (rises_from (j + 1) ks ≡ true) × ((x : ℕ) → j + 1 ≤ x → has rest x ≡ has ks x)
+  next-there k ks is at =
+      let parts : (nat_le j k ≡ true) × (rises_from (k + 1) ks ≡ true) = and_parts (nat_le j k) (rises_from (k + 1) ks) (rw is at rises) in (
+        rw (is, at) (grind (arith, nat_tests)),
+        rw at at parts.1,
+        λ x h. rw is (has-next k x ks (omega arith)),
+      )
+
+  pub next-not : ((k : ℕ) (ks : List ℕ) → rest ≡ k ∷ ks → k ≡ j → ⊥) → (has rest j ≡ false) × (rises_from (j + 1) rest ≡ true)
+  next-not none =
+      let more : rises_from (j + 1) rest ≡ true = by rest refl in
+      (none-below (j + 1) j rest (omega arith) more, more)
+    where
+      by : (l : List ℕ) → rest ≡ l → rises_from (j + 1) rest ≡ true
+      by [] e = rw e refl
+      by (k ∷ ks) e =
+          let parts : (nat_le j k ≡ true) × (rises_from (k + 1) ks ≡ true) = and_parts (nat_le j k) (rises_from (k + 1) ks) (rw e at rises) in
+          let ne : k ≡ j → ⊥ = none k ks e in
+          rw e (grind (arith, nat_tests, parts.0, parts.1, ne))
+
+module _ (list : List ℕ) (j next : ℕ) (old marks : List Bool) (are : marks ≡ old ++ tests (has list) 0 j) (rises : rises_from j (drop next list) ≡ true)
+    (same : (x : ℕ) → j ≤ x → has list x ≡ has (drop next list) x) (within : next ≤ length list) where
+  -- one more mark, and the next place that is left
+  pub marks-next : (there : Bool) (new : List Bool) (more : ℕ) → (there ≡ true) ↔ (slice_get list next ≡ Some j) → new ≡ marks ++ there ∷ [] → more ≡ next + bool_byte there →
+      (new ≡ old ++ tests (has list) 0 (j + 1)) × (rises_from (j + 1) (drop more list) ≡ true) × ((x : ℕ) → j + 1 ≤ x → has list x ≡ has (drop more list) x) × (more ≤ length list)
+  marks-next true new more is pushed grown =
+      let at : slice_get list next ≡ Some j = is.0 refl in
+      let h : next < length list = slice_get_within list next j at in
+      let t = next-there j (drop next list) rises (get_or list next 0) (drop (next + 1) list) (at_drop_more (λ l. l) list next 0 h) (get_or_from_slice_get list next j 0 at) in
+      let one : more ≡ next + 1 = grown in (
+        push-mark list j old marks new true (sym (same j (omega arith) ∙ t.0)) are pushed,
+        rw one t.1,
+        λ x l. same x (omega arith) ∙ rw one (t.2 x l),
+        omega (arith, one),
+      )
+  marks-next false new more is pushed grown =
+      let one : more ≡ next = omega (arith, grown) in
+      let t = next-not j (drop next list) rises (λ k ks e f.
+      let h : next < length list = omega (arith, ap length e, length-drop next list) in
+      let z : next + 0 ≡ next = omega arith in
+      let first : get_or list next 0 ≡ k = sym (rw z at (get_or-drop next list 0 0)) ∙ ap (λ l. get_or l 0 0) e in
+      let bad : false ≡ true = is.1 (slice_get-get_or list next 0 h ∙ ap Some (first ∙ f)) in
+      absurd (cc)) in (
+        push-mark list j old marks new false (sym (same j (omega arith) ∙ t.0)) are pushed,
+        rw one t.1,
+        λ x l. same x (omega arith) ∙ rw one refl,
+        omega (arith, one),
+      )
+
+pub all_rise-at : (lists : List (List ℕ)) (i : ℕ) (l : List ℕ) → all_rise lists ≡ true → i < length lists → l ≡ get_or lists i l → rises_from 0 l ≡ true
+all_rise-at [] i l r h e = absurd (omega arith)
+all_rise-at (x ∷ xs) zero l r h e = rw e (and_parts (rises_from 0 x) (all_rise xs) r).0
+all_rise-at (x ∷ xs) (suc i) l r h e = all_rise-at xs i l (and_parts (rises_from 0 x) (all_rise xs) r).1 (omega arith) e
 
 marks_from-suc : (ps : List (List Piece)) (lists : List (List ℕ)) (i : ℕ) (p : List Piece) (l : List ℕ) → i < length ps → i < length lists → p ≡ get_or ps i p → l ≡ get_or lists i l →
     marks_from (take (suc i) ps) (take (suc i) lists) ≡ marks_from (take i ps) (take i lists) ++ tests (has l) 0 (length p + 1)
@@ -71,13 +138,6 @@ meet-lists ps ends clauses lists are range n =
     clauses_hold-same _ _ (length ps) (λ i h. mark-pack (marks_from ps lists) (get_or ends i 0) ∙ (ap (λ x. get_or (marks_from ps lists) x false) (are.each i h) ∙ last-of ps lists i n h)) clauses range
 
 -- a list that rises and fits is the list of the numbers that it has
-none-below : (i j : ℕ) (l : List ℕ) → j < i → rises_from i l ≡ true → has l j ≡ false
-none-below i j [] h r = refl
-none-below i j (k ∷ ks) h r = grind (arith, nat_tests, none-below (k + 1) j ks)
-
-has-next : (i j : ℕ) (js : List ℕ) → i < j → has (i ∷ js) j ≡ has js j
-has-next i j js h = grind (arith, nat_tests)
-
 rising-has : (n i k : ℕ) (l : List ℕ) → i + k ≡ n + 1 → rises_from i l ≡ true → list_all (λ j. nat_le j n) l ≡ true → rising (has l) i k ≡ l
 rising-has n i zero [] e r f = refl
 rising-has n i zero (j ∷ js) e r f = absurd (grind (arith, nat_tests))
@@ -159,18 +219,18 @@ module _ (patterns : List (List Piece)) (closed : List (List (List ℕ))) (index
   to-index : (lists : List (List ℕ)) (m : List ℕ) → fits patterns lists ≡ true → pack (marks_from patterns lists) ≡ m → Contains closed lists → Contains index m
   to-index lists m fit e inside =
       let same : get_or closed inside.0 [] ≡ lists = get_or_default closed inside.0 [] lists inside.1 ∙ inside.2 in
-      (is m).1 (record { place = inside.0; below = inside.1; fit = rw same fit; words = rw same e })
+      (is m).1 (record { at = inside.0; below = inside.1; fit = rw same fit; words = rw same e })
 
   from-index : (lists : List (List ℕ)) (m : List ℕ) → IsShaped patterns lists → fits patterns lists ≡ true → pack (marks_from patterns lists) ≡ m → Contains index m → Contains closed lists
   from-index lists m shape fit e inside =
       let found = (is m).0 inside in
-      let same : get_or closed found.place [] ≡ lists =
-      same-lists patterns _ lists (shaped found.place [] found.below) shape found.fit fit
-      (pack-same _ _ (length-marks_from patterns _ (shaped found.place [] found.below).0 ∙ sym (length-marks_from patterns lists shape.0)) (found.words ∙ sym e)) in
-      (found.place, found.below, get_or_default closed found.place lists [] found.below ∙ same)
+      let same : get_or closed found.at [] ≡ lists =
+      same-lists patterns _ lists (shaped found.at [] found.below) shape found.fit fit
+      (pack-same _ _ (length-marks_from patterns _ (shaped found.at [] found.below).0 ∙ sym (length-marks_from patterns lists shape.0)) (found.words ∙ sym e)) in
+      (found.at, found.below, get_or_default closed found.at lists [] found.below ∙ same)
 
   module _ (ends : List ℕ) (clauses : List (List Literal)) (characters : List ℕ) (are : IsEnds patterns ends) (range : InRange (length patterns) clauses)
-      (represent : Represent patterns characters) where
+      (stand : StandForAll patterns characters) where
     pub closed-if : Contains index (all_words patterns []) → All (λ lists. Passes patterns ends clauses characters index (marks_from patterns lists)) closed → IsClosed patterns clauses closed
     closed-if start pass = record {
       shaped = shaped;
@@ -180,9 +240,10 @@ module _ (patterns : List (List Piece)) (closed : List (List (List ℕ))) (index
           let shape : IsShaped patterns lists = rw same at (shaped inside.0 [] inside.1) in
           let passes = rw same at (pass inside.0 [] inside.1) in
           let scalar : IsScalar c = elim r [ inl n ↦ n.0 | inr f ↦ f.scalar ] in
-          let known : has characters c ≡ true = (represent c scalar).0 r in
-          from-index (step_lists patterns lists c) _ (shaped-steps patterns lists c shape.0) (fit-steps patterns lists c)
-          (ap pack (sym (reached-from patterns lists c shape.0))) (passes.steps c scalar known);
+          let s = stand c scalar in
+          subst (λ (x : List (List ℕ)). Contains closed x) (sym (s.3 lists))
+          (from-index (step_lists patterns lists s.0) _ (shaped-steps patterns lists s.0 shape.0) (fit-steps patterns lists s.0)
+          (ap pack (sym (reached-from patterns lists s.0 shape.0))) (passes.steps s.0 s.1 s.2));
       none_meets = λ lists inside.
           let same : get_or closed inside.0 [] ≡ lists = get_or_default closed inside.0 [] lists inside.1 ∙ inside.2 in
           let shape : IsShaped patterns lists = rw same at (shaped inside.0 [] inside.1) in
@@ -201,6 +262,12 @@ module _ (patterns : List (List Piece)) (closed : List (List (List ℕ))) (index
         record {
           none = meet-lists patterns ends clauses lists are range shape.0 ∙ c.none_meets lists inside;
           steps = λ x s known.
+              let r = representative patterns x s in
               to-index (step_lists patterns lists x) _ (fit-steps patterns lists x) (ap pack (sym (reached-from patterns lists x shape.0)))
-              (c.steps lists x inside ((represent x s).1 known));
+              (subst (λ (y : List (List ℕ)). Contains closed y) (sym (r.2 lists)) (c.steps lists r.0 inside r.1));
         }
+
+-- a clause of an answer, in other words
+pub answer-ok : {X E : Type 0} (P Q : X → Type 0) (r : Result X E) → ((x : X) → P x → Q x) → IfOk r P → IfOk r Q
+answer-ok P Q (Ok x) to h = to x h
+answer-ok P Q (Err e) to h = h

@@ -11,10 +11,10 @@ use Rattle.wildcard_lang.specs.Matching.{takes}
 use Rattle.wildcard_lang.specs.Accepts.{accepts, reaches}
 use Rattle.pattern_automata.specs.declared.wants.Literal.{Literal}
 use Rattle.wildcard_lang.specs.Places.{has, lists_of, step_lists}
-use Rattle.pattern_automata.specs.Closed.{clause_holds, clauses_hold, meets, InRange, names, names_any, named, IsFresh, IsClosed, HaveNoText, ClosedSetsAreEmpty, ScalarsStepAsRepresentatives, ListsMeetAsTexts}
+use Rattle.pattern_automata.specs.Closed.{clause_holds, clauses_hold, meets, InRange, names, names_any, named, IsFresh, IsClosed, HaveNoText, ScalarsStepAsRepresentatives, ListsMeetAsTexts}
 use Rattle.pattern_automata.proofs.Scalars.{all-from_text}
 use Rattle.pattern_automata.proofs.Wanting.{meets-from}
-use Rattle.wildcard_lang.proofs.Stepping.{has-places, rising-same, step_lists-of}
+use Rattle.wildcard_lang.proofs.Laws.{has-places, rising-same, step_lists-of}
 
 -- two characters that a piece doesn't name, neither the colon, are taken alike
 takes-same : (p : Piece) (c d : ℕ) → names p c ≡ false → names p d ≡ false → eqb c 58 ≡ false → eqb d 58 ≡ false → takes p c ≡ takes p d
@@ -31,7 +31,7 @@ names-at (p ∷ ps) c zero h = (or_parts _ _ h).0
 names-at (p ∷ ps) c (suc j) h = names-at ps c j (or_parts (names p c) _ h).1
 
 -- a character that the patterns don't name isn't the colon
-colon-named : (patterns : List (List Piece)) (c : ℕ) → named patterns c ≡ false → eqb c 58 ≡ false
+pub colon-named : (patterns : List (List Piece)) (c : ℕ) → named patterns c ≡ false → eqb c 58 ≡ false
 colon-named [] c h = h
 colon-named (p ∷ ps) c h = colon-named ps c (or_parts (names_any p c) _ h).1
 
@@ -43,7 +43,7 @@ module _ (c d : ℕ) where
       rw (takes-same (get_or ps j One) c d (names-at ps c j h) (names-at ps d j k) l m, reaches-alike ps places h k l m j) refl
 
   -- two characters that the patterns don't name lead to the same lists
-  step_lists-alike : (patterns : List (List Piece)) (lists : List (List ℕ)) → named patterns c ≡ false → named patterns d ≡ false →
+  pub step_lists-alike : (patterns : List (List Piece)) (lists : List (List ℕ)) → named patterns c ≡ false → named patterns d ≡ false →
       step_lists patterns lists c ≡ step_lists patterns lists d
   step_lists-alike [] lists h k = refl
   step_lists-alike (p ∷ ps) [] h k = refl
@@ -123,9 +123,6 @@ module _ (patterns : List (List Piece)) (clauses : List (List Literal)) (set : L
       let more = stays-after (u ++ c ∷ []) t next (All-tail IsScalar c t s) in
       subst (λ (x : List ℕ). Contains set (lists_of patterns x)) (append_assoc u (c ∷ []) t) more
 
-  no_text : InRange (length patterns) clauses → HaveNoText patterns clauses
+  pub no_text : InRange (length patterns) clauses → HaveNoText patterns clauses
   no_text range t s m =
       both_ways (meets patterns clauses t) (sym (meets-of patterns clauses t range) ∙ closed.none_meets _ (stays-after [] t closed.starts (all-from_text t s))) (meets-from patterns t clauses m)
-
-pub closed_sets_are_empty : ClosedSetsAreEmpty
-closed_sets_are_empty patterns clauses set range closed = no_text patterns clauses set closed range

@@ -1,10 +1,10 @@
 -- The loops of the check of a closed set.
 use Rattle.std.proofs.Common.{◌≡◌, ℕ, ◌+◌, ◌<◌, ◌≤◌, ◌↔◌, ◌⊎◌, List, [], ◌∷◌, ◌++◌, length, get_or, true, All, Contains, refl, sym, ap, ◌∙◌, subst, inl, inr, arith, take}
 use Rattle.std.proofs.lemmas.Bool.{cases_lt}
-use Rattle.std.proofs.lemmas.List.{take_more, take_all, get_or_default, length-append}
+use Rattle.std.proofs.lemmas.List.{take_more, get_or_default, length-append}
 use Rattle.std.proofs.lemmas.List.Elements.{All-push, Contains-push, Contains-push_cases, Contains-append_left}
 use Rattle.wildcard_lang.specs.declared.piece.Piece.{Piece}
-use Rattle.wildcard_lang.proofs.Accept.{length-tests}
+use Rattle.wildcard_lang.proofs.Laws.{length-tests}
 use Rattle.wildcard_lang.specs.Accepts.{tests}
 use Rattle.wildcard_lang.specs.Places.{has}
 use Rattle.pattern_automata.specs.Closed.{IsShaped}
@@ -15,9 +15,6 @@ use Rattle.pattern_automata.specs.Checked.{fits, IsIndex, IsMarked}
 -- one more element, and all of them
 pub all-more : {X : Type 0} (P : X → Type 0) (xs : List X) (i : ℕ) (x : X) → i < length xs → x ≡ get_or xs i x → P x → All P (take i xs) → All P (take (i + 1) xs)
 all-more P xs i x h read p all = rw (take_more xs i x h, ← read) (All-push P (take i xs) x all p)
-
-pub all-end : {X : Type 0} (P : X → Type 0) (xs : List X) (i : ℕ) → length xs ≤ i → All P (take i xs) → All P xs
-all-end P xs i h all = let e : take i xs ≡ xs = take_all i xs h in rw e at all
 
 pub index-push : (patterns : List (List Piece)) (lists : List (List ℕ)) (marks : List ℕ) (old new : List (List ℕ)) → new ≡ old ++ marks ∷ [] → marks ≡ pack (marks_from patterns lists) →
     fits patterns lists ≡ true → (m : List ℕ) → Contains new m ↔ (Contains old m ⊎ IsMarked patterns lists m)
@@ -31,14 +28,14 @@ pub index-more : (patterns : List (List Piece)) (closed : List (List (List ℕ))
 index-more patterns closed i lists view old new h read v step before m =
     let at : lists ≡ get_or closed i [] = read ∙ get_or_default closed i lists [] h in (
       λ c. elim ((step m).0 c) [
-        | inl a ↦ let w = (before m).0 a in record { place = w.place; below = omega (arith, w.below); fit = w.fit; words = w.words }
-        | inr w ↦ record { place = i; below = omega arith; fit = rw (← at, ← v) w.0; words = rw (← at, ← v) w.1 }
+        | inl a ↦ let w = (before m).0 a in record { at = w.at; below = omega (arith, w.below); fit = w.fit; words = w.words }
+        | inr w ↦ record { at = i; below = omega arith; fit = rw (← at, ← v) w.0; words = rw (← at, ← v) w.1 }
       ],
-      λ w. elim (cases_lt w.place i) [
-        | inl s ↦ (step m).1 (inl ((before m).1 (record { place = w.place; below = s; fit = w.fit; words = w.words })))
+      λ w. elim (cases_lt w.at i) [
+        | inl s ↦ (step m).1 (inl ((before m).1 (record { at = w.at; below = s; fit = w.fit; words = w.words })))
         | inr g ↦
-            let e : w.place ≡ i = omega (arith, w.below) in
-            let same : get_or closed w.place [] ≡ view = ap (λ k. get_or closed k []) e ∙ (sym at ∙ sym v) in
+            let e : w.at ≡ i = omega (arith, w.below) in
+            let same : get_or closed w.at [] ≡ view = ap (λ k. get_or closed k []) e ∙ (sym at ∙ sym v) in
             (step m).1 (inr (rw same at w.fit, rw same at w.words))
       ],
     )

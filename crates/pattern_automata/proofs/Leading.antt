@@ -1,16 +1,15 @@
--- The marks of lists of places step as the lists do, so the marks of a text step to those of the text with one more character.
+-- The marks of product states step as those do, so the marks of a text step to those of the text with one more character.
 use Rattle.std.proofs.Common.{◌≡◌, ℕ, zero, suc, ◌+◌, ◌<◌, ◌≤◌, List, [], ◌∷◌, ◌++◌, length, get_or, Bool, false, refl, sym, ap, ◌∙◌, arith, take}
 use Rattle.std.proofs.lemmas.List.{take_at, drop_at}
 use Rattle.wildcard_lang.specs.declared.piece.Piece.{Piece}
 use Rattle.wildcard_lang.specs.declared.piece.Piece.TheVariants.{One}
 use Rattle.wildcard_lang.specs.Accepts.{accepts, marks_reached, reaches, tests}
-use Rattle.wildcard_lang.proofs.Accept.{length-tests, get_or-tests}
+use Rattle.wildcard_lang.proofs.Laws.{length-tests, get_or-tests, has-rising, has-places, step_lists-of}
 use Rattle.wildcard_lang.specs.Places.{has, step, places_of, lists_of, step_lists}
 use Rattle.pattern_automata.specs.Marks.{all_marks, all_reached, marks_from, total}
 use Rattle.pattern_automata.specs.Packed.{pack}
 use Rattle.pattern_automata.proofs.Parts.{length-all_marks}
 use Rattle.pattern_automata.specs.Tree.{LeadsTo}
-use Rattle.wildcard_lang.proofs.Stepping.{has-rising, has-places, step_lists-of}
 
 pub tests-same : (f g : ℕ → Bool) (i k : ℕ) → ((j : ℕ) → i ≤ j → j < i + k → f j ≡ g j) → tests f i k ≡ tests g i k
 tests-same f g i zero h = refl

@@ -1,18 +1,24 @@
-pub mod Scalars
-pub mod Bits
-pub mod Packing
-pub mod Moving
-pub mod Wanting
-pub mod Empty
-pub mod Parts
-pub mod Naming
-pub mod Sets
-pub mod Spelling
-pub mod Meeting
-pub mod Searching
-pub mod Visiting
-pub mod Listing
-pub mod Answering
-pub mod Leading
-pub mod Checking
-pub mod Indexing
+pub mod Laws
+mod Scalars
+mod Bits
+mod Packing
+mod Moving
+mod Wanting
+mod Empty
+mod Parts
+mod Naming
+mod Sets
+mod Spelling
+mod Meeting
+mod Searching
+mod Visiting
+mod Listing
+mod Answering
+mod Leading
+mod Checking
+mod Indexing
+mod Masking
+mod Fronting
+mod Telling
+mod Patching
+mod Standing

@@ -1,14 +1,13 @@
--- Lists of places from marks.
+-- Product states from marks.
 use Rattle.std.proofs.Common.{◌≡◌, ℕ, zero, suc, ◌+◌, ◌<◌, ◌≤◌, List, [], ◌∷◌, ◌++◌, length, get_or, Bool, true, false, cond, refl, sym, ap, ◌∙◌, arith, take, drop, add-one}
 use Rattle.std.proofs.lemmas.List.{take_more, append-nil, get_or-take, get_or-drop}
 use Rattle.wildcard_lang.specs.declared.piece.Piece.{Piece}
 use Rattle.wildcard_lang.specs.Accepts.{accepts, marks_of}
-use Rattle.wildcard_lang.proofs.Accept.{get_or-marks_of}
+use Rattle.wildcard_lang.proofs.Laws.{get_or-marks_of, rising-same}
 use Rattle.wildcard_lang.specs.Places.{rising, places_of, lists_of}
 use Rattle.pattern_automata.specs.Marks.{all_marks, total}
 use Rattle.pattern_automata.specs.Packed.{all_words, word_mark}
 use Rattle.pattern_automata.proofs.Packing.{mark-pack}
-use Rattle.wildcard_lang.proofs.Stepping.{rising-same}
 use Rattle.pattern_automata.proofs.Parts.{part}
 
 cond-append : (b : Bool) (i : ℕ) (R X : List ℕ) → cond b (i ∷ (R ++ X)) (R ++ X) ≡ cond b (i ∷ R) R ++ X

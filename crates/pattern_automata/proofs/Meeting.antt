@@ -4,7 +4,7 @@ use Rattle.std.proofs.lemmas.Bool.{cases_lt}
 use Rattle.std.proofs.lemmas.List.{take_all, get_or-append-add, get_or_append_left, get_or_push, get_or_default}
 use Rattle.wildcard_lang.specs.declared.piece.Piece.{Piece}
 use Rattle.wildcard_lang.specs.Accepts.{accepts, marks_of}
-use Rattle.wildcard_lang.proofs.Accept.{length-marks_of, get_or-marks_of}
+use Rattle.wildcard_lang.proofs.Laws.{length-marks_of, get_or-marks_of}
 use Rattle.pattern_automata.specs.declared.wants.Literal.{Literal}
 use Rattle.pattern_automata.specs.Closed.{meets, InRange}
 use Rattle.pattern_automata.specs.Marks.{all_marks, total}

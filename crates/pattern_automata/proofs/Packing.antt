@@ -1,5 +1,5 @@
 -- Packed marks are read off their words, and the step of words is the step of the marks.
-use Rattle.std.proofs.Common.{◌≡◌, Result, OnOk, Ok, Err, ℕ, zero, suc, ◌+◌, ◌*◌, ◌/◌, ◌%◌, ◌^◌, ◌-◌, ◌<◌, ◌≤◌, Bool, true, false, not, cond, ◌||◌, ◌&&◌, eqb, refl, sym, ap, ◌∙◌, inl, inr, arith, List, [], ◌∷◌, ◌++◌, length, map, get_or, take, drop}
+use Rattle.std.proofs.Common.{◌≡◌, ℕ, zero, suc, ◌+◌, ◌*◌, ◌/◌, ◌%◌, ◌^◌, ◌-◌, ◌<◌, ◌≤◌, Bool, true, false, not, cond, ◌||◌, ◌&&◌, eqb, refl, sym, ap, ◌∙◌, inl, inr, arith, List, [], ◌∷◌, ◌++◌, length, map, get_or, take, drop}
 use Rattle.std.specs.Int.{bit_at}
 use Rattle.std.proofs.lemmas.Bool.{cases_lt}
 use Rattle.std.proofs.lemmas.Nat.Bits.{bit_at_cat_low, bit_at_cat_high, bit_at-zero}
@@ -8,25 +8,25 @@ use Rattle.wildcard_lang.specs.declared.piece.Piece.{Piece}
 use Rattle.wildcard_lang.specs.declared.piece.Piece.TheVariants.{One}
 use Rattle.wildcard_lang.specs.Matching.{takes, is_many}
 use Rattle.wildcard_lang.specs.Accepts.{reaches, marks_reached}
-use Rattle.wildcard_lang.proofs.Accept.{get_or-marks_reached, length-marks_reached}
+use Rattle.wildcard_lang.proofs.Laws.{get_or-marks_reached, length-marks_reached}
 use Rattle.pattern_automata.specs.Marks.{total, all_marks, all_reached}
-use Rattle.pattern_automata.specs.declared.moves.Move.{Move}
-use Rattle.pattern_automata.proofs.Parts.{length-all_marks, length-all_reached}
-use Rattle.pattern_automata.specs.Packed.{on, number, packed, word_mark, before, filled, moved, stepped, marks_by, piece_test, pack, words_for, all_words, IsMove}
-use Rattle.pattern_automata.specs.declared.moves.Kind.TheVariants.{Passes, Keeps, Leads}
+use Rattle.pattern_automata.proofs.Parts.{length-all_marks}
+use Rattle.pattern_automata.specs.Packed.{on, word_with, packed, word_mark, before, filled, moved, stepped, marks_by, pack, words_for, all_words}
+use Rattle.pattern_automata.specs.Moves.{piece_test}
+use Rattle.pattern_automata.specs.declared.fronts.Kind.TheVariants.{Passes, Keeps, Leads}
 use Rattle.pattern_automata.proofs.Leading.{reaches-same}
 use Rattle.pattern_automata.proofs.Bits.{first-bit, first-small, same-word, word-small}
 
 -- a bit of the number
-on-number : (xs : List Bool) (i : ℕ) → on (number xs) i ≡ get_or xs i false
-on-number [] i = ap (λ x. eqb x 1) (bit_at-zero i)
-on-number (b ∷ bs) zero =
-    let e : cond b 1 0 + 2 * number bs ≡ number bs * 2 ^ 1 + cond b 1 0 = omega arith in
-    ap (λ x. on x 0) e ∙ (ap (λ x. eqb x 1) (bit_at_cat_low (number bs) 1 (cond b 1 0) 0 (omega arith)) ∙ first-bit b)
-on-number (b ∷ bs) (suc i) =
-    let e : cond b 1 0 + 2 * number bs ≡ number bs * 2 ^ 1 + cond b 1 0 = omega arith in
+pub on-word_with : (xs : List Bool) (i : ℕ) → on (word_with xs) i ≡ get_or xs i false
+on-word_with [] i = ap (λ x. eqb x 1) (bit_at-zero i)
+on-word_with (b ∷ bs) zero =
+    let e : cond b 1 0 + 2 * word_with bs ≡ word_with bs * 2 ^ 1 + cond b 1 0 = omega arith in
+    ap (λ x. on x 0) e ∙ (ap (λ x. eqb x 1) (bit_at_cat_low (word_with bs) 1 (cond b 1 0) 0 (omega arith)) ∙ first-bit b)
+on-word_with (b ∷ bs) (suc i) =
+    let e : cond b 1 0 + 2 * word_with bs ≡ word_with bs * 2 ^ 1 + cond b 1 0 = omega arith in
     let less : suc i - 1 ≡ i = omega arith in
-    ap (λ x. on x (suc i)) e ∙ (ap (λ x. eqb x 1) (bit_at_cat_high (number bs) 1 (cond b 1 0) (suc i) (first-small b) (omega arith) ∙ ap (bit_at (number bs)) less) ∙ on-number bs i)
+    ap (λ x. on x (suc i)) e ∙ (ap (λ x. eqb x 1) (bit_at_cat_high (word_with bs) 1 (cond b 1 0) (suc i) (first-small b) (omega arith) ∙ ap (bit_at (word_with bs)) less) ∙ on-word_with bs i)
 
 -- a mark of the words
 pub mark-packed : (n : ℕ) (xs : List Bool) (j : ℕ) → j < 64 * n → word_mark (packed n xs) j ≡ get_or xs j false
@@ -36,7 +36,7 @@ mark-packed (suc n) xs j h =
       | inl l ↦
           let q : j / 64 ≡ 0 = omega arith in
           let r : j % 64 ≡ j = omega arith in
-          rw (q, r) (on-number (take 64 xs) j ∙ get_or-take 64 xs j false l)
+          rw (q, r) (on-word_with (take 64 xs) j ∙ get_or-take 64 xs j false l)
       | inr g ↦
           let k : ℕ = j - 64 in
           let q : j / 64 ≡ suc (k / 64) = omega arith in
@@ -54,7 +54,7 @@ packed-small zero xs w h = absurd (omega arith)
 packed-small (suc n) xs zero h = word-small (take 64 xs) (omega (arith, length-take 64 xs))
 packed-small (suc n) xs (suc w) h = packed-small n (drop 64 xs) w (omega arith)
 
-mark-at : (words : List ℕ) (w i : ℕ) → i < 64 → word_mark words (64 * w + i) ≡ on (get_or words w 0) i
+pub mark-at : (words : List ℕ) (w i : ℕ) → i < 64 → word_mark words (64 * w + i) ≡ on (get_or words w 0) i
 mark-at words w i h =
     let q : (64 * w + i) / 64 ≡ w = omega arith in
     let r : (64 * w + i) % 64 ≡ i = omega arith in
@@ -69,82 +69,84 @@ packed-from n xs words size small are =
     same-word (get_or words w 0) (get_or (packed n xs) w 0) (small w l) (packed-small n xs w l) (λ i k.
     sym (mark-at words w i k) ∙ (are (64 * w + i) (omega arith) ∙ (sym (mark-packed n xs (64 * w + i) (omega arith)) ∙ mark-at (packed n xs) w i k))))
 
--- one equation for both cases of a number
+-- one equation for both cases of a word_with
 filled-at : (set leads : ℕ → Bool) (first : Bool) (n : ℕ) → filled set leads first n ≡ (set n || (leads n && before first (filled set leads first) n))
 filled-at set leads first zero = refl
 filled-at set leads first (suc n) = refl
 
--- the step of the word at k
-module _ (one stay leads old : ℕ → Bool) (k : ℕ) (o s l x : ℕ → Bool) (first below : Bool) (os : (i : ℕ) → i < 64 → o i ≡ one (64 * k + i)) (ss : (i : ℕ) → i < 64 → s i ≡ stay (64 * k + i))
-    (ls : (i : ℕ) → i < 64 → l i ≡ leads (64 * k + i)) (xs : (i : ℕ) → i < 64 → x i ≡ old (64 * k + i)) (fs : first ≡ before false old (64 * k)) (bs : below ≡ before false (stepped one stay leads old) (64 * k)) where
-  moved-at : (i : ℕ) → i < 64 → moved o s x first i ≡ moved one stay old false (64 * k + i)
-  moved-at zero h =
+-- the moved word at k
+module _ (one stay old : ℕ → Bool) (k : ℕ) (o s x : ℕ → Bool) (first : Bool) (os : (i : ℕ) → i < 64 → o i ≡ one (64 * k + i)) (ss : (i : ℕ) → i < 64 → s i ≡ stay (64 * k + i))
+    (xs : (i : ℕ) → i < 64 → x i ≡ old (64 * k + i)) (fs : first ≡ before false old (64 * k)) where
+  pub moved-word : (i : ℕ) → i < 64 → moved o s x first i ≡ moved one stay old false (64 * k + i)
+  moved-word zero h =
       let e : 64 * k + 0 ≡ 64 * k = omega arith in
       rw (os 0 h, ss 0 h, xs 0 h, fs, e) refl
-  moved-at (suc i) h =
+  moved-word (suc i) h =
       let e : 64 * k + suc i ≡ suc (64 * k + i) = omega arith in
       rw (os (suc i) h, ss (suc i) h, xs (suc i) h, xs i (omega arith), e) refl
 
-  pub stepped-at : (i : ℕ) → i < 64 → filled (moved o s x first) l below i ≡ stepped one stay leads old (64 * k + i)
-  stepped-at zero h =
+-- the filled word at k
+module _ (set leads : ℕ → Bool) (k : ℕ) (s l : ℕ → Bool) (below : Bool) (ss : (i : ℕ) → i < 64 → s i ≡ set (64 * k + i))
+    (ls : (i : ℕ) → i < 64 → l i ≡ leads (64 * k + i)) (bs : below ≡ before false (filled set leads false) (64 * k)) where
+  filled-word : (i : ℕ) → i < 64 → filled s l below i ≡ filled set leads false (64 * k + i)
+  filled-word zero h =
       let e : 64 * k + 0 ≡ 64 * k = omega arith in
-      rw (moved-at 0 h, ls 0 h, bs, e) (sym (filled-at (moved one stay old false) leads false (64 * k)))
-  stepped-at (suc i) h =
+      rw (ss 0 h, ls 0 h, bs, e) (sym (filled-at set leads false (64 * k)))
+  filled-word (suc i) h =
       let e : 64 * k + suc i ≡ suc (64 * k + i) = omega arith in
-      rw (moved-at (suc i) h, ls (suc i) h, stepped-at i (omega arith), e) refl
+      rw (ss (suc i) h, ls (suc i) h, filled-word i (omega arith), e) refl
 
--- one more word of a step
-module _ (one stay leads list : List ℕ) (k : ℕ) (old : List ℕ) (word : ℕ) (first below : Bool) (count : length old ≡ k) (small : (j : ℕ) → j < length old → get_or old j 0 < 18446744073709551616)
-    (marks : (j : ℕ) → j < 64 * k → word_mark old j ≡ stepped (word_mark one) (word_mark stay) (word_mark leads) (word_mark list) j)
-    (fs : first ≡ before false (word_mark list) (64 * k)) (bs : below ≡ before false (stepped (word_mark one) (word_mark stay) (word_mark leads) (word_mark list)) (64 * k))
-    (fits : word < 18446744073709551616)
-    (made : (i : ℕ) → i < 64 → on word i ≡ filled (moved (on (get_or one k 0)) (on (get_or stay k 0)) (on (get_or list k 0)) first) (on (get_or leads k 0)) below i) where
+-- one more word
+pub words-small : (old : List ℕ) (k word : ℕ) → length old ≡ k → word < 18446744073709551616 → ((j : ℕ) → j < length old → get_or old j 0 < 18446744073709551616) →
+    (j : ℕ) → j < length (old ++ word ∷ []) → get_or (old ++ word ∷ []) j 0 < 18446744073709551616
+words-small old k word count fits small j h =
+    elim (cases_lt j k) [
+      | inl l ↦ rw (get_or_append_left old (word ∷ []) 0 j (omega (arith, count))) (small j (omega (arith, count)))
+      | inr g ↦
+          let e : j ≡ k = omega (arith, length-append old (word ∷ []), count) in
+          rw (e, get_or_push old word 0 k count) fits
+    ]
+
+pub marks-push : (f : ℕ → Bool) (k : ℕ) (old : List ℕ) (word : ℕ) → length old ≡ k → ((b : ℕ) → b < 64 → on word b ≡ f (64 * k + b)) → ((j : ℕ) → j < 64 * k → word_mark old j ≡ f j) →
+    (j : ℕ) → j < 64 * (k + 1) → word_mark (old ++ word ∷ []) j ≡ f j
+marks-push f k old word count made marks j h =
+    elim (cases_lt j (64 * k)) [
+      | inl l ↦ ap (λ x. on x (j % 64)) (get_or_append_left old (word ∷ []) 0 (j / 64) (omega (arith, count))) ∙ marks j l
+      | inr g ↦
+          let i : ℕ = j - 64 * k in
+          let e : j ≡ 64 * k + i = omega arith in
+          let l : i < 64 = omega arith in
+          rw e (mark-at (old ++ word ∷ []) k i l ∙ (ap (λ x. on x i) (get_or_push old word 0 k count) ∙ made i l))
+    ]
+
+-- one more word that is filled
+module _ (set leads : List ℕ) (k : ℕ) (old : List ℕ) (word : ℕ) (below : Bool) (count : length old ≡ k) (small : (j : ℕ) → j < length old → get_or old j 0 < 18446744073709551616)
+    (marks : (j : ℕ) → j < 64 * k → word_mark old j ≡ filled (word_mark set) (word_mark leads) false j)
+    (bs : below ≡ before false (filled (word_mark set) (word_mark leads) false) (64 * k)) (fits : word < 18446744073709551616)
+    (made : (i : ℕ) → i < 64 → on word i ≡ filled (on (get_or set k 0)) (on (get_or leads k 0)) below i) where
   abbrev G : ℕ → Bool
-  G = stepped (word_mark one) (word_mark stay) (word_mark leads) (word_mark list)
+  G = filled (word_mark set) (word_mark leads) false
 
   new-word : (i : ℕ) → i < 64 → on word i ≡ G (64 * k + i)
   new-word i h =
       made i h
-      ∙ stepped-at (word_mark one) (word_mark stay) (word_mark leads) (word_mark list) k (on (get_or one k 0)) (on (get_or stay k 0)) (on (get_or leads k 0)) (on (get_or list k 0)) first below
-      (λ i h. sym (mark-at one k i h)) (λ i h. sym (mark-at stay k i h)) (λ i h. sym (mark-at leads k i h)) (λ i h. sym (mark-at list k i h)) fs bs i h
+      ∙ filled-word (word_mark set) (word_mark leads) k (on (get_or set k 0)) (on (get_or leads k 0)) below
+      (λ i h. sym (mark-at set k i h)) (λ i h. sym (mark-at leads k i h)) bs i h
 
-  pub next-small : (j : ℕ) → j < length (old ++ word ∷ []) → get_or (old ++ word ∷ []) j 0 < 18446744073709551616
-  next-small j h =
-      elim (cases_lt j k) [
-        | inl l ↦ rw (get_or_append_left old (word ∷ []) 0 j (omega (arith, count))) (small j (omega (arith, count)))
-        | inr g ↦
-            let e : j ≡ k = omega (arith, length-append old (word ∷ []), count) in
-            rw (e, get_or_push old word 0 k count) fits
-      ]
+  next-marks : (j : ℕ) → j < 64 * (k + 1) → word_mark (old ++ word ∷ []) j ≡ G j
+  next-marks = marks-push G k old word count new-word marks
 
-  pub next-marks : (j : ℕ) → j < 64 * (k + 1) → word_mark (old ++ word ∷ []) j ≡ G j
-  next-marks j h =
-      elim (cases_lt j (64 * k)) [
-        | inl l ↦ ap (λ x. on x (j % 64)) (get_or_append_left old (word ∷ []) 0 (j / 64) (omega (arith, count))) ∙ marks j l
-        | inr g ↦
-            let i : ℕ = j - 64 * k in
-            let e : j ≡ 64 * k + i = omega arith in
-            let l : i < 64 = omega arith in
-            rw e (mark-at (old ++ word ∷ []) k i l ∙ (ap (λ x. on x i) (get_or_push old word 0 k count) ∙ new-word i l))
-      ]
-
-  pub next-first : on (get_or list k 0) 63 ≡ before false (word_mark list) (64 * (k + 1))
-  next-first =
-      let e : 64 * (k + 1) ≡ suc (64 * k + 63) = omega arith in
-      rw e (sym (mark-at list k 63 (omega arith)))
-
-  pub next-below : on word 63 ≡ before false G (64 * (k + 1))
+  next-below : on word 63 ≡ before false G (64 * (k + 1))
   next-below =
       let e : 64 * (k + 1) ≡ suc (64 * k + 63) = omega arith in
       rw e (new-word 63 (omega arith))
 
-  pub step-more : (new : List ℕ) (f b : Bool) → new ≡ old ++ word ∷ [] → f ≡ on (get_or list k 0) 63 → b ≡ on word 63 →
+  pub fill-next : (new : List ℕ) (b : Bool) → new ≡ old ++ word ∷ [] → b ≡ on word 63 →
       (length new ≡ k + 1) × ((j : ℕ) → j < length new → get_or new j 0 < 18446744073709551616)
-      × ((j : ℕ) → j < 64 * (k + 1) → word_mark new j ≡ stepped (word_mark one) (word_mark stay) (word_mark leads) (word_mark list) j)
-      × (f ≡ before false (word_mark list) (64 * (k + 1)))
-      × (b ≡ before false (stepped (word_mark one) (word_mark stay) (word_mark leads) (word_mark list)) (64 * (k + 1)))
-  step-more new f b is fe be =
-      rw is (omega (arith, length-append old (word ∷ []), count), next-small, next-marks, fe ∙ next-first, be ∙ next-below)
+      × ((j : ℕ) → j < 64 * (k + 1) → word_mark new j ≡ filled (word_mark set) (word_mark leads) false j)
+      × (b ≡ before false (filled (word_mark set) (word_mark leads) false) (64 * (k + 1)))
+  fill-next new b is be =
+      rw is (omega (arith, length-append old (word ∷ []), count), words-small old k word count fits small, next-marks, be ∙ next-below)
 
 nothing : (a b : Bool) → ((a && false) || (b && false)) ≡ false
 nothing true true = refl
@@ -204,13 +206,13 @@ marks-same false false false false w = refl
 
 module _ (p : List Piece) (ps : List (List Piece)) (marks : List Bool) (c : ℕ) where
   abbrev O : ℕ → Bool
-  O i = get_or (marks_by (piece_test Passes c) (p ∷ ps)) i false
+  O i = get_or (marks_by (piece_test (Passes c)) (p ∷ ps)) i false
 
   abbrev S : ℕ → Bool
-  S i = get_or (marks_by (piece_test Keeps c) (p ∷ ps)) i false
+  S i = get_or (marks_by (piece_test (Keeps c)) (p ∷ ps)) i false
 
   abbrev M : ℕ → Bool
-  M i = get_or (marks_by (piece_test Leads c) (p ∷ ps)) i false
+  M i = get_or (marks_by (piece_test Leads) (p ∷ ps)) i false
 
   abbrev X : ℕ → Bool
   X i = get_or marks i false
@@ -221,7 +223,7 @@ module _ (p : List Piece) (ps : List (List Piece)) (marks : List Bool) (c : ℕ)
       let l : j < length p = omega arith in
       let q : Piece = get_or p j One in
       marks-same (is_many q) (takes q c) (X j) (X (suc j)) (reaches p X c j)
-      ∙ rw (mine (piece_test Passes c) p (marks_by (piece_test Passes c) ps) j l, mine (piece_test Keeps c) p (marks_by (piece_test Keeps c) ps) j l, mine (piece_test Leads c) p (marks_by (piece_test Leads c) ps) j l, sym (one-pattern j (omega arith))) refl
+      ∙ rw (mine (piece_test (Passes c)) p (marks_by (piece_test (Passes c)) ps) j l, mine (piece_test (Keeps c)) p (marks_by (piece_test (Keeps c)) ps) j l, mine (piece_test Leads) p (marks_by (piece_test Leads) ps) j l, sym (one-pattern j (omega arith))) refl
 
 none : (xs : ℕ → Bool) (j : ℕ) → false ≡ stepped (λ k. false) (λ k. false) (λ k. false) xs j
 none xs zero = rw (nothing false (xs 0)) refl
@@ -229,7 +231,7 @@ none xs (suc j) = rw (nothing (xs j) (xs (suc j))) refl
 
 -- the step of the marks of all patterns
 pub reached-stepped : (ps : List (List Piece)) (marks : List Bool) (c : ℕ) → length marks ≡ total ps → (j : ℕ) →
-    get_or (all_reached ps marks c) j false ≡ stepped (λ i. get_or (marks_by (piece_test Passes c) ps) i false) (λ i. get_or (marks_by (piece_test Keeps c) ps) i false) (λ i. get_or (marks_by (piece_test Leads c) ps) i false) (λ i. get_or marks i false) j
+    get_or (all_reached ps marks c) j false ≡ stepped (λ i. get_or (marks_by (piece_test (Passes c)) ps) i false) (λ i. get_or (marks_by (piece_test (Keeps c)) ps) i false) (λ i. get_or (marks_by (piece_test Leads) ps) i false) (λ i. get_or marks i false) j
 reached-stepped [] marks c size j = none (λ i. get_or marks i false) j
 reached-stepped (p ∷ ps) marks c size j =
     let n : ℕ = length p + 1 in
@@ -247,13 +249,13 @@ reached-stepped (p ∷ ps) marks c size j =
           let e : n + k ≡ j = omega arith in
           get_or-append_right A B n j false la g
           ∙ (reached-stepped ps (drop n marks) c (omega (arith, length-drop n marks, size)) k
-          ∙ (sym (starts-anew (O p ps marks c) (S p ps marks c) (M p ps marks c) (X p ps marks c) (λ i. get_or (marks_by (piece_test Passes c) ps) i false) (λ i. get_or (marks_by (piece_test Keeps c) ps) i false) (λ i. get_or (marks_by (piece_test Leads c) ps) i false) (λ i. get_or (drop n marks) i false) n
-          (others (piece_test Passes c) p (marks_by (piece_test Passes c) ps)) (others (piece_test Keeps c) p (marks_by (piece_test Keeps c) ps)) (others (piece_test Leads c) p (marks_by (piece_test Leads c) ps)) (λ i. sym (get_or-drop n marks i false))
-          (first-mark (piece_test Passes c) ps) (first-mark (piece_test Keeps c) ps) (first-mark (piece_test Leads c) ps) k)
+          ∙ (sym (starts-anew (O p ps marks c) (S p ps marks c) (M p ps marks c) (X p ps marks c) (λ i. get_or (marks_by (piece_test (Passes c)) ps) i false) (λ i. get_or (marks_by (piece_test (Keeps c)) ps) i false) (λ i. get_or (marks_by (piece_test Leads) ps) i false) (λ i. get_or (drop n marks) i false) n
+          (others (piece_test (Passes c)) p (marks_by (piece_test (Passes c)) ps)) (others (piece_test (Keeps c)) p (marks_by (piece_test (Keeps c)) ps)) (others (piece_test Leads) p (marks_by (piece_test Leads) ps)) (λ i. sym (get_or-drop n marks i false))
+          (first-mark (piece_test (Passes c)) ps) (first-mark (piece_test (Keeps c)) ps) (first-mark (piece_test Leads) ps) k)
           ∙ ap (stepped (O p ps marks c) (S p ps marks c) (M p ps marks c) (X p ps marks c)) e))
     ]
 
-stepped-same : (one stay leads old o s l x : ℕ → Bool) (n : ℕ) → ((j : ℕ) → j < n → one j ≡ o j) → ((j : ℕ) → j < n → stay j ≡ s j) → ((j : ℕ) → j < n → leads j ≡ l j) → ((j : ℕ) → j < n → old j ≡ x j) →
+pub stepped-same : (one stay leads old o s l x : ℕ → Bool) (n : ℕ) → ((j : ℕ) → j < n → one j ≡ o j) → ((j : ℕ) → j < n → stay j ≡ s j) → ((j : ℕ) → j < n → leads j ≡ l j) → ((j : ℕ) → j < n → old j ≡ x j) →
     (j : ℕ) → j < n → stepped one stay leads old j ≡ stepped o s l x j
 stepped-same one stay leads old o s l x n os ss ls xs zero h = rw (ss 0 h, ls 0 h, xs 0 h) refl
 stepped-same one stay leads old o s l x n os ss ls xs (suc j) h =
@@ -282,30 +284,3 @@ pack-same a b same e =
 pub length-marks_by : (f : Piece → Bool) (ps : List (List Piece)) → length (marks_by f ps) ≡ total ps
 length-marks_by f [] = refl
 length-marks_by f (p ∷ ps) = omega (arith, length-append (map f p) (marks_by f ps), length-map p f, length-marks_by f ps)
-
--- the step of packed marks
-pub step-packed : (ps : List (List Piece)) (step : Move) (list next : List ℕ) → IsMove ps step →
-    length next ≡ length list → ((k : ℕ) → k < length next → get_or next k 0 < 18446744073709551616) →
-    ((j : ℕ) → j < 64 * length list → word_mark next j ≡ stepped (word_mark step.one.items) (word_mark step.stay.items) (word_mark step.leads.items) (word_mark list) j) →
-    (marks : List Bool) → length marks ≡ total ps → list ≡ pack marks → next ≡ pack (all_reached ps marks step.character)
-step-packed ps step list next move count small are marks size is =
-    let c : ℕ = step.character in
-    let n : ℕ = words_for (length (all_reached ps marks c)) in
-    let k : length list ≡ n = ap length is ∙ (length-pack marks ∙ ap words_for (size ∙ sym (length-all_reached ps marks c))) in
-    packed-from n (all_reached ps marks c) next (count ∙ k) (λ w h. small w (omega (arith, count, k))) (λ j h.
-    are j (omega (arith, k))
-    ∙ (stepped-same _ _ _ _ (λ i. get_or (marks_by (piece_test Passes c) ps) i false) (λ i. get_or (marks_by (piece_test Keeps c) ps) i false) (λ i. get_or (marks_by (piece_test Leads c) ps) i false) (λ i. get_or marks i false) (64 * n)
-    (λ i l. ap (λ x. word_mark x i) move.one ∙ mark-pack (marks_by (piece_test Passes c) ps) i) (λ i l. ap (λ x. word_mark x i) move.stay ∙ mark-pack (marks_by (piece_test Keeps c) ps) i)
-    (λ i l. ap (λ x. word_mark x i) move.leads ∙ mark-pack (marks_by (piece_test Leads c) ps) i) (λ i l. ap (λ x. word_mark x i) is ∙ mark-pack marks i) j h
-    ∙ sym (reached-stepped ps marks c size j)))
-
-pub move-size : (ps : List (List Piece)) (f : Piece → Bool) (words : List ℕ) → words ≡ pack (marks_by f ps) → length words ≡ words_for (total ps)
-move-size ps f words is = ap length is ∙ (length-pack (marks_by f ps) ∙ ap words_for (length-marks_by f ps))
-
-pub step-packed-ok : {E : Type 0} (ps : List (List Piece)) (step : Move) (list next one stay leads : List ℕ) (result : Result (Unit {0}) E) → IsMove ps step →
-    one ≡ step.one.items → stay ≡ step.stay.items → leads ≡ step.leads.items →
-    OnOk result (length next ≡ length list) → OnOk result ((k : ℕ) → k < length next → get_or next k 0 < 18446744073709551616) →
-    OnOk result ((j : ℕ) → j < 64 * length list → word_mark next j ≡ stepped (word_mark one) (word_mark stay) (word_mark leads) (word_mark list) j) →
-    OnOk result ((marks : List Bool) → length marks ≡ total ps → list ≡ pack marks → next ≡ pack (all_reached ps marks step.character))
-step-packed-ok ps step list next one stay leads (Ok u) move os ss ls count small are = step-packed ps step list next move count small (rw (os, ss, ls) at are)
-step-packed-ok ps step list next one stay leads (Err e) move os ss ls count small are = count

@@ -5,7 +5,7 @@ use Rattle.std.proofs.lemmas.Slice.{take-put_mid}
 use borrow.Rule.Slice.PartMut.{put_mid}
 use Rattle.wildcard_lang.specs.declared.piece.Piece.{Piece}
 use Rattle.wildcard_lang.specs.Accepts.{marks_of, marks_reached}
-use Rattle.wildcard_lang.proofs.Accept.{length-marks_of, length-marks_reached}
+use Rattle.wildcard_lang.proofs.Laws.{length-marks_of, length-marks_reached}
 use Rattle.pattern_automata.specs.Marks.{all_marks, all_reached, total}
 
 all_marks-append : (ps qs : List (List Piece)) (t : List ℕ) → all_marks (ps ++ qs) t ≡ all_marks ps t ++ all_marks qs t

@@ -1,5 +1,5 @@
 -- What a turn of the search keeps.
-use Rattle.std.proofs.Common.{◌≡◌, ℕ, zero, suc, ◌+◌, ◌*◌, ◌-◌, ◌<◌, ◌≤◌, List, [], ◌∷◌, ◌++◌, length, get_or, Bool, true, false, All, Contains, refl, sym, ap, ◌∙◌, subst, inl, inr, arith, eqb}
+use Rattle.std.proofs.Common.{◌≡◌, ℕ, zero, suc, ◌+◌, ◌-◌, ◌<◌, ◌≤◌, List, [], ◌∷◌, ◌++◌, length, get_or, Bool, true, false, Contains, refl, sym, ap, ◌∙◌, subst, inl, inr, arith, eqb}
 use Rattle.std.proofs.lemmas.Bool.{cases_lt, or_cases, eqb-true, MatchBool-at_true, MatchBool-at_false}
 use Rattle.std.proofs.lemmas.List.{length-append, length_push, append-nil, get_or_append_left, get_or-append_right, get_or_push}
 use Rattle.std.proofs.lemmas.List.Folds.{list_any-append}
@@ -8,6 +8,8 @@ use Rattle.wildcard_lang.specs.declared.piece.Piece.{Piece}
 use Rattle.pattern_automata.specs.declared.wants.Literal.{Literal}
 use Rattle.pattern_automata.specs.declared.tree.Parent.{Parent}
 use Rattle.wildcard_lang.specs.Places.{has}
+use Rattle.pattern_automata.specs.Marks.{total}
+use Rattle.pattern_automata.specs.Packed.{words_for}
 use Rattle.pattern_automata.specs.Tree.{LeadsTo, IsLed, AreDifferent, IsSearch, IsTurn, IsBase, IsFull, IsVisited, IsLeft, words_meet}
 use Rattle.pattern_automata.proofs.Packing.{length-all_words}
 use Rattle.pattern_automata.proofs.Searching.{text}
@@ -65,10 +67,10 @@ different-push old found marks is absent before j k l h same =
 module _ (patterns : List (List Piece)) (ends : List ℕ) (clauses : List (List Literal)) (old found : List (List ℕ)) (before parents : List Parent)
     (i c limit : ℕ) (marks : List ℕ) (new : Bool) (base : IsBase patterns ends clauses old before limit) (within : i < length old)
     (turn : IsTurn patterns old found parents marks i c new) where
-  pub marks-within : (view : List ℕ) → view ≡ marks → All (λ e. e < 64 * length view) ends
-  marks-within view is k d h =
+  pub words-size : (view : List ℕ) → view ≡ marks → length view ≡ words_for (total patterns)
+  words-size view is =
       let t = text patterns old before base.tree i within in
-      omega (arith, ap length (is ∙ turn.leads t.text t.is), length-all_words patterns (t.text ++ c ∷ []), base.within k d h)
+      ap length (is ∙ turn.leads t.text t.is) ∙ length-all_words patterns (t.text ++ c ∷ [])
 
   pub visited-same : new ≡ false → IsVisited patterns ends clauses old found parents i c limit
   visited-same e =

@@ -6,7 +6,7 @@ use Rattle.std.proofs.lemmas.List.Elements.{All-nil, All-cons, All-head, All-tai
 use Rattle.wildcard_lang.specs.declared.piece.Piece.{Piece}
 use Rattle.wildcard_lang.specs.Matching.{Matches}
 use Rattle.wildcard_lang.specs.Accepts.{accepts}
-use Rattle.wildcard_lang.proofs.Accept.{Decides-accepts}
+use Rattle.wildcard_lang.proofs.Laws.{Decides-accepts}
 use Rattle.pattern_automata.specs.declared.wants.Literal.{Literal}
 use Rattle.pattern_automata.specs.Closed.{IsLiteralMet, Meets, meets, clause_holds, MeetsIsTested}
 

@@ -8,27 +8,44 @@ use Rattle.pattern_automata.specs.declared.outcome.Product.TheVariants.{Found, E
 use Rattle.pattern_automata.specs.declared.tree.Parent.{Parent}
 use Rattle.pattern_automata.specs.declared.tree.Step.{Step}
 use Rattle.pattern_automata.specs.declared.tree.Step.TheVariants.{Left, Met, Full}
-use Rattle.pattern_automata.specs.Packed.{all_words}
+use Rattle.pattern_automata.specs.Packed.{all_words, words_for}
+use Rattle.pattern_automata.specs.Marks.{total}
 use Rattle.pattern_automata.specs.Tree.{Spells}
 use Rattle.wildcard_lang.specs.Places.{lists_of, ShowWider}
 use Rattle.pattern_automata.specs.Closed.{Meets, IsClosed}
 
--- what a product may answer: a text that meets the clauses, a closed set of at most `limit` lists, or `limit + 1` texts of which
--- no two have the same lists of places
+-- what a product may answer: a text that meets the clauses, a closed set of at most `limit` product states, or `limit + 1`
+-- texts of which no two have the same one
 abbrev pub IsProduct : List (List Piece) → List (List Literal) → ℕ → Product → Type 0
 IsProduct patterns clauses limit (Found t) = Meets patterns clauses t × IsText t
 IsProduct patterns clauses limit (Empty closed) = IsClosed patterns clauses closed × (length closed ≤ limit)
 IsProduct patterns clauses limit (TooMany texts) = ShowWider patterns limit texts
 
+-- each list has a word for each 64 marks
+abbrev pub HaveWords : List (List Piece) → List (List ℕ) → Type 0
+HaveWords patterns found = (k : ℕ) → k < length found → length (slice_index_or found k []) ≡ words_for (total patterns)
+
+-- the product state of the texts whose marks have these words
+abbrev pub IsStateOf : List (List Piece) → List ℕ → List (List ℕ) → Type 0
+IsStateOf patterns words state = (t : List ℕ) → words ≡ all_words patterns t → state ≡ lists_of patterns t
+
+abbrev pub AreStatesOf : List (List Piece) → List (List ℕ) → List (List (List ℕ)) → Type 0
+AreStatesOf patterns found closed =
+    (k : ℕ) (t : List ℕ) → k < length closed → slice_index_or found k [] ≡ all_words patterns t →
+    slice_index_or closed k [] ≡ lists_of patterns t
+
 -- each list of the closed set is that of the text of a list that was found
 pub record AreLists (patterns : List (List Piece)) (found : List (List ℕ)) (closed : List (List (List ℕ))) : Type 0 where
   pub count : length closed ≡ length found
-  pub each : (k : ℕ) (t : List ℕ) → k < length closed → slice_index_or found k [] ≡ all_words patterns t → slice_index_or closed k [] ≡ lists_of patterns t
+  pub each : AreStatesOf patterns found closed
+
+abbrev pub SpellEach : List Parent → List (List ℕ) → Type 0
+SpellEach parents texts = (k : ℕ) → k < length texts → Spells parents k (slice_index_or texts k [])
 
 -- each text is the one that leads to a list
 pub record AreTexts (parents : List Parent) (texts : List (List ℕ)) : Type 0 where
   pub count : length texts ≡ length parents
-  pub each : (k : ℕ) → k < length texts → Spells parents k (slice_index_or texts k [])
+  pub each : SpellEach parents texts
 
 abbrev pub IsReport : List (List Piece) → List (List ℕ) → List Parent → Step → Product → Type 0
 IsReport patterns found parents Left (Empty closed) = AreLists patterns found closed

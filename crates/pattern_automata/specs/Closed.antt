@@ -1,5 +1,6 @@
--- Closed sets of lists of places.
-use Rattle.std.specs.Prelude.{◌≡◌, ℕ, ◌+◌, ◌<◌, ◌⊎◌, ◌↔◌, IsTrue, List, [], ◌∷◌, length, slice_index_or, Bool, true, false, ◌||◌, ◌&&◌, ◌==◌, nat_le, All, Any, Contains}
+-- Closed sets of product states: of lists of places, one for each pattern.
+use Rattle.std.specs.Prelude.{◌≡◌, ℕ, ◌+◌, ◌<◌, ◌⊎◌, ◌↔◌, IsTrue, List, [], ◌∷◌, length}
+use Rattle.std.specs.Prelude.{slice_index_or, Bool, true, false, ◌||◌, ◌&&◌, ◌==◌, nat_le, All, Any, Contains}
 use Rattle.std.specs.Bool.{beq, MatchBool}
 use Rattle.std.specs.List.{list_any}
 use Rattle.wildcard_lang.specs.declared.piece.Piece.{Piece}
@@ -9,6 +10,7 @@ use Rattle.wildcard_lang.specs.Text.{IsText}
 use Rattle.wildcard_lang.specs.Matching.{Matches}
 use Rattle.wildcard_lang.specs.Accepts.{accepts}
 use Rattle.pattern_automata.specs.declared.wants.Literal.{Literal}
+use Rattle.pattern_automata.specs.declared.wants.Wants.{Wants}
 use Rattle.wildcard_lang.specs.Places.{has, lists_of, step_lists}
 
 -- some literal of the clause is met, where `answer i` says whether pattern i matches
@@ -26,15 +28,17 @@ meets patterns clauses t = clauses_hold (λ i. accepts (slice_index_or patterns 
 
 -- the literal's pattern matches the text or not, as the literal says
 abbrev pub IsLiteralMet : List (List Piece) → List ℕ → Literal → Type 0
-IsLiteralMet patterns t l = MatchBool l.holds (Matches (slice_index_or patterns l.pattern []) t) (Matches (slice_index_or patterns l.pattern []) t → ⊥)
+IsLiteralMet patterns t l =
+    MatchBool l.holds (Matches (slice_index_or patterns l.pattern []) t) (Matches (slice_index_or patterns l.pattern []) t → ⊥)
 
 -- the text meets the clauses: each has a literal that is met
 abbrev pub Meets : List (List Piece) → List (List Literal) → List ℕ → Type 0
 Meets patterns clauses t = All (Any (IsLiteralMet patterns t)) clauses
 
--- a pattern matches in a list of places where the number of its pieces is among them
+-- in a product state a pattern matches where the number of its pieces is among its places
 abbrev pub lists_meet : List (List Piece) → List (List Literal) → List (List ℕ) → Bool
-lists_meet patterns clauses lists = clauses_hold (λ i. has (slice_index_or lists i []) (length (slice_index_or patterns i []))) clauses
+lists_meet patterns clauses lists =
+    clauses_hold (λ i. has (slice_index_or lists i []) (length (slice_index_or patterns i []))) clauses
 
 -- each literal names a pattern
 abbrev pub InRange : ℕ → List (List Literal) → Type 0
@@ -67,10 +71,6 @@ pub record IsFresh (patterns : List (List Piece)) (c : ℕ) : Type 0 where
 abbrev pub IsRepresentative : List (List Piece) → ℕ → Type 0
 IsRepresentative patterns c = (IsScalar c × (named patterns c ≡ true)) ⊎ IsFresh patterns c
 
--- the scalars of the list are the representatives
-abbrev pub Represent : List (List Piece) → List ℕ → Type 0
-Represent patterns characters = (c : ℕ) → IsScalar c → IsRepresentative patterns c ↔ IsTrue (has characters c)
-
 -- whether the numbers strictly rise, from i on
 abbrev pub rises_from : ℕ → List ℕ → Bool
 rises_from i [] = true
@@ -84,12 +84,16 @@ all_rise (l ∷ ls) = rises_from 0 l && all_rise ls
 abbrev pub IsShaped : List (List Piece) → List (List ℕ) → Type 0
 IsShaped patterns lists = (length lists ≡ length patterns) × (all_rise lists ≡ true)
 
--- a set of lists of places, one for each pattern, that no text leads out of, and in which no list meets the clauses
+-- a set of product states that no text leads out of, and of which none meets the clauses
 pub record IsClosed (patterns : List (List Piece)) (clauses : List (List Literal)) (set : List (List (List ℕ))) : Type 0 where
   pub shaped : All (IsShaped patterns) set
   pub starts : Contains set (lists_of patterns [])
-  pub steps : (lists : List (List ℕ)) (c : ℕ) → Contains set lists → IsRepresentative patterns c → Contains set (step_lists patterns lists c)
+  pub steps : (lists : List (List ℕ)) (c : ℕ) → Contains set lists → IsRepresentative patterns c →
+      Contains set (step_lists patterns lists c)
   pub none_meets : (lists : List (List ℕ)) → Contains set lists → lists_meet patterns clauses lists ≡ false
+
+abbrev pub IsClosedUnder : Wants → List (List (List ℕ)) → Type 0
+IsClosedUnder wants set = IsClosed wants.patterns wants.clauses set
 
 -- no text over all scalars meets the clauses
 abbrev pub HaveNoText : List (List Piece) → List (List Literal) → Type 0
@@ -101,23 +105,20 @@ ClosedSetsAreEmpty =
     (patterns : List (List Piece)) (clauses : List (List Literal)) (set : List (List (List ℕ))) →
     InRange (length patterns) clauses → IsClosed patterns clauses set → HaveNoText patterns clauses
 
--- the least scalar that isn't in the list
-pub record IsLeastNew (list : List ℕ) (c : ℕ) : Type 0 where
-  pub scalar : IsScalar c
-  pub new : has list c ≡ false
-  pub least : (d : ℕ) → IsScalar d → d < c → has list d ≡ true
-
 -- each scalar steps as some representative does
 abbrev pub ScalarsStepAsRepresentatives : Type 0
 ScalarsStepAsRepresentatives =
     (patterns : List (List Piece)) (c : ℕ) → IsScalar c →
-    (r : ℕ) × IsRepresentative patterns r × ((lists : List (List ℕ)) → step_lists patterns lists c ≡ step_lists patterns lists r)
+    (r : ℕ) × IsRepresentative patterns r
+    × ((lists : List (List ℕ)) → step_lists patterns lists c ≡ step_lists patterns lists r)
 
 -- the test answers whether the text meets the clauses
 abbrev pub MeetsIsTested : Type 0
-MeetsIsTested = (patterns : List (List Piece)) (clauses : List (List Literal)) (t : List ℕ) → IsTrue (meets patterns clauses t) ↔ Meets patterns clauses t
+MeetsIsTested =
+    (patterns : List (List Piece)) (clauses : List (List Literal)) (t : List ℕ) →
+    IsTrue (meets patterns clauses t) ↔ Meets patterns clauses t
 
--- and from the lists of places of a text the same is read as from the text
+-- and from the product state of a text the same is read as from the text
 abbrev pub ListsMeetAsTexts : Type 0
 ListsMeetAsTexts =
     (patterns : List (List Piece)) (clauses : List (List Literal)) (t : List ℕ) →

@@ -4,3 +4,8 @@ pub mod Tree
 pub mod Answer
 pub mod Checked
 pub mod Packed
+pub mod Moves
+pub mod Steps
+pub mod Spare
+pub mod Machine
+pub mod Search

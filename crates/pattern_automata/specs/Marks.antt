@@ -19,7 +19,7 @@ abbrev pub all_reached : List (List Piece) → List Bool → ℕ → List Bool
 all_reached [] marks c = []
 all_reached (p ∷ ps) marks c = marks_reached p (take (length p + 1) marks) c ++ all_reached ps (drop (length p + 1) marks) c
 
--- the marks of lists of places, pattern by pattern
+-- the marks of a product state, pattern by pattern
 abbrev pub marks_from : List (List Piece) → List (List ℕ) → List Bool
 marks_from [] lists = []
 marks_from (p ∷ ps) [] = []

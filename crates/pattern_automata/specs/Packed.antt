@@ -1,27 +1,23 @@
 -- Marks packed into words of 64 bits, one bit each, the lowest bit first.
-use Rattle.std.specs.Prelude.{◌≡◌, ℕ, zero, suc, ◌+◌, ◌*◌, ◌/◌, ◌%◌, ◌==◌, take, drop, List, [], ◌∷◌, ◌++◌, length, map, slice_index_or, Bool, false, not, cond, ◌||◌, ◌&&◌}
+use Rattle.std.specs.Prelude.{ℕ, zero, suc, ◌+◌, ◌*◌, ◌/◌, ◌%◌, ◌==◌, take, drop, List}
+use Rattle.std.specs.Prelude.{[], ◌∷◌, ◌++◌, length, map, slice_index_or, Bool, false, cond, ◌||◌, ◌&&◌}
 use Rattle.std.specs.Int.{bit_at}
-use Rattle.std.specs.Char.{IsScalar}
 use Rattle.wildcard_lang.specs.declared.piece.Piece.{Piece}
-use Rattle.wildcard_lang.specs.Matching.{takes, is_many}
-use Rattle.pattern_automata.specs.declared.moves.Kind.{Kind}
-use Rattle.pattern_automata.specs.declared.moves.Kind.TheVariants.{Passes, Keeps, Leads}
-use Rattle.pattern_automata.specs.declared.moves.Move.{Move}
 use Rattle.pattern_automata.specs.Marks.{all_marks}
 
--- whether the bit of the number is set
+-- whether the bit of the word is set
 abbrev pub on : ℕ → ℕ → Bool
 on word i = bit_at word i == 1
 
--- the number with these bits
-abbrev pub number : List Bool → ℕ
-number [] = 0
-number (b ∷ bs) = cond b 1 0 + 2 * number bs
+-- the word with these bits
+abbrev pub word_with : List Bool → ℕ
+word_with [] = 0
+word_with (b ∷ bs) = cond b 1 0 + 2 * word_with bs
 
 -- n words with the marks, and none after the last
 abbrev pub packed : ℕ → List Bool → List ℕ
 packed zero marks = []
-packed (suc n) marks = number (take 64 marks) ∷ packed n (drop 64 marks)
+packed (suc n) marks = word_with (take 64 marks) ∷ packed n (drop 64 marks)
 
 -- how many words hold so many marks
 abbrev pub words_for : ℕ → ℕ
@@ -30,11 +26,11 @@ words_for n = n / 64 + 1
 abbrev pub pack : List Bool → List ℕ
 pack marks = packed (words_for (length marks)) marks
 
--- whether the mark at a place is set
+-- whether the mark j is set
 abbrev pub word_mark : List ℕ → ℕ → Bool
-word_mark words place = on (slice_index_or words (place / 64) 0) (place % 64)
+word_mark words j = on (slice_index_or words (j / 64) 0) (j % 64)
 
--- the mark of the place before, where `first` stands before the first
+-- the mark before one, where `first` stands before the first
 abbrev pub before : Bool → (ℕ → Bool) → ℕ → Bool
 before first test zero = first
 before first test (suc i) = test i
@@ -52,12 +48,6 @@ moved one stay old first i = (before first old i && one i) || (old i && stay i)
 abbrev pub stepped : (ℕ → Bool) → (ℕ → Bool) → (ℕ → Bool) → (ℕ → Bool) → ℕ → Bool
 stepped one stay leads old i = filled (moved one stay old false) leads false i
 
--- whether the piece is for one character and takes c; is for any number and takes c; is for any number
-abbrev pub piece_test : Kind → ℕ → Piece → Bool
-piece_test Passes c q = not (is_many q) && takes q c
-piece_test Keeps c q = is_many q && takes q c
-piece_test Leads c q = is_many q
-
 -- for each mark of the patterns what a test says of the piece before it, where there is one
 abbrev pub marks_by : (Piece → Bool) → List (List Piece) → List Bool
 marks_by test [] = []
@@ -66,13 +56,3 @@ marks_by test (p ∷ ps) = false ∷ (map test p ++ marks_by test ps)
 -- the words of the marks of the patterns after a text
 abbrev pub all_words : List (List Piece) → List ℕ → List ℕ
 all_words patterns t = pack (all_marks patterns t)
-
--- what the character of the move does to the marks of the patterns
-pub record IsMove (patterns : List (List Piece)) (m : Move) : Type 0 where
-  pub scalar : IsScalar m.character
-  pub one : m.one.items ≡ pack (marks_by (piece_test Passes m.character) patterns)
-  pub stay : m.stay.items ≡ pack (marks_by (piece_test Keeps m.character) patterns)
-  pub leads : m.leads.items ≡ pack (marks_by (piece_test Leads m.character) patterns)
-
-abbrev pub characters_of : List Move → List ℕ
-characters_of moves = map (λ m. m.character) moves

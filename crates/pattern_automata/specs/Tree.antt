@@ -1,5 +1,6 @@
--- The tree of a search over words of marks: each list but the first was found from an earlier one, by a character.
-use Rattle.std.specs.Prelude.{◌≡◌, ◌≢◌, ℕ, ◌+◌, ◌-◌, ◌<◌, ◌≤◌, List, [], ◌∷◌, ◌++◌, length, take, slice_index, slice_index_or, Bool, true, false, All, Contains}
+-- The tree of a search over product states, as words of marks: each but the first was found from an earlier one, by a character.
+use Rattle.std.specs.Prelude.{◌≡◌, ◌≢◌, ℕ, ◌+◌, ◌-◌, ◌<◌, ◌≤◌, List, [], ◌∷◌}
+use Rattle.std.specs.Prelude.{◌++◌, length, take, slice_index, slice_index_or, Bool, true, false, All, Contains}
 use Rattle.std.specs.Bool.{MatchBool}
 use Rattle.wildcard_lang.specs.declared.piece.Piece.{Piece}
 use Rattle.std.specs.Char.{IsScalar}
@@ -8,7 +9,7 @@ use Rattle.pattern_automata.specs.declared.tree.Parent.{Parent}
 use Rattle.pattern_automata.specs.declared.tree.Step.{Step}
 use Rattle.pattern_automata.specs.declared.tree.Step.TheVariants.{Left, Met, Full}
 use Rattle.wildcard_lang.specs.Places.{has}
-use Rattle.pattern_automata.specs.Closed.{InRange, clauses_hold}
+use Rattle.pattern_automata.specs.Closed.{InRange, clause_holds, clauses_hold}
 use Rattle.pattern_automata.specs.Marks.{total}
 use Rattle.pattern_automata.specs.Packed.{all_words, word_mark}
 
@@ -30,21 +31,28 @@ pub record IsTree (patterns : List (List Piece)) (found : List (List ℕ)) (pare
 
 -- each parent comes earlier, by a scalar
 abbrev pub IsRooted : List Parent → Type 0
-IsRooted parents = (i : ℕ) (d : Parent) → 0 < i → i < length parents → ((slice_index_or parents i d).list < i) × IsScalar (slice_index_or parents i d).character
+IsRooted parents =
+    (i : ℕ) (d : Parent) → 0 < i → i < length parents →
+    ((slice_index_or parents i d).list < i) × IsScalar (slice_index_or parents i d).character
 
--- the text that leads to the place i of the tree
+-- the text that leads to the list at i of the tree
 pub data Spells : List Parent → ℕ → List ℕ → Type 0 where
   at_first : {parents : List Parent} → Spells parents 0 []
-  at_next : {parents : List Parent} {i : ℕ} {p : Parent} {t : List ℕ} → 0 < i → i < length parents → slice_index_or parents i p ≡ p → Spells parents p.list t → Spells parents i (t ++ p.character ∷ [])
+  at_next : {parents : List Parent} {i : ℕ} {p : Parent} {t : List ℕ} → 0 < i → i < length parents →
+      slice_index_or parents i p ≡ p → Spells parents p.list t → Spells parents i (t ++ p.character ∷ [])
 
--- the place of the last mark of each pattern
+-- the last mark of each pattern
 pub record IsEnds (patterns : List (List Piece)) (ends : List ℕ) : Type 0 where
   pub count : length ends ≡ length patterns
-  pub each : (k : ℕ) → k < length patterns → slice_index ends k ≡ total (take k patterns) + length (slice_index_or patterns k [])
+  pub each : (k : ℕ) → k < length patterns →
+      slice_index ends k ≡ total (take k patterns) + length (slice_index_or patterns k [])
 
 -- the clauses hold where the last marks say which patterns match
 abbrev pub words_meet : List ℕ → List (List Literal) → List ℕ → Bool
 words_meet ends clauses words = clauses_hold (λ i. word_mark words (slice_index ends i)) clauses
+
+abbrev pub words_meet_clause : List ℕ → List Literal → List ℕ → Bool
+words_meet_clause ends clause words = clause_holds (λ i. word_mark words (slice_index ends i)) clause
 
 -- some list that was found is the one to which c leads from the list at j
 abbrev pub IsLed : List (List Piece) → List (List ℕ) → ℕ → ℕ → Type 0
@@ -55,20 +63,23 @@ abbrev pub AreDifferent : List (List ℕ) → Type 0
 AreDifferent found = (j k : ℕ) → j < k → k < length found → slice_index_or found j [] ≢ slice_index_or found k []
 
 -- a search that goes on: the lists below i were left by each character, that at i by those of `here`
-pub record IsSearch (patterns : List (List Piece)) (ends : List ℕ) (clauses : List (List Literal)) (characters : List ℕ) (found : List (List ℕ)) (i : ℕ) (here : List ℕ) : Type 0 where
+pub record IsSearch (patterns : List (List Piece)) (ends : List ℕ) (clauses : List (List Literal))
+    (characters : List ℕ) (found : List (List ℕ)) (i : ℕ) (here : List ℕ) : Type 0 where
   pub none : (j : ℕ) → j < length found → words_meet ends clauses (slice_index_or found j []) ≡ false
   pub done : (j c : ℕ) → j < i → has characters c ≡ true → IsLed patterns found j c
   pub now : (c : ℕ) → has here c ≡ true → IsLed patterns found i c
 
 -- what a turn of the search leaves, where it stepped the list at i by c: `new` says whether the marks were new
-pub record IsTurn (patterns : List (List Piece)) (old found : List (List ℕ)) (parents : List Parent) (words : List ℕ) (i c : ℕ) (new : Bool) : Type 0 where
+pub record IsTurn (patterns : List (List Piece)) (old found : List (List ℕ)) (parents : List Parent)
+    (words : List ℕ) (i c : ℕ) (new : Bool) : Type 0 where
   pub tree : IsTree patterns found parents
   pub leads : LeadsTo patterns (slice_index_or old i []) c words
   pub there : Contains found words
   pub grows : MatchBool new ((found ≡ old ++ words ∷ []) × (Contains old words → ⊥)) (found ≡ old)
 
 -- what each turn keeps
-pub record IsBase (patterns : List (List Piece)) (ends : List ℕ) (clauses : List (List Literal)) (found : List (List ℕ)) (parents : List Parent) (limit : ℕ) : Type 0 where
+pub record IsBase (patterns : List (List Piece)) (ends : List ℕ) (clauses : List (List Literal))
+    (found : List (List ℕ)) (parents : List Parent) (limit : ℕ) : Type 0 where
   pub tree : IsTree patterns found parents
   pub different : AreDifferent found
   pub count : length found ≤ limit
@@ -76,7 +87,8 @@ pub record IsBase (patterns : List (List Piece)) (ends : List ℕ) (clauses : Li
   pub within : All (λ e. e < total patterns) ends
 
 -- the clauses hold of the last list
-pub record IsMet (patterns : List (List Piece)) (ends : List ℕ) (clauses : List (List Literal)) (found : List (List ℕ)) (parents : List Parent) : Type 0 where
+pub record IsMet (patterns : List (List Piece)) (ends : List ℕ) (clauses : List (List Literal))
+    (found : List (List ℕ)) (parents : List Parent) : Type 0 where
   pub tree : IsTree patterns found parents
   pub meets : words_meet ends clauses (slice_index_or found (length found - 1) []) ≡ true
 
@@ -87,33 +99,44 @@ pub record IsFull (patterns : List (List Piece)) (found : List (List ℕ)) (pare
   pub count : length found ≡ limit + 1
 
 -- the search went on by one more character at i
-pub record IsVisited (patterns : List (List Piece)) (ends : List ℕ) (clauses : List (List Literal)) (old found : List (List ℕ)) (parents : List Parent) (i c limit : ℕ) : Type 0 where
+pub record IsVisited (patterns : List (List Piece)) (ends : List ℕ) (clauses : List (List Literal))
+    (old found : List (List ℕ)) (parents : List Parent) (i c limit : ℕ) : Type 0 where
   pub base : IsBase patterns ends clauses found parents limit
   pub within : i < length found
-  pub goes : (characters here : List ℕ) → IsSearch patterns ends clauses characters old i here → IsSearch patterns ends clauses characters found i (here ++ c ∷ [])
+  pub goes : (characters here : List ℕ) → IsSearch patterns ends clauses characters old i here →
+      IsSearch patterns ends clauses characters found i (here ++ c ∷ [])
 
-abbrev pub IsVisit : List (List Piece) → List ℕ → List (List Literal) → List (List ℕ) → List (List ℕ) → List Parent → ℕ → ℕ → ℕ → Step → Type 0
+abbrev pub IsVisit :
+    List (List Piece) → List ℕ → List (List Literal) →
+    List (List ℕ) → List (List ℕ) → List Parent → ℕ → ℕ → ℕ → Step → Type 0
 IsVisit patterns ends clauses old found parents i c limit Left = IsVisited patterns ends clauses old found parents i c limit
 IsVisit patterns ends clauses old found parents i c limit Met = IsMet patterns ends clauses found parents
 IsVisit patterns ends clauses old found parents i c limit Full = IsFull patterns found parents limit
 
 -- the list at i was left by each character
-pub record IsLeft (patterns : List (List Piece)) (ends : List ℕ) (clauses : List (List Literal)) (characters : List ℕ) (found : List (List ℕ)) (parents : List Parent) (i limit : ℕ) : Type 0 where
+pub record IsLeft (patterns : List (List Piece)) (ends : List ℕ) (clauses : List (List Literal))
+    (characters : List ℕ) (found : List (List ℕ)) (parents : List Parent) (i limit : ℕ) : Type 0 where
   pub base : IsBase patterns ends clauses found parents limit
   pub search : IsSearch patterns ends clauses characters found i []
 
-abbrev pub IsExpansion : List (List Piece) → List ℕ → List (List Literal) → List ℕ → List (List ℕ) → List Parent → ℕ → ℕ → Step → Type 0
-IsExpansion patterns ends clauses characters found parents i limit Left = IsLeft patterns ends clauses characters found parents (i + 1) limit
+abbrev pub IsExpansion :
+    List (List Piece) → List ℕ → List (List Literal) →
+    List ℕ → List (List ℕ) → List Parent → ℕ → ℕ → Step → Type 0
+IsExpansion patterns ends clauses characters found parents i limit Left =
+    IsLeft patterns ends clauses characters found parents (i + 1) limit
 IsExpansion patterns ends clauses characters found parents i limit Met = IsMet patterns ends clauses found parents
 IsExpansion patterns ends clauses characters found parents i limit Full = IsFull patterns found parents limit
 
 -- each list was left by each character
-pub record IsOver (patterns : List (List Piece)) (ends : List ℕ) (clauses : List (List Literal)) (characters : List ℕ) (found : List (List ℕ)) (parents : List Parent) (limit : ℕ) : Type 0 where
+pub record IsOver (patterns : List (List Piece)) (ends : List ℕ) (clauses : List (List Literal))
+    (characters : List ℕ) (found : List (List ℕ)) (parents : List Parent) (limit : ℕ) : Type 0 where
   pub last : ℕ
   pub all : length found ≤ last
   pub left : IsLeft patterns ends clauses characters found parents last limit
 
-abbrev pub IsOutcome : List (List Piece) → List ℕ → List (List Literal) → List ℕ → List (List ℕ) → List Parent → ℕ → Step → Type 0
+abbrev pub IsOutcome :
+    List (List Piece) → List ℕ → List (List Literal) →
+    List ℕ → List (List ℕ) → List Parent → ℕ → Step → Type 0
 IsOutcome patterns ends clauses characters found parents limit Left = IsOver patterns ends clauses characters found parents limit
 IsOutcome patterns ends clauses characters found parents limit Met = IsMet patterns ends clauses found parents
 IsOutcome patterns ends clauses characters found parents limit Full = IsFull patterns found parents limit

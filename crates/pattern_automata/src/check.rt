@@ -1,21 +1,19 @@
 //! The check of a closed set.
-ghost use Rattle.std.specs.Prelude.{◌≡◌, ◌*◌, ◌+◌, ◌<◌, ◌≤◌, ◌^◌, ◌++◌, ◌↔◌, ℕ, List, Bool, [], true, nat_le, length, slice_index_or, IsTrue, IfOk, OnOk, All, Contains, ◌⊎◌};
+ghost use Rattle.std.specs.Prelude.{◌≡◌, ◌+◌, ◌<◌, ◌≤◌, ◌++◌, ◌↔◌, ℕ, List, Bool, [], Some, true, nat_le, length, slice_get, IsTrue, IfOk, OnOk, All, Contains};
 ghost use Rattle.std.specs.List.{list_all};
 ghost use Rattle.wildcard_lang.specs.Accepts.{tests};
 ghost use Rattle.wildcard_lang.specs.Places.{has};
-ghost use Rattle.pattern_automata.specs.Closed.{rises_from, all_rise, IsShaped, InRange, IsClosed, Represent};
+ghost use Rattle.pattern_automata.specs.Closed.{rises_from, all_rise, IsShaped, InRange, IsClosedUnder};
 ghost use Rattle.pattern_automata.specs.Marks.{marks_from, total};
-ghost use Rattle.pattern_automata.specs.Packed.{characters_of, pack, words_for, IsMove};
-ghost use Rattle.pattern_automata.specs.Tree.{IsEnds};
-ghost use Rattle.pattern_automata.specs.Checked.{fits, IsIndex, IsMarked, Passes};
+ghost use Rattle.pattern_automata.specs.Machine.{IsMachine};
+ghost use Rattle.pattern_automata.specs.Packed.{pack, words_for};
+ghost use Rattle.pattern_automata.specs.Checked.{fits, AllPass, HasAlso, IsIndex, TellsWhether};
 
 use crate::found::Found;
-use crate::meets::{clauses_met, ends_of, total_of};
-use crate::moves::{Move, moves_of};
-use crate::names::representatives;
+use crate::machine::{Machine, machine_of};
 use crate::places::{Closed, PlaceList, PlaceLists};
-use crate::search::{start_words, step_into};
-use crate::wants::{LiteralList, Wants};
+use crate::search::{Room, is_met, leads_as_first, start_words, step_into};
+use crate::wants::Wants;
 use crate::words::pack;
 use plain_lists::NoMemory;
 use std::alloc::Global;
@@ -80,41 +78,48 @@ fn all_fit(patterns: &[Pattern], lists: &[PlaceList]) -> bool
     true
 }
 
-/// Adds a mark for each number below count, which says whether the list has it.
+/// Whether the list has the place at the index.
+fn is_at(list: &[u32], index: usize, place: usize) -> bool
+    ensures { IsTrue result ↔ (slice_get list.now index ≡ Some place) }
+{
+    match list.get(index) {
+        Some(there) => *there as usize == place,
+        None => false,
+    }
+}
+
+/// Adds a mark for each number below count, which says whether the rising list has it.
 fn push_marks(list: &[u32], count: usize, marks: &mut Vec<bool>) -> Result<(), NoMemory>
-    requires { count ≤ 2 ^ 32 }
+    requires { rises_from 0 list.now ≡ true }
     ensures { OnOk result (marks.new.items ≡ marks.old.items ++ tests (has list.now) 0 count) }
 {
+    let mut next = 0;
     for j in 0..count {
-        let place = j as u32;
-        marks.push(list.contains(&place))?;
+        let there = is_at(list, next, j);
+        marks.push(there)?;
+        next += usize::from(there);
     }
     Ok(())
 }
 
-/// Makes the marks those of the lists.
-fn marks_into(
-    patterns: &[Pattern],
-    lists: &[PlaceList],
-    marks: &mut Vec<bool>,
-) -> Result<(), NoMemory>
-    requires { length lists.now ≡ length patterns.now }
-    ensures { OnOk result (marks.new.items ≡ marks_from patterns.now lists.now) }
+/// The marks of the lists.
+fn marks_of(alloc: Global, patterns: &[Pattern], lists: &[PlaceList]) -> Result<Vec<bool>, NoMemory>
+    requires { IsShaped patterns.now lists.now }
+    ensures { IfOk result (λ v. v.items ≡ marks_from patterns.now lists.now) }
 {
-    marks.clear();
+    let mut marks = Vec::new(alloc);
     for i in 0..patterns.len() {
-        push_marks(lists[i].as_slice(), patterns[i].len() + 1, marks)?;
+        push_marks(lists[i].as_slice(), patterns[i].len() + 1, &mut marks)?;
     }
-    Ok(())
+    Ok(marks)
 }
 
 /// The words of the marks of the lists.
 fn words_of(alloc: Global, patterns: &[Pattern], lists: &[PlaceList]) -> Result<Vec<u64>, NoMemory>
-    requires { length lists.now ≡ length patterns.now }
+    requires { IsShaped patterns.now lists.now }
     ensures { IfOk result (λ v. v.items ≡ pack (marks_from patterns.now lists.now)) }
 {
-    let mut marks = Vec::new(alloc);
-    marks_into(patterns, lists, &mut marks)?;
+    let marks = marks_of(alloc, patterns, lists)?;
     pack(alloc, marks.as_slice())
 }
 
@@ -137,8 +142,8 @@ fn index_lists(
     lists: &[PlaceList],
     index: &mut Found,
 ) -> Result<(), NoMemory>
-    requires { length lists.now ≡ length patterns.now }
-    ensures { OnOk result ((m : List ℕ) → Contains index.new m ↔ (Contains index.old m ⊎ IsMarked patterns.now lists.now m)) }
+    requires { IsShaped patterns.now lists.now }
+    ensures { OnOk result (HasAlso index.old patterns.now lists.now index.new) }
 {
     if !all_fit(patterns, lists) {
         return Ok(());
@@ -165,26 +170,27 @@ fn index_of(alloc: Global, patterns: &[Pattern], closed: &[PlaceLists]) -> Resul
 
 /// Whether the marks meet no clauses and each move leads to words of the index.
 fn passes(
-    patterns: &[Pattern],
-    ends: &[usize],
-    clauses: &[LiteralList],
-    moves: &[Move],
+    wants: &Wants,
+    machine: &Machine,
     index: &Found,
     words: &[u64],
-    next: &mut Vec<u64>,
+    room: &mut Room,
 ) -> Result<bool, NoMemory>
-    requires range { InRange (length ends.now) clauses.now }
-    requires within { All (λ e. e < 64 * length words.now) ends.now }
-    requires size { length words.now ≡ words_for (total patterns.now) }
-    requires moves { All (IsMove patterns.now) moves.now }
-    ensures { IfOk result (λ yes. (marks : List Bool) → length marks ≡ total patterns.now → words.now ≡ pack marks → IsTrue yes ↔ Passes patterns.now ends.now clauses.now (characters_of moves.now) index.now marks) }
+    requires range { InRange (length wants.now.patterns) wants.now.clauses }
+    requires machine { IsMachine wants.now.patterns machine.now }
+    requires size { length words.now ≡ words_for (total wants.now.patterns) }
+    ensures { IfOk result (TellsWhether wants.now machine.now index.now words.now) }
 {
-    if clauses_met(ends, clauses, words) {
+    if is_met(wants, machine, words) {
         return Ok(false);
     }
-    for step in moves {
-        step_into(patterns, step, words, next)?;
-        if !index.has(next.as_slice()) {
+    for k in 0..machine.moves.len() {
+        let step = &machine.moves[k];
+        if leads_as_first(wants, machine, k, step, words) {
+            continue;
+        }
+        step_into(wants, machine, step, words, room)?;
+        if !index.has(room.words.as_slice()) {
             return Ok(false);
         }
     }
@@ -194,89 +200,65 @@ fn passes(
 /// Whether each member passes.
 fn all_pass(
     alloc: Global,
-    patterns: &[Pattern],
-    ends: &[usize],
-    clauses: &[LiteralList],
-    moves: &[Move],
+    wants: &Wants,
+    machine: &Machine,
     index: &Found,
     closed: &[PlaceLists],
 ) -> Result<bool, NoMemory>
-    requires range { InRange (length ends.now) clauses.now }
-    requires within { All (λ e. e < total patterns.now) ends.now }
-    requires shaped { All (IsShaped patterns.now) closed.now }
-    requires moves { All (IsMove patterns.now) moves.now }
-    ensures { IfOk result (λ yes. IsTrue yes ↔ All (λ lists. Passes patterns.now ends.now clauses.now (characters_of moves.now) index.now (marks_from patterns.now lists)) closed.now) }
+    requires range { InRange (length wants.now.patterns) wants.now.clauses }
+    requires machine { IsMachine wants.now.patterns machine.now }
+    requires shaped { All (IsShaped wants.now.patterns) closed.now }
+    ensures { IfOk result (λ yes. IsTrue yes ↔ AllPass wants.now machine.now index.now closed.now) }
 {
-    let mut next = Vec::new(alloc);
+    let mut room = Room {
+        moved: Vec::new(alloc),
+        words: Vec::new(alloc),
+    };
     for lists in closed {
-        let words = words_of(alloc, patterns, lists.as_slice())?;
-        if !passes(
-            patterns,
-            ends,
-            clauses,
-            moves,
-            index,
-            words.as_slice(),
-            &mut next,
-        )? {
+        let words = words_of(alloc, wants.patterns.as_slice(), lists.as_slice())?;
+        if !passes(wants, machine, index, words.as_slice(), &mut room)? {
             return Ok(false);
         }
     }
     Ok(true)
 }
 
-/// The check, from the ends of the patterns and the representatives.
+/// The check of a shaped set, from what there is to know of the patterns.
 fn check(
     alloc: Global,
-    patterns: &[Pattern],
-    clauses: &[LiteralList],
-    ends: &[usize],
-    moves: &[Move],
-    count: usize,
+    wants: &Wants,
+    machine: &Machine,
     closed: &[PlaceLists],
 ) -> Result<bool, NoMemory>
-    requires range { InRange (length patterns.now) clauses.now }
-    requires ends { IsEnds patterns.now ends.now }
-    requires characters { Represent patterns.now (characters_of moves.now) }
-    requires moves { All (IsMove patterns.now) moves.now }
-    requires count { count ≡ total patterns.now }
-    ensures { IfOk result (λ yes. IsTrue yes ↔ IsClosed patterns.now clauses.now closed.now) }
+    requires range { InRange (length wants.now.patterns) wants.now.clauses }
+    requires machine { IsMachine wants.now.patterns machine.now }
+    requires shaped { All (IsShaped wants.now.patterns) closed.now }
+    ensures { IfOk result (λ yes. IsTrue yes ↔ IsClosedUnder wants.now closed.now) }
 {
-    if !all_shaped(patterns, closed) {
-        return Ok(false);
-    }
+    let patterns = wants.patterns.as_slice();
     let index = index_of(alloc, patterns, closed)?;
-    let start = start_words(alloc, patterns, count)?;
+    let start = start_words(alloc, patterns, machine.count)?;
     if !index.has(start.as_slice()) {
         return Ok(false);
     }
-    let all = all_pass(alloc, patterns, ends, clauses, moves, &index, closed)?;
-    Ok(all)
+    all_pass(alloc, wants, machine, &index, closed)
 }
 
-/// Whether the set is closed: each of its lists has one part for each pattern, with strictly rising
-/// places; it has the places of the empty text; it has the step of each of its lists by each
+/// Whether the set of product states is closed: each of them has one list for each pattern, with
+/// strictly rising places; it has that of the empty text; it has the step of each of them by each
 /// representative, which are the literals of the patterns, both cases of the folded ones, the colon,
-/// and, where one is left, the least Unicode scalar that is none of these; and none of its lists
-/// meets the clauses. Then no text meets the wants.
+/// and, where one is left, the least Unicode scalar that is none of these; and none of them meets the
+/// clauses. Then no text meets the wants.
 ///
 /// Each literal names one of the patterns. The only error is want of memory.
 pub fn is_closed(alloc: Global, wants: &Wants, closed: &Closed) -> Result<bool, NoMemory>
     requires { InRange (length wants.now.patterns) wants.now.clauses }
-    ensures { IfOk result (λ yes. IsTrue yes ↔ IsClosed wants.now.patterns wants.now.clauses closed.now) }
+    ensures { IfOk result (λ yes. IsTrue yes ↔ IsClosedUnder wants.now closed.now) }
 {
     let patterns = wants.patterns.as_slice();
-    let characters = representatives(alloc, patterns)?;
-    let count = total_of(patterns)?;
-    let ends = ends_of(alloc, patterns)?;
-    let moves = moves_of(alloc, patterns, characters.as_slice())?;
-    check(
-        alloc,
-        patterns,
-        wants.clauses.as_slice(),
-        ends.as_slice(),
-        moves.as_slice(),
-        count,
-        closed.as_slice(),
-    )
+    if !all_shaped(patterns, closed.as_slice()) {
+        return Ok(false);
+    }
+    let machine = machine_of(alloc, patterns)?;
+    check(alloc, wants, &machine, closed.as_slice())
 }

@@ -1,4 +1,5 @@
-//! The lists that a search has found, as words of marks, each once, in the order in which they were found.
+//! The product states that a search has found, as words of marks, each once, in the order in which
+//! they were found.
 ghost use Rattle.std.specs.Prelude.{◌≡◌, ◌+◌, ◌<◌, ◌++◌, ◌∷◌, ◌↔◌, ℕ, List, [], map, length, slice_index_or, IsTrue, OnOk, OnErr, Contains};
 
 use indexmap::IndexSet;
@@ -6,7 +7,7 @@ use plain_lists::NoMemory;
 use std::alloc::Global;
 use std::marker::Model;
 
-/// Lists of marks, packed into words.
+/// Product states as words of marks.
 #[derive(Drop)]
 pub struct Found {
     set: IndexSet<Vec<u64>>,
@@ -36,14 +37,14 @@ impl Found {
         self.set.len()
     }
 
-    /// Whether the list was found.
+    /// Whether these words were found.
     pub fn has(&self, words: &[u64]) -> bool
         ensures { IsTrue result ↔ Contains self.now words.now }
     {
         self.set.contains(words)
     }
 
-    /// The list at i.
+    /// The words at i.
     pub fn get(&self, i: usize) -> &[u64]
         requires { i < length self.now }
         ensures { result.now ≡ slice_index_or self.now i [] }
@@ -51,7 +52,7 @@ impl Found {
         self.set.as_slice()[i].as_slice()
     }
 
-    /// Adds a list that wasn't found.
+    /// Adds words that weren't found.
     pub fn push(&mut self, words: Vec<u64>) -> Result<(), NoMemory>
         requires { Contains self.old words.items → ⊥ }
         ensures ok { OnOk result (self.new ≡ self.old ++ words.items ∷ []) }

@@ -1,9 +1,9 @@
-//! Whether lists of marks meet clauses.
+//! Whether the marks of a product state meet clauses.
 ghost use Rattle.std.specs.Prelude.{◌≡◌, ◌*◌, ◌+◌, ◌<◌, ℕ, [], false, length, slice_index, slice_index_or, All, IfOk, IfSome, OnOk, OnErr, ◌++◌, ◌∷◌};
-ghost use Rattle.pattern_automata.specs.Closed.{clause_holds, clauses_hold, InRange};
+ghost use Rattle.pattern_automata.specs.Closed.{InRange};
 ghost use Rattle.pattern_automata.specs.Marks.{total};
 ghost use Rattle.pattern_automata.specs.Packed.{word_mark};
-ghost use Rattle.pattern_automata.specs.Tree.{IsEnds, words_meet};
+ghost use Rattle.pattern_automata.specs.Tree.{IsEnds, words_meet, words_meet_clause};
 
 use crate::wants::{Literal, LiteralList};
 use crate::words::has_mark;
@@ -33,7 +33,7 @@ fn sum_of(patterns: &[Pattern]) -> Option<usize>
     Some(sum)
 }
 
-/// The place of the last mark of each pattern.
+/// The last mark of each pattern.
 pub fn ends_of(alloc: Global, patterns: &[Pattern]) -> Result<Vec<usize>, NoMemory>
     requires { total patterns.now < usize.MAX }
     ensures { IfOk result (λ v. IsEnds patterns.now v.items) }
@@ -52,7 +52,7 @@ pub fn ends_of(alloc: Global, patterns: &[Pattern]) -> Result<Vec<usize>, NoMemo
 fn clause_met(ends: &[usize], literals: &[Literal], words: &[u64]) -> bool
     requires range { All (λ l. l.pattern < length ends.now) literals.now }
     requires within { All (λ e. e < 64 * length words.now) ends.now }
-    ensures { result ≡ clause_holds (λ i. word_mark words.now (slice_index ends.now i)) literals.now }
+    ensures { result ≡ words_meet_clause ends.now literals.now words.now }
 {
     for literal in literals {
         if has_mark(words, ends[literal.pattern as usize]) == literal.holds {

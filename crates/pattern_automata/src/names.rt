@@ -1,73 +1,67 @@
-//! The characters that stand for all others.
-ghost use Rattle.std.specs.Prelude.{◌≡◌, ◌==◌, ◌||◌, ◌↔◌, ℕ, true, IsTrue, MatchOption, OnOk, IfOk};
+//! The characters that patterns name, and one that stands for all others.
+ghost use Rattle.std.specs.Prelude.{◌≡◌, ◌≤◌, ◌<◌, ◌||◌, ◌==◌, ℕ, true, false, MatchOption, OnOk, IfOk};
 ghost use Rattle.std.specs.Char.{IsScalar};
 ghost use Rattle.wildcard_lang.specs.Places.{has};
-ghost use Rattle.pattern_automata.specs.Closed.{IsLeastNew, names, names_any, named, Represent};
+ghost use Rattle.pattern_automata.specs.Closed.{names, names_any, named};
+ghost use Rattle.pattern_automata.specs.Spare.{AreTaken, GrowsBy, HasAllScalars, IsFreeIn, IsSpareOf};
 
+use indexmap::IndexSet;
 use plain_lists::NoMemory;
 use std::alloc::Global;
 use wildcard_lang::{Pattern, Piece};
 
-/// Whether the character is in the list.
-fn has_character(list: &[char], c: char) -> bool
-    ensures { result ≡ has list.now c }
-{
-    list.contains(&c)
-}
-
 /// Adds the character, unless it is there.
-fn add(list: &mut Vec<char>, c: char) -> Result<(), NoMemory>
-    ensures { OnOk result ((d : ℕ) → has list.new.items d ≡ (has list.old.items d || (c == d))) }
+fn add(set: &mut IndexSet<char>, c: char) -> Result<(), NoMemory>
+    ensures { OnOk result ((d : ℕ) → has set.new.keys d ≡ (has set.old.keys d || (c == d))) }
 {
-    if !has_character(list, c) {
-        list.push(c)?;
-    }
+    set.insert_full(c)?;
     Ok(())
 }
 
 /// Adds the characters that the piece names.
-fn add_piece(list: &mut Vec<char>, piece: Piece) -> Result<(), NoMemory>
-    ensures { OnOk result ((d : ℕ) → IsScalar d → has list.new.items d ≡ (has list.old.items d || names piece d)) }
+fn add_piece(set: &mut IndexSet<char>, piece: Piece) -> Result<(), NoMemory>
+    ensures { OnOk result (GrowsBy (names piece) set.old.keys set.new.keys) }
 {
     match piece {
-        Piece::Lit(c) => add(list, c),
+        Piece::Lit(c) => add(set, c),
         Piece::LitFold(c) => {
-            add(list, c)?;
-            add(list, c.to_ascii_uppercase())
+            add(set, c)?;
+            add(set, c.to_ascii_uppercase())
         }
         _ => Ok(()),
     }
 }
 
 /// Adds the characters that the pattern names.
-fn add_pattern(list: &mut Vec<char>, pattern: &Pattern) -> Result<(), NoMemory>
-    ensures { OnOk result ((d : ℕ) → IsScalar d → has list.new.items d ≡ (has list.old.items d || names_any pattern.now d)) }
+fn add_pattern(set: &mut IndexSet<char>, pattern: &Pattern) -> Result<(), NoMemory>
+    ensures { OnOk result (GrowsBy (names_any pattern.now) set.old.keys set.new.keys) }
 {
     for piece in pattern.as_slice() {
-        add_piece(list, *piece)?;
+        add_piece(set, *piece)?;
     }
     Ok(())
 }
 
-/// The characters that the patterns name, and the colon.
-fn named_characters(alloc: Global, patterns: &[Pattern]) -> Result<Vec<char>, NoMemory>
-    ensures { IfOk result (λ v. (d : ℕ) → IsScalar d → has v.items d ≡ named patterns.now d) }
+/// The characters that the patterns name, and the colon, in the order in which they come first.
+pub fn named_characters(alloc: Global, patterns: &[Pattern]) -> Result<IndexSet<char>, NoMemory>
+    ensures { IfOk result (λ s. (d : ℕ) → IsScalar d → has s.keys d ≡ named patterns.now d) }
 {
-    let mut list = Vec::new(alloc);
-    list.push(':')?;
+    let mut set = IndexSet::new(alloc);
+    add(&mut set, ':')?;
     for pattern in patterns {
-        add_pattern(&mut list, pattern)?;
+        add_pattern(&mut set, pattern)?;
     }
-    Ok(list)
+    Ok(set)
 }
 
-/// The least character that isn't in the list.
-fn fresh(list: &[char]) -> Option<char>
-    ensures { MatchOption result ((d : ℕ) → IsScalar d → has list.now d ≡ true) (IsLeastNew list.now) }
+/// The least character from a code on and below an end that isn't in the set.
+fn free_in(set: &IndexSet<char>, from: u32, end: u32) -> Option<char>
+    requires { end ≤ 1114112 }
+    ensures { MatchOption result (AreTaken set.now.keys from end) (IsFreeIn set.now.keys from end) }
 {
-    for code in 0..0x11_0000u32 {
+    for code in from..end {
         if let Some(c) = char::from_u32(code) {
-            if !has_character(list, c) {
+            if !set.contains(&c) {
                 return Some(c);
             }
         }
@@ -75,13 +69,23 @@ fn fresh(list: &[char]) -> Option<char>
     None
 }
 
-/// The characters as one of which each other steps.
-pub fn representatives(alloc: Global, patterns: &[Pattern]) -> Result<Vec<char>, NoMemory>
-    ensures { IfOk result (λ v. Represent patterns.now v.items) }
+/// A character that isn't in the set: the letter x, or another small letter, a digit or any printable
+/// ASCII character where one is left, since texts that people are to read and use are spelled with it;
+/// else the least of all.
+pub fn spare(set: &IndexSet<char>) -> Option<char>
+    ensures { MatchOption result (HasAllScalars set.now.keys) (IsSpareOf set.now.keys) }
 {
-    let mut list = named_characters(alloc, patterns)?;
-    if let Some(c) = fresh(&list) {
-        list.push(c)?;
+    if let Some(c) = free_in(set, 120, 121) {
+        return Some(c);
     }
-    Ok(list)
+    if let Some(c) = free_in(set, 97, 123) {
+        return Some(c);
+    }
+    if let Some(c) = free_in(set, 48, 58) {
+        return Some(c);
+    }
+    if let Some(c) = free_in(set, 33, 127) {
+        return Some(c);
+    }
+    free_in(set, 0, 0x11_0000)
 }

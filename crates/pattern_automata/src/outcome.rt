@@ -9,6 +9,6 @@ pub enum Product {
     Found(Text),
     /// A closed set, so no text meets them.
     Empty(Closed),
-    /// One more text than the limit, no two with the same lists of places.
+    /// One more text than the limit, no two with the same product state.
     TooMany(TextList),
 }

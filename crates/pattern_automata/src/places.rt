@@ -1,8 +1,9 @@
-//! Lists of places.
+//! Product states, as lists of places.
 ghost use Rattle.std.specs.Prelude.{◌≡◌, ◌*◌, ◌+◌, ◌<◌, ◌≤◌, ◌^◌, ◌++◌, ◌∷◌, ℕ, List, [], false, length, slice_index_or, IfOk, OnOk, OnErr};
-ghost use Rattle.wildcard_lang.specs.Places.{rising, lists_of};
+ghost use Rattle.wildcard_lang.specs.Places.{rising};
 ghost use Rattle.pattern_automata.specs.Marks.{total};
-ghost use Rattle.pattern_automata.specs.Packed.{all_words, word_mark, words_for};
+ghost use Rattle.pattern_automata.specs.Packed.{word_mark, words_for};
+ghost use Rattle.pattern_automata.specs.Answer.{AreStatesOf, HaveWords, IsStateOf};
 
 use crate::found::Found;
 use crate::words::has_mark;
@@ -10,13 +11,13 @@ use plain_lists::{List, NoMemory};
 use std::alloc::Global;
 use wildcard_lang::Pattern;
 
-/// A list of places of one pattern: numbers of first pieces.
+/// Places of one pattern: numbers of first pieces.
 pub type PlaceList = List<u32>;
 
-/// One list of places for each pattern.
+/// A product state: a list of places for each pattern.
 pub type PlaceLists = List<PlaceList>;
 
-/// A set of lists of places.
+/// A set of product states.
 pub type Closed = List<PlaceLists>;
 
 /// The places that are marked among so many from a place on.
@@ -39,7 +40,7 @@ fn places_in(alloc: Global, words: &[u64], at: usize, count: usize) -> Result<Pl
 fn lists_in(alloc: Global, patterns: &[Pattern], words: &[u64]) -> Result<PlaceLists, NoMemory>
     requires size { length words.now ≡ words_for (total patterns.now) }
     requires room { total patterns.now < usize.MAX }
-    ensures { IfOk result (λ v. (t : List ℕ) → words.now ≡ all_words patterns.now t → v ≡ lists_of patterns.now t) }
+    ensures { IfOk result (IsStateOf patterns.now words.now) }
 {
     let mut lists = PlaceLists::new(alloc);
     let mut at = 0;
@@ -51,12 +52,12 @@ fn lists_in(alloc: Global, patterns: &[Pattern], words: &[u64]) -> Result<PlaceL
     Ok(lists)
 }
 
-/// The places of each list that was found.
+/// The product states that were found.
 pub fn closed_of(alloc: Global, patterns: &[Pattern], found: &Found) -> Result<Closed, NoMemory>
-    requires sizes { (k : ℕ) → k < length found.now → length (slice_index_or found.now k []) ≡ words_for (total patterns.now) }
+    requires sizes { HaveWords patterns.now found.now }
     requires room { total patterns.now < usize.MAX }
     ensures count { IfOk result (λ v. length v ≡ length found.now) }
-    ensures each { IfOk result (λ v. (k : ℕ) (t : List ℕ) → k < length v → slice_index_or found.now k [] ≡ all_words patterns.now t → slice_index_or v k [] ≡ lists_of patterns.now t) }
+    ensures each { IfOk result (AreStatesOf patterns.now found.now) }
 {
     let mut closed = Closed::new(alloc);
     for i in 0..found.len() {

@@ -1,72 +1,114 @@
-//! The search over lists of places, as words of marks.
-ghost use Rattle.std.specs.Prelude.{◌≡◌, List, Bool, ◌+◌, ◌∷◌, ◌<◌, ◌≤◌, ℕ, [], length, slice_index_or, All, IfOk, OnOk};
+//! The search over product states, as words of marks.
+ghost use Rattle.std.specs.Prelude.{◌≡◌, List, Bool, ◌+◌, ◌∷◌, ◌<◌, ◌≤◌, ℕ, [], length, slice_index_or, All, IfOk, IsTrue, OnOk};
 ghost use Rattle.pattern_automata.specs.Marks.{total};
-ghost use Rattle.pattern_automata.specs.Tree.{IsTree, IsTurn, IsBase, IsVisit, IsLeft, IsExpansion, IsOutcome, IsRooted, IsEnds};
-ghost use Rattle.pattern_automata.specs.Marks.{all_reached};
-ghost use Rattle.pattern_automata.specs.Packed.{all_words, characters_of, pack, words_for, IsMove};
-ghost use Rattle.pattern_automata.specs.Closed.{InRange, Represent};
-ghost use Rattle.pattern_automata.specs.Answer.{IsProduct, IsReport};
+ghost use Rattle.pattern_automata.specs.Tree.{IsRooted, IsTree, words_meet};
+ghost use Rattle.pattern_automata.specs.Moves.{IsMove, fronts};
+ghost use Rattle.pattern_automata.specs.Packed.{all_words, words_for};
+ghost use Rattle.pattern_automata.specs.Closed.{InRange};
+ghost use Rattle.pattern_automata.specs.Machine.{IsMachine};
+ghost use Rattle.pattern_automata.specs.Search.{Ends, Expands, IsLeftAt, IsUnderWay, LeadsInto, StepsAsFirst, Turns, Visits};
+ghost use Rattle.pattern_automata.specs.Answer.{HaveWords, IsProduct, IsReport};
 
 use crate::found::Found;
+use crate::machine::{Machine, machine_of};
 use crate::marks::start_all;
-use crate::meets::{clauses_met, ends_of, total_of};
-use crate::moves::{Move, moves_of};
-use crate::names::representatives;
+use crate::meets::clauses_met;
+use crate::moves::Move;
 use crate::outcome::Product;
 use crate::places::closed_of;
 use crate::tree::{Parent, Step, text_of, texts_of};
-use crate::wants::{LiteralList, Wants};
-use crate::words::{pack, step_words};
+use crate::wants::Wants;
+use crate::words::{leads_alike, pack, step_words};
 use plain_lists::NoMemory;
 use std::alloc::Global;
-use wildcard_lang::{Pattern, Text, TextList};
+use wildcard_lang::{Pattern, Text};
 
-/// The lists found so far, with their parents, and room for the words of one list.
+/// Room for the words of a step.
+#[derive(Drop)]
+pub struct Room {
+    /// The words without what is led to.
+    pub moved: Vec<u64>,
+    /// The words.
+    pub words: Vec<u64>,
+}
+
+/// The product states found so far, with their parents.
 #[derive(Drop)]
 pub struct Search {
     pub found: Found,
     pub parents: Vec<Parent>,
-    pub words: Vec<u64>,
+    pub room: Room,
 }
 
-/// Makes the words those to which the move leads from the list.
+/// Whether the words meet the wants.
+pub fn is_met(wants: &Wants, machine: &Machine, words: &[u64]) -> bool
+    requires range { InRange (length wants.now.patterns) wants.now.clauses }
+    requires machine { IsMachine wants.now.patterns machine.now }
+    requires size { length words.now ≡ words_for (total wants.now.patterns) }
+    ensures { result ≡ words_meet machine.now.ends.items wants.now.clauses words.now }
+{
+    clauses_met(machine.ends.as_slice(), wants.clauses.as_slice(), words)
+}
+
+/// Makes the room's words those to which the move leads from the list.
 pub fn step_into(
-    patterns: &[Pattern],
+    wants: &Wants,
+    machine: &Machine,
     step: &Move,
     list: &[u64],
-    words: &mut Vec<u64>,
+    room: &mut Room,
 ) -> Result<(), NoMemory>
-    requires does { IsMove patterns.now step.now }
-    requires size { length list.now ≡ words_for (total patterns.now) }
-    ensures { OnOk result ((marks : List Bool) → length marks ≡ total patterns.now → list.now ≡ pack marks → words.new.items ≡ pack (all_reached patterns.now marks step.now.character)) }
+    requires machine { IsMachine wants.now.patterns machine.now }
+    requires does { IsMove (fronts wants.now.patterns) step.now }
+    requires size { length list.now ≡ words_for (total wants.now.patterns) }
+    ensures { OnOk result (LeadsInto wants.now list.now step.now room.new) }
 {
     step_words(
         list,
-        step.one.as_slice(),
-        step.stay.as_slice(),
-        step.leads.as_slice(),
-        words,
+        &machine.masks,
+        step.patches.as_slice(),
+        &mut room.moved,
+        &mut room.words,
     )
 }
 
-/// Steps the list at i by the move, and keeps the words if they are new.
-pub fn turn(
-    alloc: Global,
-    patterns: &[Pattern],
+/// Whether the move leads from the list where the first one does, which is that of a spare character.
+pub fn leads_as_first(wants: &Wants, machine: &Machine, k: usize, step: &Move, list: &[u64]) -> bool
+    requires machine { IsMachine wants.now.patterns machine.now }
+    requires within { k < length machine.now.moves.items }
+    requires does { IsMove (fronts wants.now.patterns) step.now }
+    requires size { length list.now ≡ words_for (total wants.now.patterns) }
+    ensures { IsTrue result → StepsAsFirst wants.now machine.now k step.now list.now }
+{
+    if k == 0 {
+        return false;
+    }
+    if !machine.spared {
+        return false;
+    }
+    leads_alike(list, &machine.masks, step.patches.as_slice())
+}
+
+/// Steps the product state at i by the move, and keeps what is new.
+fn turn(
+    wants: &Wants,
+    machine: &Machine,
     search: &mut Search,
     i: usize,
     step: &Move,
 ) -> Result<bool, NoMemory>
-    requires tree { IsTree patterns.now search.old.found search.old.parents.items }
+    requires machine { IsMachine wants.now.patterns machine.now }
+    requires tree { IsTree wants.now.patterns search.old.found search.old.parents.items }
     requires within { i < length search.old.found }
-    requires does { IsMove patterns.now step.now }
-    ensures { IfOk result (IsTurn patterns.now search.old.found search.new.found search.new.parents.items search.new.words.items i step.now.character) }
+    requires does { IsMove (fronts wants.now.patterns) step.now }
+    ensures { IfOk result (Turns wants.now search.old search.new i step.now) }
 {
-    step_into(patterns, step, search.found.get(i), &mut search.words)?;
-    if search.found.has(search.words.as_slice()) {
+    step_into(wants, machine, step, search.found.get(i), &mut search.room)?;
+    if search.found.has(search.room.words.as_slice()) {
         return Ok(false);
     }
-    let list = Vec::from_slice(alloc, search.words.as_slice())?;
+    let alloc = *search.parents.allocator();
+    let list = Vec::from_slice(alloc, search.room.words.as_slice())?;
     search.found.push(list)?;
     search.parents.push(Parent {
         list: i,
@@ -77,25 +119,24 @@ pub fn turn(
 
 /// A turn, and what it comes to.
 fn visit(
-    alloc: Global,
-    patterns: &[Pattern],
-    ends: &[usize],
-    clauses: &[LiteralList],
+    wants: &Wants,
+    machine: &Machine,
     search: &mut Search,
     i: usize,
     step: &Move,
     limit: usize,
 ) -> Result<Step, NoMemory>
-    requires base { IsBase patterns.now ends.now clauses.now search.old.found search.old.parents.items limit }
+    requires machine { IsMachine wants.now.patterns machine.now }
+    requires base { IsUnderWay wants.now machine.now search.old limit }
     requires within { i < length search.old.found }
-    requires does { IsMove patterns.now step.now }
-    ensures { IfOk result (IsVisit patterns.now ends.now clauses.now search.old.found search.new.found search.new.parents.items i step.now.character limit) }
+    requires does { IsMove (fronts wants.now.patterns) step.now }
+    ensures { IfOk result (Visits wants.now machine.now search.old search.new i step.now limit) }
 {
-    let new = turn(alloc, patterns, search, i, step)?;
+    let new = turn(wants, machine, search, i, step)?;
     if !new {
         return Ok(Step::Left);
     }
-    if clauses_met(ends, clauses, search.words.as_slice()) {
+    if is_met(wants, machine, search.room.words.as_slice()) {
         return Ok(Step::Met);
     }
     if search.found.len() > limit {
@@ -104,24 +145,25 @@ fn visit(
     Ok(Step::Left)
 }
 
-/// The turns of the list at i, by each move.
+/// The turns of the product state at i, by each move that doesn't lead where a spare character does.
 fn expand(
-    alloc: Global,
-    patterns: &[Pattern],
-    ends: &[usize],
-    clauses: &[LiteralList],
-    moves: &[Move],
+    wants: &Wants,
+    machine: &Machine,
     search: &mut Search,
     i: usize,
     limit: usize,
 ) -> Result<Step, NoMemory>
-    requires left { IsLeft patterns.now ends.now clauses.now (characters_of moves.now) search.old.found search.old.parents.items i limit }
+    requires machine { IsMachine wants.now.patterns machine.now }
+    requires left { IsLeftAt wants.now machine.now search.old i limit }
     requires within { i < length search.old.found }
-    requires moves { All (IsMove patterns.now) moves.now }
-    ensures { IfOk result (IsExpansion patterns.now ends.now clauses.now (characters_of moves.now) search.new.found search.new.parents.items i limit) }
+    ensures { IfOk result (Expands wants.now machine.now search.new i limit) }
 {
-    for step in moves {
-        match visit(alloc, patterns, ends, clauses, search, i, step, limit)? {
+    for k in 0..machine.moves.len() {
+        let step = &machine.moves[k];
+        if leads_as_first(wants, machine, k, step, search.found.get(i)) {
+            continue;
+        }
+        match visit(wants, machine, search, i, step, limit)? {
             Step::Left => {}
             end => return Ok(end),
         }
@@ -129,25 +171,22 @@ fn expand(
     Ok(Step::Left)
 }
 
-/// The turns of each list.
+/// The turns of each product state.
 fn explore(
-    alloc: Global,
-    patterns: &[Pattern],
-    ends: &[usize],
-    clauses: &[LiteralList],
-    moves: &[Move],
+    wants: &Wants,
+    machine: &Machine,
     search: &mut Search,
     limit: usize,
 ) -> Result<Step, NoMemory>
-    requires left { IsLeft patterns.now ends.now clauses.now (characters_of moves.now) search.old.found search.old.parents.items 0 limit }
-    requires moves { All (IsMove patterns.now) moves.now }
-    ensures { IfOk result (IsOutcome patterns.now ends.now clauses.now (characters_of moves.now) search.new.found search.new.parents.items limit) }
+    requires machine { IsMachine wants.now.patterns machine.now }
+    requires left { IsLeftAt wants.now machine.now search.old 0 limit }
+    ensures { IfOk result (Ends wants.now machine.now search.new limit) }
 {
     for i in 0..limit {
         if i >= search.found.len() {
             return Ok(Step::Left);
         }
-        match expand(alloc, patterns, ends, clauses, moves, search, i, limit)? {
+        match expand(wants, machine, search, i, limit)? {
             Step::Left => {}
             end => return Ok(end),
         }
@@ -155,12 +194,12 @@ fn explore(
     Ok(Step::Left)
 }
 
-/// A search that has found the list of the empty text.
+/// A search that has found the product state of the empty text.
 fn begin(alloc: Global, patterns: &[Pattern], count: usize) -> Result<Search, NoMemory>
     requires { count ≡ total patterns.now }
     ensures found { IfOk result (λ s. s.found ≡ all_words patterns.now [] ∷ []) }
     ensures parents { IfOk result (λ s. length s.parents.items ≡ 1) }
-    ensures words { IfOk result (λ s. s.words.items ≡ all_words patterns.now []) }
+    ensures words { IfOk result (λ s. s.room.words.items ≡ all_words patterns.now []) }
 {
     let words = start_words(alloc, patterns, count)?;
     let mut found = Found::new(alloc);
@@ -173,7 +212,10 @@ fn begin(alloc: Global, patterns: &[Pattern], count: usize) -> Result<Search, No
     Ok(Search {
         found,
         parents,
-        words,
+        room: Room {
+            moved: Vec::new(alloc),
+            words,
+        },
     })
 }
 
@@ -197,7 +239,7 @@ fn answer(
     requires rooted { IsRooted search.now.parents.items }
     requires some { 0 < length search.now.parents.items }
     requires room { total patterns.now < usize.MAX }
-    requires sizes { (k : ℕ) → k < length search.now.found → length (slice_index_or search.now.found k []) ≡ words_for (total patterns.now) }
+    requires sizes { HaveWords patterns.now search.now.found }
     ensures { IfOk result (IsReport patterns.now search.now.found search.now.parents.items step) }
 {
     match step {
@@ -210,55 +252,32 @@ fn answer(
     }
 }
 
-/// The product, from the ends of the patterns and the representatives.
-fn solve(
-    alloc: Global,
-    patterns: &[Pattern],
-    clauses: &[LiteralList],
-    ends: &[usize],
-    moves: &[Move],
-    count: usize,
-    limit: usize,
-) -> Result<Product, NoMemory>
-    requires range { InRange (length patterns.now) clauses.now }
+/// The product, from what there is to know of the patterns.
+fn solve(alloc: Global, wants: &Wants, machine: &Machine, limit: usize) -> Result<Product, NoMemory>
+    requires range { InRange (length wants.now.patterns) wants.now.clauses }
     requires some { 1 ≤ limit }
-    requires ends { IsEnds patterns.now ends.now }
-    requires characters { Represent patterns.now (characters_of moves.now) }
-    requires moves { All (IsMove patterns.now) moves.now }
-    requires count { count ≡ total patterns.now }
-    requires room { count < usize.MAX }
-    ensures { IfOk result (IsProduct patterns.now clauses.now limit) }
+    requires machine { IsMachine wants.now.patterns machine.now }
+    ensures { IfOk result (IsProduct wants.now.patterns wants.now.clauses limit) }
 {
-    let mut search = begin(alloc, patterns, count)?;
-    if clauses_met(ends, clauses, search.words.as_slice()) {
+    let patterns = wants.patterns.as_slice();
+    let mut search = begin(alloc, patterns, machine.count)?;
+    if is_met(wants, machine, search.room.words.as_slice()) {
         return Ok(Product::Found(Text::from_chars(Vec::new(alloc))));
     }
-    let step = explore(alloc, patterns, ends, clauses, moves, &mut search, limit)?;
+    let step = explore(wants, machine, &mut search, limit)?;
     answer(alloc, patterns, &search, step)
 }
 
-/// Answers a text that meets the wants; or a closed set of at most `limit` lists, so that no text
-/// does; or `limit + 1` texts, no two of which have the same lists of places of the patterns.
+/// Answers a text that meets the wants; or a closed set of at most `limit` product states, so that no
+/// text does; or `limit + 1` texts, no two of which have the same product state.
 ///
-/// Each literal names one of the patterns, and `limit`, the most lists that are looked at, is at
-/// least 1. The only error is want of memory.
+/// Each literal names one of the patterns, and `limit`, the most product states that are looked at, is
+/// at least 1. The only error is want of memory.
 pub fn product(alloc: Global, wants: &Wants, limit: u32) -> Result<Product, NoMemory>
     requires range { InRange (length wants.now.patterns) wants.now.clauses }
     requires some { 1 ≤ limit }
     ensures { IfOk result (IsProduct wants.now.patterns wants.now.clauses limit) }
 {
-    let patterns = wants.patterns.as_slice();
-    let characters = representatives(alloc, patterns)?;
-    let count = total_of(patterns)?;
-    let ends = ends_of(alloc, patterns)?;
-    let moves = moves_of(alloc, patterns, characters.as_slice())?;
-    solve(
-        alloc,
-        patterns,
-        wants.clauses.as_slice(),
-        ends.as_slice(),
-        moves.as_slice(),
-        count,
-        limit as usize,
-    )
+    let machine = machine_of(alloc, wants.patterns.as_slice())?;
+    solve(alloc, wants, &machine, limit as usize)
 }

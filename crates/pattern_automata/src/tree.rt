@@ -1,12 +1,13 @@
 //! The tree of a search, and the texts that it spells.
 ghost use Rattle.std.specs.Prelude.{◌≡◌, ◌+◌, ◌<◌, ℕ, [], length, slice_index_or, IfOk};
 ghost use Rattle.pattern_automata.specs.Tree.{IsRooted, Spells};
+ghost use Rattle.pattern_automata.specs.Answer.{SpellEach};
 
 use plain_lists::NoMemory;
 use std::alloc::Global;
 use wildcard_lang::{Text, TextList};
 
-/// From which list, and by which character, a list was found.
+/// From which product state, and by which character, one was found.
 #[derive(Clone, Copy)]
 pub struct Parent {
     pub list: usize,
@@ -18,13 +19,13 @@ pub struct Parent {
 pub enum Step {
     /// The search goes on.
     Left,
-    /// The last list meets the clauses.
+    /// The last product state meets the clauses.
     Met,
-    /// There is one list more than the limit.
+    /// There is one product state more than the limit.
     Full,
 }
 
-/// The text that leads to the list at i.
+/// The text that leads to the product state at i.
 pub fn text_of(alloc: Global, parents: &[Parent], i: usize) -> Result<Text, NoMemory>
     requires rooted { IsRooted parents.now }
     requires within { i < length parents.now }
@@ -41,11 +42,11 @@ pub fn text_of(alloc: Global, parents: &[Parent], i: usize) -> Result<Text, NoMe
     Ok(Text::from_chars(chars))
 }
 
-/// The text of each list.
+/// The text of each product state.
 pub fn texts_of(alloc: Global, parents: &[Parent]) -> Result<TextList, NoMemory>
     requires { IsRooted parents.now }
     ensures count { IfOk result (λ ts. length ts ≡ length parents.now) }
-    ensures each { IfOk result (λ ts. (k : ℕ) → k < length ts → Spells parents.now k (slice_index_or ts k [])) }
+    ensures each { IfOk result (SpellEach parents.now) }
 {
     let mut texts = TextList::new(alloc);
     for i in 0..parents.len() {

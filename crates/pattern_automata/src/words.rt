@@ -1,8 +1,10 @@
 //! Marks packed into words, one bit each.
 
-ghost use Rattle.std.specs.Prelude.{◌≡◌, ◌<◌, ◌≤◌, ◌*◌, ℕ, length, slice_index, IfOk, OnOk};
-ghost use Rattle.pattern_automata.specs.Packed.{before, filled, moved, number, on, pack, stepped, word_mark};
+ghost use Rattle.std.specs.Prelude.{◌≡◌, ◌<◌, ◌≤◌, ◌*◌, ℕ, false, length, slice_index, All, IfOk, IsTrue, OnOk};
+ghost use Rattle.pattern_automata.specs.Packed.{before, filled, on, pack, word_mark, word_with};
+ghost use Rattle.pattern_automata.specs.Steps.{masked_at, moved_at, AreFilled, AreMoved, ArePatched, AreStepped, AreWords, HaveSize, IsAlike};
 
+use crate::moves::{Masks, Patch};
 use plain_lists::NoMemory;
 use std::alloc::Global;
 
@@ -14,18 +16,18 @@ pub fn is_on(word: u64, bit: usize) -> bool
     (word >> bit) & 1 == 1
 }
 
-/// Whether the mark at the place is set.
-pub fn has_mark(words: &[u64], place: usize) -> bool
-    requires { place < 64 * length words.now }
-    ensures { result ≡ word_mark words.now place }
+/// Whether the mark is set.
+pub fn has_mark(words: &[u64], mark: usize) -> bool
+    requires { mark < 64 * length words.now }
+    ensures { result ≡ word_mark words.now mark }
 {
-    is_on(words[place / 64], place % 64)
+    is_on(words[mark / 64], mark % 64)
 }
 
 /// The word with these bits.
 fn word_of(marks: &[bool]) -> u64
     requires { length marks.now ≤ 64 }
-    ensures { result ≡ number marks.now }
+    ensures { result ≡ word_with marks.now }
 {
     let mut word = 0;
     let mut i = marks.len();
@@ -73,36 +75,106 @@ fn fill(set: u64, leads: u64, first: bool) -> u64
     word
 }
 
-/// The bits after a step.
-pub fn step_word(old: u64, one: u64, stay: u64, leads: u64, first: bool, below: bool) -> u64
-    ensures { (i : ℕ) → i < 64 → on result i ≡ filled (moved (on one) (on stay) (on old) first) (on leads) below i }
+/// What stands before the first bit of the word at an index: the last bit of the word before it.
+fn carry(list: &[u64], index: usize) -> bool
+    requires { index ≤ length list.now }
+    ensures { result ≡ before false (word_mark list.now) (64 * index) }
 {
-    fill((shifted(old, first) & one) | (old & stay), leads, below)
+    if index == 0 {
+        return false;
+    }
+    is_on(list[index - 1], 63)
 }
 
-/// Makes the words those of the marks after a step.
-pub fn step_words(
-    list: &[u64],
-    one: &[u64],
-    stay: &[u64],
-    leads: &[u64],
-    next: &mut Vec<u64>,
-) -> Result<(), NoMemory>
-    requires one { length one.now ≡ length list.now }
-    requires stay { length stay.now ≡ length list.now }
-    requires leads { length leads.now ≡ length list.now }
-    ensures count { OnOk result (length next.new.items ≡ length list.now) }
-    ensures words { OnOk result ((k : ℕ) → k < length next.new.items → slice_index next.new.items k < 18446744073709551616) }
-    ensures marks { OnOk result ((j : ℕ) → j < 64 * length list.now → word_mark next.new.items j ≡ stepped (word_mark one.now) (word_mark stay.now) (word_mark leads.now) (word_mark list.now) j) }
+/// The word at an index after a step, without what is led to.
+fn moved_word(list: &[u64], index: usize, one: u64, stay: u64) -> u64
+    requires { index < length list.now }
+    ensures { (b : ℕ) → b < 64 → on result b ≡ moved_at one stay list.now index b }
 {
-    next.clear();
-    let mut first = false;
+    (shifted(list[index], carry(list, index)) & one) | (list[index] & stay)
+}
+
+/// The same by a character that no piece names.
+fn masked_word(list: &[u64], index: usize, masks: &Masks) -> u64
+    requires size { HaveSize masks.now (length list.now) }
+    requires within { index < length list.now }
+    ensures { (b : ℕ) → b < 64 → on result b ≡ masked_at masks.now list.now index b }
+{
+    moved_word(list, index, masks.one[index], masks.many[index])
+}
+
+/// The words after a step by a character that no piece names, without what is led to.
+fn moved_words(list: &[u64], masks: &Masks, moved: &mut Vec<u64>) -> Result<(), NoMemory>
+    requires { HaveSize masks.now (length list.now) }
+    ensures { OnOk result (AreMoved masks.now list.now moved.new.items) }
+{
+    moved.clear();
+    for index in 0..list.len() {
+        moved.push(masked_word(list, index, masks))?;
+    }
+    Ok(())
+}
+
+/// The same by a character that has these patches.
+fn patch_words(list: &[u64], patches: &[Patch], moved: &mut Vec<u64>)
+    requires within { All (λ p. p.index < length list.now) patches.now }
+    requires count { length moved.old.items ≡ length list.now }
+    ensures count { length moved.new.items ≡ length list.now }
+    ensures patched { ArePatched list.now patches.now moved.old.items moved.new.items }
+{
+    for patch in patches {
+        moved[patch.index] = moved_word(list, patch.index, patch.one, patch.stay);
+    }
+}
+
+/// The words with what is led to.
+fn fill_words(moved: &[u64], leads: &[u64], words: &mut Vec<u64>) -> Result<(), NoMemory>
+    requires { length leads.now ≡ length moved.now }
+    ensures count { OnOk result (length words.new.items ≡ length moved.now) }
+    ensures small { OnOk result (AreWords words.new.items) }
+    ensures marks { OnOk result (AreFilled moved.now leads.now words.new.items) }
+{
+    words.clear();
     let mut below = false;
-    for k in 0..list.len() {
-        let word = step_word(list[k], one[k], stay[k], leads[k], first, below);
-        next.push(word)?;
-        first = is_on(list[k], 63);
+    for index in 0..moved.len() {
+        let word = fill(moved[index], leads[index], below);
+        words.push(word)?;
         below = is_on(word, 63);
     }
     Ok(())
+}
+
+/// Whether a character with these patches leads from the list where one that no piece names does. Only
+/// where it doesn't it is worth a step.
+pub fn leads_alike(list: &[u64], masks: &Masks, patches: &[Patch]) -> bool
+    requires size { HaveSize masks.now (length list.now) }
+    requires within { All (λ p. p.index < length list.now) patches.now }
+    ensures { IsTrue result → All (IsAlike masks.now list.now) patches.now }
+{
+    for patch in patches {
+        let own = moved_word(list, patch.index, patch.one, patch.stay);
+        if own != masked_word(list, patch.index, masks) {
+            return false;
+        }
+    }
+    true
+}
+
+/// Makes the words those to which a character with these patches leads from the list.
+pub fn step_words(
+    list: &[u64],
+    masks: &Masks,
+    patches: &[Patch],
+    moved: &mut Vec<u64>,
+    words: &mut Vec<u64>,
+) -> Result<(), NoMemory>
+    requires size { HaveSize masks.now (length list.now) }
+    requires within { All (λ p. p.index < length list.now) patches.now }
+    ensures count { OnOk result (length words.new.items ≡ length list.now) }
+    ensures small { OnOk result (AreWords words.new.items) }
+    ensures marks { OnOk result (AreStepped masks.now patches.now list.now words.new.items) }
+{
+    moved_words(list, masks, moved)?;
+    patch_words(list, patches, moved);
+    fill_words(moved.as_slice(), masks.many.as_slice(), words)
 }

@@ -2,10 +2,11 @@ use Rattle.std.proofs.Common.{◌≡◌, ℕ, List, Bool, true, length, take, Co
 use Rattle.std.specs.Char.{IsScalar}
 use Rattle.wildcard_lang.specs.Places.{has}
 use Rattle.pattern_automata.specs.Marks.{all_reached, total}
-use Rattle.pattern_automata.specs.Packed.{characters_of, pack}
+use Rattle.pattern_automata.specs.Moves.{characters_of}
+use Rattle.pattern_automata.specs.Packed.{pack}
 use Rattle.pattern_automata.proofs.check.passes.Given as goal
 
-abbrev pub invariant-loop-step : goal.invariant-loop-step
-invariant-loop-step l =
-    (marks : List Bool) → length marks ≡ total l.patterns → l.words ≡ pack marks →
-    (c : ℕ) → IsScalar c → has (characters_of (take l.step-index l.moves)) c ≡ true → Contains l.index (pack (all_reached l.patterns marks c))
+abbrev pub invariant-loop-k : goal.invariant-loop-k
+invariant-loop-k l =
+    (marks : List Bool) → length marks ≡ total l.wants.patterns → l.words ≡ pack marks →
+    (c : ℕ) → IsScalar c → has (characters_of (take l.k l.machine.moves.items)) c ≡ true → Contains l.index (pack (all_reached l.wants.patterns marks c))

@@ -5,4 +5,4 @@ use Rattle.pattern_automata.specs.Closed.{names_any}
 use Rattle.pattern_automata.proofs.names.add_pattern.Given as goal
 
 abbrev pub invariant-loop-piece : goal.invariant-loop-piece
-invariant-loop-piece l = (d : ℕ) → IsScalar d → has l.list.items d ≡ (has l.fn.list.items d || names_any (take l.piece-index l.piece-items) d)
+invariant-loop-piece l = (d : ℕ) → IsScalar d → has l.set.keys d ≡ (has l.fn.set.keys d || names_any (take l.piece-index l.piece-items) d)

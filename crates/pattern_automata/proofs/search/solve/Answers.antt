@@ -1,23 +1,32 @@
-use Rattle.std.proofs.Common.{◌∙◌, sym, ap, List, ℕ}
+use Rattle.std.proofs.Common.{◌∙◌, ◌∷◌, sym, ap, List, ℕ, length, []}
+use Rattle.wildcard_lang.specs.declared.piece.Piece.{Piece}
+use Rattle.pattern_automata.specs.Marks.{total}
+use Rattle.pattern_automata.specs.Packed.{all_words, words_for}
 use Rattle.pattern_automata.specs.Tree.{words_meet}
-use Rattle.pattern_automata.proofs.Answering.{begins, sizes, product-answer, ends-in, empty-text}
+use Rattle.pattern_automata.proofs.Packing.{length-all_words}
+use Rattle.pattern_automata.proofs.Answering.{begins, sizes, product-answer, empty-text}
+use Rattle.pattern_automata.proofs.Standing.{stands}
 use Rattle.pattern_automata.proofs.search.solve.Goals as goal
 
-pub clauses_met-requires-clause-within : goal.clauses_met-requires-clause-within
-clauses_met-requires-clause-within c = ends-in _ _ _ c.requires.ends (c.as_slice.ensures.value ∙ c.in_ok-search.ensures.words)
+pub is_met-requires-clause-size : goal.is_met-requires-clause-size
+is_met-requires-clause-size c =
+    ap length (c.as_slice.ensures.value ∙ c.in_ok-search.ensures.words) ∙ (length-all_words c.as_slice-patterns.result.now [] ∙ ap (λ (x : List (List Piece)). words_for (total x)) c.as_slice-patterns.ensures)
 
-pub returns-then-clauses_met : goal.returns-then-clauses_met
-returns-then-clauses_met c =
-    empty-text _ _ _ _ _ c.requires.ends c.requires.range (c.as_slice.ensures.value ∙ c.in_ok-search.ensures.words) (sym c.if-clauses_met.ensures)
+pub returns-then-is_met : goal.returns-then-is_met
+returns-then-is_met c =
+    empty-text _ _ _ _ _ c.requires.machine.ends c.requires.range
+    (c.as_slice.ensures.value ∙ (c.in_ok-search.ensures.words ∙ ap (λ (x : List (List Piece)). all_words x []) c.as_slice-patterns.ensures)) (sym c.if-is_met.ensures)
     (c.from_chars.ensures ∙ c.new.ensures.items)
 
 pub explore-requires-clause-left : goal.explore-requires-clause-left
 explore-requires-clause-left c =
-    begins _ _ _ _ _ c.requires.ends c.requires.range _ _ c.in_ok-search.ensures.found c.in_ok-search.ensures.parents c.requires.some
-    (ap (λ (x : List ℕ). words_meet c.args.ends.now c.args.clauses.now x) (sym (c.as_slice.ensures.value ∙ c.in_ok-search.ensures.words)) ∙ sym c.if-clauses_met.ensures)
+    let words = c.in_ok-search.ensures.words ∙ ap (λ (x : List (List Piece)). all_words x []) c.as_slice-patterns.ensures in
+    begins _ _ _ _ _ c.requires.machine.ends c.requires.range _ _ (c.in_ok-search.ensures.found ∙ ap (λ (x : List (List Piece)). all_words x [] ∷ []) c.as_slice-patterns.ensures) c.in_ok-search.ensures.parents c.requires.some
+    (ap (λ (x : List ℕ). words_meet c.args.machine.now.ends.items c.args.wants.now.clauses x) (sym (c.as_slice.ensures.value ∙ words)) ∙ sym c.if-is_met.ensures)
 
 pub answer-requires-clause-sizes : goal.answer-requires-clause-sizes
-answer-requires-clause-sizes c = sizes _ _ _ _ _ c.requires.ends c.requires.range _ _ _ c.in_ok-step.ensures
+answer-requires-clause-sizes c = rw c.as_slice-patterns.ensures (sizes _ _ _ _ _ c.requires.machine.ends c.requires.range _ _ _ c.in_ok-step.ensures)
 
 pub returns : goal.returns
-returns c = product-answer _ _ _ _ _ c.requires.ends c.requires.range _ _ _ _ c.in_ok-step.ensures c.answer.ensures c.requires.characters
+returns c =
+    product-answer _ _ _ _ _ c.requires.machine.ends c.requires.range _ _ _ _ c.in_ok-step.ensures (rw c.as_slice-patterns.ensures at c.answer.ensures) (stands _ _ _ c.requires.machine.alphabet)

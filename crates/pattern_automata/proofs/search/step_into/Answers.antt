@@ -1,17 +1,16 @@
-use Rattle.std.proofs.Common.{◌∙◌, ap, sym, length}
-use Rattle.pattern_automata.proofs.Packing.{move-size, step-packed-ok}
+use Rattle.std.proofs.Common.{◌<◌, List, All, length, subst, sym}
+use Rattle.pattern_automata.specs.declared.moves.Patch.{Patch}
+use Rattle.pattern_automata.proofs.Patching.{masks-size, patches-within, leads-ok}
 use Rattle.pattern_automata.proofs.search.step_into.Goals as goal
 
-pub step_words-requires-clause-one : goal.step_words-requires-clause-one
-step_words-requires-clause-one c = ap length c.as_slice.ensures.value ∙ (move-size c.args.patterns.now _ c.args.step.now.one.items c.requires.does.one ∙ sym c.requires.size)
+pub step_words-requires-clause-size : goal.step_words-requires-clause-size
+step_words-requires-clause-size c = masks-size c.args.wants.now.patterns c.args.machine.now.masks _ c.requires.machine.masks c.requires.size
 
-pub step_words-requires-clause-stay : goal.step_words-requires-clause-stay
-step_words-requires-clause-stay c = ap length c.as_slice-2.ensures.value ∙ (move-size c.args.patterns.now _ c.args.step.now.stay.items c.requires.does.stay ∙ sym c.requires.size)
-
-pub step_words-requires-clause-leads : goal.step_words-requires-clause-leads
-step_words-requires-clause-leads c = ap length c.as_slice-3.ensures.value ∙ (move-size c.args.patterns.now _ c.args.step.now.leads.items c.requires.does.leads ∙ sym c.requires.size)
+pub step_words-requires-clause-within : goal.step_words-requires-clause-within
+step_words-requires-clause-within c =
+    subst (λ (x : List Patch). All (λ (p : Patch). p.index < length c.args.list.now) x) (sym c.as_slice.ensures.value) (patches-within c.args.wants.now.patterns c.args.step.now _ c.requires.does c.requires.size)
 
 pub returns : goal.returns
 returns c =
-    step-packed-ok c.args.patterns.now c.args.step.now c.args.list.now _ _ _ _ _ c.requires.does c.as_slice.ensures.value c.as_slice-2.ensures.value c.as_slice-3.ensures.value
-    c.step_words.ensures.count c.step_words.ensures.words c.step_words.ensures.marks
+    leads-ok c.step_words.result c.args.wants.now.patterns c.args.machine.now.masks c.args.step.now _ c.args.list.now _ c.requires.machine.masks c.requires.does c.as_slice.ensures.value
+    c.step_words.ensures.count c.step_words.ensures.small c.step_words.ensures.marks

@@ -1,8 +1,8 @@
-use Rattle.pattern_automata.proofs.Packing.{step-more}
+use Rattle.std.proofs.Common.{◌∙◌, ap, length}
+use Rattle.pattern_automata.proofs.Patching.{step-ok}
 use Rattle.pattern_automata.proofs.words.step_words.Goals as goal
 
-pub loop-k-preserved : goal.loop-k-preserved
-loop-k-preserved c =
-    let w = c.loop-k.invariant in
-    step-more c.args.one.now c.args.stay.now c.args.leads.now c.args.list.now c.loop-k.k c.loop-k.next.items c.step_word-word.result c.loop-k.first c.loop-k.below w.0 w.1 w.2 w.3 w.4 c.step_word-word.type_inv
-    c.step_word-word.ensures _ _ _ c.in_ok-push.ensures.items c.is_on-first.ensures c.is_on-below.ensures
+pub returns-clause-marks : goal.returns-clause-marks
+returns-clause-marks c =
+    step-ok c.fill_words.result c.args.masks.now c.args.patches.now c.args.list.now c.moved_words.new.moved.items c.as_slice.result.now c.fill_words.new.words.items c.in_ok-moved_words.ensures
+    (λ k h. rw c.as_slice.ensures.value (c.patch_words.ensures.patched k h)) (ap length c.as_slice.ensures.value ∙ c.patch_words.ensures.count) (rw (← c.as_slice-2.ensures.value) c.fill_words.ensures.marks)

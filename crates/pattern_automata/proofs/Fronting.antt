@@ -1,0 +1,55 @@
+-- The fronts of patterns, and words of what they do.
+use Rattle.std.proofs.Common.{◌≡◌, ℕ, suc, ◌+◌, ◌*◌, ◌/◌, ◌%◌, ◌-◌, ◌<◌, ◌≤◌, Bool, cond, eqb, sym, ap, ◌∙◌, inl, inr, arith, List, [], ◌∷◌, ◌++◌, length, map, get_or, Option, None, Some, take}
+use mir.Val.{bool_byte}
+use Rattle.std.proofs.lemmas.Bool.{cases_lt}
+use Rattle.std.proofs.lemmas.Nat.Bits.{bit_at-zero}
+use Rattle.std.proofs.lemmas.List.{take_more, append_assoc, append-nil, get_or_past}
+use Rattle.wildcard_lang.specs.declared.piece.Piece.{Piece}
+use Rattle.wildcard_lang.specs.Accepts.{tests}
+use Rattle.wildcard_lang.proofs.Laws.{length-tests, get_or-tests}
+use Rattle.pattern_automata.specs.declared.fronts.Kind.{Kind}
+use Rattle.pattern_automata.specs.Packed.{on, word_mark, word_with}
+use Rattle.pattern_automata.specs.Moves.{fronts, does}
+use Rattle.pattern_automata.proofs.Bits.{byte-is, half-small}
+use Rattle.pattern_automata.proofs.Packing.{on-word_with}
+
+fronts-push : (ps : List (List Piece)) (p : List Piece) → fronts (ps ++ p ∷ []) ≡ fronts ps ++ (None ∷ map Some p)
+fronts-push [] p = ap (λ x. None ∷ x) (append-nil (map Some p))
+fronts-push (q ∷ qs) p = ap (λ x. None ∷ (map Some q ++ x)) (fronts-push qs p) ∙ ap (λ x. None ∷ x) (sym (append_assoc (map Some q) (fronts qs) (None ∷ map Some p)))
+
+pub fronts-more : (ps : List (List Piece)) (i : ℕ) (p : List Piece) (old new : List (Option Piece)) → i < length ps → p ≡ get_or ps i p → old ≡ fronts (take i ps) →
+    new ≡ old ++ (None ∷ map Some p) → new ≡ fronts (take (i + 1) ps)
+fronts-more ps i p old new h read are pushed =
+    let more : fronts (take (i + 1) ps) ≡ fronts (take i ps) ++ (None ∷ map Some p) =
+    ap fronts (take_more ps i p h) ∙ (fronts-push (take i ps) (get_or ps i p) ∙ ap (λ x. fronts (take i ps) ++ (None ∷ map Some x)) (sym read)) in
+    rw (pushed, are) (sym more)
+
+-- one more bit in front
+pub word-more : (f : ℕ → Bool) (s i word b new : ℕ) → 0 < i → i ≤ 64 → word ≡ word_with (tests f (s + i) (64 - i)) → b ≡ bool_byte (f (s + (i - 1))) → new ≡ word * 2 + b →
+    new ≡ word_with (tests f (s + (i - 1)) (64 - (i - 1)))
+word-more f s i word b new low high are made pushed =
+    let n : 64 - (i - 1) ≡ suc (64 - i) = omega arith in
+    let a : s + (i - 1) + 1 ≡ s + i = omega arith in
+    let bit : b ≡ cond (f (s + (i - 1))) 1 0 = made ∙ byte-is (f (s + (i - 1))) in
+    pushed ∙ rw (n, a, ← are, bit) (omega arith)
+
+pub word-half : (f : ℕ → Bool) (s i word : ℕ) → 0 < i → word ≡ word_with (tests f (s + i) (64 - i)) → word < 9223372036854775808
+word-half f s i word low are = let h = half-small (tests f (s + i) (64 - i)) (omega (arith, length-tests f (s + i) (64 - i))) in omega (arith, are, h)
+
+pub word-bits : (f : ℕ → Bool) (s i word : ℕ) → i ≤ 0 → word ≡ word_with (tests f (s + i) (64 - i)) → (b : ℕ) → b < 64 → on word b ≡ f (s + b)
+word-bits f s i word none are b h =
+    let e : 64 - i ≡ 64 = omega arith in
+    let a : s + i ≡ s = omega arith in
+    rw (are, e, a) (on-word_with (tests f s 64) b ∙ get_or-tests f s 64 b h)
+
+-- the words of all
+pub words-end : (kind : Kind) (F : List (Option Piece)) (words : List ℕ) (i : ℕ) → length F / 64 + 1 ≤ i → length words ≡ i → ((j : ℕ) → j < 64 * i → word_mark words j ≡ does kind F j) →
+    (j : ℕ) → word_mark words j ≡ does kind F j
+words-end kind F words i end count marks j =
+    elim (cases_lt j (64 * i)) [
+      | inl l ↦ marks j l
+      | inr g ↦
+          let none : get_or words (j / 64) 0 ≡ 0 = get_or_past words (j / 64) 0 (omega (arith, count)) in
+          let past : get_or F j None ≡ None = get_or_past F j None (omega arith) in
+          rw (none, past) (ap (λ x. eqb x 1) (bit_at-zero (j % 64)))
+    ]

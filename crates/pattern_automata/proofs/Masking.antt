@@ -1,0 +1,225 @@
+-- The masks with the patches of a character in their place say what it does, and a step by them is the step of the marks.
+use Rattle.std.proofs.Common.{◌≡◌, ℕ, zero, suc, ◌+◌, ◌*◌, ◌/◌, ◌%◌, ◌<◌, ◌≤◌, ◌⊎◌, Bool, true, false, not, eqb, refl, sym, ap, ◌∙◌, subst, inl, inr, arith, List, [], ◌∷◌, ◌++◌, length, map, get_or, Option, None, Some, All}
+use Rattle.std.specs.Bool.{beq}
+use Rattle.std.proofs.lemmas.Bool.{cases_lt, cases_eq, cases_Bool, or_parts}
+use Rattle.std.proofs.lemmas.List.{ext_get_or, get_or_past, length-append, length-map}
+use Rattle.wildcard_lang.specs.declared.piece.Piece.{Piece}
+use Rattle.wildcard_lang.specs.declared.piece.Piece.TheVariants.{Lit, LitFold, One, Many, OneNoColon, ManyNoColon}
+use Rattle.wildcard_lang.specs.Matching.{takes}
+use Rattle.pattern_automata.specs.declared.fronts.Kind.TheVariants.{Passes, Keeps, PassesOthers, Leads}
+use Rattle.pattern_automata.specs.declared.moves.Masks.{Masks}
+use Rattle.pattern_automata.specs.declared.moves.Patch.{Patch}
+use Rattle.pattern_automata.specs.declared.moves.Move.{Move}
+use Rattle.pattern_automata.specs.Closed.{names, names_any, named}
+use Rattle.pattern_automata.specs.Marks.{total, all_reached}
+use Rattle.pattern_automata.specs.Packed.{on, word_mark, before, filled, moved, stepped, marks_by, pack, words_for}
+use Rattle.pattern_automata.specs.Moves.{takes_others, tells, piece_test, fronts, if_piece, does, IsMasks, IsPatch, IsToldApart, HasPatch, IsMove}
+use Rattle.pattern_automata.specs.Steps.{moved_at, AreMoved, IsPatched, IsAlike, AreMasksOf, AreStepped}
+use Rattle.pattern_automata.specs.Search.{LeadsByWords}
+use Rattle.pattern_automata.proofs.Empty.{colon-named}
+use Rattle.pattern_automata.proofs.Parts.{length-all_reached}
+use Rattle.pattern_automata.proofs.Packing.{mark-at, mark-pack, length-pack, packed-from, stepped-same, reached-stepped, moved-word}
+
+-- ---- fronts
+
+pub length-fronts : (ps : List (List Piece)) → length (fronts ps) ≡ total ps
+length-fronts [] = refl
+length-fronts (p ∷ ps) = omega (arith, length-append (map Some p) (fronts ps), length-map p (λ (q : Piece). Some q), length-fronts ps)
+
+marks-fronts-in : (f : Piece → Bool) (p : List Piece) (rest : List Bool) (more : List (Option Piece)) →
+    ((j : ℕ) → get_or rest j false ≡ if_piece f (get_or more j None)) → (j : ℕ) → get_or (map f p ++ rest) j false ≡ if_piece f (get_or (map Some p ++ more) j None)
+marks-fronts-in f [] rest more h j = h j
+marks-fronts-in f (q ∷ qs) rest more h zero = refl
+marks-fronts-in f (q ∷ qs) rest more h (suc j) = marks-fronts-in f qs rest more h j
+
+-- a mark of what a test says is read off the fronts
+pub marks-fronts : (f : Piece → Bool) (ps : List (List Piece)) (j : ℕ) → get_or (marks_by f ps) j false ≡ if_piece f (get_or (fronts ps) j None)
+marks-fronts f [] j = refl
+marks-fronts f (p ∷ ps) zero = refl
+marks-fronts f (p ∷ ps) (suc j) = marks-fronts-in f p (marks_by f ps) (fronts ps) (marks-fronts f ps) j
+
+-- ---- pieces that don't tell a character from others
+
+same-of : (a b : Bool) → not (beq a b) ≡ false → a ≡ b
+same-of true true h = refl
+same-of true false h = absurd (cc)
+same-of false true h = absurd (cc)
+same-of false false h = refl
+
+passes-alike : (c : ℕ) (x : Option Piece) → if_piece (tells c) x ≡ false → if_piece (piece_test PassesOthers) x ≡ if_piece (piece_test (Passes c)) x
+passes-alike c None h = refl
+passes-alike c (Some p) h = let e : takes p c ≡ takes_others p = same-of (takes p c) (takes_others p) h in rw e refl
+
+keeps-alike : (c : ℕ) (x : Option Piece) → if_piece (tells c) x ≡ false → if_piece (piece_test Leads) x ≡ if_piece (piece_test (Keeps c)) x
+keeps-alike c None h = refl
+keeps-alike c (Some (Lit d)) h = refl
+keeps-alike c (Some (LitFold d)) h = refl
+keeps-alike c (Some One) h = refl
+keeps-alike c (Some Many) h = refl
+keeps-alike c (Some OneNoColon) h = refl
+keeps-alike c (Some ManyNoColon) h = sym (same-of (takes ManyNoColon c) true h)
+
+-- a character that is neither named nor the colon isn't told from others
+tells-none : (c : ℕ) (p : Piece) → names p c ≡ false → eqb c 58 ≡ false → tells c p ≡ false
+tells-none c (Lit d) h k = let e : takes (Lit d) c ≡ false = h in rw e refl
+tells-none c (LitFold d) h k = let e : takes (LitFold d) c ≡ false = h in rw e refl
+tells-none c One h k = refl
+tells-none c Many h k = refl
+tells-none c OneNoColon h k = rw k refl
+tells-none c ManyNoColon h k = rw k refl
+
+untold-in : (c : ℕ) (p : List Piece) (more : List (Option Piece)) → names_any p c ≡ false → eqb c 58 ≡ false → ((j : ℕ) → if_piece (tells c) (get_or more j None) ≡ false) →
+    (j : ℕ) → if_piece (tells c) (get_or (map Some p ++ more) j None) ≡ false
+untold-in c [] more h k r j = r j
+untold-in c (q ∷ qs) more h k r zero = tells-none c q (or_parts (names q c) (names_any qs c) h).0 k
+untold-in c (q ∷ qs) more h k r (suc j) = untold-in c qs more (or_parts (names q c) (names_any qs c) h).1 k r j
+
+pub untold : (ps : List (List Piece)) (c : ℕ) → named ps c ≡ false → (j : ℕ) → if_piece (tells c) (get_or (fronts ps) j None) ≡ false
+untold [] c h j = refl
+untold (p ∷ ps) c h zero = refl
+untold (p ∷ ps) c h (suc j) =
+    let both = or_parts (names_any p c) (named ps c) h in
+    untold-in c p (fronts ps) both.0 (colon-named ps c both.1) (untold ps c both.1) j
+
+-- ---- the masks of a move
+
+front-past : (F : List (Option Piece)) (f : Piece → Bool) (j : ℕ) → length F ≤ j → if_piece f (get_or F j None) ≡ false
+front-past F f j h = rw (get_or_past F j None h) refl
+
+module _ (F : List (Option Piece)) (m : Masks) (masks : IsMasks F m) (c : ℕ) (patches : List Patch) (told : IsToldApart F (length F) c patches) where
+  not-told : (k b : ℕ) → (HasPatch patches k → ⊥) → b < 64 → if_piece (tells c) (get_or F (64 * k + b) None) ≡ false
+  not-told k b none h =
+      elim (cases_Bool (if_piece (tells c) (get_or F (64 * k + b) None))) [
+        | inr e ↦ e
+        | inl e ↦
+            elim (cases_lt (64 * k + b) (length F)) [
+              | inl l ↦
+                  let q : (64 * k + b) / 64 ≡ k = omega arith in
+                  absurd (none (subst (λ (x : ℕ). HasPatch patches x) q (told.covers (64 * k + b) l e)))
+              | inr g ↦ front-past F (tells c) (64 * k + b) g
+            ]
+      ]
+
+  pub masks-of : AreMasksOf m patches (does (Passes c) F) (does (Keeps c) F)
+  masks-of = record {
+    here = λ k p h e b l. let r : IsPatch F c p = subst (IsPatch F c) e (told.right k p h) in (r.one b l, r.stay b l);
+    elsewhere = λ k none b l.
+        let no = not-told k b none l in (
+          masks.one (64 * k + b) ∙ passes-alike c (get_or F (64 * k + b) None) no,
+          masks.many (64 * k + b) ∙ keeps-alike c (get_or F (64 * k + b) None) no,
+        );
+  }
+
+no-patch : (p : Patch) (ps : List Patch) (k : ℕ) → (p.index ≡ k → ⊥) → (HasPatch ps k → ⊥) → (i : ℕ) (x : Patch) → i < length (p ∷ ps) → get_or (p ∷ ps) i x ≡ x → x.index ≡ k → ⊥
+no-patch p ps k ne none zero x h e f = ne (ap (λ (y : Patch). y.index) e ∙ f)
+no-patch p ps k ne none (suc i) x h e f = none (i, x, omega arith, e, f)
+
+has-patch : (ps : List Patch) (k : ℕ) → HasPatch ps k ⊎ (HasPatch ps k → ⊥)
+has-patch [] k = inr (λ w. absurd (omega (arith, w.2)))
+has-patch (p ∷ ps) k =
+    elim (cases_eq p.index k) [
+      | inl e ↦ inl (0, p, omega arith, refl, e)
+      | inr ne ↦
+          elim (has-patch ps k) [
+            | inl w ↦ inl (suc w.0, w.1, omega (arith, w.2), w.3, w.4)
+            | inr none ↦ inr (λ w. no-patch p ps k ne none w.0 w.1 w.2 w.3 w.4)
+          ]
+    ]
+
+-- ---- a step of words
+
+filled-alike : (set more leads : ℕ → Bool) (n : ℕ) → ((i : ℕ) → i < n → set i ≡ more i) → (i : ℕ) → i < n → filled set leads false i ≡ filled more leads false i
+filled-alike set more leads n same zero h = rw (same 0 h) refl
+filled-alike set more leads n same (suc i) h = rw (same (suc i) h, filled-alike set more leads n same i (omega arith)) refl
+
+module _ (m : Masks) (patches : List Patch) (list : List ℕ) (one stay : ℕ → Bool) (masks : AreMasksOf m patches one stay) where
+  -- the moved words of a patch, and where there is none
+  moved-patch : (k : ℕ) (p : Patch) → k < length patches → get_or patches k p ≡ p → (b : ℕ) → b < 64 → moved_at p.one p.stay list p.index b ≡ moved one stay (word_mark list) false (64 * p.index + b)
+  moved-patch k p h e = moved-word one stay (word_mark list) p.index (on p.one) (on p.stay) (on (get_or list p.index 0)) (before false (word_mark list) (64 * p.index))
+      (λ i l. (masks.here k p h e i l).0) (λ i l. (masks.here k p h e i l).1) (λ i l. sym (mark-at list p.index i l)) refl
+
+  moved-other : (k : ℕ) → (HasPatch patches k → ⊥) → (b : ℕ) → b < 64 → moved_at (get_or m.one.items k 0) (get_or m.many.items k 0) list k b ≡ moved one stay (word_mark list) false (64 * k + b)
+  moved-other k none = moved-word one stay (word_mark list) k (on (get_or m.one.items k 0)) (on (get_or m.many.items k 0)) (on (get_or list k 0)) (before false (word_mark list) (64 * k))
+      (λ i l. sym (mark-at m.one.items k i l) ∙ (masks.elsewhere k none i l).0) (λ i l. sym (mark-at m.many.items k i l) ∙ (masks.elsewhere k none i l).1) (λ i l. sym (mark-at list k i l)) refl
+
+  moved-masks : (k b : ℕ) → b < 64 → moved_at (get_or m.one.items k 0) (get_or m.many.items k 0) list k b ≡ moved (word_mark m.one.items) (word_mark m.many.items) (word_mark list) false (64 * k + b)
+  moved-masks k = moved-word (word_mark m.one.items) (word_mark m.many.items) (word_mark list) k (on (get_or m.one.items k 0)) (on (get_or m.many.items k 0)) (on (get_or list k 0)) (before false (word_mark list) (64 * k))
+      (λ i l. sym (mark-at m.one.items k i l)) (λ i l. sym (mark-at m.many.items k i l)) (λ i l. sym (mark-at list k i l)) refl
+
+  module _ (old words : List ℕ) (base : AreMoved m list old) (patched : (k : ℕ) → k < length list → IsPatched list patches old words k) where
+    word-moved : (k b : ℕ) → k < length list → b < 64 → word_mark words (64 * k + b) ≡ moved one stay (word_mark list) false (64 * k + b)
+    word-moved k b h l =
+        mark-at words k b l
+        ∙ elim (patched k h) [
+          | inl w ↦
+              let p : Patch = w.1 in
+              let at : p.index ≡ k = w.4.0 in
+              w.4.1 b l ∙ (rw at at (moved-patch w.0 p w.2 w.3 b l))
+          | inr w ↦ ap (λ x. on x b) w.0 ∙ (base.marks k b h l ∙ moved-other k w.1 b l)
+        ]
+
+    pub all-moved : (j : ℕ) → j < 64 * length list → word_mark words j ≡ moved one stay (word_mark list) false j
+    all-moved j h =
+        let e : 64 * (j / 64) + j % 64 ≡ j = omega arith in
+        rw e at (word-moved (j / 64) (j % 64) (omega arith) (omega arith))
+
+    pub all-filled : (filled-words : List ℕ) → ((j : ℕ) → j < 64 * length list → word_mark filled-words j ≡ filled (word_mark words) (word_mark m.many.items) false j) →
+        (j : ℕ) → j < 64 * length list → word_mark filled-words j ≡ stepped one stay (word_mark m.many.items) (word_mark list) j
+    all-filled filled-words are j h = are j h ∙ filled-alike (word_mark words) (moved one stay (word_mark list) false) (word_mark m.many.items) (64 * length list) all-moved j h
+
+  -- where each patch moves as the masks do, so does the character
+  module _ (alike : All (IsAlike m list) patches) where
+    word-alike : (k b : ℕ) → b < 64 → moved one stay (word_mark list) false (64 * k + b) ≡ moved (word_mark m.one.items) (word_mark m.many.items) (word_mark list) false (64 * k + b)
+    word-alike k b l =
+        elim (has-patch patches k) [
+          | inl w ↦
+              let p : Patch = w.1 in
+              let at : p.index ≡ k = w.4 in
+              let same : IsAlike m list p = subst (IsAlike m list) w.3 (alike w.0 p w.2) in
+              rw at at (sym (moved-patch w.0 p w.2 w.3 b l) ∙ (same b l ∙ moved-masks p.index b l))
+          | inr none ↦ sym (moved-other k none b l) ∙ moved-masks k b l
+        ]
+
+    pub moved-alike : (j : ℕ) → moved one stay (word_mark list) false j ≡ moved (word_mark m.one.items) (word_mark m.many.items) (word_mark list) false j
+    moved-alike j =
+        let e : 64 * (j / 64) + j % 64 ≡ j = omega arith in
+        rw e at (word-alike (j / 64) (j % 64) (omega arith))
+
+-- ---- a step of marks
+
+module _ (ps : List (List Piece)) (m : Masks) (masks : IsMasks (fronts ps) m) where
+  abbrev F : List (Option Piece)
+  F = fronts ps
+
+  to-marks : (c : ℕ) (list : List ℕ) (marks : List Bool) → length marks ≡ total ps → list ≡ pack marks → (j : ℕ) →
+      stepped (does (Passes c) F) (does (Keeps c) F) (word_mark m.many.items) (word_mark list) j ≡ get_or (all_reached ps marks c) j false
+  to-marks c list marks size is j =
+      stepped-same _ _ _ _ (λ i. get_or (marks_by (piece_test (Passes c)) ps) i false) (λ i. get_or (marks_by (piece_test (Keeps c)) ps) i false) (λ i. get_or (marks_by (piece_test Leads) ps) i false) (λ i. get_or marks i false) (j + 1)
+      (λ i l. sym (marks-fronts (piece_test (Passes c)) ps i)) (λ i l. sym (marks-fronts (piece_test (Keeps c)) ps i))
+      (λ i l. masks.many i ∙ sym (marks-fronts (piece_test Leads) ps i)) (λ i l. ap (λ x. word_mark x i) is ∙ mark-pack marks i) j (omega arith)
+      ∙ sym (reached-stepped ps marks c size j)
+
+  -- the words of a step are those of the step of the marks
+  pub leads : (s : Move) → IsMove F s → (list next : List ℕ) → length next ≡ length list → ((k : ℕ) → k < length next → get_or next k 0 < 18446744073709551616) →
+      AreStepped m s.patches.items list next → LeadsByWords ps list s.character next
+  leads s move list next count small are marks size is =
+      let c : ℕ = s.character in
+      let n : ℕ = words_for (length (all_reached ps marks c)) in
+      let k : length list ≡ n = ap length is ∙ (length-pack marks ∙ ap words_for (size ∙ sym (length-all_reached ps marks c))) in
+      packed-from n (all_reached ps marks c) next (count ∙ k) (λ w h. small w (omega (arith, count, k))) (λ j h.
+      are (does (Passes c) F) (does (Keeps c) F) (masks-of F m masks c s.patches.items move.told) j (omega (arith, k)) ∙ to-marks c list marks size is j)
+
+  -- where each patch moves as the masks do, the step is that of a character that isn't named
+  pub leads-alike : (s : Move) → IsMove F s → (x : ℕ) → named ps x ≡ false → (list : List ℕ) → All (IsAlike m list) s.patches.items →
+      (marks : List Bool) → length marks ≡ total ps → list ≡ pack marks → pack (all_reached ps marks s.character) ≡ pack (all_reached ps marks x)
+  leads-alike s move x new list alike marks size is =
+      let c : ℕ = s.character in
+      let same : (j : ℕ) → get_or (all_reached ps marks c) j false ≡ get_or (all_reached ps marks x) j false =
+      λ j.
+      sym (to-marks c list marks size is j)
+      ∙ (filled-alike (moved (does (Passes c) F) (does (Keeps c) F) (word_mark list) false) (moved (word_mark m.one.items) (word_mark m.many.items) (word_mark list) false) (word_mark m.many.items) (j + 1)
+      (λ i l. moved-alike m s.patches.items list (does (Passes c) F) (does (Keeps c) F) (masks-of F m masks c s.patches.items move.told) alike i) j (omega arith)
+      ∙ (stepped-same (word_mark m.one.items) (word_mark m.many.items) (word_mark m.many.items) (word_mark list) (does (Passes x) F) (does (Keeps x) F) (word_mark m.many.items) (word_mark list) (j + 1)
+      (λ i l. masks.one i ∙ passes-alike x (get_or F i None) (untold ps x new i)) (λ i l. masks.many i ∙ keeps-alike x (get_or F i None) (untold ps x new i)) (λ i l. refl) (λ i l. refl) j (omega arith)
+      ∙ to-marks x list marks size is j)) in
+      ap pack (ext_get_or false (all_reached ps marks c) (all_reached ps marks x) (length-all_reached ps marks c ∙ sym (length-all_reached ps marks x)) (λ j h. same j))

@@ -1,5 +1,0 @@
-use Rattle.pattern_automata.proofs.Empty.{meets-of}
-use Rattle.pattern_automata.proofs.laws.lists_meet_as_texts.Goals as goal
-
-pub returns : goal.returns
-returns c = meets-of

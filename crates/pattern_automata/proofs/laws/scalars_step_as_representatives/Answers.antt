@@ -1,5 +1,0 @@
-use Rattle.pattern_automata.proofs.Empty.{representative}
-use Rattle.pattern_automata.proofs.laws.scalars_step_as_representatives.Goals as goal
-
-pub returns : goal.returns
-returns c = representative

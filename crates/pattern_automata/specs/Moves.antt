@@ -1,0 +1,110 @@
+-- What characters do to the marks of patterns, word by word.
+use Rattle.std.specs.Prelude.{◌≡◌, ℕ, ◌+◌, ◌*◌, ◌/◌, ◌<◌, ◌≤◌, List, [], ◌∷◌, ◌++◌, length, map}
+use Rattle.std.specs.Prelude.{slice_index_or, Option, None, Some, Bool, true, false, not, ◌&&◌, nat_eq, All, Any, Vec}
+use Rattle.std.specs.Bool.{beq}
+use Rattle.std.specs.Char.{IsScalar}
+use Rattle.std.specs.declared.alloc.Global.{Global}
+use Rattle.indexmap.specs.IndexMap.{IndexMap, get}
+use Rattle.wildcard_lang.specs.declared.piece.Piece.{Piece}
+use Rattle.wildcard_lang.specs.declared.piece.Piece.TheVariants.{Lit, LitFold, One, Many, OneNoColon, ManyNoColon}
+use Rattle.wildcard_lang.specs.Matching.{takes, is_many}
+use Rattle.pattern_automata.specs.declared.fronts.Kind.{Kind}
+use Rattle.pattern_automata.specs.declared.fronts.Kind.TheVariants.{Passes, Keeps, PassesOthers, Leads}
+use Rattle.pattern_automata.specs.declared.moves.Masks.{Masks}
+use Rattle.pattern_automata.specs.declared.moves.Patch.{Patch}
+use Rattle.pattern_automata.specs.declared.moves.Move.{Move}
+use Rattle.pattern_automata.specs.Packed.{on, word_mark}
+
+-- whether the piece takes the characters that no piece names, the colon aside
+abbrev pub takes_others : Piece → Bool
+takes_others (Lit d) = false
+takes_others (LitFold d) = false
+takes_others One = true
+takes_others Many = true
+takes_others OneNoColon = true
+takes_others ManyNoColon = true
+
+-- whether the piece takes the character, but not those that no piece names, or the other way round
+abbrev pub tells : ℕ → Piece → Bool
+tells c p = not (beq (takes p c) (takes_others p))
+
+-- whether the piece passes a mark on at c, or at others; keeps one at c; or is for any number of characters
+abbrev pub piece_test : Kind → Piece → Bool
+piece_test (Passes c) p = not (is_many p) && takes p c
+piece_test (Keeps c) p = is_many p && takes p c
+piece_test PassesOthers p = not (is_many p) && takes_others p
+piece_test Leads p = is_many p
+
+-- the piece before each mark of the patterns, where there is one
+abbrev pub fronts : List (List Piece) → List (Option Piece)
+fronts [] = []
+fronts (p ∷ ps) = None ∷ (map Some p ++ fronts ps)
+
+-- whether there is a piece and it passes the test
+abbrev pub if_piece : (Piece → Bool) → Option Piece → Bool
+if_piece test None = false
+if_piece test (Some p) = test p
+
+-- whether the piece before a mark does this
+abbrev pub does : Kind → List (Option Piece) → ℕ → Bool
+does kind before j = if_piece (piece_test kind) (slice_index_or before j None)
+
+-- the words of the characters that no piece names
+pub record IsMasks (before : List (Option Piece)) (m : Masks) : Type 0 where
+  pub size : length m.one.items ≡ length before / 64 + 1
+  pub many_size : length m.many.items ≡ length before / 64 + 1
+  pub one : (j : ℕ) → word_mark m.one.items j ≡ does PassesOthers before j
+  pub many : (j : ℕ) → word_mark m.many.items j ≡ does Leads before j
+
+-- the words of the character at the patch's index
+pub record IsPatch (before : List (Option Piece)) (c : ℕ) (p : Patch) : Type 0 where
+  pub within : 64 * p.index ≤ length before
+  pub one : (b : ℕ) → b < 64 → on p.one b ≡ does (Passes c) before (64 * p.index + b)
+  pub stay : (b : ℕ) → b < 64 → on p.stay b ≡ does (Keeps c) before (64 * p.index + b)
+
+-- one of the patches is at the index
+abbrev pub HasPatch : List Patch → ℕ → Type 0
+HasPatch patches k = Any (λ (p : Patch). p.index ≡ k) patches
+
+-- the patches are those of the character, one at least wherever one of the first n pieces tells it from others
+pub record IsToldApart (before : List (Option Piece)) (n c : ℕ) (patches : List Patch) : Type 0 where
+  pub right : All (IsPatch before c) patches
+  pub covers : (j : ℕ) → j < n → if_piece (tells c) (slice_index_or before j None) ≡ true → HasPatch patches (j / 64)
+
+abbrev pub items_of : Option (Vec Patch Global) → List Patch
+items_of None = []
+items_of (Some v) = v.items
+
+-- the patches that the map has of a character
+abbrev pub patches_of : {S : Type 0} → IndexMap ℕ (Vec Patch Global) S → ℕ → List Patch
+patches_of told c = items_of (get nat_eq told c)
+
+abbrev pub AreTold : {S : Type 0} → List (Option Piece) → ℕ → IndexMap ℕ (Vec Patch Global) S → Type 0
+AreTold before n told = (c : ℕ) → IsToldApart before n c (patches_of told c)
+
+-- what the character of the move does to the marks
+pub record IsMove (before : List (Option Piece)) (m : Move) : Type 0 where
+  pub scalar : IsScalar m.character
+  pub told : IsToldApart before (length before) m.character m.patches.items
+
+abbrev pub characters_of : List Move → List ℕ
+characters_of moves = map (λ m. m.character) moves
+
+-- what is told of a character stays so
+abbrev pub StaysTold : List (Option Piece) → ℕ → List Patch → List Patch → Type 0
+StaysTold before c old new = (n : ℕ) → IsToldApart before n c old → IsToldApart before n c new
+
+abbrev pub StayTold : {S T : Type 0} → List (Option Piece) →
+    IndexMap ℕ (Vec Patch Global) S → IndexMap ℕ (Vec Patch Global) T → Type 0
+StayTold before old new = (n : ℕ) → AreTold before n old → AreTold before n new
+
+abbrev pub IsToldNext : {S T : Type 0} → List (Option Piece) → ℕ →
+    IndexMap ℕ (Vec Patch Global) S → IndexMap ℕ (Vec Patch Global) T → Type 0
+IsToldNext before n old new = AreTold before n old → AreTold before (n + 1) new
+
+abbrev pub KeepPatches : {S T : Type 0} → IndexMap ℕ (Vec Patch Global) S → IndexMap ℕ (Vec Patch Global) T → Type 0
+KeepPatches old new = (c k : ℕ) → HasPatch (patches_of old c) k → HasPatch (patches_of new c) k
+
+-- the move of a character is by its patches
+abbrev pub IsMoveOf : {S : Type 0} → IndexMap ℕ (Vec Patch Global) S → ℕ → Move → Type 0
+IsMoveOf told c m = (m.character ≡ c) × IsScalar c × (m.patches.items ≡ patches_of told c)

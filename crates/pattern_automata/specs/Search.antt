@@ -1,0 +1,49 @@
+-- What a search keeps, of the structs of its functions.
+use Rattle.std.specs.Prelude.{◌≡◌, ℕ, ◌<◌, List, length, slice_index_or, Bool}
+use Rattle.wildcard_lang.specs.declared.piece.Piece.{Piece}
+use Rattle.pattern_automata.specs.declared.wants.Wants.{Wants}
+use Rattle.pattern_automata.specs.declared.machine.Machine.{Machine}
+use Rattle.pattern_automata.specs.declared.moves.Move.{Move}
+use Rattle.pattern_automata.specs.declared.search.Search.{Search}
+use Rattle.pattern_automata.specs.declared.search.Room.{Room}
+use Rattle.pattern_automata.specs.declared.tree.Step.{Step}
+use Rattle.pattern_automata.specs.Marks.{all_reached, total}
+use Rattle.pattern_automata.specs.Moves.{characters_of}
+use Rattle.pattern_automata.specs.Packed.{pack}
+use Rattle.pattern_automata.specs.Tree.{IsTurn, IsBase, IsVisit, IsLeft, IsExpansion, IsOutcome}
+
+-- the words are those to which c leads from the list
+abbrev pub LeadsByWords : List (List Piece) → List ℕ → ℕ → List ℕ → Type 0
+LeadsByWords patterns list c words =
+    (marks : List Bool) → length marks ≡ total patterns → list ≡ pack marks → words ≡ pack (all_reached patterns marks c)
+
+-- the move leads from the list where the first one does, which is of a spare character and isn't that at k
+abbrev pub StepsAsFirst : Wants → Machine → ℕ → Move → List ℕ → Type 0
+StepsAsFirst w m k step list =
+    (0 < k)
+    × ((marks : List Bool) → length marks ≡ total w.patterns → list ≡ pack marks →
+    pack (all_reached w.patterns marks step.character)
+    ≡ pack (all_reached w.patterns marks (slice_index_or (characters_of m.moves.items) 0 0)))
+
+abbrev pub LeadsInto : Wants → List ℕ → Move → Room → Type 0
+LeadsInto w list step room = LeadsByWords w.patterns list step.character room.words.items
+
+abbrev pub Turns : Wants → Search → Search → ℕ → Move → Bool → Type 0
+Turns w old new i step = IsTurn w.patterns old.found new.found new.parents.items new.room.words.items i step.character
+
+abbrev pub IsUnderWay : Wants → Machine → Search → ℕ → Type 0
+IsUnderWay w m s limit = IsBase w.patterns m.ends.items w.clauses s.found s.parents.items limit
+
+abbrev pub Visits : Wants → Machine → Search → Search → ℕ → Move → ℕ → Step → Type 0
+Visits w m old new i step limit =
+    IsVisit w.patterns m.ends.items w.clauses old.found new.found new.parents.items i step.character limit
+
+abbrev pub IsLeftAt : Wants → Machine → Search → ℕ → ℕ → Type 0
+IsLeftAt w m s i limit = IsLeft w.patterns m.ends.items w.clauses (characters_of m.moves.items) s.found s.parents.items i limit
+
+abbrev pub Expands : Wants → Machine → Search → ℕ → ℕ → Step → Type 0
+Expands w m s i limit =
+    IsExpansion w.patterns m.ends.items w.clauses (characters_of m.moves.items) s.found s.parents.items i limit
+
+abbrev pub Ends : Wants → Machine → Search → ℕ → Step → Type 0
+Ends w m s limit = IsOutcome w.patterns m.ends.items w.clauses (characters_of m.moves.items) s.found s.parents.items limit
