@@ -6,32 +6,34 @@ use Rattle.std.specs.Option.{is_some}
 use Rattle.std.proofs.Common.{true, false}
 use Rattle.std.proofs.lemmas.List.Elements.{All-cons, All-nil, All-more}
 use Rattle.policy_model.specs.Sets.{Decides, SomeDecides}
+use Rattle.policy_model.specs.declared.schema.Schema.{Schema}
 use Rattle.policy_model.specs.declared.request.Request.{Request}
 use Rattle.policy_model.specs.declared.set.Statement.{Statement}
 use Rattle.policy_model.specs.declared.set.StatementName.{StatementName}
 use Rattle.policy_model.specs.declared.set.Document.{Document}
-use Rattle.policy_eval.specs.Deciding.{Named, NamedDecides, NoneDecides, IsFirst, FirstIs, IsFirstSilent, FirstSilentIs, name_of, named_statements, named_documents, named_guards}
+use Rattle.policy_model.specs.StatementNames.{Named, name_of, named_statements, named_documents, named_guards}
+use Rattle.policy_eval.specs.Deciding.{NamedDecides, NoneDecides, IsFirstDeciding, FirstIs, IsFirstSilent, FirstSilentIs}
 
 -- a statement before that doesn't decide
-pub FirstIs-cons : (allow : Bool) (r : Request) (n : Named) (rest : List Named) (o : Option StatementName) → ¬ NamedDecides allow r n → FirstIs allow r rest o → FirstIs allow r (n ∷ rest) o
-FirstIs-cons allow r n rest None not first = All-cons (λ m. ¬ NamedDecides allow r m) n rest not first
-FirstIs-cons allow r n rest (Some name) not first = record {
+pub FirstIs-cons : (schema : Schema) (allow : Bool) (r : Request) (n : Named) (rest : List Named) (o : Option StatementName) → ¬ NamedDecides schema allow r n → FirstIs schema allow r rest o → FirstIs schema allow r (n ∷ rest) o
+FirstIs-cons schema allow r n rest None not first = All-cons (λ m. ¬ NamedDecides schema allow r m) n rest not first
+FirstIs-cons schema allow r n rest (Some name) not first = record {
   before = n ∷ first.before;
   statement = first.statement;
   after = first.after;
   is = ap (λ xs. n ∷ xs) first.is;
-  none_before = All-cons (λ m. ¬ NamedDecides allow r m) n first.before not first.none_before;
+  none_before = All-cons (λ m. ¬ NamedDecides schema allow r m) n first.before not first.none_before;
   here = first.here;
 }
 
 -- the first statement decides
-pub FirstIs-here : (allow : Bool) (r : Request) (name : StatementName) (s : Statement) (rest : List Named) → Decides allow r s → FirstIs allow r ((name, s) ∷ rest) (Some name)
-FirstIs-here allow r name s rest here = record {
+pub FirstIs-here : (schema : Schema) (allow : Bool) (r : Request) (name : StatementName) (s : Statement) (rest : List Named) → Decides schema allow r s → FirstIs schema allow r ((name, s) ∷ rest) (Some name)
+FirstIs-here schema allow r name s rest here = record {
   before = [];
   statement = s;
   after = rest;
   is = refl;
-  none_before = All-nil (λ m. ¬ NamedDecides allow r m);
+  none_before = All-nil (λ m. ¬ NamedDecides schema allow r m);
   here = here;
 }
 
@@ -43,15 +45,15 @@ All-head : {T : Type 0} (P : T → Type 0) (x : T) (xs : List T) → All P (x �
 All-head P x xs all = all 0 x (omega arith)
 
 -- statements before of which none decides
-pub FirstIs-behind : (allow : Bool) (r : Request) (xs ys : List Named) (o : Option StatementName) → NoneDecides allow r xs → FirstIs allow r ys o → FirstIs allow r (xs ++ ys) o
-FirstIs-behind allow r [] ys o none first = first
-FirstIs-behind allow r (x ∷ xs) ys o none first =
-    FirstIs-cons allow r x (xs ++ ys) o (All-head (λ m. ¬ NamedDecides allow r m) x xs none)
-    (FirstIs-behind allow r xs ys o (All-tail (λ m. ¬ NamedDecides allow r m) x xs none) first)
+pub FirstIs-behind : (schema : Schema) (allow : Bool) (r : Request) (xs ys : List Named) (o : Option StatementName) → NoneDecides schema allow r xs → FirstIs schema allow r ys o → FirstIs schema allow r (xs ++ ys) o
+FirstIs-behind schema allow r [] ys o none first = first
+FirstIs-behind schema allow r (x ∷ xs) ys o none first =
+    FirstIs-cons schema allow r x (xs ++ ys) o (All-head (λ m. ¬ NamedDecides schema allow r m) x xs none)
+    (FirstIs-behind schema allow r xs ys o (All-tail (λ m. ¬ NamedDecides schema allow r m) x xs none) first)
 
 -- the first of the statements before
-pub FirstIs-before : (allow : Bool) (r : Request) (xs ys : List Named) (name : StatementName) → IsFirst allow r xs name → IsFirst allow r (xs ++ ys) name
-FirstIs-before allow r xs ys name first = record {
+pub FirstIs-before : (schema : Schema) (allow : Bool) (r : Request) (xs ys : List Named) (name : StatementName) → IsFirstDeciding schema allow r xs name → IsFirstDeciding schema allow r (xs ++ ys) name
+FirstIs-before schema allow r xs ys name first = record {
   before = first.before;
   statement = first.statement;
   after = first.after ++ ys;
@@ -60,12 +62,12 @@ FirstIs-before allow r xs ys name first = record {
   here = first.here;
 }
 
--- the names of the statements from a place on
+-- the names of the statements from an index on
 pub named_statements-drop : (d s i : ℕ) (xs : List Statement) (x : Statement) → i < length xs →
     named_statements d s (drop i xs) ≡ (name_of d s, get_or xs i x) ∷ named_statements d (s + 1) (drop (i + 1) xs)
 named_statements-drop d s i xs x h = let e : i + 1 ≡ suc i = omega arith in rw (e, drop-cons xs i x) refl
 
--- the names of the statements of the documents from a place on
+-- the names of the statements of the documents from an index on
 pub named_documents-drop : (d i : ℕ) (xs : List Document) (x : Document) → i < length xs →
     named_documents d (drop i xs) ≡ named_statements d 1 (get_or xs i x).statements ++ named_documents (d + 1) (drop (i + 1) xs)
 named_documents-drop d i xs x h = let e : i + 1 ≡ suc i = omega arith in rw (e, drop-cons xs i x) refl
@@ -76,63 +78,63 @@ pub named_guards-drop : (d i : ℕ) (xs : List (List Document)) (x : List Docume
 named_guards-drop d i xs x h = let e : i + 1 ≡ suc i = omega arith in rw (e, drop-cons xs i x) refl
 
 -- at a statement that decides, and past one that doesn't
-pub statement-found : (allow : Bool) (r : Request) (d i : ℕ) (xs : List Statement) (x : Statement) (name : StatementName) → i < length xs → name ≡ name_of d (1 + i) → Decides allow r (get_or xs i x) →
-    FirstIs allow r (named_statements d (1 + i) (drop i xs)) (Some name)
-statement-found allow r d i xs x name h is here =
-    rw (named_statements-drop d (1 + i) i xs x h, is) (FirstIs-here allow r (name_of d (1 + i)) (get_or xs i x) (named_statements d (1 + i + 1) (drop (i + 1) xs)) here)
+pub statement-found : (schema : Schema) (allow : Bool) (r : Request) (d i : ℕ) (xs : List Statement) (x : Statement) (name : StatementName) → i < length xs → name ≡ name_of d (1 + i) → Decides schema allow r (get_or xs i x) →
+    FirstIs schema allow r (named_statements d (1 + i) (drop i xs)) (Some name)
+statement-found schema allow r d i xs x name h is here =
+    rw (named_statements-drop d (1 + i) i xs x h, is) (FirstIs-here schema allow r (name_of d (1 + i)) (get_or xs i x) (named_statements d (1 + i + 1) (drop (i + 1) xs)) here)
 
-pub statement-passed : (allow : Bool) (r : Request) (d i : ℕ) (xs : List Statement) (x : Statement) → i < length xs → ¬ Decides allow r (get_or xs i x) → (o : Option StatementName) →
-    FirstIs allow r (named_statements d (1 + (i + 1)) (drop (i + 1) xs)) o → FirstIs allow r (named_statements d (1 + i) (drop i xs)) o
-statement-passed allow r d i xs x h not o first =
+pub statement-passed : (schema : Schema) (allow : Bool) (r : Request) (d i : ℕ) (xs : List Statement) (x : Statement) → i < length xs → ¬ Decides schema allow r (get_or xs i x) → (o : Option StatementName) →
+    FirstIs schema allow r (named_statements d (1 + (i + 1)) (drop (i + 1) xs)) o → FirstIs schema allow r (named_statements d (1 + i) (drop i xs)) o
+statement-passed schema allow r d i xs x h not o first =
     let e : 1 + (i + 1) ≡ 1 + i + 1 = omega arith in
-    rw (named_statements-drop d (1 + i) i xs x h) (FirstIs-cons allow r (name_of d (1 + i), get_or xs i x) (named_statements d (1 + i + 1) (drop (i + 1) xs)) o not (rw e at first))
+    rw (named_statements-drop d (1 + i) i xs x h) (FirstIs-cons schema allow r (name_of d (1 + i), get_or xs i x) (named_statements d (1 + i + 1) (drop (i + 1) xs)) o not (rw e at first))
 
 -- in a document that has the first, and past one that has none
-pub document-found : (allow : Bool) (r : Request) (d i : ℕ) (xs : List Document) (x : Document) (name : StatementName) → i < length xs →
-    FirstIs allow r (named_statements (d + i) 1 (get_or xs i x).statements) (Some name) → FirstIs allow r (named_documents (d + i) (drop i xs)) (Some name)
-document-found allow r d i xs x name h first =
-    rw (named_documents-drop (d + i) i xs x h) (FirstIs-before allow r (named_statements (d + i) 1 (get_or xs i x).statements) (named_documents (d + i + 1) (drop (i + 1) xs)) name first)
+pub document-found : (schema : Schema) (allow : Bool) (r : Request) (d i : ℕ) (xs : List Document) (x : Document) (name : StatementName) → i < length xs →
+    FirstIs schema allow r (named_statements (d + i) 1 (get_or xs i x).statements) (Some name) → FirstIs schema allow r (named_documents (d + i) (drop i xs)) (Some name)
+document-found schema allow r d i xs x name h first =
+    rw (named_documents-drop (d + i) i xs x h) (FirstIs-before schema allow r (named_statements (d + i) 1 (get_or xs i x).statements) (named_documents (d + i + 1) (drop (i + 1) xs)) name first)
 
-pub document-passed : (allow : Bool) (r : Request) (d i : ℕ) (xs : List Document) (x : Document) → i < length xs → FirstIs allow r (named_statements (d + i) 1 (get_or xs i x).statements) None → (o : Option StatementName) →
-    FirstIs allow r (named_documents (d + (i + 1)) (drop (i + 1) xs)) o → FirstIs allow r (named_documents (d + i) (drop i xs)) o
-document-passed allow r d i xs x h none o first =
+pub document-passed : (schema : Schema) (allow : Bool) (r : Request) (d i : ℕ) (xs : List Document) (x : Document) → i < length xs → FirstIs schema allow r (named_statements (d + i) 1 (get_or xs i x).statements) None → (o : Option StatementName) →
+    FirstIs schema allow r (named_documents (d + (i + 1)) (drop (i + 1) xs)) o → FirstIs schema allow r (named_documents (d + i) (drop i xs)) o
+document-passed schema allow r d i xs x h none o first =
     let e : d + (i + 1) ≡ d + i + 1 = omega arith in
-    rw (named_documents-drop (d + i) i xs x h) (FirstIs-behind allow r (named_statements (d + i) 1 (get_or xs i x).statements) (named_documents (d + i + 1) (drop (i + 1) xs)) o none (rw e at first))
+    rw (named_documents-drop (d + i) i xs x h) (FirstIs-behind schema allow r (named_statements (d + i) 1 (get_or xs i x).statements) (named_documents (d + i + 1) (drop (i + 1) xs)) o none (rw e at first))
 
 -- in a guard that has the first, and past one that has none
-pub guard-found : (allow : Bool) (r : Request) (d i : ℕ) (xs : List (List Document)) (x : List Document) (name : StatementName) → i < length xs →
-    FirstIs allow r (named_documents d (get_or xs i x)) (Some name) → FirstIs allow r (named_guards d (drop i xs)) (Some name)
-guard-found allow r d i xs x name h first =
-    rw (named_guards-drop d i xs x h) (FirstIs-before allow r (named_documents d (get_or xs i x)) (named_guards (d + length (get_or xs i x)) (drop (i + 1) xs)) name first)
+pub guard-found : (schema : Schema) (allow : Bool) (r : Request) (d i : ℕ) (xs : List (List Document)) (x : List Document) (name : StatementName) → i < length xs →
+    FirstIs schema allow r (named_documents d (get_or xs i x)) (Some name) → FirstIs schema allow r (named_guards d (drop i xs)) (Some name)
+guard-found schema allow r d i xs x name h first =
+    rw (named_guards-drop d i xs x h) (FirstIs-before schema allow r (named_documents d (get_or xs i x)) (named_guards (d + length (get_or xs i x)) (drop (i + 1) xs)) name first)
 
-pub guard-passed : (allow : Bool) (r : Request) (d i : ℕ) (xs : List (List Document)) (x : List Document) → i < length xs → FirstIs allow r (named_documents d (get_or xs i x)) None → (o : Option StatementName) →
-    FirstIs allow r (named_guards (d + length (get_or xs i x)) (drop (i + 1) xs)) o → FirstIs allow r (named_guards d (drop i xs)) o
-guard-passed allow r d i xs x h none o first =
-    rw (named_guards-drop d i xs x h) (FirstIs-behind allow r (named_documents d (get_or xs i x)) (named_guards (d + length (get_or xs i x)) (drop (i + 1) xs)) o none first)
+pub guard-passed : (schema : Schema) (allow : Bool) (r : Request) (d i : ℕ) (xs : List (List Document)) (x : List Document) → i < length xs → FirstIs schema allow r (named_documents d (get_or xs i x)) None → (o : Option StatementName) →
+    FirstIs schema allow r (named_guards (d + length (get_or xs i x)) (drop (i + 1) xs)) o → FirstIs schema allow r (named_guards d (drop i xs)) o
+guard-passed schema allow r d i xs x h none o first =
+    rw (named_guards-drop d i xs x h) (FirstIs-behind schema allow r (named_documents d (get_or xs i x)) (named_guards (d + length (get_or xs i x)) (drop (i + 1) xs)) o none first)
 
 -- nothing is left
-pub statements-left : (allow : Bool) (r : Request) (d s i : ℕ) (xs : List Statement) → length xs ≤ i → FirstIs allow r (named_statements d s (drop i xs)) None
-statements-left allow r d s i xs h = let e : drop i xs ≡ [] = drop_all i xs h in rw e (All-nil (λ m. ¬ NamedDecides allow r m))
+pub statements-left : (schema : Schema) (allow : Bool) (r : Request) (d s i : ℕ) (xs : List Statement) → length xs ≤ i → FirstIs schema allow r (named_statements d s (drop i xs)) None
+statements-left schema allow r d s i xs h = let e : drop i xs ≡ [] = drop_all i xs h in rw e (All-nil (λ m. ¬ NamedDecides schema allow r m))
 
-pub documents-left : (allow : Bool) (r : Request) (d i : ℕ) (xs : List Document) → length xs ≤ i → FirstIs allow r (named_documents d (drop i xs)) None
-documents-left allow r d i xs h = let e : drop i xs ≡ [] = drop_all i xs h in rw e (All-nil (λ m. ¬ NamedDecides allow r m))
+pub documents-left : (schema : Schema) (allow : Bool) (r : Request) (d i : ℕ) (xs : List Document) → length xs ≤ i → FirstIs schema allow r (named_documents d (drop i xs)) None
+documents-left schema allow r d i xs h = let e : drop i xs ≡ [] = drop_all i xs h in rw e (All-nil (λ m. ¬ NamedDecides schema allow r m))
 
-pub guards-left : (allow : Bool) (r : Request) (d i : ℕ) (xs : List (List Document)) → length xs ≤ i → FirstIs allow r (named_guards d (drop i xs)) None
-guards-left allow r d i xs h = let e : drop i xs ≡ [] = drop_all i xs h in rw e (All-nil (λ m. ¬ NamedDecides allow r m))
+pub guards-left : (schema : Schema) (allow : Bool) (r : Request) (d i : ℕ) (xs : List (List Document)) → length xs ≤ i → FirstIs schema allow r (named_guards d (drop i xs)) None
+guards-left schema allow r d i xs h = let e : drop i xs ≡ [] = drop_all i xs h in rw e (All-nil (λ m. ¬ NamedDecides schema allow r m))
 
 -- what a call answered, by its variant
-pub first-none : (allow : Bool) (r : Request) (xs ys : List Named) (o : Option StatementName) → is_some o ≡ false → xs ≡ ys → FirstIs allow r xs o → FirstIs allow r ys None
-first-none allow r xs ys None e same first = subst (λ (zs : List Named). FirstIs allow r zs None) same first
-first-none allow r xs ys (Some name) e same first = absurd (cc)
+pub first-none : (schema : Schema) (allow : Bool) (r : Request) (xs ys : List Named) (o : Option StatementName) → is_some o ≡ false → xs ≡ ys → FirstIs schema allow r xs o → FirstIs schema allow r ys None
+first-none schema allow r xs ys None e same first = subst (λ (zs : List Named). FirstIs schema allow r zs None) same first
+first-none schema allow r xs ys (Some name) e same first = absurd (cc)
 
-pub first-some : (allow : Bool) (r : Request) (xs ys : List Named) (o : Option StatementName) → is_some o ≡ true → ((name : StatementName) → FirstIs allow r xs (Some name) → FirstIs allow r ys (Some name)) →
-    FirstIs allow r xs o → FirstIs allow r ys o
-first-some allow r xs ys None e more first = absurd (cc)
-first-some allow r xs ys (Some name) e more first = more name first
+pub first-some : (schema : Schema) (allow : Bool) (r : Request) (xs ys : List Named) (o : Option StatementName) → is_some o ≡ true → ((name : StatementName) → FirstIs schema allow r xs (Some name) → FirstIs schema allow r ys (Some name)) →
+    FirstIs schema allow r xs o → FirstIs schema allow r ys o
+first-some schema allow r xs ys None e more first = absurd (cc)
+first-some schema allow r xs ys (Some name) e more first = more name first
 
 -- at a guard without an Allow statement that applies
-pub silent-found : (r : Request) (i : ℕ) (xs : List (List Document)) (x : List Document) → i < length xs → All (SomeDecides true r) (take i xs) → ¬ SomeDecides true r (get_or xs i x) → IsFirstSilent r xs (i + 1)
-silent-found r i xs x h before silent = record {
+pub silent-found : (schema : Schema) (r : Request) (i : ℕ) (xs : List (List Document)) (x : List Document) → i < length xs → All (SomeDecides schema true r) (take i xs) → ¬ SomeDecides schema true r (get_or xs i x) → IsFirstSilent schema r xs (i + 1)
+silent-found schema r i xs x h before silent = record {
   before = take i xs;
   guard = get_or xs i x;
   after = drop (suc i) xs;
@@ -143,19 +145,19 @@ silent-found r i xs x h before silent = record {
 }
 
 -- past a guard that has one, and behind the last
-pub guard-allows : (r : Request) (i : ℕ) (xs : List (List Document)) (x : List Document) → i < length xs → x ≡ get_or xs i x → SomeDecides true r x → All (SomeDecides true r) (take i xs) →
-    All (SomeDecides true r) (take (i + 1) xs)
-guard-allows r i xs x h is here before = All-more (SomeDecides true r) xs i x h before (subst (SomeDecides true r) is here)
+pub guard-allows : (schema : Schema) (r : Request) (i : ℕ) (xs : List (List Document)) (x : List Document) → i < length xs → x ≡ get_or xs i x → SomeDecides schema true r x → All (SomeDecides schema true r) (take i xs) →
+    All (SomeDecides schema true r) (take (i + 1) xs)
+guard-allows schema r i xs x h is here before = All-more (SomeDecides schema true r) xs i x h before (subst (SomeDecides schema true r) is here)
 
-pub guards-allow : (r : Request) (i : ℕ) (xs : List (List Document)) → length xs ≤ i → All (SomeDecides true r) (take i xs) → All (SomeDecides true r) xs
-guards-allow r i xs h all = let e : take i xs ≡ xs = take_all i xs h in rw e at all
+pub guards-allow : (schema : Schema) (r : Request) (i : ℕ) (xs : List (List Document)) → length xs ≤ i → All (SomeDecides schema true r) (take i xs) → All (SomeDecides schema true r) xs
+guards-allow schema r i xs h all = let e : take i xs ≡ xs = take_all i xs h in rw e at all
 
-pub guards-fail : (r : Request) (i : ℕ) (xs : List (List Document)) (x : List Document) → i < length xs → x ≡ get_or xs i x → ¬ SomeDecides true r x → ¬ All (SomeDecides true r) xs
-guards-fail r i xs x h is silent all = silent (subst (SomeDecides true r) (sym is) (all i x h))
+pub guards-fail : (schema : Schema) (r : Request) (i : ℕ) (xs : List (List Document)) (x : List Document) → i < length xs → x ≡ get_or xs i x → ¬ SomeDecides schema true r x → ¬ All (SomeDecides schema true r) xs
+guards-fail schema r i xs x h is silent all = silent (subst (SomeDecides schema true r) (sym is) (all i x h))
 
 -- an answer at an equal list
-pub FirstIs-at : (allow : Bool) (r : Request) (xs ys : List Named) (o v : Option StatementName) → o ≡ v → xs ≡ ys → FirstIs allow r xs o → FirstIs allow r ys v
-FirstIs-at allow r xs ys o v e f first = subst (λ (zs : List Named). FirstIs allow r zs v) f (subst (λ (w : Option StatementName). FirstIs allow r xs w) e first)
+pub FirstIs-at : (schema : Schema) (allow : Bool) (r : Request) (xs ys : List Named) (o v : Option StatementName) → o ≡ v → xs ≡ ys → FirstIs schema allow r xs o → FirstIs schema allow r ys v
+FirstIs-at schema allow r xs ys o v e f first = subst (λ (zs : List Named). FirstIs schema allow r zs v) f (subst (λ (w : Option StatementName). FirstIs schema allow r xs w) e first)
 
-pub FirstSilentIs-at : (r : Request) (xs ys : List (List Document)) (o v : Option ℕ) → o ≡ v → xs ≡ ys → FirstSilentIs r xs o → FirstSilentIs r ys v
-FirstSilentIs-at r xs ys o v e f first = subst (λ (zs : List (List Document)). FirstSilentIs r zs v) f (subst (λ (w : Option ℕ). FirstSilentIs r xs w) e first)
+pub FirstSilentIs-at : (schema : Schema) (r : Request) (xs ys : List (List Document)) (o v : Option ℕ) → o ≡ v → xs ≡ ys → FirstSilentIs schema r xs o → FirstSilentIs schema r ys v
+FirstSilentIs-at schema r xs ys o v e f first = subst (λ (zs : List (List Document)). FirstSilentIs schema r zs v) f (subst (λ (w : Option ℕ). FirstSilentIs schema r xs w) e first)

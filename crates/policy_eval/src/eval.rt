@@ -1,7 +1,9 @@
 //! What a set allows (IAM JSON policy reference, evaluation logic).
-ghost use Rattle.std.specs.Prelude.{◌≡◌, ◌↔◌, ◌⊎◌, IsTrue, All, Any, MatchBool, true, false};
+ghost use Rattle.std.specs.Prelude.{◌↔◌, IsTrue, All, Any, true, false};
 ghost use Rattle.wildcard_lang.specs.Matching.{Matches};
 ghost use Rattle.policy_model.specs.Principals.{EntryHolds};
+ghost use Rattle.policy_model.specs.Requests.{IsValid};
+ghost use Rattle.policy_model.specs.Soundness.{SchemaFits};
 ghost use Rattle.policy_model.specs.Sets.{Allows, Applies, Decides, MatcherHolds, OptionalHolds, SomeDecides};
 
 use policy_model::{
@@ -50,8 +52,8 @@ fn resource_holds(matcher: &Option<Matcher<Pattern>>, text: &Text) -> bool
     }
 }
 
-fn applies(statement: &Statement, request: &Request) -> bool
-    ensures { IsTrue result ↔ Applies statement.now request.now }
+fn applies(schema: &Schema, statement: &Statement, request: &Request) -> bool
+    ensures { IsTrue result ↔ Applies schema.now statement.now request.now }
 {
     principal_holds(&statement.principal, request)
         && patterns_hold(&statement.action, &request.action)
@@ -59,69 +61,74 @@ fn applies(statement: &Statement, request: &Request) -> bool
 }
 
 // Whether the statement has this effect and applies.
-pub(crate) fn decides(statement: &Statement, allow: bool, request: &Request) -> bool
-    ensures { IsTrue result ↔ Decides allow request.now statement.now }
+pub(crate) fn decides(
+    schema: &Schema,
+    statement: &Statement,
+    allow: bool,
+    request: &Request,
+) -> bool
+    ensures { IsTrue result ↔ Decides schema.now allow request.now statement.now }
 {
-    statement.allow == allow && applies(statement, request)
+    statement.allow == allow && applies(schema, statement, request)
 }
 
-fn document_decides(document: &Document, allow: bool, request: &Request) -> bool
-    ensures { IsTrue result ↔ Any (Decides allow request.now) document.now.statements }
+fn document_decides(schema: &Schema, document: &Document, allow: bool, request: &Request) -> bool
+    ensures { IsTrue result ↔ Any (Decides schema.now allow request.now) document.now.statements }
 {
     document
         .statements
         .as_slice()
         .iter()
-        .any(|statement| decides(statement, allow, request))
+        .any(|statement| decides(schema, statement, allow, request))
 }
 
 // Whether some statement of the documents has this effect and applies.
-pub(crate) fn some_decides(documents: &DocumentList, allow: bool, request: &Request) -> bool
-    ensures { IsTrue result ↔ SomeDecides allow request.now documents.now }
+pub(crate) fn some_decides(
+    schema: &Schema,
+    documents: &DocumentList,
+    allow: bool,
+    request: &Request,
+) -> bool
+    ensures { IsTrue result ↔ SomeDecides schema.now allow request.now documents.now }
 {
-    documents
-        .as_slice()
-        .iter()
-        .any(|document| document_decides(document, allow, request))
+    documents.as_slice().iter().any(|document| document_decides(schema, document, allow, request))
 }
 
-fn guards_allow(guards: &[DocumentList], request: &Request) -> bool
-    ensures { IsTrue result ↔ All (SomeDecides true request.now) guards.now }
+fn guards_allow(schema: &Schema, guards: &[DocumentList], request: &Request) -> bool
+    ensures { IsTrue result ↔ All (SomeDecides schema.now true request.now) guards.now }
 {
     for guard in guards {
-        if !some_decides(guard, true, request) {
+        if !some_decides(schema, guard, true, request) {
             return false;
         }
     }
     true
 }
 
-fn guards_deny(guards: &GuardList, request: &Request) -> bool
-    ensures { IsTrue result ↔ Any (SomeDecides false request.now) guards.now }
+fn guards_deny(schema: &Schema, guards: &GuardList, request: &Request) -> bool
+    ensures { IsTrue result ↔ Any (SomeDecides schema.now false request.now) guards.now }
 {
     guards
         .as_slice()
         .iter()
-        .any(|guard| some_decides(guard, false, request))
-}
-
-fn grants_allow(set: &PolicySet, request: &Request) -> bool
-    ensures { IsTrue result ↔ (SomeDecides true request.now set.now.grants × All (SomeDecides true request.now) set.now.guards) }
-{
-    some_decides(&set.grants, true, request) && guards_allow(set.guards.as_slice(), request)
-}
-
-fn denies(set: &PolicySet, request: &Request) -> bool
-    ensures { MatchBool result (SomeDecides false request.now set.now.grants ⊎ Any (SomeDecides false request.now) set.now.guards) ((¬ SomeDecides false request.now set.now.grants) × (¬ Any (SomeDecides false request.now) set.now.guards)) }
-{
-    some_decides(&set.grants, false, request) || guards_deny(&set.guards, request)
+        .any(|guard| some_decides(schema, guard, false, request))
 }
 
 /// Whether the set allows the request: some Allow statement of the grants applies, each guard has an
-/// Allow statement that applies, and no Deny statement of the grants or of a guard applies. The answer
-/// doesn't depend on the schema. It takes no memory.
-pub fn allows(set: &PolicySet, _schema: &Schema, request: &Request) -> bool
-    ensures { IsTrue result ↔ Allows set.now request.now }
+/// Allow statement that applies, and no Deny statement of the grants or of a guard applies.
+///
+/// The schema fits the set, and the request is valid under it. It takes no memory.
+pub fn allows(set: &PolicySet, schema: &Schema, request: &Request) -> bool
+    requires fits { SchemaFits schema.now set.now }
+    requires valid { IsValid schema.now request.now }
+    ensures { IsTrue result ↔ Allows schema.now set.now request.now }
 {
-    grants_allow(set, request) && !denies(set, request)
+    if some_decides(schema, &set.grants, false, request) {
+        return false;
+    }
+    if guards_deny(schema, &set.guards, request) {
+        return false;
+    }
+    some_decides(schema, &set.grants, true, request)
+        && guards_allow(schema, set.guards.as_slice(), request)
 }

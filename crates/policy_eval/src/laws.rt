@@ -2,7 +2,7 @@
 
 ghost use Rattle.policy_eval.specs.Laws.{DecidersAreEqual};
 
-/// A request has one decider under a set: two that meet the definition are equal.
+/// A request has one decider under a schema and a set: two that meet the definition are equal.
 pub fn deciders_are_equal()
     ensures { DecidersAreEqual }
 {}

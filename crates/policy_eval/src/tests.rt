@@ -1,222 +1,187 @@
 //! Worked examples of what small sets allow, and of what decides.
-ghost use Rattle.std.specs.Prelude.{◌≡◌, All, IfOk, length};
+ghost use Rattle.std.specs.Prelude.{◌≡◌, ◌≤◌, All, length};
 ghost use Rattle.policy_model.specs.Soundness.{DocumentIsSound, IsSound, StatementIsSound};
 
 use crate::{Decider, allows, decider};
 use policy_model::{
     Context, Document, DocumentList, List, Matcher, PolicySet, PrincipalKind, Request, Schema,
-    Statement, StatementName,
+    Statement, StatementName, valid,
 };
-use std::alloc::Global;
 use std::process::Abort;
-use std::test::Fail;
 use wildcard_lang::{Pattern, PatternFault, Text, read_glob};
 
-// A statement on this action, or with `not` on every other.
-fn statement(alloc: Global, allow: bool, not: bool, action: &str) -> Result<Statement, Fail>
-    ensures { IfOk result StatementIsSound }
+fn text_of(rt: &(impl Abort + AllocGlobal), text: &str) -> Text {
+    Text::of(rt.alloc(), text).expect(rt, "memory")
+}
+
+fn request(rt: &(impl Abort + AllocGlobal), action: &str) -> Request {
+    Request {
+        kind: PrincipalKind::Aws,
+        id: text_of(rt, "x"),
+        action: text_of(rt, action),
+        resource: text_of(rt, "r"),
+        context: Context::new(rt.alloc()),
+    }
+}
+
+// Whether a statement allows, whether it has a Not element, and its action.
+type Short<'a> = (bool, bool, &'a str);
+
+fn statement(rt: &(impl Abort + AllocGlobal), short: Short) -> Statement
+    ensures { StatementIsSound result }
 {
-    let read: Result<Pattern, PatternFault> = read_glob(alloc, action, true, false);
-    let mut items = List::new(alloc);
-    items.push(read?)?;
-    Ok(Statement {
+    let (allow, not, action) = short;
+    let read: Result<Pattern, PatternFault> = read_glob(rt.alloc(), action, true, false);
+    let mut items = List::new(rt.alloc());
+    items
+        .push(read.expect(rt, "a pattern"))
+        .expect(rt, "memory");
+    Statement {
         allow,
         principal: None,
         action: Matcher { not, items },
         resource: None,
-    })
+    }
 }
 
-fn documents(alloc: Global, statement: Statement) -> Result<DocumentList, Fail> {
-    let mut statements = List::new(alloc);
-    statements.push(statement)?;
-    let mut documents = List::new(alloc);
-    documents.push(Document { statements })?;
-    Ok(documents)
-}
-
-fn request(alloc: Global, action: &str) -> Result<Request, Fail> {
-    Ok(Request {
-        kind: PrincipalKind::Aws,
-        id: Text::of(alloc, "x")?,
-        action: Text::of(alloc, action)?,
-        resource: Text::of(alloc, "r")?,
-        context: Context::new(alloc),
-    })
-}
-
-fn shows(
-    rt: &(impl Abort + AllocGlobal),
-    set: &PolicySet,
-    action: &str,
-    want: bool,
-) -> Result<(), Fail> {
-    let alloc = rt.alloc();
-    let asked = request(alloc, action)?;
-    assert_eq!(rt;
-        allows(set, &Schema::new(alloc), &asked),
-        want,
-        "of {action}"
-    );
-    Ok(())
-}
-
-#[test]
-fn a_guard_and_a_deny_take_away(rt: HostRuntime) -> Result<(), Fail> {
-    let alloc = rt.alloc();
-    let grants = documents(alloc, statement(alloc, true, false, "s3:*")?)?;
-    let mut set = PolicySet {
-        grants,
-        guards: List::new(alloc),
-    };
-    shows(&rt, &set, "s3:GetObject", true)?;
-    shows(&rt, &set, "sqs:SendMessage", false)?;
-    set.guards.push(documents(alloc, statement(alloc, true, true, "s3:Put*")?)?)?;
-    shows(&rt, &set, "s3:GetObject", true)?;
-    shows(&rt, &set, "s3:PutObject", false)?;
-    shows(&rt, &set, "sqs:SendMessage", false)?;
-    let denied = Document {
-        statements: List::new(alloc),
-    };
-    set.grants.push(denied)?;
-    shows(&rt, &set, "s3:GetObject", true)?;
-    let mut denies = documents(alloc, statement(alloc, false, false, "s3:Get*")?)?;
-    denies.push(Document {
-        statements: List::new(alloc),
-    })?;
-    set.guards.push(denies)?;
-    shows(&rt, &set, "s3:GetObject", false)
-}
-
-#[test]
-fn an_empty_set_grants_nothing(rt: HostRuntime) -> Result<(), Fail> {
-    let alloc = rt.alloc();
-    let set = PolicySet {
-        grants: List::new(alloc),
-        guards: List::new(alloc),
-    };
-    let asked = request(alloc, "s3:GetObject")?;
-    let schema = Schema::new(alloc);
-    assert_eq!(rt; decider(&set, &schema, &asked), Decider::NoGrant);
-    assert!(rt; !allows(&set, &schema, &asked));
-    Ok(())
-}
-
-// A document of two statements.
-fn document(first: Statement, second: Statement, alloc: Global) -> Result<Document, Fail>
-    requires first { StatementIsSound first }
-    requires second { StatementIsSound second }
-    ensures { IfOk result DocumentIsSound }
+fn document(rt: &(impl Abort + AllocGlobal), first: Short, second: Short) -> Document
+    ensures { DocumentIsSound result }
 {
-    let mut statements = List::new(alloc);
-    statements.push(first)?;
-    statements.push(second)?;
-    Ok(Document { statements })
+    let mut statements = List::new(rt.alloc());
+    statements.push(statement(rt, first)).expect(rt, "memory");
+    statements.push(statement(rt, second)).expect(rt, "memory");
+    Document { statements }
 }
 
-fn pooled(alloc: Global, document: Document) -> Result<DocumentList, Fail>
+fn pooled(rt: &(impl Abort + AllocGlobal), document: Document) -> DocumentList
     requires { DocumentIsSound document }
-    ensures count { IfOk result (λ documents. length documents ≡ 1) }
-    ensures sound { IfOk result (All DocumentIsSound) }
+    ensures count { length result ≡ 1 }
+    ensures sound { All DocumentIsSound result }
 {
-    let mut documents = List::new(alloc);
-    documents.push(document)?;
-    Ok(documents)
+    let mut documents = List::new(rt.alloc());
+    documents.push(document).expect(rt, "memory");
+    documents
 }
 
-fn both(alloc: Global, first: Document, second: Document) -> Result<DocumentList, Fail>
-    requires first { DocumentIsSound first }
-    requires second { DocumentIsSound second }
-    ensures count { IfOk result (λ documents. length documents ≡ 2) }
-    ensures sound { IfOk result (All DocumentIsSound) }
+fn grants(rt: &(impl Abort + AllocGlobal)) -> DocumentList
+    ensures count { length result ≡ 2 }
+    ensures sound { All DocumentIsSound result }
 {
-    let mut documents = List::new(alloc);
-    documents.push(first)?;
-    documents.push(second)?;
-    Ok(documents)
+    let gets_and_lists = document(rt, (true, false, "s3:Get*"), (true, false, "s3:List*"));
+    let all_but_a_lock = document(rt, (false, false, "s3:PutLock"), (true, false, "s3:*"));
+    let mut documents = List::new(rt.alloc());
+    documents.push(gets_and_lists).expect(rt, "memory");
+    documents.push(all_but_a_lock).expect(rt, "memory");
+    documents
 }
 
-// The set of these grants and two guards.
-fn bounded(
-    alloc: Global,
-    grants: DocumentList,
-    first: DocumentList,
-    second: DocumentList,
-) -> Result<PolicySet, Fail>
-    requires grants_count { length grants ≡ 2 }
-    requires grants_sound { All DocumentIsSound grants }
-    requires first_count { length first ≡ 1 }
-    requires first_sound { All DocumentIsSound first }
-    requires second_count { length second ≡ 1 }
-    requires second_sound { All DocumentIsSound second }
-    ensures { IfOk result IsSound }
+fn granting(rt: &(impl Abort + AllocGlobal), grants: DocumentList) -> PolicySet
+    requires count { length grants ≤ 2 }
+    requires sound { All DocumentIsSound grants }
+    ensures { IsSound result }
 {
-    let mut guards = List::new(alloc);
-    guards.push(first)?;
-    guards.push(second)?;
-    Ok(PolicySet { grants, guards })
+    PolicySet {
+        grants,
+        guards: List::new(rt.alloc()),
+    }
 }
 
-// Two documents that grant, a guard that denies in its second statement, and one that allows nothing.
-fn guarded(alloc: Global) -> Result<PolicySet, Fail>
-    ensures { IfOk result IsSound }
+// Guarded by all but writes and deletions, and by a document that allows nothing.
+fn guarded(rt: &(impl Abort + AllocGlobal)) -> PolicySet
+    ensures { IsSound result }
 {
-    let gets = statement(alloc, true, false, "s3:Get*")?;
-    let lists = statement(alloc, true, false, "s3:List*")?;
-    let locks = statement(alloc, false, false, "s3:PutLock")?;
-    let all = statement(alloc, true, false, "s3:*")?;
-    let grants = both(
-        alloc,
-        document(gets, lists, alloc)?,
-        document(locks, all, alloc)?,
-    )?;
-    let bounds = statement(alloc, true, true, "s3:Put*")?;
-    let deletes = statement(alloc, false, false, "s3:Delete*")?;
-    let first = pooled(alloc, document(bounds, deletes, alloc)?)?;
-    let reads = statement(alloc, false, false, "s3:GetAcl")?;
-    let writes = statement(alloc, false, false, "s3:PutAcl")?;
-    let second = pooled(alloc, document(reads, writes, alloc)?)?;
-    bounded(alloc, grants, first, second)
+    let first = document(rt, (true, true, "s3:Put*"), (false, false, "s3:Delete*"));
+    let second = document(rt, (false, false, "s3:GetAcl"), (false, false, "s3:PutAcl"));
+    let mut guards = List::new(rt.alloc());
+    guards.push(pooled(rt, first)).expect(rt, "memory");
+    guards.push(pooled(rt, second)).expect(rt, "memory");
+    PolicySet {
+        grants: grants(rt),
+        guards,
+    }
 }
 
-fn decides(
+fn answers(
     rt: &(impl Abort + AllocGlobal),
     set: &PolicySet,
     action: &str,
-    want: Decider,
-) -> Result<(), Fail>
+    allowed: bool,
+    by: Decider,
+)
     requires { IsSound set.now }
 {
-    let alloc = rt.alloc();
-    let asked = request(alloc, action)?;
-    assert_eq!(rt;
-        decider(set, &Schema::new(alloc), &asked),
-        want,
-        "of {action}"
-    );
-    Ok(())
+    let schema = Schema::new(rt.alloc());
+    let asked = request(rt, action);
+    assert!(rt; valid(&schema, &asked));
+    assert!(rt; allows(set, &schema, &asked) == allowed, "of {action}");
+    assert!(rt; decider(set, &schema, &asked) == by, "of {action}");
 }
 
-fn by_statement(document: u32, statement: u32) -> Decider {
-    Decider::Statement(StatementName {
-        document,
-        statement,
-    })
+// An action, whether it is allowed, and the numbers of the document and of the statement that decides.
+type Decided<'a> = (&'a str, bool, u32, u32);
+
+fn are_decided(rt: &(impl Abort + AllocGlobal), set: &PolicySet, cases: &[Decided])
+    requires { IsSound set.now }
+{
+    for (action, allowed, document, statement) in cases {
+        let name = StatementName {
+            document: *document,
+            statement: *statement,
+        };
+        answers(rt, set, action, *allowed, Decider::Statement(name));
+    }
 }
 
 #[test]
-fn statements_and_guards_decide_by_their_numbers(rt: HostRuntime) -> Result<(), Fail> {
-    let set = guarded(rt.alloc())?;
-    decides(&rt, &set, "sqs:SendMessage", Decider::NoGrant)?;
-    decides(&rt, &set, "s3:PutObject", Decider::NoGuard(1))?;
-    decides(&rt, &set, "s3:GetObject", Decider::NoGuard(2))?;
-    decides(&rt, &set, "s3:PutLock", by_statement(2, 1))?;
-    decides(&rt, &set, "s3:DeleteObject", by_statement(3, 2))?;
-    decides(&rt, &set, "s3:PutAcl", by_statement(4, 2))?;
-    let open = PolicySet {
-        grants: set.grants,
-        guards: List::new(rt.alloc()),
-    };
-    decides(&rt, &open, "s3:ListBuckets", by_statement(1, 2))?;
-    decides(&rt, &open, "s3:PutAcl", by_statement(2, 2))
+fn an_empty_set_grants_nothing(rt: HostRuntime) {
+    let set = granting(&rt, List::new(rt.alloc()));
+    answers(&rt, &set, "s3:GetObject", false, Decider::NoGrant);
+}
+
+const GRANTED: [Decided; 3] = [
+    ("s3:ListBuckets", true, 1, 2),
+    ("s3:PutAcl", true, 2, 2),
+    ("s3:PutLock", false, 2, 1),
+];
+
+#[test]
+fn statements_decide_by_their_numbers(rt: HostRuntime) {
+    let set = granting(&rt, grants(&rt));
+    are_decided(&rt, &set, &GRANTED);
+    answers(&rt, &set, "sqs:SendMessage", false, Decider::NoGrant);
+}
+
+const DENIED: [Decided; 3] = [
+    ("s3:PutLock", false, 2, 1),
+    ("s3:DeleteObject", false, 3, 2),
+    ("s3:PutAcl", false, 4, 2),
+];
+
+#[test]
+fn guards_decide_by_their_numbers(rt: HostRuntime) {
+    let set = guarded(&rt);
+    are_decided(&rt, &set, &DENIED);
+    answers(&rt, &set, "sqs:SendMessage", false, Decider::NoGrant);
+    answers(&rt, &set, "s3:PutObject", false, Decider::NoGuard(1));
+    answers(&rt, &set, "s3:GetObject", false, Decider::NoGuard(2));
+}
+
+// The same with the first guard alone.
+fn bounded(rt: &(impl Abort + AllocGlobal)) -> PolicySet
+    ensures { IsSound result }
+{
+    let first = document(rt, (true, true, "s3:Put*"), (false, false, "s3:Delete*"));
+    let mut guards = List::new(rt.alloc());
+    guards.push(pooled(rt, first)).expect(rt, "memory");
+    PolicySet {
+        grants: grants(rt),
+        guards,
+    }
+}
+
+#[test]
+fn a_guard_bounds_what_is_granted(rt: HostRuntime) {
+    let set = bounded(&rt);
+    are_decided(&rt, &set, &[("s3:GetObject", true, 1, 1)]);
+    answers(&rt, &set, "s3:PutObject", false, Decider::NoGuard(1));
 }

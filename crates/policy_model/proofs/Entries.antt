@@ -4,7 +4,7 @@ use Rattle.std.specs.Prelude.{Result, Ok, Err, OnOk, OnErr, IfSome}
 use Rattle.std.specs.Map.{keys_of, values_of}
 use Rattle.std.proofs.lemmas.Option.{slice_get-map}
 use Rattle.text_table.specs.Table.{Entries}
-use Rattle.policy_model.proofs.Places.{slice_get-at}
+use Rattle.policy_model.proofs.Items.{slice_get-at}
 
 -- what holds with and without an insertion holds whether there was memory or not
 pub inserted : {V T E : Type 0} (P : Entries V → Type 0) (r : Result T E) (old new more : Entries V) → P old → P more → OnOk r (new ≡ more) → OnErr r (new ≡ old) → P new
@@ -22,7 +22,7 @@ key-at P entries i all e h = all-at P (keys_of entries) i e.0 all (slice_get-map
 pub value-at : {V : Type 0} (P : V → Type 0) (entries : Entries V) (i : ℕ) → All P (values_of entries) → (e : List ℕ × V) → slice_get entries i ≡ Some e → P e.1
 value-at P entries i all e h = all-at P (values_of entries) i e.1 all (slice_get-map (λ x. x.1) entries i ∙ ap (option_map (λ x. x.1)) h)
 
--- what holds of the entry at a place holds of what was found there
+-- what holds of the entry at an index holds of what was found there
 pub found : {A B : Type 0} (f : A → B) (Q : B → Type 0) (r : Option A) (o : Option B) → option_map f r ≡ o → ((b : B) → o ≡ Some b → Q b) → IfSome r (λ a. Q (f a))
 found f Q None o e each = tt
 found f Q (Some a) o e each = each (f a) (sym e)

@@ -1,3 +1,4 @@
-pub mod Accounts
-pub mod Entries
-pub mod Places
+mod Accounts
+mod Entries
+mod Items
+pub mod Laws

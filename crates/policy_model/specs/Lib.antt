@@ -3,4 +3,5 @@ pub mod Principals
 pub mod Requests
 pub mod Tests
 pub mod Sets
+pub mod StatementNames
 pub mod Soundness

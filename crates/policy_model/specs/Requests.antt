@@ -1,5 +1,5 @@
--- Which requests are valid under a schema. This is this project's own choice: the words aren't empty, and what a schema doesn't
--- speak of is free.
+-- Which requests are valid under a schema. This is this project's own choice: words aren't empty, a word without a shape is free
+-- otherwise, and a request has no keys but those of the schema.
 use Rattle.std.specs.Prelude.{◌≡◌, ◌≢◌, ◌≤◌, ◌⊎◌, ⊤, ℕ, List, [], length, true, Option, Some, None, All, Contains, MatchOption}
 use Rattle.text_table.specs.Table.{Entries, item_at}
 use Rattle.wildcard_lang.specs.Text.{IsText}
@@ -89,3 +89,7 @@ pub record KeysAreValid (keys : Entries KeyRule) (context : Entries (List Value)
 pub record IsValid (schema : Schema) (r : Request) : Type 0 where
   pub words : WordsAreValid schema.shapes r
   pub keys : KeysAreValid schema.keys r.context
+
+-- some request is valid
+abbrev pub HasValidRequest : Schema → Type 0
+HasValidRequest schema = (r : Request) × IsValid schema r

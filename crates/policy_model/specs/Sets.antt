@@ -5,6 +5,7 @@ use Rattle.wildcard_lang.specs.Matching.{Matches}
 use Rattle.policy_model.specs.Principals.{EntryHolds}
 use Rattle.policy_model.specs.declared.matcher.Matcher.{Matcher}
 use Rattle.policy_model.specs.declared.request.Request.{Request}
+use Rattle.policy_model.specs.declared.schema.Schema.{Schema}
 use Rattle.policy_model.specs.declared.set.Statement.{Statement}
 use Rattle.policy_model.specs.declared.set.Document.{Document}
 use Rattle.policy_model.specs.declared.set.PolicySet.{PolicySet}
@@ -19,23 +20,23 @@ OptionalHolds holds None = ⊤
 OptionalHolds holds (Some m) = MatcherHolds holds m
 
 -- the statement's principal, action and resource hold of the request
-pub record Applies (s : Statement) (r : Request) : Type 0 where
+pub record Applies (schema : Schema) (s : Statement) (r : Request) : Type 0 where
   pub principal : OptionalHolds (EntryHolds r) s.principal
   pub action : MatcherHolds (λ p. Matches p r.action) s.action
   pub resource : OptionalHolds (λ p. Matches p r.resource) s.resource
 
 -- the statement has this effect and applies
-abbrev pub Decides : Bool → Request → Statement → Type 0
-Decides allow r s = (s.allow ≡ allow) × Applies s r
+abbrev pub Decides : Schema → Bool → Request → Statement → Type 0
+Decides schema allow r s = (s.allow ≡ allow) × Applies schema s r
 
 -- some statement of the documents has this effect and applies
-abbrev pub SomeDecides : Bool → Request → List Document → Type 0
-SomeDecides allow r documents = Any (λ d. Any (Decides allow r) d.statements) documents
+abbrev pub SomeDecides : Schema → Bool → Request → List Document → Type 0
+SomeDecides schema allow r documents = Any (λ d. Any (Decides schema allow r) d.statements) documents
 
 -- some Allow statement of the grants applies, each guard has an Allow statement that applies, and no Deny statement of the
 -- grants or of a guard applies
-pub record Allows (set : PolicySet) (r : Request) : Type 0 where
-  pub granted : SomeDecides true r set.grants
-  pub guarded : All (SomeDecides true r) set.guards
-  pub not_denied : ¬ SomeDecides false r set.grants
-  pub not_denied_by_guard : ¬ Any (SomeDecides false r) set.guards
+pub record Allows (schema : Schema) (set : PolicySet) (r : Request) : Type 0 where
+  pub granted : SomeDecides schema true r set.grants
+  pub guarded : All (SomeDecides schema true r) set.guards
+  pub not_denied : ¬ SomeDecides schema false r set.grants
+  pub not_denied_by_guard : ¬ Any (SomeDecides schema false r) set.guards

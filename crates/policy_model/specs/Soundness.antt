@@ -1,10 +1,12 @@
 -- Which sets and schemas are sound, which schemas fit a set, and which tests suit a schema: the bounds that this project sets to
 -- what policies and schemas say.
-use Rattle.std.specs.Prelude.{◌≡◌, ◌≢◌, ◌≤◌, ◌+◌, ⊤, ℕ, List, [], length, sum_by, Option, Some, None, All as Each}
+use Rattle.std.specs.Prelude.{◌≡◌, ◌≢◌, ◌≤◌, ◌+◌, ⊤, ℕ, List, [], length, sum_by, Option, Some, None, IfSome, All as Each}
 use Rattle.std.specs.Char.{IsAsciiDigit}
+use Rattle.policy_model.specs.declared.principal.TheConstants.{ACCOUNT_DIGITS}
 use Rattle.policy_model.specs.declared.principal.Entry.{Entry}
 use Rattle.policy_model.specs.declared.principal.Entry.TheVariants.{All, Kind, Account, Exact}
 use Rattle.policy_model.specs.declared.matcher.Matcher.{Matcher}
+use Rattle.wildcard_lang.specs.Patterns.{IsPattern}
 use Rattle.wildcard_lang.specs.declared.piece.Piece.{Piece}
 use Rattle.policy_model.specs.declared.value.Kind.TheVariants.{Text}
 use Rattle.policy_model.specs.declared.value.Value.{Value}
@@ -22,7 +24,7 @@ use Rattle.policy_model.specs.Requests.{IsOfKind}
 -- twelve ASCII digits
 pub record IsAccount (account : List ℕ) : Type 0 where
   pub digits : Each IsAsciiDigit account
-  pub count : length account ≡ 12
+  pub count : length account ≡ ACCOUNT_DIGITS
 
 -- an account is twelve digits, and an exact id has at most 2,048 characters
 abbrev pub EntryIsSound : Entry → Type 0
@@ -60,25 +62,29 @@ abbrev pub ListIsSound : Option (List Value) → KeyRule → Type 0
 ListIsSound None rule = ⊤
 ListIsSound (Some listed) rule = (listed ≢ []) × Each (IsOfKind rule.kind) listed × Each IsShortValue listed
 
--- a shape is given to keys of texts alone, and not beside listed values
+-- a shape is a pattern, and is given to keys of texts alone, and not beside listed values
 abbrev pub ShapeIsSound : Option (List Piece) → KeyRule → Type 0
 ShapeIsSound None rule = ⊤
-ShapeIsSound (Some shape) rule = (rule.kind ≡ Text) × (rule.among ≡ None)
+ShapeIsSound (Some shape) rule = IsPattern shape × (rule.kind ≡ Text) × (rule.among ≡ None)
 
 pub record RuleIsSound (rule : KeyRule) : Type 0 where
   pub listed : ListIsSound rule.among rule
   pub shape : ShapeIsSound rule.shape rule
 
--- the shapes of words, none of which are empty, aren't the empty pattern
-pub record ShapesAreSound (shapes : Shapes) : Type 0 where
-  pub action : shapes.action ≢ Some []
-  pub resource : shapes.resource ≢ Some []
-  pub aws : shapes.aws ≢ Some []
-  pub service : shapes.service ≢ Some []
-  pub federated : shapes.federated ≢ Some []
-  pub canonical_user : shapes.canonical_user ≢ Some []
+-- the shape of a word, where one is given, is a pattern other than the empty one, since words aren't empty
+pub record WordShapeIsSound (shape : Option (List Piece)) : Type 0 where
+  pub pattern : IfSome shape IsPattern
+  pub some : shape ≢ Some []
 
--- under a sound schema there is always a valid request
+pub record ShapesAreSound (shapes : Shapes) : Type 0 where
+  pub action : WordShapeIsSound shapes.action
+  pub resource : WordShapeIsSound shapes.resource
+  pub aws : WordShapeIsSound shapes.aws
+  pub service : WordShapeIsSound shapes.service
+  pub federated : WordShapeIsSound shapes.federated
+  pub canonical_user : WordShapeIsSound shapes.canonical_user
+
+-- each rule and each shape can be met, so that there is a valid request
 pub record SchemaIsSound (schema : Schema) : Type 0 where
   pub rules : Each (λ entry. RuleIsSound entry.1) schema.keys
   pub shapes : ShapesAreSound schema.shapes

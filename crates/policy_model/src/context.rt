@@ -2,11 +2,13 @@
 ghost use Rattle.std.specs.Prelude.{◌≡◌, ◌≢◌, [], length, slice_get, option_map, IfSome, OnOk, OnErr};
 ghost use Rattle.std.specs.Option.{option_copied};
 ghost use Rattle.text_table.specs.Table.{IsInOrder, item_at, with_item};
-ghost use Rattle.policy_model.specs.Keys.{IsFolded};
+ghost use Rattle.std.proofs.Common.{rules};
+ghost use Rattle.policy_model.specs.Keys.{AllHaveValues, AreFolded, IsFolded};
 
 use crate::value::ValueList;
-use plain_lists::NoMemory;
+use plain_lists::{EqualClone, NoMemory};
 use std::alloc::Global;
+use std::collections::btree_map::Iter;
 use std::marker::Model;
 use text_table::Table;
 use wildcard_lang::Text;
@@ -31,6 +33,19 @@ impl Model for Context {
     ghost invariant = { λ c. AreFolded c.entries × AllHaveValues c.entries };
 }
 
+impl Clone for Context {
+    ghost is_clone = { λ x y. y ≡ x };
+
+    fn clone(&self) -> Result<Context, NoMemory> {
+        let entries = self.entries.copy()?;
+        Ok(Context { entries })
+    }
+}
+
+impl EqualClone for Context {
+    ghost clones_are_equal = { Prim.search rules };
+}
+
 impl Context {
     /// The context without keys. It takes no memory.
     pub fn new(alloc: Global) -> Context
@@ -49,21 +64,33 @@ impl Context {
         self.entries.len()
     }
 
-    /// The values of a key, or none where the key isn't there.
+    /// The values of a key, of which there is at least one, or none where the key isn't there.
     pub fn get(&self, key: &Text) -> Option<&ValueList>
-        ensures { option_map (λ v. v.now) result ≡ item_at key.now self.now }
+        ensures values { option_map (λ v. v.now) result ≡ item_at key.now self.now }
+        ensures some { IfSome result (λ v. v.now ≢ []) }
     {
         self.entries.get(key)
     }
 
-    /// The key at a place in the order of keys, counted from 0, with its values, or none where there is
-    /// no such place.
+    /// The key at an index in the order of keys, counted from 0, with its values, or none where there is
+    /// no such index.
     pub fn at(&self, i: usize) -> Option<(&Text, &ValueList)>
         ensures entry { option_map (λ p. (p.0.now, p.1.now)) result ≡ slice_get self.now i }
         ensures folded { IfSome result (λ p. IsFolded p.0.now) }
         ensures some { IfSome result (λ p. p.1.now ≢ []) }
     {
         self.entries.at(i)
+    }
+
+    /// The keys in their order, each with its values. What the iterator still gives stands in contracts as
+    /// the list of the entries that are left.
+    pub fn iter(&self) -> Iter<'_, Text, ValueList>
+        ensures value { result ≡ self.now }
+        ensures ordered { IsInOrder self.now }
+        ensures folded { AreFolded self.now }
+        ensures some { AllHaveValues self.now }
+    {
+        self.entries.iter()
     }
 
     /// Gives a key these values, in place of those that it had. Where there is no memory the context

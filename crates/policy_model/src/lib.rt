@@ -18,13 +18,15 @@ mod value;
 pub use context::Context;
 pub use matcher::Matcher;
 pub use parts::{behind_colon, behind_prefix};
-pub use plain_lists::{List, NoMemory};
-pub use principal::{Entry, EntryList, PrincipalKind, entry_holds, entry_names};
+pub use plain_lists::{EqualClone, List, NoMemory};
+pub use principal::{
+    ACCOUNT_DIGITS, Entry, EntryList, PrincipalKind, entry_holds, entry_names, is_account,
+};
 pub use request::Request;
 pub use schema::{KeyRule, KeyRules, Schema, Shapes};
 pub use set::{
     Document, DocumentList, GuardList, PolicySet, Statement, StatementList, StatementName,
 };
 pub use test::{Slot, SlotList, Test, TestList, test_holds};
-pub use validity::{shape_of, valid};
+pub use validity::{is_value_of, permits_values, shape_of, valid};
 pub use value::{Kind, Value, ValueList};

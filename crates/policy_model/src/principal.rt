@@ -1,11 +1,16 @@
 //! Principals of requests, and the entries of a policy that name them.
-ghost use Rattle.std.specs.Prelude.{◌≡◌, ◌↔◌, IfOk, IsTrue};
+ghost use Rattle.std.specs.Prelude.{◌≡◌, ◌↔◌, IsTrue};
+ghost use Rattle.std.proofs.Common.{rules};
 ghost use Rattle.policy_model.specs.Principals.{EntryHolds, EntryNames, IsOfAccount, account_test};
+ghost use Rattle.policy_model.specs.Soundness.{IsAccount};
 
 use crate::parts::{behind_colon, behind_prefix};
 use crate::request::Request;
-use plain_lists::{List, NoMemory};
+use plain_lists::{EqualClone, List};
 use wildcard_lang::Text;
+
+/// How many digits an account has.
+pub const ACCOUNT_DIGITS: usize = 12;
 
 /// The four kinds of principals of the IAM policy language.
 #[derive(Clone, Copy, Debug, PartialEq, Eq, PartialOrd, Ord, Hash)]
@@ -17,7 +22,7 @@ pub enum PrincipalKind {
 }
 
 /// One principal entry of a policy.
-#[derive(Drop, PartialEq, Eq, Hash)]
+#[derive(Clone, Drop, PartialEq, Eq, Hash)]
 pub enum Entry {
     /// Every principal.
     All,
@@ -29,22 +34,19 @@ pub enum Entry {
     Exact(PrincipalKind, Text),
 }
 
-impl Entry {
-    /// An equal entry.
-    pub fn copy(&self) -> Result<Entry, NoMemory>
-        ensures { IfOk result (λ e. e ≡ self.now) }
-    {
-        match self {
-            Entry::All => Ok(Entry::All),
-            Entry::Kind(kind) => Ok(Entry::Kind(*kind)),
-            Entry::Account(account) => Ok(Entry::Account(account.copy()?)),
-            Entry::Exact(kind, id) => Ok(Entry::Exact(*kind, id.copy()?)),
-        }
-    }
+impl EqualClone for Entry {
+    ghost clones_are_equal = { Prim.search rules };
 }
 
 /// A list of principal entries.
 pub type EntryList = List<Entry>;
+
+/// Whether the text is an account: twelve ASCII digits. It takes no memory.
+pub fn is_account(text: &[char]) -> bool
+    ensures { IsTrue result ↔ IsAccount text.now }
+{
+    text.len() == ACCOUNT_DIGITS && text.iter().all(|c| c.is_ascii_digit())
+}
 
 // Whether the id has the form of an account's principal.
 fn account_test(account: &[char], id: &[char]) -> bool

@@ -2,17 +2,19 @@
 ghost use Rattle.std.specs.Prelude.{◌≡◌, [], None, length, slice_get, option_map, IfSome, OnOk, OnErr};
 ghost use Rattle.std.specs.Option.{option_copied};
 ghost use Rattle.text_table.specs.Table.{IsInOrder, item_at, with_item};
-ghost use Rattle.policy_model.specs.Keys.{IsFolded, no_shapes};
+ghost use Rattle.std.proofs.Common.{rules};
+ghost use Rattle.policy_model.specs.Keys.{AreFolded, IsFolded, no_shapes};
 
 use crate::value::{Kind, ValueList};
-use plain_lists::NoMemory;
+use plain_lists::{EqualClone, NoMemory};
 use std::alloc::Global;
+use std::collections::btree_map::Iter;
 use std::marker::Model;
 use text_table::Table;
 use wildcard_lang::{Pattern, Text};
 
 /// What the values of a condition key may be.
-#[derive(Drop)]
+#[derive(Clone, Drop)]
 pub struct KeyRule {
     pub kind: Kind,
     /// Whether a request may give the key several values.
@@ -23,6 +25,10 @@ pub struct KeyRule {
     pub among: Option<ValueList>,
     /// What each value matches, where a shape is given.
     pub shape: Option<Pattern>,
+}
+
+impl EqualClone for KeyRule {
+    ghost clones_are_equal = { Prim.search rules };
 }
 
 /// The rules of condition keys, by the keys' names with their ASCII letters lowered.
@@ -43,9 +49,22 @@ impl Model for KeyRules {
     ghost invariant = { λ r. AreFolded r.entries };
 }
 
+impl Clone for KeyRules {
+    ghost is_clone = { λ x y. y ≡ x };
+
+    fn clone(&self) -> Result<KeyRules, NoMemory> {
+        let entries = self.entries.copy()?;
+        Ok(KeyRules { entries })
+    }
+}
+
+impl EqualClone for KeyRules {
+    ghost clones_are_equal = { Prim.search rules };
+}
+
 /// What the words of a request match, where a shape is given: its action, its resource, and its
 /// principal's id by the principal's kind.
-#[derive(Drop)]
+#[derive(Clone, Drop)]
 pub struct Shapes {
     pub action: Option<Pattern>,
     pub resource: Option<Pattern>,
@@ -55,13 +74,21 @@ pub struct Shapes {
     pub canonical_user: Option<Pattern>,
 }
 
-/// A schema says which requests are valid.
-#[derive(Drop)]
+impl EqualClone for Shapes {
+    ghost clones_are_equal = { Prim.search rules };
+}
+
+/// A schema says which requests are valid. A request has no condition key that the schema lacks.
+#[derive(Clone, Drop)]
 pub struct Schema {
     /// The version of the schema's file, 1 or 2.
     pub version: u32,
     pub keys: KeyRules,
     pub shapes: Shapes,
+}
+
+impl EqualClone for Schema {
+    ghost clones_are_equal = { Prim.search rules };
 }
 
 impl KeyRules {
@@ -89,13 +116,23 @@ impl KeyRules {
         self.entries.get(key)
     }
 
-    /// The key at a place in the order of keys, counted from 0, with its rule, or none where there is
-    /// no such place.
+    /// The key at an index in the order of keys, counted from 0, with its rule, or none where there is
+    /// no such index.
     pub fn at(&self, i: usize) -> Option<(&Text, &KeyRule)>
         ensures entry { option_map (λ p. (p.0.now, p.1.now)) result ≡ slice_get self.now i }
         ensures folded { IfSome result (λ p. IsFolded p.0.now) }
     {
         self.entries.at(i)
+    }
+
+    /// The keys in their order, each with its rule. What the iterator still gives stands in contracts as
+    /// the list of the entries that are left.
+    pub fn iter(&self) -> Iter<'_, Text, KeyRule>
+        ensures value { result ≡ self.now }
+        ensures ordered { IsInOrder self.now }
+        ensures folded { AreFolded self.now }
+    {
+        self.entries.iter()
     }
 
     /// Gives a key this rule, in place of the one that it had. Where there is no memory the rules stay
@@ -145,8 +182,8 @@ impl Schema {
         self.keys.get(key)
     }
 
-    /// The key at a place in the order of keys, counted from 0, with its rule, or none where there is
-    /// no such place.
+    /// The key at an index in the order of keys, counted from 0, with its rule, or none where there is
+    /// no such index.
     pub fn at(&self, i: usize) -> Option<(&Text, &KeyRule)>
         ensures entry { option_map (λ p. (p.0.now, p.1.now)) result ≡ slice_get self.now.keys i }
         ensures folded { IfSome result (λ p. IsFolded p.0.now) }
@@ -154,11 +191,22 @@ impl Schema {
         self.keys.at(i)
     }
 
+    /// The keys in their order, each with its rule. What the iterator still gives stands in contracts as
+    /// the list of the entries that are left.
+    pub fn iter(&self) -> Iter<'_, Text, KeyRule>
+        ensures value { result ≡ self.now.keys }
+        ensures ordered { IsInOrder self.now.keys }
+        ensures folded { AreFolded self.now.keys }
+    {
+        self.keys.iter()
+    }
+
     /// Gives a key this rule, in place of the one that it had. Where there is no memory the schema stays
     /// as it was, and key and rule are dropped.
     pub fn insert(&mut self, key: Text, rule: KeyRule) -> Result<(), NoMemory>
         requires { IsFolded key }
-        ensures ok { OnOk result (self.new ≡ record self.old { keys = with_item self.old.keys key rule }) }
+        ensures ok { OnOk result
+            (self.new ≡ record self.old { keys = with_item self.old.keys key rule }) }
         ensures err { OnErr result (self.new ≡ self.old) }
     {
         self.keys.insert(key, rule)

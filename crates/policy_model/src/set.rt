@@ -1,12 +1,14 @@
 //! Sets of policies.
+ghost use Rattle.std.proofs.Common.{rules};
+
 use crate::matcher::Matcher;
 use crate::principal::Entry;
-use plain_lists::List;
+use plain_lists::{EqualClone, List};
 use wildcard_lang::Pattern;
 
 /// One statement of a policy. An absent principal matches every principal, and an absent resource
 /// every resource.
-#[derive(Drop)]
+#[derive(Clone, Drop)]
 pub struct Statement {
     /// `Allow`, or else `Deny`.
     pub allow: bool,
@@ -15,13 +17,21 @@ pub struct Statement {
     pub resource: Option<Matcher<Pattern>>,
 }
 
+impl EqualClone for Statement {
+    ghost clones_are_equal = { Prim.search rules };
+}
+
 /// A list of statements.
 pub type StatementList = List<Statement>;
 
 /// One policy document.
-#[derive(Drop)]
+#[derive(Clone, Drop)]
 pub struct Document {
     pub statements: StatementList,
+}
+
+impl EqualClone for Document {
+    ghost clones_are_equal = { Prim.search rules };
 }
 
 /// A list of documents.
@@ -32,10 +42,14 @@ pub type GuardList = List<DocumentList>;
 
 /// A set of policies: documents that grant, and guards that grant nothing and that each have to allow
 /// too, as permission boundaries and service control policies do.
-#[derive(Drop)]
+#[derive(Clone, Drop)]
 pub struct PolicySet {
     pub grants: DocumentList,
     pub guards: GuardList,
+}
+
+impl EqualClone for PolicySet {
+    ghost clones_are_equal = { Prim.search rules };
 }
 
 /// A statement by the numbers of its document and of itself in it, both counted from 1. Documents are

@@ -1,14 +1,15 @@
 //! The single tests that a policy makes of a request.
-ghost use Rattle.std.specs.Prelude.{◌≡◌, ◌↔◌, IfOk, IsTrue};
+ghost use Rattle.std.specs.Prelude.{◌↔◌, IsTrue};
+ghost use Rattle.std.proofs.Common.{rules};
 ghost use Rattle.policy_model.specs.Tests.{TestHolds};
 
 use crate::principal::{Entry, entry_holds};
 use crate::request::Request;
-use plain_lists::{List, NoMemory};
+use plain_lists::{EqualClone, List};
 use wildcard_lang::{Pattern, Text, matches};
 
 /// A test of a request.
-#[derive(Drop, PartialEq, Eq, Hash)]
+#[derive(Clone, Drop, PartialEq, Eq, Hash)]
 pub enum Test {
     /// The principal is one of the entry.
     Principal(Entry),
@@ -18,30 +19,25 @@ pub enum Test {
     Resource(Pattern),
 }
 
-impl Test {
-    /// An equal test.
-    pub fn copy(&self) -> Result<Test, NoMemory>
-        ensures { IfOk result (λ t. t ≡ self.now) }
-    {
-        match self {
-            Test::Principal(entry) => Ok(Test::Principal(entry.copy()?)),
-            Test::Action(pattern) => Ok(Test::Action(pattern.copy()?)),
-            Test::Resource(pattern) => Ok(Test::Resource(pattern.copy()?)),
-        }
-    }
+impl EqualClone for Test {
+    ghost clones_are_equal = { Prim.search rules };
 }
 
 /// A list of tests.
 pub type TestList = List<Test>;
 
 /// A part of a request that tests are on.
-#[derive(Drop, PartialEq, Eq)]
+#[derive(Clone, Drop, PartialEq, Eq)]
 pub enum Slot {
     Principal,
     Action,
     Resource,
     /// The condition key of this name, with its ASCII letters lowered.
     Key(Text),
+}
+
+impl EqualClone for Slot {
+    ghost clones_are_equal = { Prim.search rules };
 }
 
 /// A list of slots.

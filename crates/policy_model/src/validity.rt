@@ -64,13 +64,17 @@ fn is_listed(among: &Option<ValueList>, value: &Value) -> bool
     }
 }
 
-fn is_value_of(rule: &KeyRule, value: &Value) -> bool
+/// Whether the rule of a key permits the value: it is of the rule's kind, of its shape and among its
+/// listed values, where these are given. It takes no memory.
+pub fn is_value_of(rule: &KeyRule, value: &Value) -> bool
     ensures { IsTrue result ↔ IsValueOf rule.now value.now }
 {
     is_of_kind(rule.kind, value) && value_fits(&rule.shape, value) && is_listed(&rule.among, value)
 }
 
-fn permits_values(rule: &KeyRule, values: &ValueList) -> bool
+/// Whether the rule of a key permits these values together: it permits each, and a key that isn't given
+/// several has at most one. It takes no memory.
+pub fn permits_values(rule: &KeyRule, values: &ValueList) -> bool
     ensures { IsTrue result ↔ PermitsValues rule.now values.now }
 {
     (rule.many || values.len() <= 1)
@@ -80,6 +84,7 @@ fn permits_values(rule: &KeyRule, values: &ValueList) -> bool
             .all(|value| is_value_of(rule, value))
 }
 
+// A key that the schema lacks is refused.
 fn entry_is_valid(keys: &KeyRules, key: &Text, values: &ValueList) -> bool
     ensures { IsTrue result ↔ EntryIsValid keys.now (key.now, values.now) }
 {
@@ -92,11 +97,9 @@ fn entry_is_valid(keys: &KeyRules, key: &Text, values: &ValueList) -> bool
 fn entries_are_valid(keys: &KeyRules, context: &Context) -> bool
     ensures { IsTrue result ↔ All (EntryIsValid keys.now) context.now }
 {
-    for i in 0..context.len() {
-        if let Some((key, values)) = context.at(i) {
-            if !entry_is_valid(keys, key, values) {
-                return false;
-            }
+    for (key, values) in context.iter() {
+        if !entry_is_valid(keys, key, values) {
+            return false;
         }
     }
     true
@@ -111,20 +114,15 @@ fn is_there(context: &Context, key: &Text, rule: &KeyRule) -> bool
 fn has_value(context: &Context, key: &Text) -> bool
     ensures { IsTrue result ↔ HasValue context.now key.now }
 {
-    match context.get(key) {
-        None => false,
-        Some(values) => !values.is_empty(),
-    }
+    context.get(key).is_some()
 }
 
 fn required_are_there(keys: &KeyRules, context: &Context) -> bool
     ensures { IsTrue result ↔ All (IsThere context.now) keys.now }
 {
-    for i in 0..keys.len() {
-        if let Some((key, rule)) = keys.at(i) {
-            if !is_there(context, key, rule) {
-                return false;
-            }
+    for (key, rule) in keys.iter() {
+        if !is_there(context, key, rule) {
+            return false;
         }
     }
     true

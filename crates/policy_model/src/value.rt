@@ -1,7 +1,7 @@
 //! Values of condition keys.
-ghost use Rattle.std.specs.Prelude.{◌≡◌, IfOk};
+ghost use Rattle.std.proofs.Common.{rules};
 
-use plain_lists::{List, NoMemory};
+use plain_lists::{EqualClone, List};
 use wildcard_lang::Text;
 
 /// The kinds of values that a condition key may have.
@@ -12,22 +12,14 @@ pub enum Kind {
 }
 
 /// A value of a condition key.
-#[derive(Drop, PartialEq, Eq)]
+#[derive(Clone, Drop, PartialEq, Eq)]
 pub enum Value {
     Word(Text),
     Truth(bool),
 }
 
-impl Value {
-    /// An equal value.
-    pub fn copy(&self) -> Result<Value, NoMemory>
-        ensures { IfOk result (λ v. v ≡ self.now) }
-    {
-        match self {
-            Value::Word(text) => Ok(Value::Word(text.copy()?)),
-            Value::Truth(truth) => Ok(Value::Truth(*truth)),
-        }
-    }
+impl EqualClone for Value {
+    ghost clones_are_equal = { Prim.search rules };
 }
 
 /// A list of values.

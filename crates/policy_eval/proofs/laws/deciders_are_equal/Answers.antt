@@ -2,4 +2,4 @@ use Rattle.policy_eval.proofs.Unique.{one-decider}
 use Rattle.policy_eval.proofs.laws.deciders_are_equal.Goals as goal
 
 pub returns : goal.returns
-returns c = λ set r one other is also. one-decider set r one other is also
+returns c = λ schema set r one other is also. one-decider schema set r one other is also

@@ -1,19 +1,24 @@
-use Rattle.std.proofs.Common.{arith, sym, refl}
+use Rattle.std.proofs.Common.{◌≡◌, [], All, refl, rules, subst, sym}
+use Rattle.std.proofs.lemmas.List.Elements.{All-nil}
+use Rattle.text_table.proofs.Laws.{walk-next, walk-stops}
 use Rattle.policy_model.specs.Requests.{EntryIsValid}
-use Rattle.policy_model.proofs.Places.{All-next, All-not, All-done, slice_get-some}
 use Rattle.policy_model.proofs.validity.entries_are_valid.Goals as goal
-use Rattle.policy_model.proofs.validity.entries_are_valid.Goals.{in-Some+else-not-entry_is_valid, in_default}
 
-pub loop-i-preserved : goal.loop-i-preserved
-loop-i-preserved c = elim c.match-at.branch [
-  | in-Some+else-not-entry_is_valid w ↦ All-next (EntryIsValid c.args.keys.now) c.args.context.now c.loop-i.i (w.in-Some.key.now, w.in-Some.values.now) (sym w.in-Some.ensures.entry) c.loop-i.invariant (w.entry_is_valid.ensures.0 w.if-not-entry_is_valid.false)
-  | in_default w ↦ absurd (slice_get-some c.args.context.now c.loop-i.i (omega arith) (sym w.in_default.ensures.entry))
-]
+pub loop-key-init : goal.loop-key-init
+loop-key-init c =
+    let e : c.into_iter-key-iterator.result ≡ c.args.context.now = cc in
+    (λ all. subst (All (EntryIsValid c.args.keys.now)) (sym e) all, λ all. subst (All (EntryIsValid c.args.keys.now)) e all)
 
-pub returns : goal.returns
-returns c = (λ _. All-done (EntryIsValid c.args.keys.now) c.args.context.now c.loop-i.i (omega arith) c.loop-i.invariant, λ _. refl)
+pub loop-key-preserved : goal.loop-key-preserved
+loop-key-preserved c = walk-next (EntryIsValid c.args.keys.now) _ _ _ _ c.in-Some.ensures.steps c.loop-key.invariant (search rules)
 
 pub returns-then-not-entry_is_valid : goal.returns-then-not-entry_is_valid
-returns-then-not-entry_is_valid c =
-    let not : ¬ EntryIsValid c.args.keys.now (c.in-Some.key.now, c.in-Some.values.now) = λ valid. absurd (cc (c.entry_is_valid.ensures.1 valid)) in
-    (λ e. absurd (cc), λ all. absurd (All-not (EntryIsValid c.args.keys.now) c.args.context.now c.loop-i.i (c.in-Some.key.now, c.in-Some.values.now) (sym c.in-Some.ensures.entry) not all))
+returns-then-not-entry_is_valid c = (
+  λ e. absurd (cc),
+  λ all. absurd (walk-stops (EntryIsValid c.args.keys.now) _ _ _ _ c.in-Some.ensures.steps c.loop-key.invariant (λ h. search rules) all),
+)
+
+pub returns : goal.returns
+returns c =
+    let e : c.loop-key.key-iterator ≡ [] = c.in-None.ensures.steps.0 in
+    (λ _. c.loop-key.invariant.1 (subst (All (EntryIsValid c.args.keys.now)) (sym e) (All-nil (EntryIsValid c.args.keys.now))), λ _. refl)

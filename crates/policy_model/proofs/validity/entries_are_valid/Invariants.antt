@@ -1,6 +1,7 @@
-use Rattle.std.proofs.Common.{All, take}
+use Rattle.std.proofs.Common.{◌↔◌, All}
 use Rattle.policy_model.specs.Requests.{EntryIsValid}
 use Rattle.policy_model.proofs.validity.entries_are_valid.Given as goal
 
-abbrev pub invariant-loop-i : goal.invariant-loop-i
-invariant-loop-i l = All (EntryIsValid l.keys) (take l.i l.context)
+-- all entries are valid where those that are left are
+abbrev pub invariant-loop-key : goal.invariant-loop-key
+invariant-loop-key l = All (EntryIsValid l.keys) l.context ↔ All (EntryIsValid l.keys) l.key-iterator
