@@ -1,13 +1,13 @@
-pub mod Answering
-pub mod Choosing
-pub mod Composing
-pub mod Files
-pub mod Items
-pub mod Lists
-pub mod Loops
-pub mod Members
-pub mod Numbering
-pub mod Naming
-pub mod Roots
-pub mod Sound
-pub mod Steps
+mod Answering
+mod Choosing
+mod Composing
+mod Files
+mod Items
+mod Lists
+mod Loops
+mod Members
+mod Numbering
+mod Naming
+mod Roots
+mod Sound
+mod Steps

@@ -33,7 +33,7 @@ all_read checks meaning before all rest got so_far is empty = (
   sym (so_far.values ∙ ap (λ r. got ++ meaning r) is ∙ ap (λ r. got ++ r) empty ∙ append-nil got),
 )
 
--- the members of a slice, from a place on
+-- the members of a slice, from an index on
 pub from_here : {A B : Type 0} (f : A → B) (xs : List A) (i : ℕ) (x : A) → i < length xs → x ≡ get_or xs i x → map f (drop i xs) ≡ f x ∷ map f (drop (i + 1) xs)
 from_here f xs i x within is = ap (map f) (drop_more xs i x within) ∙ ap (λ v. f v ∷ map f (drop (i + 1) xs)) (sym is)
 

@@ -1,5 +1,5 @@
 -- The account whose root an id is.
-use Rattle.std.proofs.Common.{◌≡◌, ℕ, ◌==◌, List, [], ◌∷◌, ◌++◌, length, take, drop, Bool, true, false, ◌&&◌, Option, Some, None, nat_eq, refl, codes, ◌≢◌, option_and_then, bytes_eq, subst, All, if◌then◌else◌, ap, ◌∙◌, sym, arith}
+use Rattle.std.proofs.Common.{◌≡◌, ℕ, ◌==◌, List, [], ◌∷◌, ◌++◌, length, take, drop, Bool, true, false, ◌&&◌, Option, Some, None, refl, codes, ◌≢◌, option_and_then, bytes_eq, subst, All, if◌then◌else◌, ap, ◌∙◌, sym, arith}
 use Rattle.std.proofs.lemmas.List.{take_at, drop_at, take-append-drop}
 use Rattle.std.proofs.lemmas.List.Elements.{All-head, All-tail, All-weaker}
 use Rattle.std.proofs.lemmas.List.Sums.{AllPass-from_list_all, list_all-from_AllPass}
@@ -7,9 +7,9 @@ use Rattle.std.proofs.lemmas.Bool.Decides.{Decides-eqb}
 use Rattle.std.proofs.lemmas.Slice.Eq.{bytes_eq-Decides}
 use lib.Utf8.{low_scalar}
 use Rattle.std.specs.Char.{IsAsciiDigit, is_ascii_digit}
-use Rattle.std.specs.List.{starts_with, list_all}
+use Rattle.std.specs.List.{list_all}
 use Rattle.wildcard_lang.specs.Text.{IsText}
-use Rattle.policy_model.proofs.Accounts.{behind_colon-is, behind_colon-append, behind_prefix-is}
+use Rattle.policy_model.proofs.Laws.{behind_colon-is, behind_colon-append, behind_prefix-is}
 use Rattle.policy_model.specs.Principals.{behind_colon, behind_prefix, has_colon}
 use Rattle.policy_model.specs.Soundness.{IsAccount}
 use Rattle.policy_json.specs.Principals.{IsRootOf, account_before_root, account_of, nonempty_part, is_account, root_account}
@@ -37,6 +37,15 @@ pub is_account-of : (text : List ℕ) → IsAccount text → is_account text ≡
 is_account-of text h =
     let digits = list_all-from_AllPass is_ascii_digit text (All-weaker IsAsciiDigit (λ (c : ℕ). is_ascii_digit c ≡ true) digit-of text h.digits) in
     rw (digits, h.count) refl
+
+same_tests : (b t : Bool) → (b ≡ true → t ≡ true) → (t ≡ true → b ≡ true) → b ≡ t
+same_tests true t h k = sym (h refl)
+same_tests false true h k = k refl
+same_tests false false h k = refl
+
+-- a test that says whether the text is an account is the computed one
+pub is_account-test : (b : Bool) (text : List ℕ) → (b ≡ true → IsAccount text) → (IsAccount text → b ≡ true) → b ≡ is_account text
+is_account-test b text h k = same_tests b (is_account text) (λ e. is_account-of text (h e)) (λ e. k (is_account-is text e))
 
 -- what stands before a step that found something
 record Step (f : List ℕ → Option (List ℕ)) (o : Option (List ℕ)) (b : List ℕ) : Type 0 where

@@ -10,12 +10,12 @@ use Rattle.policy_model.specs.declared.principal.Entry.{Entry}
 use Rattle.policy_model.specs.declared.principal.Entry.TheVariants.{All, Kind, Exact}
 use Rattle.policy_model.specs.Soundness.{EntryIsSound, IsAccount}
 use Rattle.policy_json.specs.declared.fault.PolicyFault.{PolicyFault}
-use Rattle.policy_json.specs.declared.place.Place.{Place}
+use Rattle.policy_json.specs.declared.location.Location.{Location}
 use Rattle.policy_json.specs.Checks.{Check, first_fault}
 use Rattle.policy_json.specs.Json.{one_or_more, pairs_in}
 use Rattle.policy_json.specs.Shapes.{is_object}
 use Rattle.policy_json.specs.Texts.{text_of}
-use Rattle.policy_json.specs.Principals.{account_of, account_or_exact, entries_of, entries_of_kind, entry_of, id_checks, is_star, kind_checks, kind_of, principal_checks}
+use Rattle.policy_json.specs.Principals.{account_of, account_or_exact, entries_of, entries_of_kind, entry_of, id_checks, is_star_id, kind_checks, kind_of, principal_checks}
 use Rattle.policy_json.proofs.Composing.{first_fault-rest}
 use Rattle.policy_json.proofs.Roots.{account_of-is}
 
@@ -53,10 +53,10 @@ account_sound id None is short = short
 account_sound id (Some account) is short = is account refl
 
 entry_sound : (kind : PrincipalKind) (id : List ℕ) → length id ≤ 2048 → EntryIsSound (entry_of kind id)
-entry_sound Aws id short = either_sound (is_star id) All (account_or_exact id (account_of id)) tt (account_sound id (account_of id) (account_of-is id) short)
-entry_sound Service id short = either_sound (is_star id) (Kind Service) (Exact Service id) tt short
-entry_sound Federated id short = either_sound (is_star id) (Kind Federated) (Exact Federated id) tt short
-entry_sound CanonicalUser id short = either_sound (is_star id) (Kind CanonicalUser) (Exact CanonicalUser id) tt short
+entry_sound Aws id short = either_sound (is_star_id id) All (account_or_exact id (account_of id)) tt (account_sound id (account_of id) (account_of-is id) short)
+entry_sound Service id short = either_sound (is_star_id id) (Kind Service) (Exact Service id) tt short
+entry_sound Federated id short = either_sound (is_star_id id) (Kind Federated) (Exact Federated id) tt short
+entry_sound CanonicalUser id short = either_sound (is_star_id id) (Kind CanonicalUser) (Exact CanonicalUser id) tt short
 
 third_passes : (a b c : Bool) (x y z : PolicyFault) → (if a then (if b then (if c then None else Some z) else Some y) else Some x) ≡ None → c ≡ true
 third_passes true true true x y z e = refl
@@ -64,18 +64,18 @@ third_passes true true false x y z e = cc
 third_passes true false c x y z e = cc
 third_passes false b c x y z e = cc
 
-id_sound : (place : Place) (name : List ℕ) (kind : PrincipalKind) (d : Data) → first_fault (id_checks place name d) ≡ None → EntryIsSound (entry_of kind (text_of d))
-id_sound place name kind d e = entry_sound kind (text_of d) (leb-true (length (text_of d)) 2048 (third_passes _ _ _ _ _ _ e))
+id_sound : (location : Location) (name : List ℕ) (kind : PrincipalKind) (d : Data) → first_fault (id_checks location name d) ≡ None → EntryIsSound (entry_of kind (text_of d))
+id_sound location name kind d e = entry_sound kind (text_of d) (leb-true (length (text_of d)) 2048 (third_passes _ _ _ _ _ _ e))
 
 second_passes : (a b : Bool) (x y : PolicyFault) (rest : Option PolicyFault) → (if a then (if b then rest else Some y) else Some x) ≡ None → rest ≡ None
 second_passes true true x y rest e = e
 second_passes true false x y rest e = cc
 second_passes false b x y rest e = cc
 
-kind_sound : (place : Place) (name : List ℕ) (pair : List ℕ × Data) → first_fault (kind_checks place name pair) ≡ None → Each EntryIsSound (entries_of_kind pair)
-kind_sound place name pair e =
-    let passed : first_fault (flat_map (id_checks place name) (one_or_more pair.1)) ≡ None = second_passes _ _ _ _ _ e in
-    All-map EntryIsSound (λ (d : Data). entry_of (kind_of pair.0) (text_of d)) (one_or_more pair.1) (each_sound (id_checks place name) (λ d. EntryIsSound (entry_of (kind_of pair.0) (text_of d))) (id_sound place name (kind_of pair.0)) (one_or_more pair.1) passed)
+kind_sound : (location : Location) (name : List ℕ) (pair : List ℕ × Data) → first_fault (kind_checks location name pair) ≡ None → Each EntryIsSound (entries_of_kind pair)
+kind_sound location name pair e =
+    let passed : first_fault (flat_map (id_checks location name) (one_or_more pair.1)) ≡ None = second_passes _ _ _ _ _ e in
+    All-map EntryIsSound (λ (d : Data). entry_of (kind_of pair.0) (text_of d)) (one_or_more pair.1) (each_sound (id_checks location name) (λ d. EntryIsSound (entry_of (kind_of pair.0) (text_of d))) (id_sound location name (kind_of pair.0)) (one_or_more pair.1) passed)
 
 first_passes : (a : Bool) (x : PolicyFault) (rest : Option PolicyFault) → (if a then rest else Some x) ≡ None → rest ≡ None
 first_passes true x rest e = e
@@ -86,8 +86,8 @@ either_each true xs ys h k = h
 either_each false xs ys h k = k
 
 -- the entries of an element that passes its checks
-pub entries_sound : (place : Place) (name : List ℕ) (d : Data) → first_fault (principal_checks place name (Some d)) ≡ None → Each EntryIsSound (entries_of d)
-entries_sound place name d e =
-    let passed : first_fault (flat_map (kind_checks place name) (pairs_in d)) ≡ None = first_passes _ _ _ e in
-    let each = each_sound (kind_checks place name) (λ pair. Each EntryIsSound (entries_of_kind pair)) (kind_sound place name) (pairs_in d) passed in
+pub entries_sound : (location : Location) (name : List ℕ) (d : Data) → first_fault (principal_checks location name (Some d)) ≡ None → Each EntryIsSound (entries_of d)
+entries_sound location name d e =
+    let passed : first_fault (flat_map (kind_checks location name) (pairs_in d)) ≡ None = first_passes _ _ _ e in
+    let each = each_sound (kind_checks location name) (λ pair. Each EntryIsSound (entries_of_kind pair)) (kind_sound location name) (pairs_in d) passed in
     either_each (is_object d) (flat_map entries_of_kind (pairs_in d)) (All ∷ []) (each_flat entries_of_kind EntryIsSound (pairs_in d) each) (All-cons EntryIsSound All [] tt (All-nil EntryIsSound))

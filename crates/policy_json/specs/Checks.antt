@@ -2,7 +2,7 @@
 -- may be asked of a value of a wrong shape; its answer counts only where every check before it is passed.
 use Rattle.std.specs.Prelude.{◌≡◌, ⊤, ℕ, List, [], ◌∷◌, Bool, Option, Some, None, Result, Ok, Err, if◌then◌else◌}
 use Rattle.std.specs.Str.{chars}
-use Rattle.policy_json.specs.declared.place.Place.{Place}
+use Rattle.policy_json.specs.declared.location.Location.{Location}
 use Rattle.policy_json.specs.declared.fault.PolicyFault.{PolicyFault}
 use Rattle.policy_json.specs.declared.fault.PolicyCode.{PolicyCode}
 use Rattle.policy_json.specs.declared.fault.PolicyAnswer.{PolicyAnswer}
@@ -13,13 +13,18 @@ pub record Check : Type 0 where
   pub passes : Bool
   pub fault : PolicyFault
 
--- the fault of this code at the place, in the element of this name
-abbrev pub fault_at : Place → PolicyCode → List ℕ → PolicyFault
-fault_at place code name = record { code = code; document = place.document; statement = place.statement; element = chars name }
+-- the fault of this code at the location, in the element of this name
+abbrev pub fault_at : Location → PolicyCode → List ℕ → PolicyFault
+fault_at location code name = record {
+  code = code;
+  document = location.document;
+  statement = location.statement;
+  element = chars name;
+}
 
--- the question has the answer yes, or else there is this fault at the place, in the element of this name
-abbrev pub check : Place → Bool → PolicyCode → List ℕ → Check
-check place passes code name = record { passes = passes; fault = fault_at place code name }
+-- the question has the answer yes, or else there is this fault at the location, in the element of this name
+abbrev pub check : Location → Bool → PolicyCode → List ℕ → Check
+check location passes code name = record { passes = passes; fault = fault_at location code name }
 
 -- the fault of the first check that isn't passed, or none where all are
 abbrev pub first_fault : List Check → Option PolicyFault

@@ -1,14 +1,18 @@
--- Documents (IAM JSON policy reference, Version, Id and Statement): what is checked of one, in this order, and what it stands for.
-use Rattle.std.specs.Prelude.{ℕ, ◌+◌, List, [], ◌∷◌, ◌++◌, map, Bool, ◌||◌, nat_le, Option, Some, None, codes}
+-- Documents (IAM JSON policy reference, Version, Id and Statement): what is checked of one, in this order, and what it stands
+-- for.
+use Rattle.std.specs.Prelude.{ℕ, ◌+◌, List, [], ◌∷◌, ◌++◌, map, Bool, ◌||◌, nat_le, Option, Some, None, Result, codes}
 use Rattle.serde_json.specs.Data.{Data}
 use Rattle.serde_json.specs.Find.{get}
 use Rattle.policy_model.specs.declared.set.Document.{Document}
 use Rattle.policy_json.specs.declared.fault.PolicyCode.TheVariants.{P2SetShape, P4WrongShape, P5MissingElement, P7BadVersion, P17Limit}
-use Rattle.policy_json.specs.declared.place.Place.{Place}
-use Rattle.policy_json.specs.Checks.{Check, check}
-use Rattle.policy_json.specs.Json.{has, one_or_more}
-use Rattle.policy_json.specs.Shapes.{is_list, is_object, is_string, is_text, is_there_and, name_checks, where_there}
+use Rattle.policy_json.specs.declared.location.Location.{Location}
+use Rattle.policy_json.specs.declared.fault.PolicyAnswer.{PolicyAnswer}
+use Rattle.policy_model.specs.declared.set.Statement.{Statement}
+use Rattle.policy_json.specs.Checks.{Check, IsReadOf, check}
+use Rattle.policy_json.specs.Json.{has_name, one_or_more}
+use Rattle.policy_json.specs.Shapes.{is_object, is_object_or_list, is_string, is_text, is_there_and, name_checks, where_there}
 use Rattle.policy_json.specs.Statements.{statement_checks, statement_of}
+use Rattle.policy_json.specs.declared.document.TheConstants.{MOST_DOCUMENTS}
 
 -- the names that a document may have
 abbrev pub document_names : List (List ℕ)
@@ -36,33 +40,45 @@ abbrev pub statements_in : Data → List Data
 statements_in d = statements_at (get (codes "Statement") d)
 
 -- it is one of the first 32 documents, and an object with known names
-abbrev pub object_checks : Place → Data → List Check
-object_checks place d =
-    check place (nat_le place.document 32) P17Limit [] ∷
-    check place (is_object d) P2SetShape [] ∷
-    name_checks place document_names d
+abbrev pub object_checks : Location → Data → List Check
+object_checks location d =
+    check location (nat_le location.document MOST_DOCUMENTS) P17Limit [] ∷
+    check location (is_object d) P2SetShape [] ∷
+    name_checks location document_names d
 
 -- its version and its id are as they must be, and it has statements
-abbrev pub element_checks : Place → Data → List Check
-element_checks place d =
-    check place (where_there is_string (get (codes "Version") d)) P4WrongShape (codes "Version") ∷
-    check place (where_there is_version (get (codes "Version") d)) P7BadVersion (codes "Version") ∷
-    check place (where_there is_string (get (codes "Id") d)) P4WrongShape (codes "Id") ∷
-    check place (has (codes "Statement") d) P5MissingElement (codes "Statement") ∷
-    check place (is_there_and (λ s. is_object s || is_list s) (get (codes "Statement") d)) P4WrongShape (codes "Statement") ∷ []
+abbrev pub element_checks : Location → Data → List Check
+element_checks location d =
+    check location (where_there is_string (get (codes "Version") d)) P4WrongShape (codes "Version") ∷
+    check location (where_there is_version (get (codes "Version") d)) P7BadVersion (codes "Version") ∷
+    check location (where_there is_string (get (codes "Id") d)) P4WrongShape (codes "Id") ∷
+    check location (has_name (codes "Statement") d) P5MissingElement (codes "Statement") ∷
+    check location (is_there_and is_object_or_list (get (codes "Statement") d)) P4WrongShape (codes "Statement") ∷ []
 
-abbrev pub head_checks : Place → Data → List Check
-head_checks place d = object_checks place d ++ element_checks place d
+abbrev pub head_checks : Location → Data → List Check
+head_checks location d = object_checks location d ++ element_checks location d
 
 -- statements are numbered in their document and in their set, in both from these numbers on
 abbrev pub numbered_checks : ℕ → ℕ → ℕ → Bool → List Data → List Check
 numbered_checks document statement in_set escapes [] = []
-numbered_checks document statement in_set escapes (d ∷ ds) = statement_checks (record { document = document; statement = statement }) in_set escapes d ++ numbered_checks document (statement + 1) (in_set + 1) escapes ds
+numbered_checks document statement in_set escapes (d ∷ ds) =
+    statement_checks (record { document = document; statement = statement }) in_set escapes d
+    ++ numbered_checks document (statement + 1) (in_set + 1) escapes ds
 
 -- all checks of the document of this number, before which this many statements stand in the set
 abbrev pub document_checks : ℕ → ℕ → Data → List Check
-document_checks number before d = head_checks (record { document = number; statement = 0 }) d ++ numbered_checks number 1 (before + 1) (has_escapes d) (statements_in d)
+document_checks number before d =
+    head_checks (record { document = number; statement = 0 }) d
+    ++ numbered_checks number 1 (before + 1) (has_escapes d) (statements_in d)
 
 -- what the document stands for
 abbrev pub document_of : Data → Document
 document_of d = record { statements = map (statement_of (has_escapes d)) (statements_in d) }
+
+-- what a reader of a document's statements answers, and what a reader of documents does
+abbrev pub AreStatementsRead : ℕ → ℕ → Bool → List Data → Result (List Statement) PolicyAnswer → Type 0
+AreStatementsRead document before escapes ds =
+    IsReadOf (numbered_checks document 1 (before + 1) escapes ds) (map (statement_of escapes) ds)
+
+abbrev pub IsDocumentRead : ℕ → ℕ → Data → Result Document PolicyAnswer → Type 0
+IsDocumentRead number before d = IsReadOf (document_checks number before d) (document_of d)

@@ -1,10 +1,12 @@
 -- Looking into JSON values (RFC 8259): an object has each name once, in the order of the names by their bytes. Of a name that
 -- stands twice in the text the last value counts.
-use Rattle.std.specs.Prelude.{ℕ, List, [], ◌∷◌, Bool, Option, None, is_some, if◌then◌else◌}
+use Rattle.std.specs.Prelude.{ℕ, List, [], ◌∷◌, map, Bool, Option, None, is_some, if◌then◌else◌}
 use Rattle.std.specs.Str.{is_utf8}
 use Rattle.serde_json.specs.Data.{Data, null, boolean, number, string, array, object, Items, no_items, item, Members, no_members, member}
 use Rattle.serde_json.specs.Read.{read}
 use Rattle.serde_json.specs.Find.{get}
+use Rattle.serde_json.specs.View.{view}
+use Rattle.serde_json.specs.declared.value.Value.{Value}
 
 -- the value that `serde_json` reads from a file (nested at most 127 deep, numbers up to the greatest float), or none
 abbrev pub json_of : List ℕ → Option Data
@@ -48,5 +50,9 @@ one_or_more (array ds) = values_of ds
 one_or_more (object ms) = object ms ∷ []
 
 -- the object has the name
-abbrev pub has : List ℕ → Data → Bool
-has name d = is_some (get name d)
+abbrev pub has_name : List ℕ → Data → Bool
+has_name name d = is_some (get name d)
+
+-- values as they are read
+abbrev pub views : List Value → List Data
+views values = map view values

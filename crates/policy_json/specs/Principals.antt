@@ -1,5 +1,5 @@
 -- Principal elements (IAM JSON policy reference, Principal and NotPrincipal).
-use Rattle.std.specs.Prelude.{◌≡◌, ◌≢◌, ℕ, List, [], ◌∷◌, ◌++◌, length, map, take, drop, Bool, false, ◌&&◌, ◌||◌, ◌==◌, not, nat_le, Option, Some, None, option_and_then, if◌then◌else◌, codes}
+use Rattle.std.specs.Prelude.{⊤, ◌≡◌, ◌≢◌, ℕ, List, [], ◌∷◌, ◌++◌, length, map, take, drop, Bool, false, ◌&&◌, ◌||◌, ◌==◌, not, nat_le, Option, Some, None, Result, option_and_then, if◌then◌else◌, codes}
 use Rattle.std.specs.List.{flat_map, list_any, list_all}
 use Rattle.std.specs.Char.{is_ascii_digit}
 use Rattle.std.specs.Str.{bytes_eq}
@@ -11,11 +11,13 @@ use Rattle.policy_model.specs.declared.principal.Entry.TheVariants.{All, Kind, A
 use Rattle.policy_model.specs.Principals.{behind_colon, behind_prefix, has_colon}
 use Rattle.policy_model.specs.Soundness.{IsAccount}
 use Rattle.policy_json.specs.declared.fault.PolicyCode.TheVariants.{P4WrongShape, P9PrincipalKind, P10PrincipalWildcard, P17Limit}
-use Rattle.policy_json.specs.declared.place.Place.{Place}
-use Rattle.policy_json.specs.Checks.{Check, check}
+use Rattle.policy_json.specs.declared.location.Location.{Location}
+use Rattle.policy_json.specs.declared.fault.PolicyAnswer.{PolicyAnswer}
+use Rattle.policy_json.specs.Checks.{Check, IsReadOf, check}
 use Rattle.policy_json.specs.Json.{one_or_more, pairs_in}
 use Rattle.policy_json.specs.Shapes.{are_strings, is_among, is_object, is_text}
 use Rattle.policy_json.specs.Texts.{text_of}
+use Rattle.policy_json.specs.declared.principals.TheConstants.{MOST_CHARACTERS}
 
 -- ---- what is checked
 
@@ -28,31 +30,33 @@ abbrev pub has_wildcard : List ℕ → Bool
 has_wildcard text = list_any (λ c. (c == 42) || (c == 63)) text
 
 -- the text is `*` alone
-abbrev pub is_star : List ℕ → Bool
-is_star text = bytes_eq text (codes "*")
+abbrev pub is_star_id : List ℕ → Bool
+is_star_id text = bytes_eq text (codes "*")
 
 -- an id isn't empty, has no wildcard unless it is `*` alone, and has at most 2,048 characters
-abbrev pub id_checks : Place → List ℕ → Data → List Check
-id_checks place name d =
-    check place (not (nat_le (length (text_of d)) 0)) P4WrongShape name ∷
-    check place (is_star (text_of d) || not (has_wildcard (text_of d))) P10PrincipalWildcard name ∷
-    check place (nat_le (length (text_of d)) 2048) P17Limit name ∷ []
+abbrev pub id_checks : Location → List ℕ → Data → List Check
+id_checks location name d =
+    check location (not (nat_le (length (text_of d)) 0)) P4WrongShape name ∷
+    check location (is_star_id (text_of d) || not (has_wildcard (text_of d))) P10PrincipalWildcard name ∷
+    check location (nat_le (length (text_of d)) MOST_CHARACTERS) P17Limit name ∷ []
 
 -- a member of a principal element has the name of a kind, its value is a string or a list of strings, and each is an id
-abbrev pub kind_checks : Place → List ℕ → List ℕ × Data → List Check
-kind_checks place name pair =
-    check place (is_among kind_names pair.0) P9PrincipalKind pair.0 ∷
-    check place (are_strings pair.1) P4WrongShape name ∷
-    flat_map (id_checks place name) (one_or_more pair.1)
+abbrev pub kind_checks : Location → List ℕ → List ℕ × Data → List Check
+kind_checks location name pair =
+    check location (is_among kind_names pair.0) P9PrincipalKind pair.0 ∷
+    check location (are_strings pair.1) P4WrongShape name ∷
+    flat_map (id_checks location name) (one_or_more pair.1)
 
 -- a principal element, where it is there, is the string `*` or an object, whose members are checked in the order of their names
-abbrev pub principal_checks : Place → List ℕ → Option Data → List Check
-principal_checks place name None = []
-principal_checks place name (Some d) = check place (is_text (codes "*") d || is_object d) P4WrongShape name ∷ flat_map (kind_checks place name) (pairs_in d)
+abbrev pub principal_checks : Location → List ℕ → Option Data → List Check
+principal_checks location name None = []
+principal_checks location name (Some d) =
+    check location (is_text (codes "*") d || is_object d) P4WrongShape name ∷ flat_map (kind_checks location name) (pairs_in d)
 
 -- ---- what it stands for
 
--- the id is the ARN of an account's root: `arn:`, a partition that isn't empty and has no colon, `:iam::`, the account and `:root`
+-- the id is the ARN of an account's root: `arn:`, a partition that isn't empty and has no colon, `:iam::`, the account and
+-- `:root`
 pub record IsRootOf (account id : List ℕ) : Type 0 where
   pub account_is : IsAccount account
   pub partition : List ℕ
@@ -66,7 +70,8 @@ is_account text = list_all is_ascii_digit text && (length text == 12)
 
 -- the account at the front of a text that is `:root` behind it
 abbrev pub account_before_root : List ℕ → Option (List ℕ)
-account_before_root text = (if is_account (take 12 text) && bytes_eq (drop 12 text) (codes ":root") then Some (take 12 text) else None)
+account_before_root text =
+    (if is_account (take 12 text) && bytes_eq (drop 12 text) (codes ":root") then Some (take 12 text) else None)
 
 -- the text, where it isn't empty and doesn't begin with a colon
 abbrev pub nonempty_part : List ℕ → Option (List ℕ)
@@ -75,7 +80,9 @@ nonempty_part (c ∷ cs) = (if c == 58 then None else Some (c ∷ cs))
 
 -- the account whose root the id is
 abbrev pub root_account : List ℕ → Option (List ℕ)
-root_account id = option_and_then account_before_root (option_and_then (behind_prefix (codes "iam::")) (option_and_then behind_colon (option_and_then nonempty_part (behind_prefix (codes "arn:") id))))
+root_account id =
+    option_and_then account_before_root (option_and_then (behind_prefix (codes "iam::"))
+    (option_and_then behind_colon (option_and_then nonempty_part (behind_prefix (codes "arn:") id))))
 
 -- the account that an id stands for: twelve digits, or the ARN of its root
 abbrev pub account_of : List ℕ → Option (List ℕ)
@@ -88,19 +95,46 @@ account_or_exact id None = Exact Aws id
 
 -- the entry of an id under a kind: under `AWS` a `*` is every principal, and an account's id is the account
 abbrev pub entry_of : PrincipalKind → List ℕ → Entry
-entry_of Aws id = (if is_star id then All else account_or_exact id (account_of id))
-entry_of Service id = (if is_star id then Kind Service else Exact Service id)
-entry_of Federated id = (if is_star id then Kind Federated else Exact Federated id)
-entry_of CanonicalUser id = (if is_star id then Kind CanonicalUser else Exact CanonicalUser id)
+entry_of Aws id = (if is_star_id id then All else account_or_exact id (account_of id))
+entry_of Service id = (if is_star_id id then Kind Service else Exact Service id)
+entry_of Federated id = (if is_star_id id then Kind Federated else Exact Federated id)
+entry_of CanonicalUser id = (if is_star_id id then Kind CanonicalUser else Exact CanonicalUser id)
 
 -- the kind of a name (of any other name, which no check passes, the last one)
 abbrev pub kind_of : List ℕ → PrincipalKind
-kind_of name = (if bytes_eq name (codes "AWS") then Aws else (if bytes_eq name (codes "Service") then Service else (if bytes_eq name (codes "Federated") then Federated else CanonicalUser)))
+kind_of name =
+    (if bytes_eq name (codes "AWS") then Aws
+    else (if bytes_eq name (codes "Service") then Service
+    else (if bytes_eq name (codes "Federated") then Federated else CanonicalUser)))
+
+-- the entries of ids under a kind
+abbrev pub entries_at : PrincipalKind → List Data → List Entry
+entries_at kind ids = map (λ id. entry_of kind (text_of id)) ids
 
 -- the entries of one member of a principal element
 abbrev pub entries_of_kind : List ℕ × Data → List Entry
-entries_of_kind pair = map (λ id. entry_of (kind_of pair.0) (text_of id)) (one_or_more pair.1)
+entries_of_kind pair = entries_at (kind_of pair.0) (one_or_more pair.1)
+
+-- they are added behind others
+abbrev pub AddsKind : List Entry → List Entry → List ℕ × Data → Type 0
+AddsKind before behind pair = behind ≡ before ++ entries_of_kind pair
 
 -- the entries of a principal element: an object's, or every principal for the string `*`
 abbrev pub entries_of : Data → List Entry
 entries_of d = (if is_object d then flat_map entries_of_kind (pairs_in d) else All ∷ [])
+
+-- what readers answer of an id, of a member of a principal element, of all its members, of the string `*`, and of a whole principal element
+abbrev pub IsIdRead : Location → List ℕ → PrincipalKind → Data → Result Entry PolicyAnswer → Type 0
+IsIdRead location name kind d = IsReadOf (id_checks location name d) (entry_of kind (text_of d))
+
+abbrev pub IsKindRead : Location → List ℕ → List ℕ × Data → Result ⊤ PolicyAnswer → Type 0
+IsKindRead location name pair = IsReadOf (kind_checks location name pair) tt
+
+abbrev pub AreKindsRead : Location → List ℕ → List (List ℕ × Data) → Result (List Entry) PolicyAnswer → Type 0
+AreKindsRead location name pairs = IsReadOf (flat_map (kind_checks location name) pairs) (flat_map entries_of_kind pairs)
+
+abbrev pub IsStarRead : Location → List ℕ → Data → Result (List Entry) PolicyAnswer → Type 0
+IsStarRead location name d = IsReadOf (check location (is_text (codes "*") d) P4WrongShape name ∷ []) (All ∷ [])
+
+abbrev pub AreEntriesRead : Location → List ℕ → Data → Result (List Entry) PolicyAnswer → Type 0
+AreEntriesRead location name d = IsReadOf (principal_checks location name (Some d)) (entries_of d)

@@ -9,41 +9,44 @@ use Rattle.policy_json.specs.declared.fault.PolicyFault.{PolicyFault}
 use Rattle.policy_json.specs.declared.fault.PolicyAnswer.{PolicyAnswer}
 use Rattle.policy_json.specs.declared.fault.PolicyAnswer.TheVariants.{Refused, NoMemory}
 use Rattle.policy_json.specs.declared.fault.PolicyCode.TheVariants.{P1NotJson, P2SetShape, P4WrongShape, P5MissingElement, P17Limit}
-use Rattle.policy_json.specs.declared.place.Place.{Place}
-use Rattle.policy_json.specs.Checks.{Check, check, first_fault}
-use Rattle.policy_json.specs.Json.{has, json_of, values_in}
-use Rattle.policy_json.specs.Shapes.{is_list, is_object, is_there_and, name_checks}
+use Rattle.policy_json.specs.declared.location.Location.{Location}
+use Rattle.policy_json.specs.declared.counts.Counts.{Counts}
+use Rattle.policy_model.specs.declared.set.Document.{Document}
+use Rattle.policy_json.specs.Checks.{Check, IsReadOf, check, first_fault}
+use Rattle.policy_json.specs.Json.{has_name, json_of, values_in}
+use Rattle.policy_json.specs.Shapes.{is_list, is_object, is_object_or_list, is_there_and, name_checks}
 use Rattle.policy_json.specs.Documents.{document_checks, document_of, statements_in}
+use Rattle.policy_json.specs.declared.set.TheConstants.{MOST_GUARDS}
 
 -- the file as a whole
-abbrev pub nowhere : Place
+abbrev pub nowhere : Location
 nowhere = record { document = 0; statement = 0 }
 
 -- the file is an object with one of the names of a guarded set
 abbrev pub is_guarded : Data → Bool
-is_guarded d = has (codes "Grants") d || has (codes "Guards") d
+is_guarded d = has_name (codes "Grants") d || has_name (codes "Guards") d
 
 -- the list under a name
-abbrev pub list_at : Option Data → List Data
-list_at None = []
-list_at (Some d) = values_in d
+abbrev pub list_under : Option Data → List Data
+list_under None = []
+list_under (Some d) = values_in d
 
 -- the documents of the grants
 abbrev pub granting : Data → List Data
-granting d = list_at (get (codes "Grants") d)
+granting d = list_under (get (codes "Grants") d)
 
 -- the guards, each a list of documents
 abbrev pub guards_in : Data → List Data
-guards_in d = list_at (get (codes "Guards") d)
+guards_in d = list_under (get (codes "Guards") d)
 
 -- both names of a guarded set are there, both are lists, and there are at most 16 guards, each a list
 abbrev pub list_checks : Data → List Check
 list_checks d =
-    check nowhere (has (codes "Grants") d) P5MissingElement (codes "Grants") ∷
-    check nowhere (has (codes "Guards") d) P5MissingElement (codes "Guards") ∷
+    check nowhere (has_name (codes "Grants") d) P5MissingElement (codes "Grants") ∷
+    check nowhere (has_name (codes "Guards") d) P5MissingElement (codes "Guards") ∷
     check nowhere (is_there_and is_list (get (codes "Grants") d)) P4WrongShape (codes "Grants") ∷
     check nowhere (is_there_and is_list (get (codes "Guards") d)) P4WrongShape (codes "Guards") ∷
-    check nowhere (nat_le (length (guards_in d)) 16) P17Limit (codes "Guards") ∷
+    check nowhere (nat_le (length (guards_in d)) MOST_GUARDS) P17Limit (codes "Guards") ∷
     check nowhere (list_all is_list (guards_in d)) P4WrongShape (codes "Guards") ∷ []
 
 -- a guarded set has no other name
@@ -52,16 +55,19 @@ guarded_checks d = name_checks nowhere (codes "Grants" ∷ codes "Guards" ∷ []
 
 -- a file without guards is an object or a list
 abbrev pub plain_checks : Data → List Check
-plain_checks d = check nowhere (is_object d || is_list d) P2SetShape [] ∷ []
+plain_checks d = check nowhere (is_object_or_list d) P2SetShape [] ∷ []
 
 -- the documents of the file in order: of a guarded set the grants, and then the guards one by one
 abbrev pub documents_in : Data → List Data
-documents_in d = (if is_guarded d then granting d ++ flat_map values_in (guards_in d) else (if is_object d then d ∷ [] else values_in d))
+documents_in d =
+    (if is_guarded d then granting d ++ flat_map values_in (guards_in d)
+    else (if is_object d then d ∷ [] else values_in d))
 
 -- documents are numbered in order, and statements are counted through all documents
 abbrev pub documents_checks : ℕ → ℕ → List Data → List Check
 documents_checks number before [] = []
-documents_checks number before (d ∷ ds) = document_checks number before d ++ documents_checks (number + 1) (before + length (statements_in d)) ds
+documents_checks number before (d ∷ ds) =
+    document_checks number before d ++ documents_checks (number + 1) (before + length (statements_in d)) ds
 
 -- how many statements stand in the documents
 abbrev pub statement_count : List Data → ℕ
@@ -78,6 +84,34 @@ set_with grants guards = record { grants = map document_of grants; guards = map 
 -- what the value stands for
 abbrev pub set_of : Data → PolicySet
 set_of d = (if is_guarded d then set_with (granting d) (guards_in d) else set_with (documents_in d) [])
+
+-- ---- readers of parts
+
+-- documents are counted, and so are their statements, and the documents of guards
+abbrev pub CountsDocuments : Counts → Counts → List Document → Type 0
+CountsDocuments before behind documents = behind.documents ≡ before.documents + length documents
+
+abbrev pub CountsStatements : Counts → Counts → List Data → Type 0
+CountsStatements before behind ds = behind.statements ≡ before.statements + statement_count ds
+
+abbrev pub CountsGuards : Counts → Counts → List (List Document) → Type 0
+CountsGuards before behind guards = behind.documents ≡ before.documents + sum_by (λ g. length g) guards
+
+-- what a reader answers of the documents that stand behind so many of the set, of its guards, and of both
+abbrev pub AreDocumentsRead : Counts → List Data → Result (List Document) PolicyAnswer → Type 0
+AreDocumentsRead before ds = IsReadOf (documents_checks (before.documents + 1) before.statements ds) (map document_of ds)
+
+abbrev pub AreGuardsRead : Counts → List Data → Result (List (List Document)) PolicyAnswer → Type 0
+AreGuardsRead before guards =
+    IsReadOf (documents_checks (before.documents + 1) before.statements (flat_map values_in guards))
+    (map (λ g. map document_of (values_in g)) guards)
+
+abbrev pub ArePartsRead : List Data → List Data → Result PolicySet PolicyAnswer → Type 0
+ArePartsRead grants guards = IsReadOf (documents_checks 1 0 (grants ++ flat_map values_in guards)) (set_with grants guards)
+
+-- what a reader of a file's value answers
+abbrev pub IsValueRead : Data → Result PolicySet PolicyAnswer → Type 0
+IsValueRead d = IsReadOf (set_checks d) (set_of d)
 
 -- ---- files
 

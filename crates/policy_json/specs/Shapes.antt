@@ -1,10 +1,11 @@
 -- The shapes of values, and checks that many elements share.
-use Rattle.std.specs.Prelude.{ℕ, List, Bool, true, false, map, Option, Some, None}
+use Rattle.std.specs.Prelude.{ℕ, List, Bool, true, false, ◌||◌, map, Option, Some, None}
+use Rattle.std.specs.Borrow.{Bor}
 use Rattle.std.specs.List.{list_any, list_all}
 use Rattle.std.specs.Str.{bytes_eq}
 use Rattle.serde_json.specs.Data.{Data, null, boolean, number, string, array, object}
 use Rattle.policy_json.specs.declared.fault.PolicyCode.TheVariants.{P3UnknownElement}
-use Rattle.policy_json.specs.declared.place.Place.{Place}
+use Rattle.policy_json.specs.declared.location.Location.{Location}
 use Rattle.policy_json.specs.Checks.{Check, check}
 use Rattle.policy_json.specs.Json.{one_or_more, pairs_in}
 
@@ -32,6 +33,9 @@ is_object (string s) = false
 is_object (array ds) = false
 is_object (object ms) = true
 
+abbrev pub is_object_or_list : Data → Bool
+is_object_or_list d = is_object d || is_list d
+
 -- the value is this string
 abbrev pub is_text : List ℕ → Data → Bool
 is_text text null = false
@@ -55,10 +59,14 @@ abbrev pub is_there_and : (Data → Bool) → Option Data → Bool
 is_there_and test None = false
 is_there_and test (Some d) = test d
 
+-- the texts of names
+abbrev pub texts : List (Bor (List ℕ)) → List (List ℕ)
+texts names = map (λ name. name.now) names
+
 -- the name is one of these
 abbrev pub is_among : List (List ℕ) → List ℕ → Bool
 is_among names name = list_any (bytes_eq name) names
 
 -- each name of the object, in their order, is one of these
-abbrev pub name_checks : Place → List (List ℕ) → Data → List Check
-name_checks place names d = map (λ pair. check place (is_among names pair.0) P3UnknownElement pair.0) (pairs_in d)
+abbrev pub name_checks : Location → List (List ℕ) → Data → List Check
+name_checks location names d = map (λ pair. check location (is_among names pair.0) P3UnknownElement pair.0) (pairs_in d)

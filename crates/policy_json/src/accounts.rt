@@ -3,16 +3,13 @@ ghost use Rattle.std.specs.Prelude.{◌≡◌, IfSome, option_map};
 ghost use Rattle.policy_model.specs.Soundness.{IsAccount};
 ghost use Rattle.policy_json.specs.Principals.{account_before_root, account_of, nonempty_part, is_account, root_account};
 
-use policy_model::{behind_colon, behind_prefix};
+use policy_model::{ACCOUNT_DIGITS, behind_colon, behind_prefix, is_account};
 
-// How many digits an account has.
-const DIGITS: usize = 12;
-
-// Whether the text is twelve digits.
-fn is_account(text: &[char]) -> bool
+// Whether the text is an account, as the definitions compute it.
+fn is_account_text(text: &[char]) -> bool
     ensures { result ≡ is_account text.now }
 {
-    text.iter().all(|c| c.is_ascii_digit()) && text.len() == DIGITS
+    is_account(text)
 }
 
 // The text, where it isn't empty and doesn't begin with a colon.
@@ -29,10 +26,10 @@ fn nonempty_part(text: &[char]) -> Option<&[char]>
 fn account_before_root(text: &[char]) -> Option<&[char]>
     ensures { option_map (λ s. s.now) result ≡ account_before_root text.now }
 {
-    let (account, rest) = text.split_at_checked(DIGITS)?;
+    let (account, rest) = text.split_at_checked(ACCOUNT_DIGITS)?;
     match rest {
         [':', 'r', 'o', 'o', 't'] => {
-            if is_account(account) {
+            if is_account_text(account) {
                 Some(account)
             } else {
                 None
@@ -55,7 +52,7 @@ fn root_account(id: &[char]) -> Option<&[char]>
 pub(crate) fn account_of(id: &[char]) -> Option<&[char]>
     ensures { option_map (λ s. s.now) result ≡ account_of id.now }
 {
-    if is_account(id) {
+    if is_account_text(id) {
         Some(id)
     } else {
         root_account(id)

@@ -1,16 +1,16 @@
 //! Reads documents.
-ghost use Rattle.std.specs.Prelude.{◌≡◌, ◌+◌, ◌≤◌, All, IfOk, length, map, codes};
+ghost use Rattle.std.specs.Prelude.{◌≡◌, ◌+◌, ◌≤◌, All, IfOk, length, codes};
 ghost use Rattle.serde_json.specs.Find.{get};
 ghost use Rattle.policy_json.specs.Shapes.{where_there};
 ghost use Rattle.serde_json.specs.View.{view};
 ghost use Rattle.policy_model.specs.Soundness.{DocumentIsSound, StatementIsSound};
 ghost use Rattle.policy_json.specs.Checks.{IsReadOf};
-ghost use Rattle.policy_json.specs.Documents.{document_checks, document_of, element_checks, has_escapes, head_checks, is_version, numbered_checks, object_checks, statements_in};
-ghost use Rattle.policy_json.specs.Statements.{statement_of};
+ghost use Rattle.policy_json.specs.Documents.{AreStatementsRead, IsDocumentRead, element_checks, has_escapes, head_checks, is_version, object_checks, statements_in};
+ghost use Rattle.policy_json.specs.Json.{views};
 
 use crate::fault::{PolicyAnswer, PolicyCode, refusal};
+use crate::location::Location;
 use crate::names::check_names;
-use crate::place::Place;
 use crate::requirement::{
     has, is_absent_or_string, is_object, is_object_or_list, is_text_at, require,
 };
@@ -23,15 +23,15 @@ use std::alloc::Global;
 const MOST_DOCUMENTS: u32 = 32;
 
 // The document is one of the first of its set, and an object with known names.
-fn check_object(alloc: Global, place: Place, document: &Value) -> Result<(), PolicyAnswer>
-    ensures { IsReadOf (object_checks place (view document.now)) tt result }
+fn check_object(alloc: Global, location: Location, document: &Value) -> Result<(), PolicyAnswer>
+    ensures { IsReadOf (object_checks location (view document.now)) tt result }
 {
-    let is_few = place.document <= MOST_DOCUMENTS;
-    require(alloc, place, is_few, PolicyCode::P17Limit, "")?;
+    let is_few = location.document <= MOST_DOCUMENTS;
+    require(alloc, location, is_few, PolicyCode::P17Limit, "")?;
     let fits = is_object(document);
-    require(alloc, place, fits, PolicyCode::P2SetShape, "")?;
+    require(alloc, location, fits, PolicyCode::P2SetShape, "")?;
     let names = ["Version", "Id", "Statement"];
-    check_names(alloc, place, &names, document)
+    check_names(alloc, location, &names, document)
 }
 
 // Whether the value is a version that the language has.
@@ -62,33 +62,39 @@ fn has_escapes(document: &Value) -> bool
 }
 
 // Version, id and statements are as they must be.
-fn check_elements(alloc: Global, place: Place, document: &Value) -> Result<(), PolicyAnswer>
-    ensures { IsReadOf (element_checks place (view document.now)) tt result }
+fn check_elements(alloc: Global, location: Location, document: &Value) -> Result<(), PolicyAnswer>
+    ensures { IsReadOf (element_checks location (view document.now)) tt result }
 {
     let fits = is_absent_or_string(document, "Version");
-    require(alloc, place, fits, PolicyCode::P4WrongShape, "Version")?;
+    require(alloc, location, fits, PolicyCode::P4WrongShape, "Version")?;
     let is_known = is_version_or_absent(document);
-    require(alloc, place, is_known, PolicyCode::P7BadVersion, "Version")?;
+    require(
+        alloc,
+        location,
+        is_known,
+        PolicyCode::P7BadVersion,
+        "Version",
+    )?;
     let fits = is_absent_or_string(document, "Id");
-    require(alloc, place, fits, PolicyCode::P4WrongShape, "Id")?;
+    require(alloc, location, fits, PolicyCode::P4WrongShape, "Id")?;
     let Some(statements) = document.get("Statement") else {
-        return Err(refusal(alloc, place, PolicyCode::P5MissingElement, "Statement"));
+        return Err(refusal(alloc, location, PolicyCode::P5MissingElement, "Statement"));
     };
     let fits = is_object_or_list(statements);
-    require(alloc, place, fits, PolicyCode::P4WrongShape, "Statement")
+    require(alloc, location, fits, PolicyCode::P4WrongShape, "Statement")
 }
 
 // All that is checked of a document before its statements.
-fn check_head(alloc: Global, place: Place, document: &Value) -> Result<(), PolicyAnswer>
-    ensures { IsReadOf (head_checks place (view document.now)) tt result }
+fn check_head(alloc: Global, location: Location, document: &Value) -> Result<(), PolicyAnswer>
+    ensures { IsReadOf (head_checks location (view document.now)) tt result }
 {
-    check_object(alloc, place, document)?;
-    check_elements(alloc, place, document)
+    check_object(alloc, location, document)?;
+    check_elements(alloc, location, document)
 }
 
 // The statements: one, or a list.
 fn statements_in(document: &Value) -> &[Value]
-    ensures { map view result.now ≡ statements_in (view document.now) }
+    ensures { views result.now ≡ statements_in (view document.now) }
 {
     match document.get("Statement") {
         Some(element) => members(element),
@@ -105,18 +111,18 @@ fn read_statements(
     values: &[Value],
 ) -> Result<StatementList, PolicyAnswer>
     requires { before ≤ 2000 }
-    ensures read { IsReadOf (numbered_checks document 1 (before + 1) escapes (map view values.now)) (map (statement_of escapes) (map view values.now)) result }
+    ensures read { AreStatementsRead document before escapes (views values.now) result }
     ensures few { IfOk result (λ s. before + length s ≤ 2000) }
     ensures sound { IfOk result (All StatementIsSound) }
 {
     let mut statements = List::new(alloc);
     for value in values {
-        let place = Place {
+        let location = Location {
             document,
             statement: statements.len() as u32 + 1,
         };
         let in_set = before + statements.len() + 1;
-        let statement = read_statement(alloc, place, in_set, escapes, value)?;
+        let statement = read_statement(alloc, location, in_set, escapes, value)?;
         statements.push(statement)?;
     }
     Ok(statements)
@@ -130,15 +136,15 @@ pub(crate) fn read_document(
     document: &Value,
 ) -> Result<Document, PolicyAnswer>
     requires { before ≤ 2000 }
-    ensures read { IsReadOf (document_checks number before (view document.now)) (document_of (view document.now)) result }
+    ensures read { IsDocumentRead number before (view document.now) result }
     ensures few { IfOk result (λ d. (number ≤ 32) × (before + length d.statements ≤ 2000)) }
     ensures sound { IfOk result DocumentIsSound }
 {
-    let place = Place {
+    let location = Location {
         document: number,
         statement: 0,
     };
-    check_head(alloc, place, document)?;
+    check_head(alloc, location, document)?;
     let escapes = has_escapes(document);
     let values = statements_in(document);
     let statements = read_statements(alloc, number, before, escapes, values)?;

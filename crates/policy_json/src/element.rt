@@ -1,13 +1,10 @@
 //! Elements of a statement that have a Not element, such as `Action` and `NotAction`.
-ghost use Rattle.std.specs.Prelude.{◌∷◌, [], ◌&&◌, not};
 ghost use Rattle.serde_json.specs.View.{view};
-ghost use Rattle.policy_json.specs.declared.fault.PolicyCode.TheVariants.{P6BothElements};
-ghost use Rattle.policy_json.specs.Json.{has};
-ghost use Rattle.policy_json.specs.Checks.{IsReadOf, check};
-ghost use Rattle.policy_json.specs.Elements.{IsElementOf};
+ghost use Rattle.policy_json.specs.Checks.{IsReadOf};
+ghost use Rattle.policy_json.specs.Elements.{IsElementOf, both_checks};
 
 use crate::fault::{PolicyAnswer, PolicyCode, refusal};
-use crate::place::Place;
+use crate::location::Location;
 use serde_json::Value;
 use std::alloc::Global;
 
@@ -22,15 +19,15 @@ pub(crate) struct Element<'a> {
 /// A fault where an element and its Not element stand together.
 pub(crate) fn not_both(
     alloc: Global,
-    place: Place,
+    location: Location,
     name: &str,
     not_name: &str,
     statement: &Value,
 ) -> Result<(), PolicyAnswer>
-    ensures { IsReadOf (check place (not (has name.now (view statement.now) && has not_name.now (view statement.now))) P6BothElements name.now ∷ []) tt result }
+    ensures { IsReadOf (both_checks location name.now not_name.now (view statement.now)) tt result }
 {
     if statement.get(name).is_some() && statement.get(not_name).is_some() {
-        return Err(refusal(alloc, place, PolicyCode::P6BothElements, name));
+        return Err(refusal(alloc, location, PolicyCode::P6BothElements, name));
     }
     Ok(())
 }

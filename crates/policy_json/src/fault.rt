@@ -3,7 +3,7 @@ ghost use Rattle.std.specs.Prelude.{◌≡◌};
 ghost use Rattle.policy_json.specs.Checks.{IsRefusal, fault_at};
 ghost use Rattle.policy_json.specs.declared.fault.PolicyAnswer.TheVariants.{NoMemory};
 
-use crate::place::Place;
+use crate::location::Location;
 use std::alloc::{AllocError, Global};
 use wildcard_lang::Text;
 
@@ -51,7 +51,7 @@ pub struct PolicyFault {
     pub element: Text,
 }
 
-/// What stands in place of a set.
+/// What stands instead of a set.
 #[derive(Drop)]
 pub enum PolicyAnswer {
     /// The file's first fault.
@@ -67,16 +67,21 @@ impl From<AllocError> for PolicyAnswer {
     }
 }
 
-/// The fault of this code at the place, in the element of this name, or want of memory.
-pub(crate) fn refusal(alloc: Global, place: Place, code: PolicyCode, name: &str) -> PolicyAnswer
-    ensures { IsRefusal (fault_at place code name.now) result }
+/// The fault of this code at the location, in the element of this name, or want of memory.
+pub(crate) fn refusal(
+    alloc: Global,
+    location: Location,
+    code: PolicyCode,
+    name: &str,
+) -> PolicyAnswer
+    ensures { IsRefusal (fault_at location code name.now) result }
 {
     match Text::of(alloc, name) {
         Err(_) => PolicyAnswer::NoMemory,
         Ok(element) => PolicyAnswer::Refused(PolicyFault {
             code,
-            document: place.document,
-            statement: place.statement,
+            document: location.document,
+            statement: location.statement,
             element,
         }),
     }

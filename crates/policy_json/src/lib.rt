@@ -5,19 +5,15 @@ mod accounts;
 mod counts;
 mod document;
 mod element;
-#[cfg(test)]
-mod element_tests;
 mod fault;
 mod laws;
+mod location;
 mod names;
-mod place;
 mod principals;
 mod requirement;
 mod set;
 mod statement;
 mod strings;
-#[cfg(test)]
-mod tests;
 mod texts;
 
 pub use fault::{PolicyAnswer, PolicyCode, PolicyFault};

@@ -1,17 +1,17 @@
 //! The names of an object's members.
-ghost use Rattle.std.specs.Prelude.{◌≡◌, map};
+ghost use Rattle.std.specs.Prelude.{◌≡◌};
 ghost use Rattle.serde_json.specs.View.{view};
 ghost use Rattle.policy_json.specs.Checks.{IsReadOf};
-ghost use Rattle.policy_json.specs.Shapes.{is_among, name_checks};
+ghost use Rattle.policy_json.specs.Shapes.{is_among, name_checks, texts};
 
 use crate::fault::{PolicyAnswer, PolicyCode, refusal};
-use crate::place::Place;
+use crate::location::Location;
 use serde_json::Value;
 use std::alloc::Global;
 
 // Whether the name is one of these.
 fn is_among(names: &[&str], name: &str) -> bool
-    ensures { result ≡ is_among (map (λ n. n.now) names.now) name.now }
+    ensures { result ≡ is_among (texts names.now) name.now }
 {
     for known in names {
         if name == *known {
@@ -24,18 +24,18 @@ fn is_among(names: &[&str], name: &str) -> bool
 /// Refuses the first name of the object, in the order of its names, that isn't one of these.
 pub(crate) fn check_names(
     alloc: Global,
-    place: Place,
+    location: Location,
     names: &[&str],
     value: &Value,
 ) -> Result<(), PolicyAnswer>
-    ensures { IsReadOf (name_checks place (map (λ n. n.now) names.now) (view value.now)) tt result }
+    ensures { IsReadOf (name_checks location (texts names.now) (view value.now)) tt result }
 {
     let Some(members) = value.as_object() else {
         return Ok(());
     };
     for (name, _) in members {
         if !is_among(names, name.as_str()) {
-            return Err(refusal(alloc, place, PolicyCode::P3UnknownElement, name.as_str()));
+            return Err(refusal(alloc, location, PolicyCode::P3UnknownElement, name.as_str()));
         }
     }
     Ok(())

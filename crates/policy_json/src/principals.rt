@@ -1,22 +1,18 @@
 //! Reads the principals of a statement.
-ghost use Rattle.std.specs.Prelude.{◌≡◌, ◌∷◌, ◌++◌, [], IfOk, OnOk, Some, None, map, if◌then◌else◌, codes};
+ghost use Rattle.std.specs.Prelude.{◌≡◌, ◌++◌, IfOk, OnOk, Some, None, if◌then◌else◌};
 ghost use Rattle.std.specs.List.{flat_map};
 ghost use Rattle.serde_json.specs.View.{view, members_view};
-ghost use Rattle.serde_json.specs.Find.{get};
-ghost use Rattle.policy_model.specs.declared.principal.Entry.TheVariants.{All};
-ghost use Rattle.policy_json.specs.declared.fault.PolicyCode.TheVariants.{P4WrongShape};
 ghost use Rattle.policy_model.specs.Soundness.{PrincipalIsSound};
-ghost use Rattle.policy_json.specs.Checks.{IsReadOf, check};
-ghost use Rattle.policy_json.specs.Json.{pairs_of};
-ghost use Rattle.policy_json.specs.Shapes.{is_among, is_text};
-ghost use Rattle.policy_json.specs.Principals.{account_of, account_or_exact, entries_of, entries_of_kind, entry_of, has_wildcard, id_checks, is_star, kind_checks, kind_names, kind_of, principal_checks};
-ghost use Rattle.policy_json.specs.Statements.{who_checks};
-ghost use Rattle.policy_json.specs.Texts.{matcher_of, text_of};
+ghost use Rattle.policy_json.specs.Checks.{IsReadOf};
+ghost use Rattle.policy_json.specs.Json.{pairs_of, views};
+ghost use Rattle.policy_json.specs.Shapes.{is_among};
+ghost use Rattle.policy_json.specs.Principals.{AddsKind, AreEntriesRead, AreKindsRead, IsIdRead, IsKindRead, IsStarRead, account_of, account_or_exact, entries_at, entry_of, has_wildcard, id_checks, is_star_id, kind_names, kind_of};
+ghost use Rattle.policy_json.specs.Statements.{IsWhoRead};
 
 use crate::accounts::account_of;
 use crate::element::{element_of, not_both};
 use crate::fault::{PolicyAnswer, PolicyCode, refusal};
-use crate::place::Place;
+use crate::location::Location;
 use crate::strings::{are_strings, members, text_of};
 use plain_lists::List;
 use policy_model::{Entry, EntryList, Matcher, PrincipalKind};
@@ -42,7 +38,7 @@ fn kind_of(name: &str) -> Option<PrincipalKind>
 
 // Whether the id is `*` alone.
 fn is_star(id: &[char]) -> bool
-    ensures { result ≡ is_star id.now }
+    ensures { result ≡ is_star_id id.now }
 {
     match id {
         ['*'] => true,
@@ -86,22 +82,22 @@ fn entry_of(alloc: Global, kind: PrincipalKind, id: Text) -> Result<Entry, Alloc
 // The entry of one id.
 fn read_id(
     alloc: Global,
-    place: Place,
+    location: Location,
     name: &str,
     kind: PrincipalKind,
     value: &Value,
 ) -> Result<Entry, PolicyAnswer>
-    ensures { IsReadOf (id_checks place name.now (view value.now)) (entry_of kind (text_of (view value.now))) result }
+    ensures { IsIdRead location name.now kind (view value.now) result }
 {
     let id = Text::of(alloc, text_of(value))?;
     if id.is_empty() {
-        return Err(refusal(alloc, place, PolicyCode::P4WrongShape, name));
+        return Err(refusal(alloc, location, PolicyCode::P4WrongShape, name));
     }
     if !is_star(id.as_slice()) && has_wildcard(id.as_slice()) {
-        return Err(refusal(alloc, place, PolicyCode::P10PrincipalWildcard, name));
+        return Err(refusal(alloc, location, PolicyCode::P10PrincipalWildcard, name));
     }
     if id.len() > MOST_CHARACTERS {
-        return Err(refusal(alloc, place, PolicyCode::P17Limit, name));
+        return Err(refusal(alloc, location, PolicyCode::P17Limit, name));
     }
     let entry = entry_of(alloc, kind, id)?;
     Ok(entry)
@@ -110,17 +106,17 @@ fn read_id(
 // Adds the entries of the ids of one kind.
 fn read_ids(
     alloc: Global,
-    place: Place,
+    location: Location,
     name: &str,
     kind: PrincipalKind,
     values: &[Value],
     entries: &mut EntryList,
 ) -> Result<(), PolicyAnswer>
-    ensures read { IsReadOf (flat_map (id_checks place name.now) (map view values.now)) tt result }
-    ensures added { OnOk result (entries.new ≡ entries.old ++ map (λ d. entry_of kind (text_of d)) (map view values.now)) }
+    ensures read { IsReadOf (flat_map (id_checks location name.now) (views values.now)) tt result }
+    ensures added { OnOk result (entries.new ≡ entries.old ++ entries_at kind (views values.now)) }
 {
     for value in values {
-        let entry = read_id(alloc, place, name, kind, value)?;
+        let entry = read_id(alloc, location, name, kind, value)?;
         entries.push(entry)?;
     }
     Ok(())
@@ -129,37 +125,37 @@ fn read_ids(
 // Adds the entries of one member of a principal element.
 fn read_kind(
     alloc: Global,
-    place: Place,
+    location: Location,
     name: &str,
     kind_name: &str,
     ids: &Value,
     entries: &mut EntryList,
 ) -> Result<(), PolicyAnswer>
-    ensures read { IsReadOf (kind_checks place name.now (kind_name.now, view ids.now)) tt result }
-    ensures added { OnOk result (entries.new ≡ entries.old ++ entries_of_kind (kind_name.now, view ids.now)) }
+    ensures read { IsKindRead location name.now (kind_name.now, view ids.now) result }
+    ensures added { OnOk result (AddsKind entries.old entries.new (kind_name.now, view ids.now)) }
 {
     let Some(kind) = kind_of(kind_name) else {
-        return Err(refusal(alloc, place, PolicyCode::P9PrincipalKind, kind_name));
+        return Err(refusal(alloc, location, PolicyCode::P9PrincipalKind, kind_name));
     };
     let values = members(ids);
     if !are_strings(values) {
-        return Err(refusal(alloc, place, PolicyCode::P4WrongShape, name));
+        return Err(refusal(alloc, location, PolicyCode::P4WrongShape, name));
     }
-    read_ids(alloc, place, name, kind, values, entries)
+    read_ids(alloc, location, name, kind, values, entries)
 }
 
 // The entries of the members of a principal element.
 fn read_kinds(
     alloc: Global,
-    place: Place,
+    location: Location,
     name: &str,
     kinds: &Map<String, Value>,
 ) -> Result<EntryList, PolicyAnswer>
-    ensures { IsReadOf (flat_map (kind_checks place name.now) (pairs_of (members_view kinds.now.entries))) (flat_map entries_of_kind (pairs_of (members_view kinds.now.entries))) result }
+    ensures { AreKindsRead location name.now (pairs_of (members_view kinds.now.entries)) result }
 {
     let mut entries = List::new(alloc);
     for (kind_name, ids) in kinds {
-        read_kind(alloc, place, name, kind_name.as_str(), ids, &mut entries)?;
+        read_kind(alloc, location, name, kind_name.as_str(), ids, &mut entries)?;
     }
     Ok(entries)
 }
@@ -167,14 +163,14 @@ fn read_kinds(
 // The entry of the string `*`.
 fn read_star(
     alloc: Global,
-    place: Place,
+    location: Location,
     name: &str,
     value: &Value,
 ) -> Result<EntryList, PolicyAnswer>
-    ensures { IsReadOf (check place (is_text (codes "*") (view value.now)) P4WrongShape name.now ∷ []) (All ∷ []) result }
+    ensures { IsStarRead location name.now (view value.now) result }
 {
     if value.as_str() != Some("*") {
-        return Err(refusal(alloc, place, PolicyCode::P4WrongShape, name));
+        return Err(refusal(alloc, location, PolicyCode::P4WrongShape, name));
     }
     let mut entries = List::new(alloc);
     entries.push(Entry::All)?;
@@ -184,15 +180,15 @@ fn read_star(
 // The entries of a principal element.
 fn read_entries(
     alloc: Global,
-    place: Place,
+    location: Location,
     name: &str,
     value: &Value,
 ) -> Result<EntryList, PolicyAnswer>
-    ensures { IsReadOf (principal_checks place name.now (Some (view value.now))) (entries_of (view value.now)) result }
+    ensures { AreEntriesRead location name.now (view value.now) result }
 {
     match value.as_object() {
-        Some(kinds) => read_kinds(alloc, place, name, kinds),
-        None => read_star(alloc, place, name, value),
+        Some(kinds) => read_kinds(alloc, location, name, kinds),
+        None => read_star(alloc, location, name, value),
     }
 }
 
@@ -200,17 +196,17 @@ fn read_entries(
 /// these elements.
 pub(crate) fn read_who(
     alloc: Global,
-    place: Place,
+    location: Location,
     statement: &Value,
 ) -> Result<Option<Matcher<Entry>>, PolicyAnswer>
-    ensures read { IsReadOf (who_checks place (view statement.now)) (matcher_of entries_of (get (codes "Principal") (view statement.now)) (get (codes "NotPrincipal") (view statement.now))) result }
+    ensures read { IsWhoRead location (view statement.now) result }
     ensures sound { IfOk result PrincipalIsSound }
 {
-    not_both(alloc, place, "Principal", "NotPrincipal", statement)?;
+    not_both(alloc, location, "Principal", "NotPrincipal", statement)?;
     match element_of("Principal", "NotPrincipal", statement) {
         None => Ok(None),
         Some(element) => {
-            let items = read_entries(alloc, place, element.name, element.value)?;
+            let items = read_entries(alloc, location, element.name, element.value)?;
             Ok(Some(Matcher {
                 not: element.not,
                 items,

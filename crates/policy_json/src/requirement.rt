@@ -3,28 +3,28 @@ ghost use Rattle.std.specs.Prelude.{◌≡◌, ◌||◌, [], ◌∷◌};
 ghost use Rattle.serde_json.specs.View.{view};
 ghost use Rattle.serde_json.specs.Find.{get};
 ghost use Rattle.policy_json.specs.Checks.{IsReadOf, check};
-ghost use Rattle.policy_json.specs.Json.{has};
-ghost use Rattle.policy_json.specs.Shapes.{is_list, is_object, is_string, is_text, is_there_and, where_there};
+ghost use Rattle.policy_json.specs.Json.{has_name};
+ghost use Rattle.policy_json.specs.Shapes.{is_list, is_object, is_object_or_list, is_string, is_text, is_there_and, where_there};
 
 use crate::fault::{PolicyAnswer, PolicyCode, refusal};
-use crate::place::Place;
+use crate::location::Location;
 use serde_json::Value;
 use std::alloc::Global;
 
-/// Passes the check, or refuses with the fault of this code at the place, in the element of this name.
+/// Passes the check, or refuses with the fault of this code at the location, in the element of this name.
 pub(crate) fn require(
     alloc: Global,
-    place: Place,
+    location: Location,
     passes: bool,
     code: PolicyCode,
     name: &str,
 ) -> Result<(), PolicyAnswer>
-    ensures { IsReadOf (check place passes code name.now ∷ []) tt result }
+    ensures { IsReadOf (check location passes code name.now ∷ []) tt result }
 {
     if passes {
         Ok(())
     } else {
-        Err(refusal(alloc, place, code, name))
+        Err(refusal(alloc, location, code, name))
     }
 }
 
@@ -44,7 +44,7 @@ pub(crate) fn is_list(value: &Value) -> bool
 
 /// Whether the object has the name.
 pub(crate) fn has(object: &Value, name: &str) -> bool
-    ensures { result ≡ has name.now (view object.now) }
+    ensures { result ≡ has_name name.now (view object.now) }
 {
     object.get(name).is_some()
 }
@@ -81,7 +81,7 @@ pub(crate) fn is_text_at(object: &Value, name: &str, text: &str) -> bool
 
 /// Whether the value is an object or a list.
 pub(crate) fn is_object_or_list(value: &Value) -> bool
-    ensures { result ≡ (is_object (view value.now) || is_list (view value.now)) }
+    ensures { result ≡ is_object_or_list (view value.now) }
 {
     match value {
         Value::Object(_) | Value::Array(_) => true,

@@ -1,20 +1,19 @@
 //! Reads sets.
-ghost use Rattle.std.specs.Prelude.{◌≡◌, ◌+◌, ◌≤◌, ◌++◌, Err, Some, All, IfErr, IfOk, OnOk, false, true, length, map, sum_by};
-ghost use Rattle.std.specs.List.{flat_map, list_all};
+ghost use Rattle.std.specs.Prelude.{◌≡◌, ◌+◌, ◌≤◌, Err, Some, All, IfErr, IfOk, OnOk, false, true, length};
+ghost use Rattle.std.specs.List.{list_all};
 ghost use Rattle.serde_json.specs.Find.{get};
 ghost use Rattle.serde_json.specs.View.{view};
 ghost use Rattle.policy_model.specs.Soundness.{DocumentIsSound, IsSound};
 ghost use Rattle.policy_json.specs.Checks.{IsReadOf};
-ghost use Rattle.policy_json.specs.Documents.{document_of};
-ghost use Rattle.policy_json.specs.Json.{json_of, values_in};
+ghost use Rattle.policy_json.specs.Json.{json_of, values_in, views};
 ghost use Rattle.policy_json.specs.Shapes.{is_list};
-ghost use Rattle.policy_json.specs.Sets.{IsSetOf, documents_checks, guarded_checks, guards_in, is_guarded, list_at, list_checks, set_checks, set_of, set_with, statement_count};
+ghost use Rattle.policy_json.specs.Sets.{AreDocumentsRead, AreGuardsRead, ArePartsRead, CountsDocuments, CountsGuards, CountsStatements, IsSetOf, IsValueRead, guarded_checks, guards_in, is_guarded, list_checks, list_under};
 
 use crate::counts::Counts;
 use crate::document::read_document;
 use crate::fault::{PolicyAnswer, PolicyCode, refusal};
+use crate::location::NOWHERE;
 use crate::names::check_names;
-use crate::place::NOWHERE;
 use crate::requirement::{has, is_list, is_list_at, is_object_or_list, require};
 use crate::strings::members;
 use policy_model::{DocumentList, GuardList, List, PolicySet};
@@ -25,7 +24,7 @@ const MOST_GUARDS: usize = 16;
 
 // The values of a list, and none of any other value.
 fn values_in(value: &Value) -> &[Value]
-    ensures { map view result.now ≡ values_in (view value.now) }
+    ensures { views result.now ≡ values_in (view value.now) }
 {
     match value.as_array() {
         Some(values) => values.as_slice(),
@@ -34,8 +33,8 @@ fn values_in(value: &Value) -> &[Value]
 }
 
 // The values of the list under a name.
-fn list_at<'a>(object: &'a Value, name: &str) -> &'a [Value]
-    ensures { map view result.now ≡ list_at (get name.now (view object.now)) }
+fn list_under<'a>(object: &'a Value, name: &str) -> &'a [Value]
+    ensures { views result.now ≡ list_under (get name.now (view object.now)) }
 {
     match object.get(name) {
         Some(element) => values_in(element),
@@ -45,7 +44,7 @@ fn list_at<'a>(object: &'a Value, name: &str) -> &'a [Value]
 
 // Whether each of the values is a list.
 fn are_lists(values: &[Value]) -> bool
-    ensures { result ≡ list_all is_list (map view values.now) }
+    ensures { result ≡ list_all is_list (views values.now) }
 {
     for value in values {
         if !is_list(value) {
@@ -87,7 +86,7 @@ fn check_lists(alloc: Global, value: &Value) -> Result<(), PolicyAnswer>
     require(alloc, NOWHERE, fits, PolicyCode::P4WrongShape, "Grants")?;
     let fits = is_list_at(value, "Guards");
     require(alloc, NOWHERE, fits, PolicyCode::P4WrongShape, "Guards")?;
-    let guards = list_at(value, "Guards");
+    let guards = list_under(value, "Guards");
     let are_few = guards.len() <= MOST_GUARDS;
     require(alloc, NOWHERE, are_few, PolicyCode::P17Limit, "Guards")?;
     let fits = are_lists(guards);
@@ -110,9 +109,9 @@ fn read_documents(
     counts: &mut Counts,
     values: &[Value],
 ) -> Result<DocumentList, PolicyAnswer>
-    ensures read { IsReadOf (documents_checks (counts.old.documents + 1) counts.old.statements (map view values.now)) (map document_of (map view values.now)) result }
-    ensures documents { IfOk result (λ ds. counts.new.documents ≡ counts.old.documents + length ds) }
-    ensures statements { OnOk result (counts.new.statements ≡ counts.old.statements + statement_count (map view values.now)) }
+    ensures read { AreDocumentsRead counts.old (views values.now) result }
+    ensures documents { IfOk result (CountsDocuments counts.old counts.new) }
+    ensures statements { OnOk result (CountsStatements counts.old counts.new (views values.now)) }
     ensures sound { IfOk result (All DocumentIsSound) }
 {
     let mut documents = List::new(alloc);
@@ -131,8 +130,8 @@ fn read_guards(
     counts: &mut Counts,
     values: &[Value],
 ) -> Result<GuardList, PolicyAnswer>
-    ensures read { IsReadOf (documents_checks (counts.old.documents + 1) counts.old.statements (flat_map values_in (map view values.now))) (map (λ g. map document_of (values_in g)) (map view values.now)) result }
-    ensures documents { IfOk result (λ gs. counts.new.documents ≡ counts.old.documents + sum_by (λ g. length g) gs) }
+    ensures read { AreGuardsRead counts.old (views values.now) result }
+    ensures documents { IfOk result (CountsGuards counts.old counts.new) }
     ensures sound { IfOk result (All (λ g. All DocumentIsSound g)) }
 {
     let mut guards = List::new(alloc);
@@ -146,7 +145,7 @@ fn read_guards(
 // Reads the documents of the grants, and then those of the guards.
 fn read_parts(alloc: Global, grants: &[Value], guards: &[Value]) -> Result<PolicySet, PolicyAnswer>
     requires { length guards.now ≤ 16 }
-    ensures read { IsReadOf (documents_checks 1 0 (map view grants.now ++ flat_map values_in (map view guards.now))) (set_with (map view grants.now) (map view guards.now)) result }
+    ensures read { ArePartsRead (views grants.now) (views guards.now) result }
     ensures sound { IfOk result IsSound }
 {
     let mut counts = Counts {
@@ -161,19 +160,19 @@ fn read_parts(alloc: Global, grants: &[Value], guards: &[Value]) -> Result<Polic
 // Reads a file with grants and guards.
 fn read_guarded(alloc: Global, value: &Value) -> Result<PolicySet, PolicyAnswer>
     requires { is_guarded (view value.now) ≡ true }
-    ensures read { IsReadOf (set_checks (view value.now)) (set_of (view value.now)) result }
+    ensures read { IsValueRead (view value.now) result }
     ensures sound { IfOk result IsSound }
 {
     check_guarded(alloc, value)?;
-    let grants = list_at(value, "Grants");
-    let guards = list_at(value, "Guards");
+    let grants = list_under(value, "Grants");
+    let guards = list_under(value, "Guards");
     read_parts(alloc, grants, guards)
 }
 
 // Reads a file of one document, or of a list of documents.
 fn read_plain(alloc: Global, value: &Value) -> Result<PolicySet, PolicyAnswer>
     requires { is_guarded (view value.now) ≡ false }
-    ensures read { IsReadOf (set_checks (view value.now)) (set_of (view value.now)) result }
+    ensures read { IsValueRead (view value.now) result }
     ensures sound { IfOk result IsSound }
 {
     let fits = is_object_or_list(value);

@@ -6,7 +6,7 @@ use Rattle.serde_json.specs.Data.{Data}
 use Rattle.serde_json.specs.View.{view}
 use Rattle.policy_model.specs.Soundness.{StatementIsSound}
 use Rattle.policy_model.specs.declared.set.Statement.{Statement}
-use Rattle.policy_json.specs.declared.place.Place.{Place}
+use Rattle.policy_json.specs.declared.location.Location.{Location}
 use Rattle.policy_json.specs.Checks.{Check, first_fault}
 use Rattle.policy_json.specs.Documents.{numbered_checks}
 use Rattle.policy_json.specs.Statements.{statement_checks, statement_of}
@@ -28,8 +28,8 @@ next_of document statement in_set n m escapes all whole done left d ds is same_n
     }
 
 -- a statement that passes its checks is one of the first 2,000
-statement_within : (place : Place) (in_set : ℕ) (escapes : Bool) (d : Data) → first_fault (statement_checks place in_set escapes d) ≡ None → in_set ≤ 2000
-statement_within place in_set escapes d e = leb-true in_set 2000 (front_passes-none (statement_checks place in_set escapes d) e)
+statement_within : (location : Location) (in_set : ℕ) (escapes : Bool) (d : Data) → first_fault (statement_checks location in_set escapes d) ≡ None → in_set ≤ 2000
+statement_within location in_set escapes d e = leb-true in_set 2000 (front_passes-none (statement_checks location in_set escapes d) e)
 
 pub returns-in_err-statement-clause-read : goal.returns-in_err-statement-clause-read
 returns-in_err-statement-clause-read c =

@@ -9,5 +9,5 @@ abbrev pub invariant-loop-name : goal.invariant-loop-name
 invariant-loop-name l = record {
   can_next : (goal.iterator-loop-name).can_next l.name-iterator;
   is_finite : (goal.iterator-loop-name).is_finite l.name-iterator;
-  rest : first_fault (name_checks l.place (map (λ n. n.now) l.names) (view l.value)) ≡ first_fault (name_checks l.place (map (λ n. n.now) l.names) (object (members_view l.name-iterator)));
+  rest : first_fault (name_checks l.location (map (λ n. n.now) l.names) (view l.value)) ≡ first_fault (name_checks l.location (map (λ n. n.now) l.names) (object (members_view l.name-iterator)));
 }

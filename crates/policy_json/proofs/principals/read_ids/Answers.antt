@@ -11,7 +11,7 @@ use Rattle.policy_json.proofs.principals.read_ids.Goals as goal
 
 pub returns-in_err-entry-clause-read : goal.returns-in_err-entry-clause-read
 returns-in_err-entry-clause-read c =
-    let checks = id_checks c.args.place c.args.name.now in
+    let checks = id_checks c.args.location c.args.name.now in
     let meaning = λ (d : Data). entry_of c.args.kind (text_of d) in
     let all = map view c.args.values.now in
     let next = from_here view c.args.values.now c.loop-value.value-index c.value-item.result c.loop-value-test.true c.value-item.is in
@@ -22,13 +22,13 @@ pub returns-clause-read : goal.returns-clause-read
 returns-clause-read c =
     let meaning = λ (d : Data). entry_of c.args.kind (text_of d) in
     let past = from_end view c.args.values.now c.loop-value.value-index c.loop-value-test.false in
-    ((all_read (id_checks c.args.place c.args.name.now) (map meaning) _ _ _ _ c.loop-value.invariant past refl).0, refl)
+    ((all_read (id_checks c.args.location c.args.name.now) (map meaning) _ _ _ _ c.loop-value.invariant past refl).0, refl)
 
 pub returns-clause-added : goal.returns-clause-added
 returns-clause-added c =
     let meaning = λ (d : Data). entry_of c.args.kind (text_of d) in
     let past = from_end view c.args.values.now c.loop-value.value-index c.loop-value-test.false in
-    (all_read (id_checks c.args.place c.args.name.now) (map meaning) _ _ _ _ c.loop-value.invariant past refl).1
+    (all_read (id_checks c.args.location c.args.name.now) (map meaning) _ _ _ _ c.loop-value.invariant past refl).1
 
 pub loop-value-preserved : goal.loop-value-preserved
 loop-value-preserved c =
@@ -36,4 +36,4 @@ loop-value-preserved c =
     let next = from_here view c.args.values.now c.loop-value.value-index c.value-item.result c.loop-value-test.true c.value-item.is in
     let rest = map view (drop (c.loop-value.value-index + 1) c.args.values.now) in
     let stands = ap (λ (e : Entry). e ∷ map meaning rest) (sym c.in_ok-entry.ensures.1) in
-    one_more (id_checks c.args.place c.args.name.now) (map meaning) _ _ _ _ (view c.value-item.result) _ (c.in_ok-entry.entry ∷ []) _ c.loop-value.invariant next c.in_ok-entry.ensures.0 stands c.in_ok-push.ensures.ok
+    one_more (id_checks c.args.location c.args.name.now) (map meaning) _ _ _ _ (view c.value-item.result) _ (c.in_ok-entry.entry ∷ []) _ c.loop-value.invariant next c.in_ok-entry.ensures.0 stands c.in_ok-push.ensures.ok

@@ -6,4 +6,4 @@ use Rattle.policy_json.proofs.Loops.{IsRead}
 use Rattle.policy_json.proofs.principals.read_ids.Given as goal
 
 abbrev pub invariant-loop-value : goal.invariant-loop-value
-invariant-loop-value l = IsRead (id_checks l.place l.name) (map (λ d. entry_of l.kind (text_of d))) l.fn.entries (map view l.values) (map view (drop l.value-index l.values)) l.entries
+invariant-loop-value l = IsRead (id_checks l.location l.name) (map (λ d. entry_of l.kind (text_of d))) l.fn.entries (map view l.values) (map view (drop l.value-index l.values)) l.entries

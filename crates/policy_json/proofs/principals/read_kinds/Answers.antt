@@ -13,7 +13,7 @@ use Rattle.policy_json.proofs.principals.read_kinds.Goals as goal
 
 pub returns-in_err-read_kind : goal.returns-in_err-read_kind
 returns-in_err-read_kind c =
-    let checks = kind_checks c.args.place c.args.name.now in
+    let checks = kind_checks c.args.location c.args.name.now in
     let pair : List ℕ × Data = (c.as_str.result.now, view c.in-Some.ids.now) in
     let all = pairs_of (members_view c.args.kinds.now.entries) in
     let next = pairs_from c.loop-kind_name.kind_name-iterator c.next.new.self c.in-Some.kind_name.now c.in-Some.ids.now c.as_str.result.now c.in-Some.ensures.steps c.as_str.ensures.value in
@@ -23,7 +23,7 @@ returns-in_err-read_kind c =
 pub returns : goal.returns
 returns c =
     let past = ap (λ (ms : List (String Global × Value)). pairs_of (members_view ms)) c.in-None.ensures.steps.0 in
-    all_read (kind_checks c.args.place c.args.name.now) (flat_map entries_of_kind) [] _ _ _ c.loop-kind_name.invariant.read past refl
+    all_read (kind_checks c.args.location c.args.name.now) (flat_map entries_of_kind) [] _ _ _ c.loop-kind_name.invariant.read past refl
 
 pub loop-kind_name-preserved : goal.loop-kind_name-preserved
 loop-kind_name-preserved c =
@@ -32,5 +32,5 @@ loop-kind_name-preserved c =
     record {
       can_next = tt;
       is_finite = tt;
-      read = one_more (kind_checks c.args.place c.args.name.now) (flat_map entries_of_kind) [] _ _ _ pair _ (entries_of_kind pair) _ c.loop-kind_name.invariant.read next c.in_ok-read_kind.ensures.read.0 refl c.in_ok-read_kind.ensures.added;
+      read = one_more (kind_checks c.args.location c.args.name.now) (flat_map entries_of_kind) [] _ _ _ pair _ (entries_of_kind pair) _ c.loop-kind_name.invariant.read next c.in_ok-read_kind.ensures.read.0 refl c.in_ok-read_kind.ensures.added;
     }

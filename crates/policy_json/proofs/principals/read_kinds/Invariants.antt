@@ -10,5 +10,5 @@ abbrev pub invariant-loop-kind_name : goal.invariant-loop-kind_name
 invariant-loop-kind_name l = record {
   can_next : (goal.iterator-loop-kind_name).can_next l.kind_name-iterator;
   is_finite : (goal.iterator-loop-kind_name).is_finite l.kind_name-iterator;
-  read : IsRead (kind_checks l.place l.name) (flat_map entries_of_kind) [] (pairs_of (members_view l.kinds.entries)) (pairs_of (members_view l.kind_name-iterator)) l.entries;
+  read : IsRead (kind_checks l.location l.name) (flat_map entries_of_kind) [] (pairs_of (members_view l.kinds.entries)) (pairs_of (members_view l.kind_name-iterator)) l.entries;
 }

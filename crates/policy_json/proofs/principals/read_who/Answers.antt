@@ -17,12 +17,12 @@ returns-in_err-items-in-Some-clause-read c =
     let d = view c.args.statement.now in
     let element = c.in-Some.element in
     let value = view element.value.now in
-    let same = faults_of_one (principal_checks c.args.place) (λ n. refl) c.args.place element.not (codes "Principal") (codes "NotPrincipal") d element.name.now value c.in_ok-not_both.ensures.0 c.in-Some.ensures in
-    refused_whole {X = List Entry} {Y = Option (Matcher Entry)} (principal_checks c.args.place element.name.now (Some value)) (who_checks c.args.place d)
+    let same = faults_of_one (principal_checks c.args.location) (λ n. refl) c.args.location element.not (codes "Principal") (codes "NotPrincipal") d element.name.now value c.in_ok-not_both.ensures.0 c.in-Some.ensures in
+    refused_whole {X = List Entry} {Y = Option (Matcher Entry)} (principal_checks c.args.location element.name.now (Some value)) (who_checks c.args.location d)
     (entries_of value) (matcher_of entries_of (get (codes "Principal") d) (get (codes "NotPrincipal") d)) _ _ c.from_residual-in_err-items-in-Some.ensures.1 (λ fault first. same ∙ first) c.in_err-items-in-Some.ensures
 
 pub returns-in_ok-items-in-Some-clause-sound : goal.returns-in_ok-items-in-Some-clause-sound
 returns-in_ok-items-in-Some-clause-sound c =
     let element = c.in-Some.element in
-    let sound = entries_sound c.args.place element.name.now (view element.value.now) c.in_ok-items-in-Some.ensures.0 in
+    let sound = entries_sound c.args.location element.name.now (view element.value.now) c.in_ok-items-in-Some.ensures.0 in
     subst (Each EntryIsSound) (sym c.in_ok-items-in-Some.ensures.1) sound

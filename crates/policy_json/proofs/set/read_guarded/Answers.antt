@@ -33,9 +33,9 @@ returns-in_err-check_guarded-clause-read c =
 pub returns-clause-read : goal.returns-clause-read
 returns-clause-read c =
     let d = view c.args.value.now in
-    let grants = map view c.list_at-grants.result.now in
-    let guards = map view c.list_at-guards.result.now in
+    let grants = map view c.list_under-grants.result.now in
+    let guards = map view c.list_under-guards.result.now in
     let parts = documents_checks 1 0 (grants ++ flat_map values_in guards) in
-    let same = ap first_fault (checks_of d grants guards c.requires c.list_at-grants.ensures c.list_at-guards.ensures) ∙ first_fault-rest (guarded_checks d) parts c.in_ok-check_guarded.ensures.read.0 in
-    let meaning = stands_for d grants guards c.requires c.list_at-grants.ensures c.list_at-guards.ensures in
+    let same = ap first_fault (checks_of d grants guards c.requires c.list_under-grants.ensures c.list_under-guards.ensures) ∙ first_fault-rest (guarded_checks d) parts c.in_ok-check_guarded.ensures.read.0 in
+    let meaning = stands_for d grants guards c.requires c.list_under-grants.ensures c.list_under-guards.ensures in
     continued (set_checks d) parts (set_of d) _ same (subst (λ (s : PolicySet). IsReadOf parts s c.read_parts.result) meaning c.read_parts.ensures.read)

@@ -10,7 +10,7 @@ use Rattle.policy_json.proofs.texts.read_each.Goals as goal
 
 pub returns-in_err-pattern : goal.returns-in_err-pattern
 returns-in_err-pattern c =
-    let checks = pattern_checks c.args.place c.args.name.now c.args.escapes in
+    let checks = pattern_checks c.args.location c.args.name.now c.args.escapes in
     let meaning = λ (d : Data). unwrap_or (pieces_of c.args.fold c.args.escapes d) [] in
     let all = map view c.args.values.now in
     let next = from_here view c.args.values.now c.loop-value.value-index c.value-item.result c.loop-value-test.true c.value-item.is in
@@ -19,14 +19,14 @@ returns-in_err-pattern c =
 
 pub returns : goal.returns
 returns c =
-    let checks = pattern_checks c.args.place c.args.name.now c.args.escapes in
+    let checks = pattern_checks c.args.location c.args.name.now c.args.escapes in
     let meaning = λ (d : Data). unwrap_or (pieces_of c.args.fold c.args.escapes d) [] in
     let past = from_end view c.args.values.now c.loop-value.value-index c.loop-value-test.false in
     all_read checks (map meaning) [] _ _ _ c.loop-value.invariant past refl
 
 pub loop-value-preserved : goal.loop-value-preserved
 loop-value-preserved c =
-    let checks = pattern_checks c.args.place c.args.name.now c.args.escapes in
+    let checks = pattern_checks c.args.location c.args.name.now c.args.escapes in
     let meaning = λ (d : Data). unwrap_or (pieces_of c.args.fold c.args.escapes d) [] in
     let next = from_here view c.args.values.now c.loop-value.value-index c.value-item.result c.loop-value-test.true c.value-item.is in
     let rest = map view (drop (c.loop-value.value-index + 1) c.args.values.now) in

@@ -5,4 +5,4 @@ use Rattle.policy_json.proofs.Loops.{IsRead}
 use Rattle.policy_json.proofs.texts.read_each.Given as goal
 
 abbrev pub invariant-loop-value : goal.invariant-loop-value
-invariant-loop-value l = IsRead (pattern_checks l.place l.name l.escapes) (map (λ d. unwrap_or (pieces_of l.fold l.escapes d) [])) [] (map view l.values) (map view (drop l.value-index l.values)) l.patterns
+invariant-loop-value l = IsRead (pattern_checks l.location l.name l.escapes) (map (λ d. unwrap_or (pieces_of l.fold l.escapes d) [])) [] (map view l.values) (map view (drop l.value-index l.values)) l.patterns
