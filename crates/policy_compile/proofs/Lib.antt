@@ -1,8 +1,10 @@
-pub mod Asking
-pub mod Collecting
-pub mod Equal
-pub mod Meanings
-pub mod Pieces
-pub mod Ranges
-pub mod Steps
-pub mod Tables
+mod Asking
+mod Collecting
+mod Covering
+mod Equal
+pub mod Laws
+mod Meanings
+mod Pieces
+mod Ranges
+mod Standing
+mod Steps

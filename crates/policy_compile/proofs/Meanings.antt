@@ -13,13 +13,15 @@ use Rattle.policy_model.specs.Sets.{MatcherHolds, OptionalHolds, Applies, Decide
 use Rattle.policy_model.specs.declared.matcher.Matcher.{Matcher}
 use Rattle.policy_model.specs.declared.principal.Entry.{Entry}
 use Rattle.policy_model.specs.declared.request.Request.{Request}
+use Rattle.policy_model.specs.declared.schema.Schema.{Schema}
 use Rattle.policy_model.specs.declared.set.Statement.{Statement}
 use Rattle.policy_model.specs.declared.set.Document.{Document}
 use Rattle.policy_model.specs.declared.set.PolicySet.{PolicySet}
 use Rattle.policy_model.specs.declared.test.Test.{Test}
 use Rattle.policy_model.specs.declared.test.Test.TheVariants.{Principal, Action, Resource}
+use Rattle.policy_compile.specs.declared.elements.RequestWord.TheVariants as word
 use Rattle.policy_compile.specs.Plans.{Plan, Plans, yes, ask, not, all, one_of, none, more, of_plans, PlanHolds, EachHolds, SomeHolds}
-use Rattle.policy_compile.specs.Sets.{entry_plans, pattern_test, pattern_plans, turned, entries_plan, patterns_plan, principal_plan, resource_plan, statement_plan, where_same, statement_plans, document_plans, guard_plans, deny_plans, set_plan, query_plan}
+use Rattle.policy_compile.specs.Sets.{entry_plans, pattern_test, pattern_plans, some_or_none, entries_plan, patterns_plan, principal_plan, resource_plan, statement_plan, where_same, statement_plans, document_plans, guard_plans, guard_deny_plans, grants_plan, deny_plans, no_deny_plan, set_plan, query_plan}
 use Rattle.policy_compile.specs.Numbering.{IsNumbered, AreNumbered, numbered_yes, numbered_ask, numbered_not, numbered_all, numbered_one_of, numbered_none, numbered_more}
 use Rattle.policy_compile.specs.Meaning.{AnswersAs}
 
@@ -87,12 +89,12 @@ Any-here P x xs h = (0, x, omega arith, refl, h)
 Any-later : {T : Type 0} (P : T → Type 0) (x : T) (xs : List T) → Any P xs → Any P (x ∷ xs)
 Any-later P x xs h = (suc h.0, h.1, omega arith, h.3, h.4)
 
-Any-place : {T : Type 0} (P : T → Type 0) (x : T) (xs : List T) (k : ℕ) (y : T) → k < length (x ∷ xs) → get_or (x ∷ xs) k y ≡ y → P y → P x ⊎ Any P xs
-Any-place P x xs zero y within is h = inl (subst P (sym is) h)
-Any-place P x xs (suc k) y within is h = inr (k, y, omega arith, is, h)
+Any-index : {T : Type 0} (P : T → Type 0) (x : T) (xs : List T) (k : ℕ) (y : T) → k < length (x ∷ xs) → get_or (x ∷ xs) k y ≡ y → P y → P x ⊎ Any P xs
+Any-index P x xs zero y within is h = inl (subst P (sym is) h)
+Any-index P x xs (suc k) y within is h = inr (k, y, omega arith, is, h)
 
 Any-split : {T : Type 0} (P : T → Type 0) (x : T) (xs : List T) → Any P (x ∷ xs) → P x ⊎ Any P xs
-Any-split P x xs h = Any-place P x xs h.0 h.1 h.2 h.3 h.4
+Any-split P x xs h = Any-index P x xs h.0 h.1 h.2 h.3 h.4
 
 Any-same : {T : Type 0} (P Q : T → Type 0) (xs : List T) → ((x : T) → P x ↔ Q x) → (Any P xs ↔ Any Q xs)
 Any-same P Q xs same = (λ h. (h.0, h.1, h.2, h.3, (same h.1).0 h.4), λ h. (h.0, h.1, h.2, h.3, (same h.1).1 h.4))
@@ -139,20 +141,20 @@ some-single r p = (λ h. elim h [ inl x ↦ x | inr y ↦ absurd y ], λ h. inl 
 
 -- ---- elements
 
-turned-holds : {T : Type 0} (r : Request) (m : Matcher T) (ps : List Plan) (P : T → Type 0) → (SomeHolds r (of_plans ps) ↔ Any P m.items) → (n : Bool) → m.not ≡ n → (PlanHolds r (turned n (one_of (of_plans ps))) ↔ MatchBool n (¬ Any P m.items) (Any P m.items))
-turned-holds r m ps P says true e = (λ h a. h (says.1 a), λ h s. h (says.0 s))
-turned-holds r m ps P says false e = says
+some_or_none-holds : {T : Type 0} (r : Request) (m : Matcher T) (ps : List Plan) (P : T → Type 0) → (SomeHolds r (of_plans ps) ↔ Any P m.items) → (n : Bool) → m.not ≡ n → (PlanHolds r (some_or_none n ps) ↔ MatchBool n (¬ Any P m.items) (Any P m.items))
+some_or_none-holds r m ps P says true e = (λ h a. h (says.1 a), λ h s. h (says.0 s))
+some_or_none-holds r m ps P says false e = says
 
 entries-hold : (r : Request) (m : Matcher Entry) → (PlanHolds r (entries_plan m) ↔ MatcherHolds (EntryHolds r) m)
-entries-hold r m = turned-holds r m (entry_plans m.items) (EntryHolds r) (some-items r (λ e. ask (Principal e) ∷ []) (EntryHolds r) (λ e. some-single r (ask (Principal e))) m.items) m.not refl
+entries-hold r m = some_or_none-holds r m (entry_plans m.items) (EntryHolds r) (some-items r (λ e. ask (Principal e) ∷ []) (EntryHolds r) (λ e. some-single r (ask (Principal e))) m.items) m.not refl
 
-actions-hold : (r : Request) (m : Matcher (List Piece)) → (PlanHolds r (patterns_plan false m) ↔ MatcherHolds (λ p. Matches p r.action) m)
+actions-hold : (r : Request) (m : Matcher (List Piece)) → (PlanHolds r (patterns_plan word.Action m) ↔ MatcherHolds (λ p. Matches p r.action) m)
 actions-hold r m =
-    turned-holds r m (pattern_plans false m.items) (λ p. Matches p r.action) (some-items r (λ p. ask (pattern_test false p) ∷ []) (λ p. Matches p r.action) (λ p. some-single r (ask (Action p))) m.items) m.not refl
+    some_or_none-holds r m (pattern_plans word.Action m.items) (λ p. Matches p r.action) (some-items r (λ p. ask (pattern_test word.Action p) ∷ []) (λ p. Matches p r.action) (λ p. some-single r (ask (Action p))) m.items) m.not refl
 
-resources-hold : (r : Request) (m : Matcher (List Piece)) → (PlanHolds r (patterns_plan true m) ↔ MatcherHolds (λ p. Matches p r.resource) m)
+resources-hold : (r : Request) (m : Matcher (List Piece)) → (PlanHolds r (patterns_plan word.Resource m) ↔ MatcherHolds (λ p. Matches p r.resource) m)
 resources-hold r m =
-    turned-holds r m (pattern_plans true m.items) (λ p. Matches p r.resource) (some-items r (λ p. ask (pattern_test true p) ∷ []) (λ p. Matches p r.resource) (λ p. some-single r (ask (Resource p))) m.items) m.not refl
+    some_or_none-holds r m (pattern_plans word.Resource m.items) (λ p. Matches p r.resource) (some-items r (λ p. ask (pattern_test word.Resource p) ∷ []) (λ p. Matches p r.resource) (λ p. some-single r (ask (Resource p))) m.items) m.not refl
 
 principal-holds : (r : Request) (m : Option (Matcher Entry)) → (PlanHolds r (principal_plan m) ↔ OptionalHolds (EntryHolds r) m)
 principal-holds r None = (λ h. tt, λ h. tt)
@@ -164,61 +166,61 @@ resource-holds r (Some m) = resources-hold r m
 
 -- ---- statements and sets
 
-statement-holds : (r : Request) (s : Statement) → (PlanHolds r (statement_plan s) ↔ Applies s r)
-statement-holds r s = (
+statement-holds : (schema : Schema) (r : Request) (s : Statement) → (PlanHolds r (statement_plan schema s) ↔ Applies schema s r)
+statement-holds schema r s = (
   λ h. record { principal = (principal-holds r s.principal).0 h.0; action = (actions-hold r s.action).0 h.1.0; resource = (resource-holds r s.resource).0 h.1.1.0 },
   λ a. ((principal-holds r s.principal).1 a.principal, ((actions-hold r s.action).1 a.action, ((resource-holds r s.resource).1 a.resource, (tt, tt)))),
 )
 
-same-holds : (r : Request) (s : Statement) (allow own : Bool) → (SomeHolds r (of_plans (where_same allow own (statement_plan s ∷ []))) ↔ ((own ≡ allow) × Applies s r))
-same-holds r s true true = (λ h. (refl, (statement-holds r s).0 ((some-single r (statement_plan s)).0 h)), λ h. inl ((statement-holds r s).1 h.1))
-same-holds r s true false = (λ h. absurd h, λ h. absurd (cc (h.0)))
-same-holds r s false true = (λ h. absurd h, λ h. absurd (cc (h.0)))
-same-holds r s false false = (λ h. (refl, (statement-holds r s).0 ((some-single r (statement_plan s)).0 h)), λ h. inl ((statement-holds r s).1 h.1))
+same-holds : (schema : Schema) (r : Request) (s : Statement) (allow own : Bool) → (SomeHolds r (of_plans (where_same allow own (statement_plan schema s ∷ []))) ↔ ((own ≡ allow) × Applies schema s r))
+same-holds schema r s true true = (λ h. (refl, (statement-holds schema r s).0 ((some-single r (statement_plan schema s)).0 h)), λ h. inl ((statement-holds schema r s).1 h.1))
+same-holds schema r s true false = (λ h. absurd h, λ h. absurd (cc (h.0)))
+same-holds schema r s false true = (λ h. absurd h, λ h. absurd (cc (h.0)))
+same-holds schema r s false false = (λ h. (refl, (statement-holds schema r s).0 ((some-single r (statement_plan schema s)).0 h)), λ h. inl ((statement-holds schema r s).1 h.1))
 
-statements-hold : (r : Request) (allow : Bool) (statements : List Statement) → (SomeHolds r (of_plans (statement_plans allow statements)) ↔ Any (Decides allow r) statements)
-statements-hold r allow statements = some-items r (λ s. where_same allow s.allow (statement_plan s ∷ [])) (Decides allow r) (λ s. same-holds r s allow s.allow) statements
+statements-hold : (schema : Schema) (r : Request) (allow : Bool) (statements : List Statement) → (SomeHolds r (of_plans (statement_plans schema allow statements)) ↔ Any (Decides schema allow r) statements)
+statements-hold schema r allow statements = some-items r (λ s. where_same allow s.allow (statement_plan schema s ∷ [])) (Decides schema allow r) (λ s. same-holds schema r s allow s.allow) statements
 
-documents-hold : (r : Request) (allow : Bool) (documents : List Document) → (SomeHolds r (of_plans (document_plans allow documents)) ↔ SomeDecides allow r documents)
-documents-hold r allow documents = some-items r (λ d. statement_plans allow d.statements) (λ d. Any (Decides allow r) d.statements) (λ d. statements-hold r allow d.statements) documents
+documents-hold : (schema : Schema) (r : Request) (allow : Bool) (documents : List Document) → (SomeHolds r (of_plans (document_plans schema allow documents)) ↔ SomeDecides schema allow r documents)
+documents-hold schema r allow documents = some-items r (λ d. statement_plans schema allow d.statements) (λ d. Any (Decides schema allow r) d.statements) (λ d. statements-hold schema r allow d.statements) documents
 
-guards-hold : (r : Request) (guards : List (List Document)) → (EachHolds r (of_plans (guard_plans guards)) ↔ All (SomeDecides true r) guards)
-guards-hold r guards =
-    each-items r (λ g. one_of (of_plans (document_plans true g)) ∷ []) (SomeDecides true r)
-    (λ g. (λ h. (documents-hold r true g).0 h.0, λ h. ((documents-hold r true g).1 h, tt))) guards
+guards-hold : (schema : Schema) (r : Request) (guards : List (List Document)) → (EachHolds r (of_plans (guard_plans schema guards)) ↔ All (SomeDecides schema true r) guards)
+guards-hold schema r guards =
+    each-items r (λ g. grants_plan schema g ∷ []) (SomeDecides schema true r)
+    (λ g. (λ h. (documents-hold schema r true g).0 h.0, λ h. ((documents-hold schema r true g).1 h, tt))) guards
 
-guards-deny : (r : Request) (guards : List (List Document)) → (SomeHolds r (of_plans (flat_map (λ g. document_plans false g) guards)) ↔ Any (SomeDecides false r) guards)
-guards-deny r guards = some-items r (λ g. document_plans false g) (SomeDecides false r) (λ g. documents-hold r false g) guards
+guards-deny : (schema : Schema) (r : Request) (guards : List (List Document)) → (SomeHolds r (of_plans (guard_deny_plans schema guards)) ↔ Any (SomeDecides schema false r) guards)
+guards-deny schema r guards = some-items r (λ g. document_plans schema false g) (SomeDecides schema false r) (λ g. documents-hold schema r false g) guards
 
-denies-hold : (r : Request) (set : PolicySet) → (SomeHolds r (of_plans (deny_plans set)) ↔ (SomeDecides false r set.grants ⊎ Any (SomeDecides false r) set.guards))
-denies-hold r set =
-    let parts = some-append r (document_plans false set.grants) (flat_map (λ g. document_plans false g) set.guards) in (
-      λ h. elim (parts.0 h) [ inl a ↦ inl ((documents-hold r false set.grants).0 a) | inr b ↦ inr ((guards-deny r set.guards).0 b) ],
-      λ h. elim h [ inl a ↦ parts.1 (inl ((documents-hold r false set.grants).1 a)) | inr b ↦ parts.1 (inr ((guards-deny r set.guards).1 b)) ],
+denies-hold : (schema : Schema) (r : Request) (set : PolicySet) → (SomeHolds r (of_plans (deny_plans schema set)) ↔ (SomeDecides schema false r set.grants ⊎ Any (SomeDecides schema false r) set.guards))
+denies-hold schema r set =
+    let parts = some-append r (document_plans schema false set.grants) (guard_deny_plans schema set.guards) in (
+      λ h. elim (parts.0 h) [ inl a ↦ inl ((documents-hold schema r false set.grants).0 a) | inr b ↦ inr ((guards-deny schema r set.guards).0 b) ],
+      λ h. elim h [ inl a ↦ parts.1 (inl ((documents-hold schema r false set.grants).1 a)) | inr b ↦ parts.1 (inr ((guards-deny schema r set.guards).1 b)) ],
     )
 
-pub set-holds : (r : Request) (set : PolicySet) → (PlanHolds r (set_plan set) ↔ Allows set r)
-set-holds r set =
-    let rest = each-append r (guard_plans set.guards) (not (one_of (of_plans (deny_plans set))) ∷ []) in (
+pub set-holds : (schema : Schema) (r : Request) (set : PolicySet) → (PlanHolds r (set_plan schema set) ↔ Allows schema set r)
+set-holds schema r set =
+    let rest = each-append r (guard_plans schema set.guards) (no_deny_plan schema set ∷ []) in (
       λ h.
           let parts = rest.0 h.1 in
           record {
-            granted = (documents-hold r true set.grants).0 h.0;
-            guarded = (guards-hold r set.guards).0 parts.0;
-            not_denied = λ d. parts.1.0 ((denies-hold r set).1 (inl d));
-            not_denied_by_guard = λ d. parts.1.0 ((denies-hold r set).1 (inr d));
+            granted = (documents-hold schema r true set.grants).0 h.0;
+            guarded = (guards-hold schema r set.guards).0 parts.0;
+            not_denied = λ d. parts.1.0 ((denies-hold schema r set).1 (inl d));
+            not_denied_by_guard = λ d. parts.1.0 ((denies-hold schema r set).1 (inr d));
           },
       λ a. (
-        (documents-hold r true set.grants).1 a.granted,
+        (documents-hold schema r true set.grants).1 a.granted,
         rest.1 (
-          (guards-hold r set.guards).1 a.guarded,
-          ((λ s. elim ((denies-hold r set).0 s) [ inl d ↦ a.not_denied d | inr d ↦ a.not_denied_by_guard d ]), tt),
+          (guards-hold schema r set.guards).1 a.guarded,
+          ((λ s. elim ((denies-hold schema r set).0 s) [ inl d ↦ a.not_denied d | inr d ↦ a.not_denied_by_guard d ]), tt),
         ),
       ),
     )
 
-pub query-holds : (r : Request) (first second : PolicySet) → (PlanHolds r (query_plan first second) ↔ (Allows first r × ¬ Allows second r))
-query-holds r first second = (
-  λ h. ((set-holds r first).0 h.0, λ a. h.1.0 ((set-holds r second).1 a)),
-  λ a. ((set-holds r first).1 a.0, ((λ p. a.1 ((set-holds r second).0 p)), tt)),
+pub query-holds : (schema : Schema) (r : Request) (first second : PolicySet) → (PlanHolds r (query_plan schema first second) ↔ (Allows schema first r × ¬ Allows schema second r))
+query-holds schema r first second = (
+  λ h. ((set-holds schema r first).0 h.0, λ a. h.1.0 ((set-holds schema r second).1 a)),
+  λ a. ((set-holds schema r first).1 a.0, ((λ p. a.1 ((set-holds schema r second).0 p)), tt)),
 )

@@ -1,4 +1,4 @@
--- The numbers and the tests of queries are in their ranges.
+-- The numbers and the tests part queries are in their ranges.
 use Rattle.std.proofs.Common.{suc, List, [], ◌∷◌, ◌++◌, length, Bool, true, false, Option, Some, None, sym, subst, arith}
 use Rattle.std.specs.Prelude.{⊤, All}
 use Rattle.std.specs.List.{flat_map}
@@ -16,8 +16,10 @@ use Rattle.policy_model.specs.declared.set.Document.{Document}
 use Rattle.policy_model.specs.declared.set.PolicySet.{PolicySet}
 use Rattle.policy_model.specs.declared.test.Test.{Test}
 use Rattle.policy_model.specs.declared.test.Test.TheVariants.{Principal, Action, Resource}
+use Rattle.policy_compile.specs.declared.elements.RequestWord.{RequestWord}
+use Rattle.policy_compile.specs.declared.elements.RequestWord.TheVariants as word
 use Rattle.policy_compile.specs.Plans.{Plan, Plans, yes, ask, not, all, one_of, none, more, of_plans, tests_in, tests_in_each}
-use Rattle.policy_compile.specs.Sets.{entry_plans, pattern_test, pattern_plans, turned, patterns_plan, principal_plan, resource_plan, statement_plan, where_same, statement_plans, document_plans, guard_plans, deny_plans, set_plan, query_plan}
+use Rattle.policy_compile.specs.Sets.{entry_plans, pattern_test, pattern_plans, some_or_none, patterns_plan, principal_plan, resource_plan, statement_plan, where_same, statement_plans, document_plans, guard_plans, guard_deny_plans, grants_plan, deny_plans, no_deny_plan, set_plan, query_plan}
 use Rattle.policy_compile.specs.Numbering.{Collects, nothing, again, anew, IsNumbered, AreNumbered, numbered_yes, numbered_ask, numbered_not, numbered_all, numbered_one_of, numbered_none, numbered_more}
 use Rattle.policy_compile.proofs.Collecting.{tests_in_each-append}
 
@@ -64,13 +66,13 @@ All-append : {T : Type 0} (P : T → Type 0) (xs ys : List T) → All P xs → A
 All-append P [] ys h k = k
 All-append P (x ∷ xs) ys h k = All-cons P x (xs ++ ys) (All-head P x xs h) (All-append P xs ys (All-tail P x xs h) k)
 
--- what holds of the tests that are had and read holds of those that are got
+-- what holds part the tests that are had and read holds part those that are got
 pub All-collects : (P : Test → Type 0) (had read got : List Test) → Collects had read got → All P had → All P read → All P got
 All-collects P had [] got nothing h k = h
 All-collects P had (t ∷ read) got (again old rest) h k = All-collects P had read got rest h (All-tail P t read k)
 All-collects P had (t ∷ read) got (anew new rest) h k = All-collects P (had ++ t ∷ []) read got rest (All-append P had (t ∷ []) h (All-cons P t [] (All-head P t read k) (All-nil P))) (All-tail P t read k)
 
--- the tests of these plans all suit
+-- the tests part these plans all suit
 abbrev Suit : Schema → List Plan → Type 0
 Suit schema ps = All (TestSuits schema) (tests_in_each (of_plans ps))
 
@@ -91,34 +93,34 @@ suit-items schema k P suits (x ∷ xs) h = suit-append schema (k x) (flat_map k 
 suit-one : (schema : Schema) (t : Test) → TestSuits schema t → Suit schema (ask t ∷ [])
 suit-one schema t h = All-cons (TestSuits schema) t [] h (All-nil (TestSuits schema))
 
-suit-turned : (schema : Schema) (n : Bool) (ps : List Plan) → Suit schema ps → All (TestSuits schema) (tests_in (turned n (one_of (of_plans ps))))
-suit-turned schema true ps h = h
-suit-turned schema false ps h = h
+suit-some_or_none : (schema : Schema) (n : Bool) (ps : List Plan) → Suit schema ps → All (TestSuits schema) (tests_in (some_or_none n ps))
+suit-some_or_none schema true ps h = h
+suit-some_or_none schema false ps h = h
 
 All-of-nothing : {T : Type 0} (xs : List T) → All (λ x. ⊤) xs
 All-of-nothing xs = λ k d h. tt
 
 suit-principal : (schema : Schema) (m : Option (Matcher Entry)) → PrincipalIsSound m → All (TestSuits schema) (tests_in (principal_plan m))
 suit-principal schema None h = All-nil (TestSuits schema)
-suit-principal schema (Some m) h = suit-turned schema m.not (entry_plans m.items) (suit-items schema (λ e. ask (Principal e) ∷ []) EntryIsSound (λ e s. suit-one schema (Principal e) s) m.items h)
+suit-principal schema (Some m) h = suit-some_or_none schema m.not (entry_plans m.items) (suit-items schema (λ e. ask (Principal e) ∷ []) EntryIsSound (λ e s. suit-one schema (Principal e) s) m.items h)
 
-suit-pattern : (schema : Schema) (of_resource : Bool) (p : List Piece) → Suit schema (ask (pattern_test of_resource p) ∷ [])
-suit-pattern schema true p = suit-one schema (Resource p) tt
-suit-pattern schema false p = suit-one schema (Action p) tt
+suit-pattern : (schema : Schema) (part : RequestWord) (p : List Piece) → Suit schema (ask (pattern_test part p) ∷ [])
+suit-pattern schema word.Resource p = suit-one schema (Resource p) tt
+suit-pattern schema word.Action p = suit-one schema (Action p) tt
 
-suit-patterns : (schema : Schema) (of_resource : Bool) (m : Matcher (List Piece)) → All (TestSuits schema) (tests_in (patterns_plan of_resource m))
-suit-patterns schema of_resource m =
-    suit-turned schema m.not (pattern_plans of_resource m.items) (suit-items schema (λ p. ask (pattern_test of_resource p) ∷ []) (λ p. ⊤) (λ p s. suit-pattern schema of_resource p) m.items (All-of-nothing m.items))
+suit-patterns : (schema : Schema) (part : RequestWord) (m : Matcher (List Piece)) → All (TestSuits schema) (tests_in (patterns_plan part m))
+suit-patterns schema part m =
+    suit-some_or_none schema m.not (pattern_plans part m.items) (suit-items schema (λ p. ask (pattern_test part p) ∷ []) (λ p. ⊤) (λ p s. suit-pattern schema part p) m.items (All-of-nothing m.items))
 
 suit-resource : (schema : Schema) (m : Option (Matcher (List Piece))) → All (TestSuits schema) (tests_in (resource_plan m))
 suit-resource schema None = All-nil (TestSuits schema)
-suit-resource schema (Some m) = suit-patterns schema true m
+suit-resource schema (Some m) = suit-patterns schema word.Resource m
 
-suit-statement : (schema : Schema) (s : Statement) → StatementIsSound s → Suit schema (statement_plan s ∷ [])
+suit-statement : (schema : Schema) (s : Statement) → StatementIsSound s → Suit schema (statement_plan schema s ∷ [])
 suit-statement schema s h =
-    suit-more schema (statement_plan s) []
-    (suit-more schema (principal_plan s.principal) (patterns_plan false s.action ∷ resource_plan s.resource ∷ all (of_plans []) ∷ []) (suit-principal schema s.principal h)
-    (suit-more schema (patterns_plan false s.action) (resource_plan s.resource ∷ all (of_plans []) ∷ []) (suit-patterns schema false s.action)
+    suit-more schema (statement_plan schema s) []
+    (suit-more schema (principal_plan s.principal) (patterns_plan word.Action s.action ∷ resource_plan s.resource ∷ all (of_plans []) ∷ []) (suit-principal schema s.principal h)
+    (suit-more schema (patterns_plan word.Action s.action) (resource_plan s.resource ∷ all (of_plans []) ∷ []) (suit-patterns schema word.Action s.action)
     (suit-more schema (resource_plan s.resource) (all (of_plans []) ∷ []) (suit-resource schema s.resource)
     (suit-more schema (all (of_plans [])) [] (suit-none schema) (suit-none schema)))))
     (suit-none schema)
@@ -129,30 +131,30 @@ suit-same schema true false ps h = suit-none schema
 suit-same schema false true ps h = suit-none schema
 suit-same schema false false ps h = h
 
-suit-document : (schema : Schema) (allow : Bool) (d : Document) → DocumentIsSound d → Suit schema (statement_plans allow d.statements)
+suit-document : (schema : Schema) (allow : Bool) (d : Document) → DocumentIsSound d → Suit schema (statement_plans schema allow d.statements)
 suit-document schema allow d h =
-    suit-items schema (λ s. where_same allow s.allow (statement_plan s ∷ [])) StatementIsSound (λ s sound. suit-same schema allow s.allow (statement_plan s ∷ []) (suit-statement schema s sound)) d.statements h.each
+    suit-items schema (λ s. where_same allow s.allow (statement_plan schema s ∷ [])) StatementIsSound (λ s sound. suit-same schema allow s.allow (statement_plan schema s ∷ []) (suit-statement schema s sound)) d.statements h.each
 
-suit-documents : (schema : Schema) (allow : Bool) (documents : List Document) → All DocumentIsSound documents → Suit schema (document_plans allow documents)
-suit-documents schema allow documents h = suit-items schema (λ d. statement_plans allow d.statements) DocumentIsSound (λ d sound. suit-document schema allow d sound) documents h
+suit-documents : (schema : Schema) (allow : Bool) (documents : List Document) → All DocumentIsSound documents → Suit schema (document_plans schema allow documents)
+suit-documents schema allow documents h = suit-items schema (λ d. statement_plans schema allow d.statements) DocumentIsSound (λ d sound. suit-document schema allow d sound) documents h
 
-suit-guards : (schema : Schema) (guards : List (List Document)) → All (λ g. All DocumentIsSound g) guards → Suit schema (guard_plans guards)
+suit-guards : (schema : Schema) (guards : List (List Document)) → All (λ g. All DocumentIsSound g) guards → Suit schema (guard_plans schema guards)
 suit-guards schema guards h =
-    suit-items schema (λ g. one_of (of_plans (document_plans true g)) ∷ []) (λ g. All DocumentIsSound g)
-    (λ g sound. suit-more schema (one_of (of_plans (document_plans true g))) [] (suit-documents schema true g sound) (suit-none schema)) guards h
+    suit-items schema (λ g. grants_plan schema g ∷ []) (λ g. All DocumentIsSound g)
+    (λ g sound. suit-more schema (grants_plan schema g) [] (suit-documents schema true g sound) (suit-none schema)) guards h
 
-suit-denies : (schema : Schema) (set : PolicySet) → IsSound set → Suit schema (deny_plans set)
+suit-denies : (schema : Schema) (set : PolicySet) → IsSound set → Suit schema (deny_plans schema set)
 suit-denies schema set h =
-    suit-append schema (document_plans false set.grants) (flat_map (λ g. document_plans false g) set.guards) (suit-documents schema false set.grants h.granting)
-    (suit-items schema (λ g. document_plans false g) (λ g. All DocumentIsSound g) (λ g sound. suit-documents schema false g sound) set.guards h.guarding)
+    suit-append schema (document_plans schema false set.grants) (guard_deny_plans schema set.guards) (suit-documents schema false set.grants h.granting)
+    (suit-items schema (λ g. document_plans schema false g) (λ g. All DocumentIsSound g) (λ g sound. suit-documents schema false g sound) set.guards h.guarding)
 
-pub suit-set : (schema : Schema) (set : PolicySet) → SchemaFits schema set → All (TestSuits schema) (tests_in (set_plan set))
+pub suit-set : (schema : Schema) (set : PolicySet) → SchemaFits schema set → All (TestSuits schema) (tests_in (set_plan schema set))
 suit-set schema set fits =
-    suit-more schema (one_of (of_plans (document_plans true set.grants))) (guard_plans set.guards ++ not (one_of (of_plans (deny_plans set))) ∷ []) (suit-documents schema true set.grants fits.sound.granting)
-    (suit-append schema (guard_plans set.guards) (not (one_of (of_plans (deny_plans set))) ∷ []) (suit-guards schema set.guards fits.sound.guarding)
-    (suit-more schema (not (one_of (of_plans (deny_plans set)))) [] (suit-denies schema set fits.sound) (suit-none schema)))
+    suit-more schema (grants_plan schema set.grants) (guard_plans schema set.guards ++ no_deny_plan schema set ∷ []) (suit-documents schema true set.grants fits.sound.granting)
+    (suit-append schema (guard_plans schema set.guards) (no_deny_plan schema set ∷ []) (suit-guards schema set.guards fits.sound.guarding)
+    (suit-more schema (no_deny_plan schema set) [] (suit-denies schema set fits.sound) (suit-none schema)))
 
-pub suit-query : (schema : Schema) (first second : PolicySet) → SchemaFits schema first → SchemaFits schema second → All (TestSuits schema) (tests_in (query_plan first second))
+pub suit-query : (schema : Schema) (first second : PolicySet) → SchemaFits schema first → SchemaFits schema second → All (TestSuits schema) (tests_in (query_plan schema first second))
 suit-query schema first second fits also_fits =
-    suit-more schema (set_plan first) (not (set_plan second) ∷ []) (suit-set schema first fits)
-    (suit-more schema (not (set_plan second)) [] (suit-set schema second also_fits) (suit-none schema))
+    suit-more schema (set_plan schema first) (not (set_plan schema second) ∷ []) (suit-set schema first fits)
+    (suit-more schema (not (set_plan schema second)) [] (suit-set schema second also_fits) (suit-none schema))

@@ -1,62 +1,217 @@
 -- The steps of making a query, one after the other.
-use Rattle.std.proofs.Common.{◌≡◌, ◌≤◌, ◌<◌, ◌+◌, ℕ, List, [], ◌∷◌, ◌++◌, length, take, get_or, Bool, true, false, refl, ap, sym, ◌∙◌, subst}
+use Rattle.std.proofs.Common.{◌≡◌, ◌≤◌, ◌<◌, ◌+◌, ℕ, List, [], ◌∷◌, ◌++◌, length, take, drop, get_or, Bool, true, false, All, refl, ap, sym, ◌∙◌, subst}
 use mathlib.Core.Bool.{beq}
 use mathlib.Core.Bool.{not as opposite}
 use Rattle.std.specs.List.{flat_map}
-use Rattle.std.proofs.lemmas.List.{append_assoc, append-nil, map_push, take_more, take_all}
-use Rattle.std.proofs.Common.{Option, None}
-use Rattle.policy_model.specs.declared.principal.Entry.{Entry}
-use Rattle.wildcard_lang.specs.declared.piece.Piece.{Piece}
-use Rattle.policy_model.specs.declared.matcher.Matcher.{Matcher}
-use Rattle.formula_tree.specs.Trees as tree
+use Rattle.std.proofs.lemmas.List.{append_assoc, append-nil, take_more, take_all, take-append-drop}
+use Rattle.std.proofs.lemmas.List.Elements.{All-cons, All-nil}
+use Rattle.std.proofs.lemmas.Option.{slice_get_within}
 use Rattle.policy_model.specs.declared.test.Test.{Test}
-use Rattle.policy_compile.specs.Plans.{Plan, yes, not, all, one_of, of_plans, tests_in, tests_in_each}
-use Rattle.policy_compile.specs.Sets.{turned, where_same, principal_plan, resource_plan}
-use Rattle.policy_compile.specs.Numbering.{Collects, nothing, AreNumbered, HasTooMany, numbered_yes, numbered_not, numbered_all, numbered_one_of, numbered_none, numbered_more}
-use Rattle.policy_compile.specs.Building.{Built, built, built_none, built_too_many, Added, added, added_none, added_too_many, turned_tree}
-use Rattle.policy_compile.specs.Shapes.{tests_of}
-use Rattle.policy_compile.proofs.Collecting.{Collects-append, Collects-begins, AreNumbered-along, AreNumbered-append, tests_in_each-append, HasTooMany-more, HasTooMany-behind}
+use Rattle.policy_compile.specs.declared.builder.Builder.{Builder}
+use Rattle.policy_compile.specs.declared.nodes.Node.{Node}
+use Rattle.policy_compile.specs.declared.nodes.Node.TheVariants as node
+use Rattle.policy_compile.specs.declared.outcome.QueryFault.{QueryFault}
+use Rattle.policy_compile.specs.declared.outcome.QueryFault.TheVariants.{TooManyTests, TooManyPieces, NoMemory}
+use Rattle.policy_compile.specs.Plans.{Plan, Plans, yes, ask, not, all, one_of, none, more, of_plans, tests_in, tests_in_each}
+use Rattle.policy_compile.specs.Sets.{some_or_none, where_same}
+use Rattle.policy_compile.specs.Nodes.{IsNode, AreNodes, node_yes, node_ask, node_not, node_all, node_one_of, nodes_none, nodes_more}
+use Rattle.policy_compile.specs.Numbering.{Collects, nothing}
+use Rattle.std.specs.Prelude.{Result, Ok, Err}
+use Rattle.std.specs.Result.{IsErrAnd}
+use Rattle.policy_compile.specs.Building.{Added, Extends, Built, Fails, HasNode, IsAdded, IsBuilt}
+use Rattle.policy_compile.proofs.Collecting.{Collects-append, Collects-begins, HasTooMany-behind, HasTooMany-more, slice_get-longer, tests_in_each-append}
 
--- nothing was added yet
-pub Added-none : (a : List Test) (full : Bool) (ts : List tree.Tree) → Added a full a full [] ts ts
-Added-none a false ts = added refl refl nothing [] (sym (append-nil ts)) numbered_none
-Added-none a true ts = added_none refl refl
+-- ---- lists that grow
 
--- one tree was added
-pub Added-one : (a : List Test) (f : Bool) (b : List Test) (g : Bool) (p : Plan) (t : tree.Tree) (before : List tree.Tree) → Built a f b g p t → Added a f b g (p ∷ []) before (before ++ t ∷ [])
-Added-one a f b g p t before (built e h collects numbered) =
-    added e h (subst (λ (xs : List Test). Collects a xs b) (sym (append-nil (tests_in p))) collects) (t ∷ []) refl (numbered_more numbered numbered_none)
-Added-one a f b g p t before (built_none e h) = added_none e h
-Added-one a f b g p t before (built_too_many h many) = added_too_many h (HasTooMany-more a (tests_in p) [] many)
+begins-same : {T : Type 0} (a : List T) → Extends a a
+begins-same a = record { rest = []; is = sym (append-nil a) }
 
--- trees were added, and then more
-both-added : (a b c : List Test) (ps qs : List Plan) (s t u vs ws : List tree.Tree) → Collects a (tests_in_each (of_plans ps)) b → Collects b (tests_in_each (of_plans qs)) c →
-    t ≡ s ++ vs → u ≡ t ++ ws → AreNumbered b (of_plans ps) (tree.of_list vs) → AreNumbered c (of_plans qs) (tree.of_list ws) → (f h : Bool) → f ≡ false → h ≡ false → Added a f c h (ps ++ qs) s u
-both-added a b c ps qs s t u vs ws first second is then numbered more_numbered f h e k =
-    added e k (subst (λ (xs : List Test). Collects a xs c) (sym (tests_in_each-append ps qs)) (Collects-append a (tests_in_each (of_plans ps)) b (tests_in_each (of_plans qs)) c first second))
-    (vs ++ ws) (then ∙ ap (λ zs. zs ++ ws) is ∙ append_assoc s vs ws)
-    (AreNumbered-append c ps qs vs ws (AreNumbered-along b c (of_plans ps) (tree.of_list vs) (Collects-begins b (tests_in_each (of_plans qs)) c second) numbered) more_numbered)
+begins-then : {T : Type 0} (a b c : List T) → Extends a b → Extends b c → Extends a c
+begins-then a b c one two = record { rest = one.rest ++ two.rest; is = two.is ∙ ap (λ xs. xs ++ two.rest) one.is ∙ append_assoc a one.rest two.rest }
 
-pub Added-then : (a : List Test) (f : Bool) (b : List Test) (g : Bool) (c : List Test) (h : Bool) (ps qs : List Plan) (s t u : List tree.Tree) → Added a f b g ps s t → Added b g c h qs t u → Added a f c h (ps ++ qs) s u
-Added-then a f b g c h ps qs s t u (added e g0 first vs is numbered) (added g1 k second ws then more_numbered) = both-added a b c ps qs s t u vs ws first second is then numbered more_numbered f h e k
-Added-then a f b g c h ps qs s t u (added e g0 first vs is numbered) (added_none g1 k) = absurd (cc)
-Added-then a f b g c h ps qs s t u (added e g0 first vs is numbered) (added_too_many k many) =
-    added_too_many k (subst (λ (xs : List Test). HasTooMany a xs) (sym (tests_in_each-append ps qs)) (HasTooMany-behind a (tests_in_each (of_plans ps)) b (tests_in_each (of_plans qs)) first many))
-Added-then a f b g c h ps qs s t u (added_none e g0) (added g1 k second ws then more_numbered) = absurd (cc)
-Added-then a f b g c h ps qs s t u (added_none e g0) (added_none g1 k) = added_none e k
-Added-then a f b g c h ps qs s t u (added_none e g0) (added_too_many k many) = added_none e k
-Added-then a f b g c h ps qs s t u (added_too_many g0 many) (added g1 k second ws then more_numbered) = absurd (cc)
-Added-then a f b g c h ps qs s t u (added_too_many g0 many) (added_none g1 k) =
-    added_too_many k (subst (λ (xs : List Test). HasTooMany a xs) (sym (tests_in_each-append ps qs)) (HasTooMany-more a (tests_in_each (of_plans ps)) (tests_in_each (of_plans qs)) many))
-Added-then a f b g c h ps qs s t u (added_too_many g0 many) (added_too_many k more_many) =
-    added_too_many k (subst (λ (xs : List Test). HasTooMany a xs) (sym (tests_in_each-append ps qs)) (HasTooMany-more a (tests_in_each (of_plans ps)) (tests_in_each (of_plans qs)) many))
+-- a node stays the plan
+mutual
+  node-longer : (a b : List Test) (m n : List Node) (p : Plan) (i : ℕ) → IsNode a m p i → IsNode (a ++ b) (m ++ n) p i
+  node-longer a b m n yes i (node_yes at) = node_yes (slice_get-longer m n i node.Yes at)
+  node-longer a b m n (ask t) i (node_ask {n = k} at number) = node_ask (slice_get-longer m n i (node.Test k) at) (slice_get-longer a b k t number)
+  node-longer a b m n (not p) i (node_not {c} at inside) = node_not (slice_get-longer m n i (node.Not c) at) (node-longer a b m n p c inside)
+  node-longer a b m n (all ps) i (node_all {cs} at inside) = node_all (slice_get-longer m n i (node.All cs) at) (nodes-longer a b m n ps cs inside)
+  node-longer a b m n (one_of ps) i (node_one_of {cs} at inside) = node_one_of (slice_get-longer m n i (node.OneOf cs) at) (nodes-longer a b m n ps cs inside)
 
--- a tree was added at the end
-pub Added-push : (a : List Test) (f : Bool) (b : List Test) (g : Bool) (c : List Test) (h : Bool) (ps : List Plan) (p : Plan) (s t : List tree.Tree) (x : tree.Tree) →
-    Added a f b g ps s t → Built b g c h p x → Added a f c h (ps ++ p ∷ []) s (t ++ x ∷ [])
-Added-push a f b g c h ps p s t x first last = Added-then a f b g c h ps (p ∷ []) s t (t ++ x ∷ []) first (Added-one b g c h p x t last)
+  nodes-longer : (a b : List Test) (m n : List Node) (ps : Plans) (is : List ℕ) → AreNodes a m ps is → AreNodes (a ++ b) (m ++ n) ps is
+  nodes-longer a b m n none [] nodes_none = nodes_none
+  nodes-longer a b m n (more p ps) (i ∷ is) (nodes_more first rest) = nodes_more (node-longer a b m n p i first) (nodes-longer a b m n ps is rest)
+  nodes-longer a b m n none (i ∷ is) h = elim h [ ]
+  nodes-longer a b m n (more p ps) [] h = elim h [ ]
 
--- the trees of one more item, and of all items
+node-along : (a b : List Test) (m n : List Node) (p : Plan) (i : ℕ) → Extends a b → Extends m n → IsNode a m p i → IsNode b n p i
+node-along a b m n p i tests nodes h =
+    subst (λ (xs : List Test). IsNode xs n p i) (sym tests.is) (subst (λ (ys : List Node). IsNode (a ++ tests.rest) ys p i) (sym nodes.is) (node-longer a tests.rest m nodes.rest p i h))
+
+nodes-along : (a b : List Test) (m n : List Node) (ps : Plans) (is : List ℕ) → Extends a b → Extends m n → AreNodes a m ps is → AreNodes b n ps is
+nodes-along a b m n ps is tests nodes h =
+    subst (λ (xs : List Test). AreNodes xs n ps is) (sym tests.is) (subst (λ (ys : List Node). AreNodes (a ++ tests.rest) ys ps is) (sym nodes.is) (nodes-longer a tests.rest m nodes.rest ps is h))
+
+-- a plan's node is among the nodes
+node-within : (a : List Test) (m : List Node) (p : Plan) (i : ℕ) → IsNode a m p i → i < length m
+node-within a m yes i (node_yes at) = slice_get_within m i node.Yes at
+node-within a m (ask t) i (node_ask {n} at number) = slice_get_within m i (node.Test n) at
+node-within a m (not p) i (node_not {c} at inside) = slice_get_within m i (node.Not c) at
+node-within a m (all ps) i (node_all {cs} at inside) = slice_get_within m i (node.All cs) at
+node-within a m (one_of ps) i (node_one_of {cs} at inside) = slice_get_within m i (node.OneOf cs) at
+
+nodes-within : (a : List Test) (m : List Node) (ps : Plans) (is : List ℕ) → AreNodes a m ps is → All (λ i. i < length m) is
+nodes-within a m none [] nodes_none = All-nil (λ i. i < length m)
+nodes-within a m (more p ps) (i ∷ is) (nodes_more first rest) = All-cons (λ i. i < length m) i is (node-within a m p i first) (nodes-within a m ps is rest)
+nodes-within a m none (i ∷ is) h = elim h [ ]
+nodes-within a m (more p ps) [] h = elim h [ ]
+
+-- nodes after nodes
+nodes-append : (a : List Test) (m : List Node) (ps qs : List Plan) (is js : List ℕ) → AreNodes a m (of_plans ps) is → AreNodes a m (of_plans qs) js → AreNodes a m (of_plans (ps ++ qs)) (is ++ js)
+nodes-append a m [] qs [] js nodes_none second = second
+nodes-append a m (p ∷ ps) qs (i ∷ is) js (nodes_more first rest) second = nodes_more first (nodes-append a m ps qs is js rest second)
+nodes-append a m [] qs (i ∷ is) js h second = elim h [ ]
+nodes-append a m (p ∷ ps) qs [] js h second = elim h [ ]
+
+-- ---- one plan
+
+pub Built-within : (old new : Builder) (p : Plan) (i : ℕ) → Built old new p i → i < length new.nodes.keys
+Built-within old new p i h = node-within new.tests.keys new.nodes.keys p i h.node
+
+-- a node without formulas inside
+pub yes-built : (old new : Builder) (i : ℕ) → HasNode old new node.Yes i → Built old new yes i
+yes-built old new i h = record { collects = subst (λ (xs : List Test). Collects old.tests.keys [] xs) (sym h.tests) nothing; grows = h.grows; node = node_yes h.at }
+
+pub nothing-built : (old new : Builder) (i : ℕ) → HasNode old new (node.All []) i → Built old new (all none) i
+nothing-built old new i h = record { collects = subst (λ (xs : List Test). Collects old.tests.keys [] xs) (sym h.tests) nothing; grows = h.grows; node = node_all h.at nodes_none }
+
+pub not-built : (old mid new : Builder) (p : Plan) (c i : ℕ) → Built old mid p c → HasNode mid new (node.Not c) i → Built old new (not p) i
+not-built old mid new p c i inside h = record {
+  collects = subst (λ (xs : List Test). Collects old.tests.keys (tests_in p) xs) (sym h.tests) inside.collects;
+  grows = begins-then old.nodes.keys mid.nodes.keys new.nodes.keys inside.grows h.grows;
+  node = node_not h.at (subst (λ (xs : List Test). IsNode xs new.nodes.keys p c) (sym h.tests) (node-along mid.tests.keys mid.tests.keys mid.nodes.keys new.nodes.keys p c (begins-same mid.tests.keys) h.grows inside.node));
+}
+
+-- a node is among the nodes
+pub child-within : (old new : Builder) (n : Node) (i : ℕ) → HasNode old new n i → All (λ c. c < length new.nodes.keys) (i ∷ [])
+child-within old new n i h = All-cons (λ c. c < length new.nodes.keys) i [] (slice_get_within new.nodes.keys i n h.at) (All-nil (λ c. c < length new.nodes.keys))
+
+pub built-within : (old new : Builder) (p : Plan) (i : ℕ) → Built old new p i → All (λ c. c < length new.nodes.keys) (i ∷ [])
+built-within old new p i h = All-cons (λ c. c < length new.nodes.keys) i [] (Built-within old new p i h) (All-nil (λ c. c < length new.nodes.keys))
+
+-- a Not element, and one that isn't
+pub some-built : (old new : Builder) (ps : List Plan) (n : Bool) (i : ℕ) → n ≡ false → Built old new (one_of (of_plans ps)) i → Built old new (some_or_none n ps) i
+some-built old new ps true i e h = absurd (cc)
+some-built old new ps false i e h = h
+
+pub none-built : (old new : Builder) (ps : List Plan) (n : Bool) (i : ℕ) → n ≡ true → Built old new (not (one_of (of_plans ps))) i → Built old new (some_or_none n ps) i
+none-built old new ps true i e h = h
+none-built old new ps false i e h = absurd (cc)
+
+-- the same plan under another name
+pub at-plan : (old new : Builder) (p q : Plan) (i : ℕ) → p ≡ q → Built old new p i → Built old new q i
+at-plan old new p q i e h = subst (λ (x : Plan). Built old new x i) e h
+
+pub at-plans : (old new : Builder) (ps qs : List Plan) (s t : List ℕ) → ps ≡ qs → Added old new ps s t → Added old new qs s t
+at-plans old new ps qs s t e h = subst (λ (xs : List Plan). Added old new xs s t) e h
+
+-- plans that were added to no others
+pub from-empty : (old new : Builder) (ps qs : List Plan) (s t : List ℕ) → s ≡ [] → ps ≡ qs → Added old new ps s t → Added old new qs [] t
+from-empty old new ps qs s t e f h = at-plans old new ps qs [] t f (subst (λ (xs : List ℕ). Added old new ps xs t) e h)
+
+-- ---- plans that were added
+
+pub Added-nothing : (b : Builder) (is : List ℕ) → Added b b [] is is
+Added-nothing b is = record { collects = nothing; grows = begins-same b.nodes.keys; more = []; is = sym (append-nil is); nodes = nodes_none }
+
+pub Added-one : (old new : Builder) (p : Plan) (i : ℕ) (before after : List ℕ) → Built old new p i → after ≡ before ++ i ∷ [] → Added old new (p ∷ []) before after
+Added-one old new p i before after h is = record {
+  collects = subst (λ (xs : List Test). Collects old.tests.keys xs new.tests.keys) (sym (append-nil (tests_in p))) h.collects;
+  grows = h.grows;
+  more = i ∷ [];
+  is = is;
+  nodes = nodes_more h.node nodes_none;
+}
+
+pub Added-then : (old mid new : Builder) (ps qs : List Plan) (s t u : List ℕ) → Added old mid ps s t → Added mid new qs t u → Added old new (ps ++ qs) s u
+Added-then old mid new ps qs s t u one two = record {
+  collects = subst (λ (xs : List Test). Collects old.tests.keys xs new.tests.keys) (sym (tests_in_each-append ps qs))
+      (Collects-append old.tests.keys (tests_in_each (of_plans ps)) mid.tests.keys (tests_in_each (of_plans qs)) new.tests.keys one.collects two.collects);
+  grows = begins-then old.nodes.keys mid.nodes.keys new.nodes.keys one.grows two.grows;
+  more = one.more ++ two.more;
+  is = two.is ∙ ap (λ xs. xs ++ two.more) one.is ∙ append_assoc s one.more two.more;
+  nodes = nodes-append new.tests.keys new.nodes.keys ps qs one.more two.more
+      (nodes-along mid.tests.keys new.tests.keys mid.nodes.keys new.nodes.keys (of_plans ps) one.more (Collects-begins mid.tests.keys (tests_in_each (of_plans qs)) new.tests.keys two.collects) two.grows one.nodes) two.nodes;
+}
+
+-- one more plan was added
+pub Added-push : (old mid new : Builder) (ps : List Plan) (p : Plan) (i : ℕ) (s t u : List ℕ) → Added old mid ps s t → Built mid new p i → u ≡ t ++ i ∷ [] → Added old new (ps ++ p ∷ []) s u
+Added-push old mid new ps p i s t u one last is = Added-then old mid new ps (p ∷ []) s t u one (Added-one mid new p i t u last is)
+
+pub Added-within : (old new : Builder) (ps : List Plan) (is : List ℕ) → Added old new ps [] is → All (λ i. i < length new.nodes.keys) is
+Added-within old new ps is h = subst (λ (xs : List ℕ). All (λ i. i < length new.nodes.keys) xs) (sym h.is) (nodes-within new.tests.keys new.nodes.keys (of_plans ps) h.more h.nodes)
+
+inside-along : (mid new : Builder) (ps : List Plan) (is : List ℕ) (n : Node) (i : ℕ) → HasNode mid new n i → AreNodes mid.tests.keys mid.nodes.keys (of_plans ps) is → AreNodes new.tests.keys new.nodes.keys (of_plans ps) is
+inside-along mid new ps is n i h inside =
+    subst (λ (xs : List Test). AreNodes xs new.nodes.keys (of_plans ps) is) (sym h.tests)
+    (nodes-along mid.tests.keys mid.tests.keys mid.nodes.keys new.nodes.keys (of_plans ps) is (begins-same mid.tests.keys) h.grows inside)
+
+-- all of them together, and some of them
+pub all-built : (old mid new : Builder) (ps : List Plan) (is : List ℕ) (i : ℕ) → Added old mid ps [] is → HasNode mid new (node.All is) i → Built old new (all (of_plans ps)) i
+all-built old mid new ps is i added h = record {
+  collects = subst (λ (xs : List Test). Collects old.tests.keys (tests_in_each (of_plans ps)) xs) (sym h.tests) added.collects;
+  grows = begins-then old.nodes.keys mid.nodes.keys new.nodes.keys added.grows h.grows;
+  node = node_all h.at (inside-along mid new ps is (node.All is) i h (subst (λ (xs : List ℕ). AreNodes mid.tests.keys mid.nodes.keys (of_plans ps) xs) (sym added.is) added.nodes));
+}
+
+pub one_of-built : (old mid new : Builder) (ps : List Plan) (is : List ℕ) (i : ℕ) → Added old mid ps [] is → HasNode mid new (node.OneOf is) i → Built old new (one_of (of_plans ps)) i
+one_of-built old mid new ps is i added h = record {
+  collects = subst (λ (xs : List Test). Collects old.tests.keys (tests_in_each (of_plans ps)) xs) (sym h.tests) added.collects;
+  grows = begins-then old.nodes.keys mid.nodes.keys new.nodes.keys added.grows h.grows;
+  node = node_one_of h.at (inside-along mid new ps is (node.OneOf is) i h (subst (λ (xs : List ℕ). AreNodes mid.tests.keys mid.nodes.keys (of_plans ps) xs) (sym added.is) added.nodes));
+}
+
+-- ---- plans that fail
+
+pub fails-more : (a xs ys : List Test) (e : QueryFault) → Fails a xs e → Fails a (xs ++ ys) e
+fails-more a xs ys TooManyTests h = HasTooMany-more a xs ys h
+fails-more a xs ys TooManyPieces h = h
+fails-more a xs ys NoMemory h = tt
+
+pub fails-behind : (a xs b ys : List Test) (e : QueryFault) → Collects a xs b → Fails b ys e → Fails a (xs ++ ys) e
+fails-behind a xs b ys TooManyTests first h = HasTooMany-behind a xs b ys first h
+fails-behind a xs b ys TooManyPieces first h = h
+fails-behind a xs b ys NoMemory first h = tt
+
+-- the first plan fails, and plans behind those that were added
+pub first-fails : (a : List Test) (p : Plan) (ps : List Plan) (e : QueryFault) → Fails a (tests_in p) e → Fails a (tests_in_each (of_plans (p ∷ ps))) e
+first-fails a p ps e h = fails-more a (tests_in p) (tests_in_each (of_plans ps)) e h
+
+pub next-fails : (old mid : Builder) (ps qs : List Plan) (s t : List ℕ) (e : QueryFault) → Added old mid ps s t → Fails mid.tests.keys (tests_in_each (of_plans qs)) e → Fails old.tests.keys (tests_in_each (of_plans (ps ++ qs))) e
+next-fails old mid ps qs s t e added h =
+    subst (λ (xs : List Test). Fails old.tests.keys xs e) (sym (tests_in_each-append ps qs)) (fails-behind old.tests.keys (tests_in_each (of_plans ps)) mid.tests.keys (tests_in_each (of_plans qs)) e added.collects h)
+
+pub front-fails : (a : List Test) (ps qs : List Plan) (e : QueryFault) → Fails a (tests_in_each (of_plans ps)) e → Fails a (tests_in_each (of_plans (ps ++ qs))) e
+front-fails a ps qs e h =
+    subst (λ (xs : List Test). Fails a xs e) (sym (tests_in_each-append ps qs)) (fails-more a (tests_in_each (of_plans ps)) (tests_in_each (of_plans qs)) e h)
+
+pub fails-at : (a : List Test) (ps qs : List Plan) (e : QueryFault) → ps ≡ qs → Fails a (tests_in_each (of_plans ps)) e → Fails a (tests_in_each (of_plans qs)) e
+fails-at a ps qs e same h = subst (λ (xs : List Plan). Fails a (tests_in_each (of_plans xs)) e) same h
+
+pub plan-fails-at : (a : List Test) (p q : Plan) (e : QueryFault) → p ≡ q → Fails a (tests_in p) e → Fails a (tests_in q) e
+plan-fails-at a p q e same h = subst (λ (x : Plan). Fails a (tests_in x) e) same h
+
+-- what a `?` hands out
+pub plan-fault : (old new : Builder) (p : Plan) (r : Result ℕ QueryFault) (e : QueryFault) → IsErrAnd r (λ f. f ≡ e) → Fails old.tests.keys (tests_in p) e → IsBuilt old new p r
+plan-fault old new p (Ok i) e is h = absurd is
+plan-fault old new p (Err f) e is h = subst (λ (x : QueryFault). Fails old.tests.keys (tests_in p) x) (sym is) h
+
+pub plans-fault : {T : Type 0} (old new : Builder) (ps : List Plan) (s t : List ℕ) (r : Result T QueryFault) (e : QueryFault) → IsErrAnd r (λ f. f ≡ e) → Fails old.tests.keys (tests_in_each (of_plans ps)) e → IsAdded old new ps s t r
+plans-fault old new ps s t (Ok x) e is h = absurd is
+plans-fault old new ps s t (Err f) e is h = subst (λ (x : QueryFault). Fails old.tests.keys (tests_in_each (of_plans ps)) x) (sym is) h
+
+-- ---- the plans of items
+
 flat_map-append : {X A : Type 0} (k : X → List A) (xs ys : List X) → flat_map k (xs ++ ys) ≡ flat_map k xs ++ flat_map k ys
 flat_map-append k [] ys = refl
 flat_map-append k (x ∷ xs) ys = ap (λ zs. k x ++ zs) (flat_map-append k xs ys) ∙ sym (append_assoc (k x) (flat_map k xs) (flat_map k ys))
@@ -66,92 +221,26 @@ flat_map-more {X} k xs i x h is =
     ap (flat_map k) (take_more xs i x h) ∙ flat_map-append k (take i xs) (get_or xs i x ∷ [])
     ∙ ap (λ zs. flat_map k (take i xs) ++ zs) (append-nil (k (get_or xs i x)) ∙ ap k (sym is))
 
-pub Added-item : {X : Type 0} (k : X → List Plan) (xs : List X) (i : ℕ) (x : X) → i < length xs → x ≡ get_or xs i x → (a : List Test) (f : Bool) (b : List Test) (g : Bool) (c : List Test) (h : Bool) (s t u : List tree.Tree) →
-    Added a f b g (flat_map k (take i xs)) s t → Added b g c h (k x) t u → Added a f c h (flat_map k (take (i + 1) xs)) s u
-Added-item k xs i x within is a f b g c h s t u first last =
-    subst (λ (ps : List Plan). Added a f c h ps s u) (sym (flat_map-more k xs i x within is)) (Added-then a f b g c h (flat_map k (take i xs)) (k x) s t u first last)
+flat_map-split : {X A : Type 0} (k : X → List A) (xs : List X) (i : ℕ) (x : X) → i < length xs → x ≡ get_or xs i x → flat_map k xs ≡ (flat_map k (take i xs) ++ k x) ++ flat_map k (drop (i + 1) xs)
+flat_map-split k xs i x h is =
+    ap (flat_map k) (sym (take-append-drop (i + 1) xs)) ∙ flat_map-append k (take (i + 1) xs) (drop (i + 1) xs) ∙ ap (λ zs. zs ++ flat_map k (drop (i + 1) xs)) (flat_map-more k xs i x h is)
 
-pub Added-items : {X : Type 0} (k : X → List Plan) (xs : List X) (i : ℕ) → length xs ≤ i → (a : List Test) (f : Bool) (b : List Test) (g : Bool) (s t : List tree.Tree) →
-    Added a f b g (flat_map k (take i xs)) s t → Added a f b g (flat_map k xs) s t
-Added-items {X} k xs i end a f b g s t all_added = subst (λ (ys : List X). Added a f b g (flat_map k ys) s t) (take_all i xs end) all_added
+-- one more item was added, all items were, and one failed
+pub item-added : {X : Type 0} (k : X → List Plan) (xs : List X) (i : ℕ) (x : X) → i < length xs → x ≡ get_or xs i x → (old mid new : Builder) (s t u : List ℕ) →
+    Added old mid (flat_map k (take i xs)) s t → Added mid new (k x) t u → Added old new (flat_map k (take (i + 1) xs)) s u
+item-added k xs i x within is old mid new s t u first last =
+    subst (λ (ps : List Plan). Added old new ps s u) (sym (flat_map-more k xs i x within is)) (Added-then old mid new (flat_map k (take i xs)) (k x) s t u first last)
 
--- all branches together
-pub Built-all : (a : List Test) (f : Bool) (b : List Test) (g : Bool) (ps : List Plan) (s : List tree.Tree) → Added a f b g ps [] s → Built a f b g (all (of_plans ps)) (tree.all (tree.of_list s))
-Built-all a f b g ps s (added e h collects ts is numbered) = built e h collects (numbered_all (subst (λ (us : List tree.Tree). AreNumbered b (of_plans ps) (tree.of_list us)) (sym is) numbered))
-Built-all a f b g ps s (added_none e h) = built_none e h
-Built-all a f b g ps s (added_too_many h many) = built_too_many h many
+pub items-added : {X : Type 0} (k : X → List Plan) (xs : List X) (i : ℕ) → length xs ≤ i → (old new : Builder) (s t : List ℕ) → Added old new (flat_map k (take i xs)) s t → Added old new (flat_map k xs) s t
+items-added {X} k xs i end old new s t h = subst (λ (ys : List X). Added old new (flat_map k ys) s t) (take_all i xs end) h
 
-pub Built-one_of : (a : List Test) (f : Bool) (b : List Test) (g : Bool) (ps : List Plan) (s : List tree.Tree) → Added a f b g ps [] s → Built a f b g (one_of (of_plans ps)) (tree.one_of (tree.of_list s))
-Built-one_of a f b g ps s (added e h collects ts is numbered) = built e h collects (numbered_one_of (subst (λ (us : List tree.Tree). AreNumbered b (of_plans ps) (tree.of_list us)) (sym is) numbered))
-Built-one_of a f b g ps s (added_none e h) = built_none e h
-Built-one_of a f b g ps s (added_too_many h many) = built_too_many h many
+pub item-fails : {X : Type 0} (k : X → List Plan) (xs : List X) (i : ℕ) (x : X) → i < length xs → x ≡ get_or xs i x → (old mid : Builder) (s t : List ℕ) (e : QueryFault) →
+    Added old mid (flat_map k (take i xs)) s t → Fails mid.tests.keys (tests_in_each (of_plans (k x))) e → Fails old.tests.keys (tests_in_each (of_plans (flat_map k xs))) e
+item-fails k xs i x within is old mid s t e first h =
+    subst (λ (ps : List Plan). Fails old.tests.keys (tests_in_each (of_plans ps)) e) (sym (flat_map-split k xs i x within is))
+    (front-fails old.tests.keys (flat_map k (take i xs) ++ k x) (flat_map k (drop (i + 1) xs)) e (next-fails old mid (flat_map k (take i xs)) (k x) s t e first h))
 
-pub Built-not : (a : List Test) (f : Bool) (b : List Test) (g : Bool) (p : Plan) (t : tree.Tree) → Built a f b g p t → Built a f b g (not p) (tree.not t)
-Built-not a f b g p t (built e h collects numbered) = built e h collects (numbered_not numbered)
-Built-not a f b g p t (built_none e h) = built_none e h
-Built-not a f b g p t (built_too_many h many) = built_too_many h many
-
-pub Built-turned : (a : List Test) (f : Bool) (b : List Test) (g : Bool) (ps : List Plan) (s : List tree.Tree) (n : Bool) → Added a f b g ps [] s → Built a f b g (turned n (one_of (of_plans ps))) (turned_tree n s)
-Built-turned a f b g ps s true h = Built-not a f b g (one_of (of_plans ps)) (tree.one_of (tree.of_list s)) (Built-one_of a f b g ps s h)
-Built-turned a f b g ps s false h = Built-one_of a f b g ps s h
-
--- a tree without tests
-pub Built-yes : (a : List Test) (f : Bool) → Built a f a f yes tree.yes
-Built-yes a false = built refl refl nothing numbered_yes
-Built-yes a true = built_none refl refl
-
-pub Built-nothing : (a : List Test) (f : Bool) → Built a f a f (all (of_plans [])) (tree.all (tree.of_list []))
-Built-nothing a f = Built-all a f a f [] [] (Added-none a f [])
-
--- the same steps, at what the calls answered
-pub at-plan : {a b : List Test} {f g : Bool} {p q : Plan} {t : tree.Tree} → p ≡ q → Built a f b g p t → Built a f b g q t
-at-plan {a} {b} {f} {g} {p} {q} {t} e h = subst (λ (x : Plan). Built a f b g x t) e h
-
-pub at-tree : {a b : List Test} {f g : Bool} {p : Plan} {t u : tree.Tree} → u ≡ t → Built a f b g p t → Built a f b g p u
-at-tree {a} {b} {f} {g} {p} {t} {u} e h = subst (λ (x : tree.Tree). Built a f b g p x) (sym e) h
-
-pub at-start : {a b : List Test} {f g : Bool} {p : Plan} {t : tree.Tree} → a ≡ [] → f ≡ false → Built a f b g p t → Built [] false b g p t
-at-start {a} {b} {f} {g} {p} {t} e k h = subst (λ (x : List Test). Built x false b g p t) e (subst (λ (x : Bool). Built a x b g p t) k h)
-
-pub at-plans : {a b : List Test} {f g : Bool} {ps qs : List Plan} {s t : List tree.Tree} → ps ≡ qs → Added a f b g ps s t → Added a f b g qs s t
-at-plans {a} {b} {f} {g} {ps} {qs} {s} {t} e h = subst (λ (x : List Plan). Added a f b g x s t) e h
-
-pub at-empty : {a b : List Test} {f g : Bool} {ps : List Plan} {s t : List tree.Tree} → s ≡ [] → Added a f b g ps s t → Added a f b g ps [] t
-at-empty {a} {b} {f} {g} {ps} {s} {t} e h = subst (λ (x : List tree.Tree). Added a f b g ps x t) e h
-
-pub one-at : {a b : List Test} {f g : Bool} {p : Plan} {x : tree.Tree} {s t : List tree.Tree} → t ≡ s ++ x ∷ [] → Built a f b g p x → Added a f b g (p ∷ []) s t
-one-at {a} {b} {f} {g} {p} {x} {s} {t} e h = subst (λ (y : List tree.Tree). Added a f b g (p ∷ []) s y) (sym e) (Added-one a f b g p x s h)
-
-pub push-at : {a b c : List Test} {f g k : Bool} {ps : List Plan} {p : Plan} {x : tree.Tree} {s t u : List tree.Tree} → u ≡ t ++ x ∷ [] → Added a f b g ps s t → Built b g c k p x → Added a f c k (ps ++ p ∷ []) s u
-push-at {a} {b} {c} {f} {g} {k} {ps} {p} {x} {s} {t} {u} e first last = Added-then a f b g c k ps (p ∷ []) s t u first (one-at e last)
-
-pub then-at : {a b c : List Test} {f g k : Bool} {ps qs : List Plan} {s t u : List tree.Tree} → Added a f b g ps s t → Added b g c k qs t u → Added a f c k (ps ++ qs) s u
-then-at {a} {b} {c} {f} {g} {k} {ps} {qs} {s} {t} {u} first second = Added-then a f b g c k ps qs s t u first second
-
-pub item-at : {X : Type 0} {a b c : List Test} {f g h : Bool} {s t u : List tree.Tree} (k : X → List Plan) (xs : List X) (i : ℕ) (x : X) → i < length xs → x ≡ get_or xs i x →
-    Added a f b g (flat_map k (take i xs)) s t → Added b g c h (k x) t u → Added a f c h (flat_map k (take (i + 1) xs)) s u
-item-at {X} {a} {b} {c} {f} {g} {h} {s} {t} {u} k xs i x within is first last = Added-item k xs i x within is a f b g c h s t u first last
-
-pub items-at : {X : Type 0} {a b : List Test} {f g : Bool} {s t : List tree.Tree} (k : X → List Plan) (xs : List X) (i : ℕ) → length xs ≤ i → Added a f b g (flat_map k (take i xs)) s t → Added a f b g (flat_map k xs) s t
-items-at {X} {a} {b} {f} {g} {s} {t} k xs i end h = Added-items k xs i end a f b g s t h
-
-pub all-at : {a b : List Test} {f g : Bool} {ps : List Plan} {s t : List tree.Tree} {x : tree.Tree} → s ≡ [] → x ≡ tree.all (tree.of_list t) → Added a f b g ps s t → Built a f b g (all (of_plans ps)) x
-all-at {a} {b} {f} {g} {ps} {s} {t} {x} e is h = at-tree is (Built-all a f b g ps t (at-empty e h))
-
-pub one_of-at : {a b : List Test} {f g : Bool} {ps : List Plan} {s t : List tree.Tree} {x : tree.Tree} → s ≡ [] → x ≡ tree.one_of (tree.of_list t) → Added a f b g ps s t → Built a f b g (one_of (of_plans ps)) x
-one_of-at {a} {b} {f} {g} {ps} {s} {t} {x} e is h = at-tree is (Built-one_of a f b g ps t (at-empty e h))
-
-pub not-at : {a b : List Test} {f g : Bool} {p : Plan} {t x : tree.Tree} → x ≡ tree.not t → Built a f b g p t → Built a f b g (not p) x
-not-at {a} {b} {f} {g} {p} {t} {x} is h = at-tree is (Built-not a f b g p t h)
-
-pub turned-at : {a b : List Test} {f g : Bool} {ps : List Plan} {s t : List tree.Tree} {x : tree.Tree} (n : Bool) → s ≡ [] → x ≡ turned_tree n t → Added a f b g ps s t → Built a f b g (turned n (one_of (of_plans ps))) x
-turned-at {a} {b} {f} {g} {ps} {s} {t} {x} n e is h = at-tree is (Built-turned a f b g ps t n (at-empty e h))
-
-pub principal-absent : {a : List Test} {f : Bool} {x : tree.Tree} (m : Option (Matcher Entry)) → m ≡ None → x ≡ tree.yes → Built a f a f (principal_plan m) x
-principal-absent {a} {f} {x} m e is = at-plan (ap principal_plan (sym e)) (at-tree is (Built-yes a f))
-
-pub resource-absent : {a : List Test} {f : Bool} {x : tree.Tree} (m : Option (Matcher (List Piece))) → m ≡ None → x ≡ tree.yes → Built a f a f (resource_plan m) x
-resource-absent {a} {f} {x} m e is = at-plan (ap resource_plan (sym e)) (at-tree is (Built-yes a f))
+-- ---- effects
 
 pub where_same-other : (allow own : Bool) (ps : List Plan) → opposite (beq own allow) ≡ true → where_same allow own ps ≡ []
 where_same-other true true ps h = absurd (cc)
@@ -164,7 +253,3 @@ where_same-same true true ps h = refl
 where_same-same true false ps h = absurd (cc)
 where_same-same false true ps h = absurd (cc)
 where_same-same false false ps h = refl
-
--- the number of one more test
-pub numbers-push : (old new : List ℕ) (n : ℕ) → new ≡ old ++ n ∷ [] → tests_of new ≡ tests_of old ++ tree.test n ∷ []
-numbers-push old new n is = ap tests_of is ∙ map_push (λ k. tree.test k) old n

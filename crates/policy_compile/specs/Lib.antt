@@ -1,8 +1,8 @@
 pub mod Plans
 pub mod Sets
 pub mod Numbering
-pub mod TreeCodes
-pub mod Shapes
+pub mod Nodes
 pub mod Building
 pub mod Meaning
 pub mod Queries
+pub mod Laws

@@ -38,8 +38,8 @@ pub record HasTooManyPieces (plan : Plan) : Type 0 where
   pub large : 65536 < sum_by test_pieces tests
 
 -- a query, or why there is none
-abbrev pub IsAnswer : Plan → Result Query QueryFault → Type 0
-IsAnswer plan (Ok q) = IsQuery plan q
-IsAnswer plan (Err TooManyTests) = HasTooMany [] (tests_in plan)
-IsAnswer plan (Err TooManyPieces) = HasTooManyPieces plan
-IsAnswer plan (Err NoMemory) = ⊤
+abbrev pub IsQueryOf : Plan → Result Query QueryFault → Type 0
+IsQueryOf plan (Ok q) = IsQuery plan q
+IsQueryOf plan (Err TooManyTests) = HasTooMany [] (tests_in plan)
+IsQueryOf plan (Err TooManyPieces) = HasTooManyPieces plan
+IsQueryOf plan (Err NoMemory) = ⊤

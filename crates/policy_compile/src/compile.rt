@@ -1,18 +1,16 @@
 //! Queries of sets.
-ghost use Rattle.std.specs.Prelude.{◌≡◌, ◌≤◌, ◌↔◌, [], IsTrue, false, sum_by};
-ghost use Rattle.formula_tree.specs.Trees.{tree_of};
-ghost use Rattle.policy_compile.specs.Building.{Built};
+ghost use Rattle.std.specs.Prelude.{◌≡◌, ◌≤◌, ◌<◌, ◌↔◌, IsTrue, length, sum_by};
+ghost use Rattle.policy_compile.specs.Building.{Makes};
 ghost use Rattle.policy_compile.specs.Plans.{Plan};
-ghost use Rattle.policy_compile.specs.Queries.{IsAnswer, test_pieces};
+ghost use Rattle.policy_compile.specs.Queries.{IsQueryOf, test_pieces};
 ghost use Rattle.policy_compile.specs.Sets.{query_plan, set_plan};
 
 use crate::builder::Builder;
+use crate::nodes::formulas_of;
 use crate::outcome::{Query, QueryFault};
-use crate::sets::{pair_formula, set_formula};
-use formula_tree::Formula;
+use crate::sets::{pair_node, set_node};
 use policy_model::{Entry, PolicySet, Schema, Test};
 use std::alloc::Global;
-use std::rc::Rc;
 
 /// The most pieces that the patterns of a query's tests have together.
 const MOST_PIECES: usize = 65_536;
@@ -45,16 +43,16 @@ fn are_small(tests: &[Test]) -> bool
     true
 }
 
-fn finished(alloc: Global, builder: Builder, formula: Rc<Formula>) -> Result<Query, QueryFault>
-    ensures { (plan : Plan) → Built [] false builder.tests.keys builder.full plan (tree_of formula.value) → IsAnswer plan result }
+fn finished(builder: Builder, index: usize) -> Result<Query, QueryFault>
+    requires { index < length builder.nodes.keys }
+    ensures { (plan : Plan) → Makes builder plan index → IsQueryOf plan result }
 {
-    if builder.full {
-        return Err(QueryFault::TooManyTests);
-    }
     if !are_small(builder.tests.as_slice()) {
         return Err(QueryFault::TooManyPieces);
     }
-    let tests = builder.into_tests(alloc)?;
+    let formulas = formulas_of(builder.alloc, builder.nodes.as_slice())?;
+    let formula = formulas[index].clone()?;
+    let tests = builder.into_tests()?;
     Ok(Query { formula, tests })
 }
 
@@ -64,22 +62,22 @@ fn finished(alloc: Global, builder: Builder, formula: Rc<Formula>) -> Result<Que
 /// exact id one for each character.
 pub fn query(
     alloc: Global,
-    _schema: &Schema,
+    schema: &Schema,
     first: &PolicySet,
     second: &PolicySet,
 ) -> Result<Query, QueryFault>
-    ensures { IsAnswer (query_plan first.now second.now) result }
+    ensures { IsQueryOf (query_plan schema.now first.now second.now) result }
 {
     let mut builder = Builder::new(alloc);
-    let formula = pair_formula(alloc, &mut builder, first, second)?;
-    finished(alloc, builder, formula)
+    let index = pair_node(&mut builder, schema, first, second)?;
+    finished(builder, index)
 }
 
 /// The query 'the set allows the request', with the limits of `query`.
-pub fn set_query(alloc: Global, _schema: &Schema, set: &PolicySet) -> Result<Query, QueryFault>
-    ensures { IsAnswer (set_plan set.now) result }
+pub fn set_query(alloc: Global, schema: &Schema, set: &PolicySet) -> Result<Query, QueryFault>
+    ensures { IsQueryOf (set_plan schema.now set.now) result }
 {
     let mut builder = Builder::new(alloc);
-    let formula = set_formula(alloc, &mut builder, set)?;
-    finished(alloc, builder, formula)
+    let index = set_node(&mut builder, schema, set)?;
+    finished(builder, index)
 }

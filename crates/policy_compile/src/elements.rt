@@ -1,159 +1,161 @@
-//! The formulas of statements and their elements.
-ghost use Rattle.std.specs.Prelude.{◌≡◌, [], ◌∷◌, IfOk, OnOk};
-ghost use Rattle.formula_tree.specs.Trees.{tree_of};
-ghost use Rattle.policy_model.specs.declared.test.Test.TheVariants.{Principal};
-ghost use Rattle.policy_compile.specs.Building.{Added, Built, turned_tree};
-ghost use Rattle.policy_compile.specs.Plans.{ask};
-ghost use Rattle.policy_compile.specs.Sets.{entries_plan, entry_plans, pattern_plans, pattern_test, patterns_plan, principal_plan, resource_plan, statement_plan};
-ghost use Rattle.policy_compile.specs.Shapes.{element_tree, tests_of};
+//! The nodes of statements and their elements.
+ghost use Rattle.std.specs.Prelude.{◌≡◌};
+ghost use Rattle.policy_compile.specs.Building.{AreIndices, IsAdded, IsBuilt, MakesElement};
+ghost use Rattle.policy_compile.specs.Plans.{all, none, yes};
+ghost use Rattle.policy_compile.specs.Sets.{element_plans, entries_plan, entry_plans, pattern_plans, pattern_test, patterns_plan, principal_plan, resource_plan, statement_plan};
 
 use crate::builder::Builder;
-use crate::shapes::{Element, Elements, Numbers};
-use formula_tree::Formula;
-use plain_lists::{List, NoMemory};
-use policy_model::{Entry, Matcher, Statement, Test};
-use std::alloc::Global;
-use std::rc::Rc;
+use crate::nodes::Node;
+use crate::outcome::QueryFault;
+use plain_lists::{EqualClone, List};
+use policy_model::{Entry, Matcher, Schema, Statement, Test};
 use wildcard_lang::Pattern;
 
-fn add_entry(builder: &mut Builder, numbers: &mut Numbers, item: &Entry) -> Result<(), NoMemory>
-    ensures { OnOk result (Added builder.old.tests.keys builder.old.full builder.new.tests.keys builder.new.full (ask (Principal item.now) ∷ []) (tests_of numbers.old) (tests_of numbers.new)) }
-{
-    let test = Test::Principal(item.copy()?);
-    let number = builder.number(test)?;
-    numbers.push(number)?;
-    Ok(())
+/// The words of a request that patterns are of.
+#[derive(Clone, Copy)]
+pub(crate) enum RequestWord {
+    Action,
+    Resource,
 }
 
 fn add_entries(
     builder: &mut Builder,
-    numbers: &mut Numbers,
+    indices: &mut List<usize>,
     items: &[Entry],
-) -> Result<(), NoMemory>
-    ensures { OnOk result (Added builder.old.tests.keys builder.old.full builder.new.tests.keys builder.new.full (entry_plans items.now) (tests_of numbers.old) (tests_of numbers.new)) }
+) -> Result<(), QueryFault>
+    ensures { IsAdded builder.old builder.new (entry_plans items.now)
+        indices.old indices.new result }
 {
     for item in items {
-        add_entry(builder, numbers, item)?;
+        let index = builder.ask(Test::Principal(item.copy()?))?;
+        indices.push(index)?;
     }
     Ok(())
 }
 
-fn pattern_test(of_resource: bool, pattern: Pattern) -> Test
-    ensures { result ≡ pattern_test of_resource pattern }
+fn pattern_test(word: RequestWord, pattern: Pattern) -> Test
+    ensures { result ≡ pattern_test word pattern }
 {
-    if of_resource {
-        Test::Resource(pattern)
-    } else {
-        Test::Action(pattern)
+    match word {
+        RequestWord::Action => Test::Action(pattern),
+        RequestWord::Resource => Test::Resource(pattern),
     }
-}
-
-fn add_pattern(
-    builder: &mut Builder,
-    numbers: &mut Numbers,
-    of_resource: bool,
-    item: &Pattern,
-) -> Result<(), NoMemory>
-    ensures { OnOk result (Added builder.old.tests.keys builder.old.full builder.new.tests.keys builder.new.full (ask (pattern_test of_resource item.now) ∷ []) (tests_of numbers.old) (tests_of numbers.new)) }
-{
-    let test = pattern_test(of_resource, item.copy()?);
-    let number = builder.number(test)?;
-    numbers.push(number)?;
-    Ok(())
 }
 
 fn add_patterns(
     builder: &mut Builder,
-    numbers: &mut Numbers,
-    of_resource: bool,
+    indices: &mut List<usize>,
+    word: RequestWord,
     items: &[Pattern],
-) -> Result<(), NoMemory>
-    ensures { OnOk result (Added builder.old.tests.keys builder.old.full builder.new.tests.keys builder.new.full (pattern_plans of_resource items.now) (tests_of numbers.old) (tests_of numbers.new)) }
+) -> Result<(), QueryFault>
+    ensures { IsAdded builder.old builder.new (pattern_plans word items.now)
+        indices.old indices.new result }
 {
     for item in items {
-        add_pattern(builder, numbers, of_resource, item)?;
+        let index = builder.ask(pattern_test(word, item.copy()?))?;
+        indices.push(index)?;
     }
     Ok(())
 }
 
-// The element of these tests, or its Not element.
-fn element(not: bool, numbers: Numbers) -> Element
-    ensures { element_tree result ≡ turned_tree not (tests_of numbers) }
+// Some of the nodes holds, or with `not` none does.
+fn some_or_none(builder: &mut Builder, not: bool, indices: List<usize>) -> Result<usize, QueryFault>
+    requires { AreIndices builder.now indices }
+    ensures { MakesElement builder.old builder.new not indices result }
 {
-    if not {
-        Element::NoneOf(numbers)
-    } else {
-        Element::SomeOf(numbers)
+    let some = builder.insert(Node::OneOf(indices))?;
+    if !not {
+        return Ok(some);
     }
+    let none = builder.insert(Node::Not(some))?;
+    Ok(none)
 }
 
-fn entries(
-    alloc: Global,
-    builder: &mut Builder,
-    matcher: &Matcher<Entry>,
-) -> Result<Element, NoMemory>
-    ensures { IfOk result (λ e. Built builder.old.tests.keys builder.old.full builder.new.tests.keys builder.new.full (entries_plan matcher.now) (element_tree e)) }
+fn entries(builder: &mut Builder, matcher: &Matcher<Entry>) -> Result<usize, QueryFault>
+    ensures { IsBuilt builder.old builder.new (entries_plan matcher.now) result }
 {
-    let mut numbers = List::new(alloc);
-    add_entries(builder, &mut numbers, matcher.items.as_slice())?;
-    Ok(element(matcher.not, numbers))
+    let mut indices = List::new(builder.alloc);
+    add_entries(builder, &mut indices, matcher.items.as_slice())?;
+    some_or_none(builder, matcher.not, indices)
 }
 
 fn patterns(
-    alloc: Global,
     builder: &mut Builder,
-    of_resource: bool,
+    word: RequestWord,
     matcher: &Matcher<Pattern>,
-) -> Result<Element, NoMemory>
-    ensures { IfOk result (λ e. Built builder.old.tests.keys builder.old.full builder.new.tests.keys builder.new.full (patterns_plan of_resource matcher.now) (element_tree e)) }
+) -> Result<usize, QueryFault>
+    ensures { IsBuilt builder.old builder.new (patterns_plan word matcher.now) result }
 {
-    let mut numbers = List::new(alloc);
-    add_patterns(builder, &mut numbers, of_resource, matcher.items.as_slice())?;
-    Ok(element(matcher.not, numbers))
+    let mut indices = List::new(builder.alloc);
+    add_patterns(builder, &mut indices, word, matcher.items.as_slice())?;
+    some_or_none(builder, matcher.not, indices)
 }
 
-fn principal(
-    alloc: Global,
-    builder: &mut Builder,
-    matcher: &Option<Matcher<Entry>>,
-) -> Result<Element, NoMemory>
-    ensures { IfOk result (λ e. Built builder.old.tests.keys builder.old.full builder.new.tests.keys builder.new.full (principal_plan matcher.now) (element_tree e)) }
+// An absent element always holds.
+fn absent(builder: &mut Builder) -> Result<usize, QueryFault>
+    ensures { IsBuilt builder.old builder.new yes result }
+{
+    let index = builder.insert(Node::Yes)?;
+    Ok(index)
+}
+
+fn principal(builder: &mut Builder, matcher: &Option<Matcher<Entry>>) -> Result<usize, QueryFault>
+    ensures { IsBuilt builder.old builder.new (principal_plan matcher.now) result }
 {
     match matcher {
-        None => Ok(Element::Absent),
-        Some(matcher) => entries(alloc, builder, matcher),
+        None => absent(builder),
+        Some(matcher) => entries(builder, matcher),
     }
 }
 
-fn resource(
-    alloc: Global,
-    builder: &mut Builder,
-    matcher: &Option<Matcher<Pattern>>,
-) -> Result<Element, NoMemory>
-    ensures { IfOk result (λ e. Built builder.old.tests.keys builder.old.full builder.new.tests.keys builder.new.full (resource_plan matcher.now) (element_tree e)) }
+fn resource(builder: &mut Builder, matcher: &Option<Matcher<Pattern>>) -> Result<usize, QueryFault>
+    ensures { IsBuilt builder.old builder.new (resource_plan matcher.now) result }
 {
     match matcher {
-        None => Ok(Element::Absent),
-        Some(matcher) => patterns(alloc, builder, true, matcher),
+        None => absent(builder),
+        Some(matcher) => patterns(builder, RequestWord::Resource, matcher),
     }
 }
 
-// The statement's principal, action, resource and conditions all hold.
-pub(crate) fn statement(
-    alloc: Global,
+// The conditions of a statement, of which there are none.
+fn conditions(builder: &mut Builder) -> Result<usize, QueryFault>
+    ensures { IsBuilt builder.old builder.new (all none) result }
+{
+    let index = builder.insert(Node::All(List::new(builder.alloc)))?;
+    Ok(index)
+}
+
+// Adds the statement's principal, action, resource and conditions.
+fn add_elements(
     builder: &mut Builder,
+    indices: &mut List<usize>,
+    _schema: &Schema,
     statement: &Statement,
-) -> Result<Rc<Formula>, NoMemory>
-    ensures { IfOk result (λ f. Built builder.old.tests.keys builder.old.full builder.new.tests.keys builder.new.full (statement_plan statement.now) (tree_of f.value)) }
+) -> Result<(), QueryFault>
+    ensures { IsAdded builder.old builder.new (element_plans _schema.now statement.now)
+        indices.old indices.new result }
 {
-    let principal = principal(alloc, builder, &statement.principal)?;
-    let action = patterns(alloc, builder, false, &statement.action)?;
-    let resource = resource(alloc, builder, &statement.resource)?;
-    let elements = Elements {
-        principal,
-        action,
-        resource,
-    };
-    let formula = builder.table.statement(alloc, elements)?;
-    Ok(formula)
+    let principal = principal(builder, &statement.principal)?;
+    indices.push(principal)?;
+    let action = patterns(builder, RequestWord::Action, &statement.action)?;
+    indices.push(action)?;
+    let resource = resource(builder, &statement.resource)?;
+    indices.push(resource)?;
+    let conditions = conditions(builder)?;
+    indices.push(conditions)?;
+    Ok(())
+}
+
+// Each element of the statement holds.
+pub(crate) fn statement(
+    builder: &mut Builder,
+    schema: &Schema,
+    statement: &Statement,
+) -> Result<usize, QueryFault>
+    ensures { IsBuilt builder.old builder.new (statement_plan schema.now statement.now) result }
+{
+    let mut indices = List::new(builder.alloc);
+    add_elements(builder, &mut indices, schema, statement)?;
+    let index = builder.insert(Node::All(indices))?;
+    Ok(index)
 }

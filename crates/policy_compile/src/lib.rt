@@ -4,17 +4,15 @@
 mod builder;
 mod compile;
 mod elements;
-mod formulas;
-mod laws;
+mod meaning;
+mod nodes;
 mod outcome;
 mod sets;
-mod shapes;
-mod table;
 
 pub use compile::{query, set_query};
-pub use laws::{
-    numbers_are_below, queries_compare, set_queries_allow, tests_of_queries_suit,
-    tests_of_set_queries_suit,
+pub use meaning::{
+    numbers_are_below, queries_compare, refuted_queries_cover, set_queries_allow,
+    tests_of_queries_suit, tests_of_set_queries_suit,
 };
 pub use outcome::{Query, QueryFault};
 

@@ -1,167 +1,179 @@
-//! The formulas of sets.
-ghost use Rattle.std.specs.Prelude.{[], ◌∷◌, IfOk, OnOk, true, false};
-ghost use Rattle.std.specs.List.{flat_map};
-ghost use Rattle.formula_tree.specs.Trees.{tree_of, trees_of};
-ghost use Rattle.policy_compile.specs.Building.{Added, Built};
-ghost use Rattle.policy_compile.specs.Plans.{not, one_of, of_plans};
-ghost use Rattle.policy_compile.specs.Sets.{deny_plans, document_plans, guard_plans, query_plan, set_plan, statement_plan, statement_plans, where_same};
+//! The nodes of sets.
+ghost use Rattle.std.specs.Prelude.{[], ◌∷◌, true, false};
+ghost use Rattle.policy_compile.specs.Building.{IsAdded, IsBuilt};
+ghost use Rattle.policy_compile.specs.Plans.{not};
+ghost use Rattle.policy_compile.specs.Sets.{document_plans, grants_plan, guard_deny_plans, guard_plans, no_deny_plan, query_plan, set_plan, set_plans, statement_plan, statement_plans, where_same};
 
 use crate::builder::Builder;
 use crate::elements::statement;
-use crate::formulas::{all_of, not_of, some_of};
-use formula_tree::{Branches, Formula};
-use plain_lists::NoMemory;
-use policy_model::{Document, DocumentList, PolicySet, Statement};
-use std::alloc::Global;
-use std::rc::Rc;
+use crate::nodes::Node;
+use crate::outcome::QueryFault;
+use plain_lists::List;
+use policy_model::{Document, DocumentList, PolicySet, Schema, Statement};
 
 fn add_statement(
-    alloc: Global,
     builder: &mut Builder,
-    branches: &mut Branches,
+    indices: &mut List<usize>,
+    schema: &Schema,
     allow: bool,
     item: &Statement,
-) -> Result<(), NoMemory>
-    ensures { OnOk result (Added builder.old.tests.keys builder.old.full builder.new.tests.keys builder.new.full (where_same allow item.now.allow (statement_plan item.now ∷ [])) (trees_of branches.old) (trees_of branches.new)) }
+) -> Result<(), QueryFault>
+    ensures { IsAdded builder.old builder.new
+        (where_same allow item.now.allow (statement_plan schema.now item.now ∷ []))
+        indices.old indices.new result }
 {
     if item.allow != allow {
         return Ok(());
     }
-    let formula = statement(alloc, builder, item)?;
-    branches.push(formula)?;
+    let index = statement(builder, schema, item)?;
+    indices.push(index)?;
     Ok(())
 }
 
 fn add_statements(
-    alloc: Global,
     builder: &mut Builder,
-    branches: &mut Branches,
+    indices: &mut List<usize>,
+    schema: &Schema,
     allow: bool,
     items: &[Statement],
-) -> Result<(), NoMemory>
-    ensures { OnOk result (Added builder.old.tests.keys builder.old.full builder.new.tests.keys builder.new.full (statement_plans allow items.now) (trees_of branches.old) (trees_of branches.new)) }
+) -> Result<(), QueryFault>
+    ensures { IsAdded builder.old builder.new (statement_plans schema.now allow items.now)
+        indices.old indices.new result }
 {
     for item in items {
-        add_statement(alloc, builder, branches, allow, item)?;
+        add_statement(builder, indices, schema, allow, item)?;
     }
     Ok(())
 }
 
 fn add_documents(
-    alloc: Global,
     builder: &mut Builder,
-    branches: &mut Branches,
+    indices: &mut List<usize>,
+    schema: &Schema,
     allow: bool,
     items: &[Document],
-) -> Result<(), NoMemory>
-    ensures { OnOk result (Added builder.old.tests.keys builder.old.full builder.new.tests.keys builder.new.full (document_plans allow items.now) (trees_of branches.old) (trees_of branches.new)) }
+) -> Result<(), QueryFault>
+    ensures { IsAdded builder.old builder.new (document_plans schema.now allow items.now)
+        indices.old indices.new result }
 {
     for item in items {
-        add_statements(alloc, builder, branches, allow, item.statements.as_slice())?;
+        add_statements(builder, indices, schema, allow, item.statements.as_slice())?;
     }
     Ok(())
 }
 
 // Some Allow statement of the documents applies.
-fn some_allow(
-    alloc: Global,
+fn grants(
     builder: &mut Builder,
+    schema: &Schema,
     documents: &[Document],
-) -> Result<Rc<Formula>, NoMemory>
-    ensures { IfOk result (λ f. Built builder.old.tests.keys builder.old.full builder.new.tests.keys builder.new.full (one_of (of_plans (document_plans true documents.now))) (tree_of f.value)) }
+) -> Result<usize, QueryFault>
+    ensures { IsBuilt builder.old builder.new (grants_plan schema.now documents.now) result }
 {
-    let mut branches = Branches::new(alloc);
-    add_documents(alloc, builder, &mut branches, true, documents)?;
-    let formula = some_of(alloc, branches)?;
-    Ok(formula)
-}
-
-fn add_guard(
-    alloc: Global,
-    builder: &mut Builder,
-    branches: &mut Branches,
-    item: &DocumentList,
-) -> Result<(), NoMemory>
-    ensures { OnOk result (Added builder.old.tests.keys builder.old.full builder.new.tests.keys builder.new.full (one_of (of_plans (document_plans true item.now)) ∷ []) (trees_of branches.old) (trees_of branches.new)) }
-{
-    let formula = some_allow(alloc, builder, item.as_slice())?;
-    branches.push(formula)?;
-    Ok(())
+    let mut indices = List::new(builder.alloc);
+    add_documents(builder, &mut indices, schema, true, documents)?;
+    let index = builder.insert(Node::OneOf(indices))?;
+    Ok(index)
 }
 
 fn add_guards(
-    alloc: Global,
     builder: &mut Builder,
-    branches: &mut Branches,
+    indices: &mut List<usize>,
+    schema: &Schema,
     items: &[DocumentList],
-) -> Result<(), NoMemory>
-    ensures { OnOk result (Added builder.old.tests.keys builder.old.full builder.new.tests.keys builder.new.full (guard_plans items.now) (trees_of branches.old) (trees_of branches.new)) }
+) -> Result<(), QueryFault>
+    ensures { IsAdded builder.old builder.new (guard_plans schema.now items.now)
+        indices.old indices.new result }
 {
     for item in items {
-        add_guard(alloc, builder, branches, item)?;
+        let index = grants(builder, schema, item.as_slice())?;
+        indices.push(index)?;
     }
     Ok(())
 }
 
-fn add_denies(
-    alloc: Global,
+fn add_guard_denies(
     builder: &mut Builder,
-    branches: &mut Branches,
+    indices: &mut List<usize>,
+    schema: &Schema,
     items: &[DocumentList],
-) -> Result<(), NoMemory>
-    ensures { OnOk result (Added builder.old.tests.keys builder.old.full builder.new.tests.keys builder.new.full (flat_map (λ g. document_plans false g) items.now) (trees_of branches.old) (trees_of branches.new)) }
+) -> Result<(), QueryFault>
+    ensures { IsAdded builder.old builder.new (guard_deny_plans schema.now items.now)
+        indices.old indices.new result }
 {
     for item in items {
-        add_documents(alloc, builder, branches, false, item.as_slice())?;
+        add_documents(builder, indices, schema, false, item.as_slice())?;
     }
     Ok(())
 }
 
 // No Deny statement of the grants or of a guard applies.
-fn no_deny(alloc: Global, builder: &mut Builder, set: &PolicySet) -> Result<Rc<Formula>, NoMemory>
-    ensures { IfOk result (λ f. Built builder.old.tests.keys builder.old.full builder.new.tests.keys builder.new.full (not (one_of (of_plans (deny_plans set.now)))) (tree_of f.value)) }
+fn no_deny(builder: &mut Builder, schema: &Schema, set: &PolicySet) -> Result<usize, QueryFault>
+    ensures { IsBuilt builder.old builder.new (no_deny_plan schema.now set.now) result }
 {
-    let mut branches = Branches::new(alloc);
-    add_documents(alloc, builder, &mut branches, false, set.grants.as_slice())?;
-    add_denies(alloc, builder, &mut branches, set.guards.as_slice())?;
-    let some = some_of(alloc, branches)?;
-    let formula = not_of(alloc, some)?;
-    Ok(formula)
+    let mut indices = List::new(builder.alloc);
+    add_documents(builder, &mut indices, schema, false, set.grants.as_slice())?;
+    add_guard_denies(builder, &mut indices, schema, set.guards.as_slice())?;
+    let some = builder.insert(Node::OneOf(indices))?;
+    let index = builder.insert(Node::Not(some))?;
+    Ok(index)
+}
+
+// Adds what a set asks for: a grant, each guard, and no Deny statement.
+fn add_parts(
+    builder: &mut Builder,
+    indices: &mut List<usize>,
+    schema: &Schema,
+    set: &PolicySet,
+) -> Result<(), QueryFault>
+    ensures { IsAdded builder.old builder.new (set_plans schema.now set.now)
+        indices.old indices.new result }
+{
+    let granted = grants(builder, schema, set.grants.as_slice())?;
+    indices.push(granted)?;
+    add_guards(builder, indices, schema, set.guards.as_slice())?;
+    let denied = no_deny(builder, schema, set)?;
+    indices.push(denied)?;
+    Ok(())
 }
 
 // The set allows.
-pub(crate) fn set_formula(
-    alloc: Global,
+pub(crate) fn set_node(
     builder: &mut Builder,
+    schema: &Schema,
     set: &PolicySet,
-) -> Result<Rc<Formula>, NoMemory>
-    ensures { IfOk result (λ f. Built builder.old.tests.keys builder.old.full builder.new.tests.keys builder.new.full (set_plan set.now) (tree_of f.value)) }
+) -> Result<usize, QueryFault>
+    ensures { IsBuilt builder.old builder.new (set_plan schema.now set.now) result }
 {
-    let mut parts = Branches::new(alloc);
-    let granted = some_allow(alloc, builder, set.grants.as_slice())?;
-    parts.push(granted)?;
-    add_guards(alloc, builder, &mut parts, set.guards.as_slice())?;
-    let denied = no_deny(alloc, builder, set)?;
-    parts.push(denied)?;
-    let formula = all_of(alloc, parts)?;
-    Ok(formula)
+    let mut indices = List::new(builder.alloc);
+    add_parts(builder, &mut indices, schema, set)?;
+    let index = builder.insert(Node::All(indices))?;
+    Ok(index)
+}
+
+// The set doesn't allow.
+fn refused(builder: &mut Builder, schema: &Schema, set: &PolicySet) -> Result<usize, QueryFault>
+    ensures { IsBuilt builder.old builder.new (not (set_plan schema.now set.now)) result }
+{
+    let allowed = set_node(builder, schema, set)?;
+    let index = builder.insert(Node::Not(allowed))?;
+    Ok(index)
 }
 
 // The first set allows and the second doesn't.
-pub(crate) fn pair_formula(
-    alloc: Global,
+pub(crate) fn pair_node(
     builder: &mut Builder,
+    schema: &Schema,
     first: &PolicySet,
     second: &PolicySet,
-) -> Result<Rc<Formula>, NoMemory>
-    ensures { IfOk result (λ f. Built builder.old.tests.keys builder.old.full builder.new.tests.keys builder.new.full (query_plan first.now second.now) (tree_of f.value)) }
+) -> Result<usize, QueryFault>
+    ensures { IsBuilt builder.old builder.new (query_plan schema.now first.now second.now) result }
 {
-    let mut parts = Branches::new(alloc);
-    let allowed = set_formula(alloc, builder, first)?;
-    parts.push(allowed)?;
-    let other = set_formula(alloc, builder, second)?;
-    let denied = not_of(alloc, other)?;
-    parts.push(denied)?;
-    let formula = all_of(alloc, parts)?;
-    Ok(formula)
+    let mut indices = List::new(builder.alloc);
+    let allowed = set_node(builder, schema, first)?;
+    indices.push(allowed)?;
+    let denied = refused(builder, schema, second)?;
+    indices.push(denied)?;
+    let index = builder.insert(Node::All(indices))?;
+    Ok(index)
 }

@@ -1,16 +1,26 @@
-use Rattle.std.proofs.Common.{[], ◌∷◌}
-use Rattle.policy_compile.specs.Plans.{ask}
-use Rattle.std.specs.Prelude.{List}
+use Rattle.std.proofs.Common.{◌∷◌, ◌∙◌, [], ap, subst}
+use Rattle.std.proofs.Common.{List}
 use Rattle.wildcard_lang.specs.declared.piece.Piece.{Piece}
-use Rattle.policy_compile.specs.Sets.{pattern_test}
-use Rattle.policy_compile.proofs.Steps.{Added-none, item-at, items-at}
+use Rattle.policy_model.specs.declared.test.Test.{Test}
+use Rattle.policy_compile.specs.Plans.{Plan, ask, tests_in}
+use Rattle.policy_compile.specs.Sets.{pattern_plans, pattern_test}
+use Rattle.policy_compile.specs.Building.{Fails}
+use Rattle.policy_compile.proofs.Steps.{Added-nothing, Added-one, at-plan, first-fails, item-added, item-fails, items-added, plans-fault}
 use Rattle.policy_compile.proofs.elements.add_patterns.Goals as goal
 
 pub loop-item-init : goal.loop-item-init
-loop-item-init c = Added-none _ _ _
+loop-item-init c = Added-nothing c.args.builder.now c.args.indices.now
+
+pub returns-in_err-index : goal.returns-in_err-index
+returns-in_err-index c =
+    plans-fault c.args.builder.now c.ask.new.self (pattern_plans c.args.word c.args.items.now) c.args.indices.now c.loop-item.indices c.from_residual-in_err-index.result c.in_err-index.field-0.0 c.from_residual-in_err-index.ensures.1
+    (item-fails (λ (p : List Piece). ask (pattern_test c.args.word p) ∷ []) c.args.items.now c.loop-item.item-index c.item-item.result c.loop-item-test.true c.item-item.is c.args.builder.now c.loop-item.builder c.args.indices.now c.loop-item.indices c.in_err-index.field-0.0 c.loop-item.invariant
+    (first-fails c.loop-item.builder.tests.keys (ask (pattern_test c.args.word c.item-item.result)) [] c.in_err-index.field-0.0 (subst (λ (p : Plan). Fails c.loop-item.builder.tests.keys (tests_in p) c.in_err-index.field-0.0) (ap (λ (t : Test). ask t) (c.pattern_test.ensures ∙ ap (pattern_test c.args.word) c.in_ok-copy.ensures)) c.in_err-index.ensures)))
 
 pub loop-item-preserved : goal.loop-item-preserved
-loop-item-preserved c = item-at (λ (p : List Piece). ask (pattern_test c.args.of_resource p) ∷ []) c.args.items.now c.loop-item.item-index c.item-item.result c.loop-item-test.true c.item-item.is c.loop-item.invariant c.in_ok-add_pattern.ensures
+loop-item-preserved c =
+    item-added (λ (p : List Piece). ask (pattern_test c.args.word p) ∷ []) c.args.items.now c.loop-item.item-index c.item-item.result c.loop-item-test.true c.item-item.is c.args.builder.now c.loop-item.builder c.ask.new.self c.args.indices.now c.loop-item.indices c.push.new.self c.loop-item.invariant
+    (Added-one c.loop-item.builder c.ask.new.self (ask (pattern_test c.args.word c.item-item.result)) c.in_ok-index.index c.loop-item.indices c.push.new.self (at-plan c.loop-item.builder c.ask.new.self (ask c.pattern_test.result) (ask (pattern_test c.args.word c.item-item.result)) c.in_ok-index.index (ap (λ (t : Test). ask t) (c.pattern_test.ensures ∙ ap (pattern_test c.args.word) c.in_ok-copy.ensures)) c.in_ok-index.ensures) c.in_ok-push.ensures.ok)
 
 pub returns : goal.returns
-returns c = items-at (λ (p : List Piece). ask (pattern_test c.args.of_resource p) ∷ []) c.args.items.now c.loop-item.item-index c.loop-item-test.false c.loop-item.invariant
+returns c = items-added (λ (p : List Piece). ask (pattern_test c.args.word p) ∷ []) c.args.items.now c.loop-item.item-index c.loop-item-test.false c.args.builder.now c.loop-item.builder c.args.indices.now c.loop-item.indices c.loop-item.invariant

@@ -1,16 +1,25 @@
-use Rattle.std.proofs.Common.{[], ◌∷◌, true}
-use Rattle.std.specs.Prelude.{List}
+use Rattle.std.proofs.Common.{◌∷◌, [], ap, subst}
+use Rattle.std.proofs.Common.{List}
 use Rattle.policy_model.specs.declared.set.Document.{Document}
-use Rattle.policy_compile.specs.Plans.{one_of, of_plans}
-use Rattle.policy_compile.specs.Sets.{document_plans}
-use Rattle.policy_compile.proofs.Steps.{Added-none, item-at, items-at}
+use Rattle.policy_compile.specs.Plans.{Plan, tests_in}
+use Rattle.policy_compile.specs.Sets.{grants_plan, guard_plans}
+use Rattle.policy_compile.specs.Building.{Fails}
+use Rattle.policy_compile.proofs.Steps.{Added-nothing, Added-one, at-plan, first-fails, item-added, item-fails, items-added, plans-fault}
 use Rattle.policy_compile.proofs.sets.add_guards.Goals as goal
 
 pub loop-item-init : goal.loop-item-init
-loop-item-init c = Added-none _ _ _
+loop-item-init c = Added-nothing c.args.builder.now c.args.indices.now
+
+pub returns-in_err-index : goal.returns-in_err-index
+returns-in_err-index c =
+    plans-fault c.args.builder.now c.grants.new.builder (guard_plans c.args.schema.now c.args.items.now) c.args.indices.now c.loop-item.indices c.from_residual.result c.in_err-index.field-0.0 c.from_residual.ensures.1
+    (item-fails (λ (g : List Document). grants_plan c.args.schema.now g ∷ []) c.args.items.now c.loop-item.item-index c.item-item.result c.loop-item-test.true c.item-item.is c.args.builder.now c.loop-item.builder c.args.indices.now c.loop-item.indices c.in_err-index.field-0.0 c.loop-item.invariant
+    (first-fails c.loop-item.builder.tests.keys (grants_plan c.args.schema.now c.item-item.result) [] c.in_err-index.field-0.0 (subst (λ (p : Plan). Fails c.loop-item.builder.tests.keys (tests_in p) c.in_err-index.field-0.0) (ap (grants_plan c.args.schema.now) c.as_slice.ensures) c.in_err-index.ensures)))
 
 pub loop-item-preserved : goal.loop-item-preserved
-loop-item-preserved c = item-at (λ (g : List Document). one_of (of_plans (document_plans true g)) ∷ []) c.args.items.now c.loop-item.item-index c.item-item.result c.loop-item-test.true c.item-item.is c.loop-item.invariant c.in_ok-add_guard.ensures
+loop-item-preserved c =
+    item-added (λ (g : List Document). grants_plan c.args.schema.now g ∷ []) c.args.items.now c.loop-item.item-index c.item-item.result c.loop-item-test.true c.item-item.is c.args.builder.now c.loop-item.builder c.grants.new.builder c.args.indices.now c.loop-item.indices c.push.new.self c.loop-item.invariant
+    (Added-one c.loop-item.builder c.grants.new.builder (grants_plan c.args.schema.now c.item-item.result) c.in_ok-index.index c.loop-item.indices c.push.new.self (at-plan c.loop-item.builder c.grants.new.builder (grants_plan c.args.schema.now c.as_slice.result.now) (grants_plan c.args.schema.now c.item-item.result) c.in_ok-index.index (ap (grants_plan c.args.schema.now) c.as_slice.ensures) c.in_ok-index.ensures) c.in_ok-push.ensures.ok)
 
 pub returns : goal.returns
-returns c = items-at (λ (g : List Document). one_of (of_plans (document_plans true g)) ∷ []) c.args.items.now c.loop-item.item-index c.loop-item-test.false c.loop-item.invariant
+returns c = items-added (λ (g : List Document). grants_plan c.args.schema.now g ∷ []) c.args.items.now c.loop-item.item-index c.loop-item-test.false c.args.builder.now c.loop-item.builder c.args.indices.now c.loop-item.indices c.loop-item.invariant

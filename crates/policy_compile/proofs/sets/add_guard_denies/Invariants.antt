@@ -1,0 +1,8 @@
+use Rattle.std.proofs.Common.{take}
+use Rattle.policy_compile.specs.Building.{Added}
+use Rattle.policy_compile.specs.Sets.{guard_deny_plans}
+use Rattle.policy_compile.proofs.sets.add_guard_denies.Given as goal
+
+-- the nodes of the items so far are added
+abbrev pub invariant-loop-item : goal.invariant-loop-item
+invariant-loop-item l = Added l.initial.builder l.builder (guard_deny_plans l.schema (take l.item-index l.items)) l.initial.indices l.indices
