@@ -1,23 +1,23 @@
 -- A refutation that closes under a path leaves no valid request that answers the path and makes the tree met.
-use Rattle.std.proofs.Common.{◌≡◌, ◌↔◌, ℕ, Bool, true, false, List, [], Some, None, MatchBool, IsTrue, All, refl, sym, ◌∙◌, subst, inl, inr}
+use Rattle.std.proofs.Common.{◌≡◌, ◌↔◌, ℕ, Bool, true, false, List, [], get_or, slice_get, Some, None, MatchBool, IsTrue, refl, sym, ◌∙◌, subst, inl, inr}
 use Rattle.std.proofs.lemmas.Bool.{cases_Bool}
+use Rattle.std.proofs.lemmas.Option.{slice_get-get_or}
 use Rattle.formula_tree.specs.Answers.{Answers, Completes, answer_of}
 use Rattle.formula_tree.specs.Runs.{answered}
 use Rattle.formula_tree.specs.Trees.{Tree}
 use Rattle.formula_tree.specs.Values.{holds}
-use Rattle.formula_tree.proofs.AnswerLists.{answer_of-besides, answer_of-last, cases_eq}
-use Rattle.formula_tree.proofs.Keeping.{says-no}
+use Rattle.formula_tree.proofs.Laws.{answer_of-besides, answer_of-last, cases_eq, says-no}
 use Rattle.policy_model.specs.declared.request.Request.{Request}
 use Rattle.policy_model.specs.declared.schema.Schema.{Schema}
 use Rattle.policy_model.specs.declared.test.Test.{Test}
+use Rattle.policy_model.specs.declared.test.Test.TheVariants.{Action}
 use Rattle.policy_model.specs.Requests.{IsValid}
-use Rattle.policy_model.specs.Soundness.{TestSuits}
 use Rattle.policy_model.specs.Tests.{TestHolds}
 use Rattle.policy_compile.specs.Meaning.{AnswersAs}
-use Rattle.slot_theory.specs.Possible.{AnswersPath}
-use Rattle.slot_theory.proofs.Impossible.{core_impossible, path-core}
+use Rattle.slot_theory.specs.Possible.{AnswersPath, PathInRange}
+use Rattle.slot_theory.proofs.Laws.{core_impossible, path-core}
 use Rattle.refute_check.specs.Closing.{Closes}
-use Rattle.refute_check.specs.Laws.{ClosedQueriesAreNo}
+use Rattle.refute_check.specs.Laws.{ClosedPathsAreNo, ClosedQueriesAreNo}
 use Rattle.refute_check.specs.Proofs.{Proof, by_slot, by_value, split}
 
 -- one more answer that the request gives
@@ -48,5 +48,21 @@ closed_is_no schema tests tree r valid total answers met by_value path closes co
 closed_is_no schema tests tree r valid total answers met (by_slot core proof) path closes completes =
     core_impossible schema tests path core proof closes r valid (path-core tests path core r (answers_path tests r total path answers completes))
 
+same_answer : (b c : Bool) (A : Type 0) → IsTrue c ↔ A → MatchBool b A (¬ A) → c ≡ b
+same_answer true c A says here = says.1 here
+same_answer false true A says here = absurd (here (says.0 refl))
+same_answer false false A says here = refl
+
+-- the answers of a request that answers the path complete it
+completes_by : (tests : List Test) (path : Answers) (r : Request) (total : ℕ → Bool) → PathInRange tests path → AnswersPath tests path r → AnswersAs total r tests → Completes total path
+completes_by tests path r total range answers given n b here =
+    let t = get_or tests n (Action []) in
+    let at : slice_get tests n ≡ Some t = slice_get-get_or tests n (Action []) (range n b here) in
+    same_answer b (total n) (TestHolds r t) (given n t at) (answers n b t here at)
+
+pub paths_are_no : ClosedPathsAreNo
+paths_are_no schema tests tree proof path range closes r valid answers (total, given, met) =
+    closed_is_no schema tests tree r valid total given met proof path closes (completes_by tests path r total range answers given)
+
 pub queries_are_no : ClosedQueriesAreNo
-queries_are_no schema tests tree proof suit closes r valid (total, answers, met) = closed_is_no schema tests tree r valid total answers met proof [] closes (λ n b none. absurd (cc))
+queries_are_no schema tests tree proof closes r valid = paths_are_no schema tests tree proof [] (λ n b none. absurd (cc)) closes r valid (λ n b t none. absurd (cc))

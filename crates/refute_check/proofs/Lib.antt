@@ -1,2 +1,3 @@
-pub mod Closed
-pub mod Walking
+mod Closed
+pub mod Laws
+mod Walking

@@ -19,12 +19,19 @@ OwnRule schema tests tree (by_slot core proof) path = Accepts schema tests path 
 
 -- the refutation closes the query under the path: a split where each side closes with its answer added
 abbrev pub Closes : Schema → List Test → Tree → Proof → Answers → Type 0
-Closes schema tests tree (split n y z) path = OwnRule schema tests tree (split n y z) path × Closes schema tests tree y (answered path n true) × Closes schema tests tree z (answered path n false)
+Closes schema tests tree (split n y z) path =
+    OwnRule schema tests tree (split n y z) path ×
+    Closes schema tests tree y (answered path n true) × Closes schema tests tree z (answered path n false)
 Closes schema tests tree by_value path = OwnRule schema tests tree by_value path
 Closes schema tests tree (by_slot core proof) path = OwnRule schema tests tree (by_slot core proof) path
 
 -- the number of the first node in reading order, counted from 0, whose own rule fails
 pub data FailsAt (schema : Schema) (tests : List Test) (tree : Tree) : Proof → Answers → ℕ → Type 0 where
   here : {p : Proof} {path : Answers} → ¬ OwnRule schema tests tree p path → FailsAt schema tests tree p path 0
-  in_yes : {n k node : ℕ} {y z : Proof} {path : Answers} → OwnRule schema tests tree (split n y z) path → FailsAt schema tests tree y (answered path n true) k → node ≡ k + 1 → FailsAt schema tests tree (split n y z) path node
-  in_no : {n k node : ℕ} {y z : Proof} {path : Answers} → OwnRule schema tests tree (split n y z) path → Closes schema tests tree y (answered path n true) → FailsAt schema tests tree z (answered path n false) k → node ≡ k + size y + 1 → FailsAt schema tests tree (split n y z) path node
+  in_yes : {n k node : ℕ} {y z : Proof} {path : Answers} →
+      OwnRule schema tests tree (split n y z) path → FailsAt schema tests tree y (answered path n true) k → node ≡ k + 1 →
+      FailsAt schema tests tree (split n y z) path node
+  in_no : {n k node : ℕ} {y z : Proof} {path : Answers} →
+      OwnRule schema tests tree (split n y z) path → Closes schema tests tree y (answered path n true) →
+      FailsAt schema tests tree z (answered path n false) k → node ≡ k + size y + 1 →
+      FailsAt schema tests tree (split n y z) path node

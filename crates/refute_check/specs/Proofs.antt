@@ -26,6 +26,12 @@ size (split n y z) = size y + size z + 1
 size by_value = 1
 size (by_slot core proof) = 1
 
+-- how many splits it has, a shared one counted at each place
+abbrev pub splits : Proof → ℕ
+splits (split n y z) = splits y + splits z + 1
+splits by_value = 0
+splits (by_slot core proof) = 0
+
 -- how deep its splits nest
 abbrev pub depth : Proof → ℕ
 depth (split n y z) = max (depth y) (depth z) + 1

@@ -1,14 +1,16 @@
 -- What a check answers of a refutation.
-use Rattle.std.specs.Prelude.{List, []}
-use Rattle.formula_tree.specs.Trees.{Tree}
+use Rattle.std.specs.Prelude.{[]}
+use Rattle.formula_tree.specs.Trees.{tree_of}
+use Rattle.policy_compile.specs.declared.outcome.Query.{Query}
 use Rattle.policy_model.specs.declared.schema.Schema.{Schema}
-use Rattle.policy_model.specs.declared.test.Test.{Test}
+use Rattle.refute_check.specs.declared.refutation.Refutation.{Refutation}
 use Rattle.refute_check.specs.declared.verdict.Verdict.{Verdict}
 use Rattle.refute_check.specs.declared.verdict.Verdict.TheVariants.{Closes as closes, Fails}
-use Rattle.refute_check.specs.Closing.{Closes, FailsAt}
-use Rattle.refute_check.specs.Proofs.{Proof}
+use Rattle.refute_check.specs.Closing.{FailsAt}
+use Rattle.refute_check.specs.Proofs.{proof_of}
+use Rattle.refute_check.specs.Queries.{ClosesQuery}
 
 -- it closes exactly where the rules hold under the empty path, and otherwise fails at its first failing node
-abbrev pub IsVerdict : Schema → List Test → Tree → Proof → Verdict → Type 0
-IsVerdict schema tests tree proof closes = Closes schema tests tree proof []
-IsVerdict schema tests tree proof (Fails node) = FailsAt schema tests tree proof [] node
+abbrev pub IsVerdict : Schema → Query → Refutation → Verdict → Type 0
+IsVerdict schema q r closes = ClosesQuery schema q r []
+IsVerdict schema q r (Fails node) = FailsAt schema q.tests (tree_of q.formula.value) (proof_of r) [] node

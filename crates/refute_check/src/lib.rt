@@ -1,13 +1,13 @@
 //! Refutations of queries, and their check.
 #![tactic(auto)]
 
-mod laws;
+mod closing;
 mod refutation;
 mod verdict;
 
-pub use laws::closed_queries_are_no;
+pub use closing::{closed_paths_are_no, closed_queries_are_no};
 pub use refutation::Refutation;
-pub use verdict::{Verdict, check};
+pub use verdict::{Verdict, check, closes_under};
 
 #[cfg(test)]
 mod tests;

@@ -1,11 +1,9 @@
 //! The check of refutations.
-ghost use Rattle.std.specs.Prelude.{◌≡◌, ◌<◌, ◌^◌, ◌↔◌, None, All, IfOk, IsTrue, OnOk, length};
-ghost use Rattle.formula_tree.specs.Trees.{tree_of};
-ghost use Rattle.formula_tree.specs.Answers.{answer_of};
-ghost use Rattle.formula_tree.specs.Runs.{answered};
+ghost use Rattle.std.specs.Prelude.{◌≡◌, ◌<◌, ◌^◌, ◌↔◌, All, IfOk, IsTrue, OnOk, length};
 ghost use Rattle.policy_model.specs.Soundness.{TestSuits};
-ghost use Rattle.slot_theory.specs.Possible.{InRange};
+ghost use Rattle.slot_theory.specs.Possible.{PathInRange};
 ghost use Rattle.refute_check.specs.Proofs.{proof_of, size};
+ghost use Rattle.refute_check.specs.Queries.{ClosesQuery, HoldsHere};
 ghost use Rattle.refute_check.specs.Verdicts.{IsVerdict};
 ghost use Rattle.refute_check.specs.Walks.{IsWalked};
 
@@ -35,11 +33,64 @@ enum Walked {
     Failed(u32),
 }
 
-// Whether a split on the test may stand under the path.
-fn may_split(query: &Query, path: &Path, test: u32) -> bool
-    ensures { IsTrue result ↔ ((test < length query.now.tests) × (answer_of path.now test ≡ None)) }
+// Whether the node's own rule holds under the path, what is below it aside.
+fn holds_here(
+    alloc: Global,
+    schema: &Schema,
+    query: &Query,
+    node: &Refutation,
+    path: &Path,
+) -> Result<bool, NoMemory>
+    requires suit { All (TestSuits schema.now) query.now.tests }
+    requires count { length query.now.tests < 2 ^ 32 }
+    requires range { PathInRange query.now.tests path.now }
+    ensures { IfOk result (λ yes. IsTrue yes ↔ HoldsHere schema.now query.now node.now path.now) }
 {
-    (test as usize) < query.tests.len() && path.answer(test).is_none()
+    match node {
+        Refutation::ByValue => Ok(value3(&query.formula, path) == Three::No),
+        Refutation::BySlot { core, proof } => {
+            accepts(alloc, schema, &query.tests, path, core, proof)
+        }
+        Refutation::Split { test, .. } => {
+            Ok((*test as usize) < query.tests.len() && path.answer(*test).is_none())
+        }
+    }
+}
+
+// Whether the part closes the query under the path. The path is as before.
+fn closes(
+    alloc: Global,
+    schema: &Schema,
+    query: &Query,
+    part: &Refutation,
+    path: &mut Path,
+) -> Result<bool, NoMemory>
+    requires suit { All (TestSuits schema.now) query.now.tests }
+    requires count { length query.now.tests < 2 ^ 32 }
+    requires range { PathInRange query.now.tests path.old }
+    ensures closes { IfOk result (λ yes.
+        IsTrue yes ↔ ClosesQuery schema.now query.now part.now path.old) }
+    ensures path { OnOk result (path.new ≡ path.old) }
+{
+    if !holds_here(alloc, schema, query, part, path)? {
+        return Ok(false);
+    }
+    match part {
+        Refutation::ByValue => Ok(true),
+        Refutation::BySlot { .. } => Ok(true),
+        Refutation::Split { test, yes, no } => {
+            path.push(*test, true)?;
+            let first = closes(alloc, schema, query, yes, path)?;
+            path.pop();
+            if !first {
+                return Ok(false);
+            }
+            path.push(*test, false)?;
+            let second = closes(alloc, schema, query, no, path)?;
+            path.pop();
+            Ok(second)
+        }
+    }
 }
 
 // The part under the path. The path is as before.
@@ -52,30 +103,18 @@ fn walk(
 ) -> Result<Walked, NoMemory>
     requires suit { All (TestSuits schema.now) query.now.tests }
     requires count { length query.now.tests < 2 ^ 32 }
-    requires range { InRange query.now.tests path.old }
+    requires range { PathInRange query.now.tests path.old }
     requires nodes { size (proof_of part.now) < 2 ^ 32 }
-    ensures walked { IfOk result (IsWalked schema.now query.now.tests (tree_of query.now.formula.value) (proof_of part.now) path.old) }
+    ensures walked { IfOk result (IsWalked schema.now query.now part.now path.old) }
     ensures path { OnOk result (path.new ≡ path.old) }
 {
+    if !holds_here(alloc, schema, query, part, path)? {
+        return Ok(Walked::Failed(0));
+    }
     match part {
-        Refutation::ByValue => {
-            if value3(&query.formula, path) == Three::No {
-                Ok(Walked::Closed(1))
-            } else {
-                Ok(Walked::Failed(0))
-            }
-        }
-        Refutation::BySlot { core, proof } => {
-            if accepts(alloc, schema, &query.tests, path, core, proof)? {
-                Ok(Walked::Closed(1))
-            } else {
-                Ok(Walked::Failed(0))
-            }
-        }
+        Refutation::ByValue => Ok(Walked::Closed(1)),
+        Refutation::BySlot { .. } => Ok(Walked::Closed(1)),
         Refutation::Split { test, yes, no } => {
-            if !may_split(query, path, *test) {
-                return Ok(Walked::Failed(0));
-            }
             path.push(*test, true)?;
             let first = walk(alloc, schema, query, yes, path)?;
             path.pop();
@@ -94,8 +133,32 @@ fn walk(
     }
 }
 
+/// Whether the refutation closes the query under the path.
+///
+/// The tests suit the schema and are numbered by 32 bits, and the path answers none but them. The only
+/// error is want of memory.
+pub fn closes_under(
+    alloc: Global,
+    schema: &Schema,
+    query: &Query,
+    refutation: &Refutation,
+    path: &Path,
+) -> Result<bool, NoMemory>
+    requires suit { All (TestSuits schema.now) query.now.tests }
+    requires count { length query.now.tests < 2 ^ 32 }
+    requires range { PathInRange query.now.tests path.now }
+    ensures { IfOk result (λ yes.
+        IsTrue yes ↔ ClosesQuery schema.now query.now refutation.now path.now) }
+{
+    let mut own = path.copy()?;
+    closes(alloc, schema, query, refutation, &mut own)
+}
+
 /// Whether the refutation closes the query under the empty path: `Closes` exactly where it does, and
 /// otherwise the first node in reading order whose own rule fails.
+///
+/// The tests suit the schema and are numbered by 32 bits, and so are the refutation's nodes, a shared
+/// one as often as it stands. The only error is want of memory.
 pub fn check(
     alloc: Global,
     schema: &Schema,
@@ -105,7 +168,7 @@ pub fn check(
     requires suit { All (TestSuits schema.now) query.now.tests }
     requires count { length query.now.tests < 2 ^ 32 }
     requires nodes { size (proof_of refutation.now) < 2 ^ 32 }
-    ensures { IfOk result (IsVerdict schema.now query.now.tests (tree_of query.now.formula.value) (proof_of refutation.now)) }
+    ensures { IfOk result (IsVerdict schema.now query.now refutation.now) }
 {
     let mut path = Path::new(alloc);
     match walk(alloc, schema, query, refutation, &mut path)? {

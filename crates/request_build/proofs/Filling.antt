@@ -14,8 +14,10 @@ use Rattle.std.proofs.lemmas.List.Elements.{All-nil, All-cons, All-head, All-tai
 use Rattle.text_table.specs.Table.{Entries, IsInOrder, item_at, with_item}
 use Rattle.policy_model.specs.declared.schema.KeyRule.{KeyRule}
 use Rattle.policy_model.specs.declared.value.Value.{Value}
+use Rattle.policy_model.specs.Keys.{AreFolded, IsFolded}
+use Rattle.policy_model.specs.Soundness.{RuleIsSound}
 use Rattle.policy_model.specs.Requests.{EntryIsValid, IsThere, IsValueOf, KeysAreValid, PermitsValues}
-use Rattle.policy_model.proofs.Places.{slice_get-at}
+use Rattle.policy_model.proofs.Laws.{slice_get-at}
 use Rattle.request_build.specs.Taken.{required_entry, stated_context, stated_key}
 
 abbrev cmp : List ℕ → List ℕ → Ordering
@@ -57,6 +59,19 @@ below-at (e ∷ es) (suc i) d order within =
     let at : i < length es = omega (arith, within) in
     let later = get_or es i d in
     All-cons (λ q. cmp q later.0 ≡ Less) e.0 (keys_of (take i es)) (after-first e es i d order at) (below-at es i d (sorted_tail cmp e.0 (keys_of es) order) at)
+
+-- the key at an index is folded, where all are
+pub folded-at : (keys : Rules) (i : ℕ) (key : List ℕ) (rule : KeyRule) → AreFolded keys → slice_get keys i ≡ Some (key, rule) → IsFolded key
+folded-at [] zero key rule folded there = absurd (cc)
+folded-at [] (suc i) key rule folded there = absurd (cc)
+folded-at (e ∷ es) zero key rule folded there = let same : e.0 ≡ key = cc in subst IsFolded same (All-head IsFolded e.0 (keys_of es) folded)
+folded-at (e ∷ es) (suc i) key rule folded there = folded-at es i key rule (All-tail IsFolded e.0 (keys_of es) folded) there
+
+-- and its rule is sound
+pub sound-at : (keys : Rules) (i : ℕ) (key : List ℕ) (rule : KeyRule) → All (λ (e : List ℕ × KeyRule). RuleIsSound e.1) keys → slice_get keys i ≡ Some (key, rule) → RuleIsSound rule
+sound-at keys i key rule sound there =
+    let at = slice_get-at keys i (key, rule) (key, rule) there in
+    subst (λ (e : List ℕ × KeyRule). RuleIsSound e.1) at.1 (sound i (key, rule) at.0)
 
 -- ---- keys that are kept
 

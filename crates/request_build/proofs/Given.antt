@@ -1,4 +1,4 @@
--- Values of a path that answers one test, or two of different slots, and sound rules of keys.
+-- Values of a path that answers a test of the action and one of the resource, and sound rules of keys.
 use Rattle.std.proofs.Common.{◌≡◌, ◌≢◌, ◌≤◌, ℕ, List, [], ◌∷◌, length, Bool, true, false, All, Ordering, Less, Equal, Greater, Option, Some, None, IsSome, AllPairs, Any, ◌⊎◌, inl, inr, refl, sym, ◌∙◌, subst, arith}
 use Rattle.std.specs.Ordering.{match_ordering, nat_cmp}
 use Rattle.std.specs.Cmp.Lexicographic.{slice_cmp}
@@ -6,7 +6,7 @@ use Rattle.std.proofs.lemmas.List.Elements.{All-nil, All-cons, All-head, All-tai
 use Rattle.std.proofs.lemmas.List.Kept.{AllPairs-cons}
 use Rattle.wildcard_lang.specs.declared.piece.Piece.{Piece}
 use Rattle.formula_tree.specs.Answers.{Answers, answer_of}
-use Rattle.formula_tree.proofs.AnswerLists.{answer_of-besides, answer_of-last, cases_eq}
+use Rattle.formula_tree.proofs.Laws.{answer_of-besides, cases_eq}
 use Rattle.text_table.specs.Table.{Entries, with_item}
 use Rattle.wildcard_lang.specs.Text.{IsText}
 use Rattle.policy_model.specs.declared.schema.KeyRule.{KeyRule}
@@ -43,34 +43,6 @@ one-differs p = AllPairs-cons Differ p [] (All-nil (Differ p)) none-differ
 unanswered : (o : Option Bool) → o ≡ None → IsSome o → ⊥
 unanswered None e h = absurd (cc)
 unanswered (Some b) e h = absurd (cc)
-
--- ---- one test
-
-module _ (schema : Schema) (tests : List Test) (n : ℕ) (b : Bool) (s : Slot) (on : slot_of (test_at tests n) ≡ s) where
-  abbrev one : Answers
-  one = (n, b) ∷ []
-
-  one-asked : HasTest tests one s
-  one-asked = record { number = n; is = record { answered = subst (λ (o : Option Bool). IsSome o) (sym (answer_of-last [] n b refl)) refl; on_slot = on } }
-
-  one-alone : (x : Slot) → HasTest tests one x → s ≡ x
-  one-alone x h =
-      elim (cases_eq h.number n) [
-        | inl e ↦ sym on ∙ subst (λ (k : ℕ). slot_of (test_at tests k) ≡ x) e h.is.on_slot
-        | inr ne ↦ absurd (unanswered (answer_of one h.number) (answer_of-besides [] n b h.number ne) h.is.answered)
-      ]
-
-  one-value : (v : SlotValue) → IsSlotValue schema tests one s v → AreSlotValues schema tests one ((s, v) ∷ [])
-  one-value v is = record {
-    each = All-cons (λ p. IsSlotValue schema tests one p.0 p.1) (s, v) [] is (All-nil (λ p. IsSlotValue schema tests one p.0 p.1));
-    needed = All-cons (λ p. HasTest tests one p.0) (s, v) [] one-asked (All-nil (λ p. HasTest tests one p.0));
-    there = λ x h. (0, (s, v), omega arith, refl, one-alone x h);
-    once = one-differs (s, v);
-  }
-
-pub one-given : (schema : Schema) (tests : List Test) (path : Answers) (values : List (Slot × SlotValue)) (n : ℕ) (b : Bool) (s : Slot) (v : SlotValue) → path ≡ (n, b) ∷ [] → values ≡ (s, v) ∷ [] → slot_of (test_at tests n) ≡ s → IsSlotValue schema tests path s v → AreSlotValues schema tests path values
-one-given schema tests path values n b s v path_is values_is on is =
-    rw (path_is, values_is) (one-value schema tests n b s on v (subst (λ (x : Answers). IsSlotValue schema tests x s v) path_is is))
 
 -- ---- a test of the action and one of the resource
 
@@ -111,6 +83,9 @@ module _ (schema : Schema) (p q : List Piece) (a b : Bool) where
         there = λ x h. two-there x v w (two-alone x h);
         once = AllPairs-cons Differ (slot.Resource, w) ((slot.Action, v) ∷ []) (All-cons (Differ (slot.Resource, w)) (slot.Action, v) [] other (All-nil (Differ (slot.Resource, w)))) (one-differs (slot.Action, v));
       }
+
+pub resource-given : (tests : List Test) (path : Answers) (p q : List Piece) (a b : Bool) → tests ≡ Action p ∷ Resource q ∷ [] → path ≡ (0, a) ∷ (1, b) ∷ [] → HasTest tests path slot.Resource
+resource-given tests path p q a b tests_are path_is = rw (tests_are, path_is) (record { number = 1; is = record { answered = refl; on_slot = refl } })
 
 pub two-given : (schema : Schema) (tests : List Test) (path : Answers) (values : List (Slot × SlotValue)) (p q : List Piece) (a b : Bool) (v w : SlotValue) → tests ≡ Action p ∷ Resource q ∷ [] → path ≡ (0, a) ∷ (1, b) ∷ [] → values ≡ (slot.Resource, w) ∷ (slot.Action, v) ∷ [] → IsSlotValue schema tests path slot.Action v → IsSlotValue schema tests path slot.Resource w → AreSlotValues schema tests path values
 two-given schema tests path values p q a b v w tests_are path_is values_are action resource =

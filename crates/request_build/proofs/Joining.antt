@@ -18,7 +18,7 @@ use Rattle.slot_theory.specs.declared.outcome.SlotValue.TheVariants as value
 use Rattle.slot_theory.specs.Cores.{HasTest}
 use Rattle.slot_theory.specs.Slots.{AnswersSlot, IsSlotValue, Permits, slot_of}
 use Rattle.slot_theory.specs.Possible.{AnswersPath}
-use Rattle.slot_theory.proofs.Wording.{at-test}
+use Rattle.slot_theory.proofs.Laws.{at-test}
 use Rattle.request_build.specs.Built.{AreSlotValues}
 use Rattle.slot_theory.specs.Unasked.{stated_word}
 use Rattle.request_build.specs.Taken.{action_in, action_or, joined, principal_in, principal_or, resource_in, resource_or, stated_context}

@@ -1,4 +1,6 @@
-pub mod Joining
-pub mod Filling
-pub mod Stating
-pub mod Given
+mod Existing
+mod Filling
+mod Given
+mod Joining
+pub mod Laws
+mod Stating

@@ -6,7 +6,7 @@ ghost use Rattle.policy_model.specs.Soundness.{RuleIsSound};
 ghost use Rattle.text_table.specs.Table.{with_item};
 ghost use Rattle.request_build.specs.Taken.{plain_value, shaped_or, stated_context, stated_key};
 
-use plain_lists::NoMemory;
+use plain_lists::{EqualClone, NoMemory};
 use policy_model::{Context, KeyRule, KeyRules, Kind, Value, ValueList};
 use slot_theory::sample;
 use std::alloc::Global;
@@ -77,8 +77,11 @@ fn add_required(
 ) -> Result<(), NoMemory>
     requires folded { IsFolded key.now }
     requires sound { RuleIsSound rule.now }
-    ensures with { OnOk result (context.new ≡ (if rule.now.required then with_item context.old key.now (stated_key rule.now ∷ []) else context.old)) }
-    ensures permitted { OnOk result (rule.now.required ≡ true → IsValueOf rule.now (stated_key rule.now)) }
+    ensures with { OnOk result (context.new ≡
+        (if rule.now.required then with_item context.old key.now (stated_key rule.now ∷ [])
+        else context.old)) }
+    ensures permitted { OnOk result (
+        rule.now.required ≡ true → IsValueOf rule.now (stated_key rule.now)) }
 {
     if rule.required {
         let mut values = ValueList::new(alloc);
@@ -95,10 +98,8 @@ pub fn stated_context(alloc: Global, keys: &KeyRules) -> Result<Context, NoMemor
     ensures valid { IfOk result (KeysAreValid keys.now) }
 {
     let mut context = Context::new(alloc);
-    for i in 0..keys.len() {
-        if let Some((key, rule)) = keys.at(i) {
-            add_required(alloc, &mut context, key, rule)?;
-        }
+    for (key, rule) in keys.iter() {
+        add_required(alloc, &mut context, key, rule)?;
     }
     Ok(context)
 }

@@ -2,8 +2,10 @@
 #![tactic(auto)]
 
 mod context;
+mod existence;
 mod request;
 
+pub use existence::sound_schemas_have_requests;
 pub use request::{SlotValues, build};
 
 #[cfg(test)]

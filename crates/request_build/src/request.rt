@@ -5,7 +5,7 @@ ghost use Rattle.policy_model.specs.Soundness.{SchemaIsSound, TestSuits};
 ghost use Rattle.policy_model.specs.declared.principal.PrincipalKind.TheVariants.{Aws};
 ghost use Rattle.policy_model.specs.declared.test.Slot.TheVariants as slot;
 ghost use Rattle.slot_theory.specs.Cores.{HasTest};
-ghost use Rattle.slot_theory.specs.Possible.{AnswersPath, InRange};
+ghost use Rattle.slot_theory.specs.Possible.{AnswersPath, PathInRange};
 ghost use Rattle.slot_theory.specs.Slots.{Permits};
 ghost use Rattle.slot_theory.specs.Unasked.{stated_word};
 ghost use Rattle.request_build.specs.Built.{AreSlotValues};
@@ -124,14 +124,17 @@ pub fn build(
 ) -> Result<Request, NoMemory>
     requires sound { SchemaIsSound schema.now }
     requires suit { All (TestSuits schema.now) _tests.now }
-    requires range { InRange _tests.now _path.now }
+    requires range { PathInRange _tests.now _path.now }
     requires values { AreSlotValues schema.now _tests.now _path.now values.now }
     ensures joined { IfOk result (λ r. r ≡ joined schema.now values.now) }
     ensures valid { IfOk result (IsValid schema.now) }
     ensures answers { IfOk result (AnswersPath _tests.now _path.now) }
-    ensures principal { IfOk result (λ r. ¬ HasTest _tests.now _path.now slot.Principal → (r.kind ≡ Aws) × (r.id ≡ stated_word schema.now.shapes.aws)) }
-    ensures action { IfOk result (λ r. ¬ HasTest _tests.now _path.now slot.Action → r.action ≡ stated_word schema.now.shapes.action) }
-    ensures resource { IfOk result (λ r. ¬ HasTest _tests.now _path.now slot.Resource → r.resource ≡ stated_word schema.now.shapes.resource) }
+    ensures principal { IfOk result (λ r. ¬ HasTest _tests.now _path.now slot.Principal →
+        (r.kind ≡ Aws) × (r.id ≡ stated_word schema.now.shapes.aws)) }
+    ensures action { IfOk result (λ r. ¬ HasTest _tests.now _path.now slot.Action →
+        r.action ≡ stated_word schema.now.shapes.action) }
+    ensures resource { IfOk result (λ r. ¬ HasTest _tests.now _path.now slot.Resource →
+        r.resource ≡ stated_word schema.now.shapes.resource) }
 {
     let (kind, id) = principal_in(alloc, schema, values.as_slice())?;
     Ok(Request {

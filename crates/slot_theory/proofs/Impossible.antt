@@ -25,7 +25,7 @@ use Rattle.slot_theory.specs.Wants.{IsClosedFor}
 use Rattle.slot_theory.specs.Cores.{Accepts, IsCore, KindShows, open_tests}
 use Rattle.slot_theory.specs.Steps.{IsRight}
 use Rattle.slot_theory.specs.Possible.{AnswersCore, AnswersPath, IsPossible}
-use Rattle.slot_theory.specs.Laws.{AcceptedCoresAreImpossible}
+use Rattle.slot_theory.specs.Acceptance.{AcceptedCoresAreImpossible}
 use Rattle.slot_theory.proofs.Products.{open-have, words-have}
 use Rattle.slot_theory.proofs.Wanting.{closed-none}
 use Rattle.slot_theory.proofs.Answering.{answered-by, never-right, open-so, words-so}
@@ -92,12 +92,12 @@ module _ (schema : Schema) (tests : List Test) (path : Answers) (core : List ℕ
 pub core_impossible : AcceptedCoresAreImpossible
 core_impossible schema tests path core (Word closed) accepted r valid answers =
     let s = accepted.slot in
-    let word : IsWordSlot s = accepted.shows.0 in
-    word-none schema tests path core s closed (word_of s r) accepted.shows.1 word accepted.core_is (word-is schema s r word valid)
-    (core-right tests path s core r (value.Word (word_of s r)) accepted.core_is answers (λ t on. word-test r t s word on))
+    let word : IsWordSlot s = accepted.conflict.shows.0 in
+    word-none schema tests path core s closed (word_of s r) accepted.conflict.shows.1 word accepted.conflict.core_is (word-is schema s r word valid)
+    (core-right tests path s core r (value.Word (word_of s r)) accepted.conflict.core_is answers (λ t on. word-test r t s word on))
 core_impossible schema tests path core (Kinds aws service federated canonical_user) accepted r valid answers =
-    let is : IsCore tests path core slot.Principal = subst (λ (x : Slot). IsCore tests path core x) accepted.shows.0 accepted.core_is in
-    kinds-none schema tests path core aws service federated canonical_user accepted.shows.1 accepted.shows.2 accepted.shows.3 accepted.shows.4 r.kind r.id is valid.words.id
+    let is : IsCore tests path core slot.Principal = subst (λ (x : Slot). IsCore tests path core x) accepted.conflict.shows.0 accepted.conflict.core_is in
+    kinds-none schema tests path core aws service federated canonical_user accepted.conflict.shows.1 accepted.conflict.shows.2 accepted.conflict.shows.3 accepted.conflict.shows.4 r.kind r.id is valid.words.id
     (core-right tests path slot.Principal core r (value.Principal r.kind r.id) is answers (λ t on. principal-test r t on))
 
 -- a request that answers the path answers the core

@@ -1,11 +1,13 @@
-pub mod Wanting
-pub mod Naming
-pub mod Spelling
-pub mod Wording
-pub mod Rising
-pub mod Answering
-pub mod Contradicted
-pub mod Products
-pub mod Accepting
-pub mod Impossible
-pub mod Sampling
+mod Accepting
+mod Accounts
+mod Alike
+mod Answering
+mod Contradicted
+mod Impossible
+pub mod Laws
+mod Naming
+mod Products
+mod Rising
+mod Sampling
+mod Wanting
+mod Wording

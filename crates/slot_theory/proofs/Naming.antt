@@ -6,8 +6,8 @@ use Rattle.wildcard_lang.specs.declared.piece.Piece.{Piece}
 use Rattle.wildcard_lang.specs.declared.piece.Piece.TheVariants.{Lit, Many, ManyNoColon}
 use Rattle.wildcard_lang.specs.Matching.{Matches, takes, takes_one}
 use Rattle.wildcard_lang.specs.Reading.{literals}
-use Rattle.wildcard_lang.proofs.Inversions.{OneTaken, RunTaken, Apart, one_left, many_left, many_right, append_left, append_right}
-use Rattle.wildcard_lang.proofs.Literals.{exact-matched, exact-matches}
+use Rattle.wildcard_lang.proofs.Laws.{OneTaken, RunTaken, Apart, one_left, many_left, many_right, append_left, append_right}
+use Rattle.wildcard_lang.proofs.Laws.{exact-matched, exact-matches}
 use Rattle.policy_model.specs.declared.principal.PrincipalKind.{PrincipalKind}
 use Rattle.policy_model.specs.declared.principal.PrincipalKind.TheVariants.{Aws, Service, Federated, CanonicalUser}
 use Rattle.policy_model.specs.declared.principal.Entry.{Entry}

@@ -6,7 +6,7 @@ use Rattle.std.proofs.lemmas.List.Elements.{All-cons, All-append, All-map, All-c
 use Rattle.wildcard_lang.specs.declared.piece.Piece.{Piece}
 use Rattle.wildcard_lang.specs.Places.{ShowWider}
 use Rattle.wildcard_lang.specs.Text.{IsText}
-use Rattle.wildcard_lang.proofs.Stepping.{widths-grow}
+use Rattle.wildcard_lang.proofs.Laws.{widths-grow}
 use Rattle.formula_tree.specs.Answers.{Answers, answer_of}
 use Rattle.pattern_automata.specs.Closed.{Meets}
 use Rattle.pattern_automata.specs.Answer.{IsProduct}
@@ -23,15 +23,18 @@ use Rattle.policy_model.specs.declared.test.Test.TheVariants.{Principal, Action,
 use Rattle.policy_model.specs.Requests.{IsWord, shape_of}
 use Rattle.slot_theory.specs.declared.outcome.SlotValue.{SlotValue}
 use Rattle.slot_theory.specs.declared.outcome.SlotValue.TheVariants as value
+use Rattle.slot_theory.specs.declared.question.Question.{Question}
 use Rattle.slot_theory.specs.declared.steps.Attempt.{Attempt}
 use Rattle.slot_theory.specs.declared.steps.Attempt.TheVariants as attempt
-use Rattle.slot_theory.specs.Slots.{HasPattern, IsWordSlot, Permits, answered_patterns, fixed_at, id_shapes, is_on, pattern_of, patterns_at, shape_at, shapes_at, slot_of, some_word, test_at}
+use Rattle.slot_theory.specs.Slots.{HasPattern, IsWordSlot, Permits, answered_patterns, fixed_at, id_shapes, is_on, pattern_of, patterns_at, asked_by_schema, shape_at, slot_of, some_word, test_at}
 use Rattle.slot_theory.specs.Wants.{wanted_clauses, wanted_patterns}
 use Rattle.slot_theory.specs.Cores.{IsContradicted, IsCore, open_tests}
 use Rattle.slot_theory.specs.Steps.{IsAttempt, IsRight, IsTried, IsWrong}
 use Rattle.slot_theory.proofs.Wanting.{met-so, met-word, own_pattern, same-patterns}
 use Rattle.slot_theory.proofs.Wording.{slot-on}
+use Rattle.slot_theory.specs.Question.{AreWanted, IsCoreOf}
 use Rattle.slot_theory.proofs.Answering.{none-is, open-right, words-right}
+use Rattle.slot_theory.proofs.Rising.{core-count, filter-few}
 
 -- ---- the patterns of some tests are among those of the slot
 
@@ -94,19 +97,18 @@ record AreAsked (tests : List Test) (path : Answers) (s : Slot) (numbers : List 
   pub on_slot : All (λ n. slot_of (test_at tests n) ≡ s) numbers
   pub patterns : All (HasPattern tests) numbers
 
-widths : (schema : Schema) (tests : List Test) (path : Answers) (s : Slot) (numbers : List ℕ) (shape : Option (List Piece)) (states : ℕ) (texts : List (List ℕ)) → AreAsked tests path s numbers → All (Contains (shapes_at schema s)) (option_to_list shape) →
+widths : (schema : Schema) (tests : List Test) (path : Answers) (s : Slot) (numbers : List ℕ) (shape : Option (List Piece)) (states : ℕ) (texts : List (List ℕ)) → AreAsked tests path s numbers → Contains (asked_by_schema schema s) some_word → All (Contains (asked_by_schema schema s)) (option_to_list shape) →
     ShowWider (wanted_patterns tests numbers shape) states texts → ShowWider (patterns_at schema tests path s) states texts
-widths schema tests path s numbers shape states texts asked shaped wide =
+widths schema tests path s numbers shape states texts asked some shaped wide =
     let own = answered_patterns tests path s 0 in
-    let rest = some_word ∷ shapes_at schema s in
+    let rest = asked_by_schema schema s in
     let all = patterns_at schema tests path s in
     let tested : All (Contains all) (map (λ n. own_pattern (test_at tests n)) numbers) = All-map (Contains all) (λ n. own_pattern (test_at tests n)) numbers (λ k d l.
     let n = get_or numbers k d in
     let same : 0 + n ≡ n = omega arith in
     Contains-append_left own rest (own_pattern (test_at tests n)) (among-answered path s tests 0 n (asked.within k d l) (rw same (asked.answered k d l)) (asked.on_slot k d l) (has-own (pattern_of (test_at tests n)) (asked.patterns k d l)))) in
     let behind : All (Contains all) (some_word ∷ option_to_list shape) =
-    All-cons (Contains all) some_word (option_to_list shape) (Contains-append_right own rest some_word (zero, omega arith, refl))
-    (λ k d l. Contains-append_right own rest _ (Contains-append_right (some_word ∷ []) (shapes_at schema s) _ (shaped k d l))) in
+    All-cons (Contains all) some_word (option_to_list shape) (Contains-append_right own rest some_word some) (λ k d l. Contains-append_right own rest _ (shaped k d l)) in
     let wanted : All (Contains all) (wanted_patterns tests numbers shape) = subst (λ (ps : List (List Piece)). All (Contains all) ps) (sym (same-patterns tests path shape numbers asked.patterns)) (All-append (Contains all) (map (λ n. own_pattern (test_at tests n)) numbers) (some_word ∷ option_to_list shape) tested behind) in
     widths-grow (wanted_patterns tests numbers shape) all states texts wanted wide
 
@@ -131,10 +133,20 @@ module _ (shapes : Shapes) where
   kind-shape Federated i d l = Contains-append_right first (second ++ (third ++ fourth)) _ (Contains-append_right second (third ++ fourth) _ (Contains-append_left third fourth _ (All-contains_itself third i d l)))
   kind-shape CanonicalUser i d l = Contains-append_right first (second ++ (third ++ fourth)) _ (Contains-append_right second (third ++ fourth) _ (Contains-append_right third fourth _ (All-contains_itself fourth i d l)))
 
-word-shape : (schema : Schema) (s : Slot) → IsWordSlot s → All (Contains (shapes_at schema s)) (option_to_list (shape_at schema s))
+-- what is behind `?*` is asked too
+behind_some : (qs ps : List (List Piece)) → All (Contains qs) ps → All (Contains (some_word ∷ qs)) ps
+behind_some qs ps all k d l = Contains-append_right (some_word ∷ []) qs _ (all k d l)
+
+word-some : (schema : Schema) (s : Slot) → IsWordSlot s → Contains (asked_by_schema schema s) some_word
+word-some schema slot.Principal h = absurd h
+word-some schema slot.Action h = (zero, omega arith, refl)
+word-some schema slot.Resource h = (zero, omega arith, refl)
+word-some schema (slot.Key name) h = absurd h
+
+word-shape : (schema : Schema) (s : Slot) → IsWordSlot s → All (Contains (asked_by_schema schema s)) (option_to_list (shape_at schema s))
 word-shape schema slot.Principal h = absurd h
-word-shape schema slot.Action h = All-contains_itself (option_to_list schema.shapes.action)
-word-shape schema slot.Resource h = All-contains_itself (option_to_list schema.shapes.resource)
+word-shape schema slot.Action h = let own = option_to_list schema.shapes.action in behind_some own own (All-contains_itself own)
+word-shape schema slot.Resource h = let own = option_to_list schema.shapes.resource in behind_some own own (All-contains_itself own)
 word-shape schema (slot.Key name) h = absurd h
 
 permits-word : (schema : Schema) (s : Slot) (w : List ℕ) → IsWordSlot s → IsWord (shape_at schema s) w → Permits schema s (value.Word w)
@@ -153,21 +165,37 @@ product-at tests path states ns ms a b p q same shape is h =
     (subst (λ (x : Option (List Piece)). IsProduct (wanted_patterns tests ms x) (wanted_clauses path ms x 0) states p) shape
     (subst (λ (xs : List ℕ). IsProduct (wanted_patterns tests xs a) (wanted_clauses path xs a 0) states p) same h))
 
-module _ (schema : Schema) (tests : List Test) (path : Answers) (core : List ℕ) where
-  -- a value that the schema permits and that answers the core, tried on all answered tests of the slot
-  pub tried-attempt : (s : Slot) (states : ℕ) (v : SlotValue) (a : Attempt) → Permits schema s v → ((n : ℕ) → IsWrong tests path s v n → Contains core n → ⊥) → IsTried tests path s v a → IsAttempt schema tests path s states core a
-  tried-attempt s states v (attempt.Empty proof) permits new is = absurd is
-  tried-attempt s states v (attempt.Full texts) permits new is = absurd is
-  tried-attempt s states v (attempt.Right w) permits new is = rw is.0 (permits, is.1)
-  tried-attempt s states v (attempt.Wrong n) permits new is = (is.on, new n is)
+-- a value that the schema permits and that answers the core, tried on all answered tests of the slot
+pub tried-attempt : (q : Question) (core : List ℕ) (states : ℕ) (v : SlotValue) (a : Attempt) → Permits q.schema.now q.slot.now v → ((n : ℕ) → IsWrong q.tests.now q.path.now q.slot.now v n → Contains core n → ⊥) → IsTried q v a → IsAttempt q states core a
+tried-attempt q core states v (attempt.Empty proof) permits new is = absurd is
+tried-attempt q core states v (attempt.Full texts) permits new is = absurd is
+tried-attempt q core states v (attempt.Right w) permits new is = rw is.0 (permits, is.1)
+tried-attempt q core states v (attempt.Wrong n) permits new is = (is.on, new n is)
 
-  module _ (s : Slot) (word : IsWordSlot s) (is : IsCore tests path core s) where
+module _ (q : Question) (core : List ℕ) where
+  abbrev schema : Schema
+  schema = q.schema.now
+
+  abbrev tests : List Test
+  tests = q.tests.now
+
+  abbrev path : Answers
+  path = q.path.now
+
+  abbrev s : Slot
+  s = q.slot.now
+
+  module _ (word : IsWordSlot s) (is : IsCoreOf q core) where
     abbrev shape : Option (List Piece)
     shape = shape_at schema s
 
+    pub word-wanted : AreWanted q core
+    word-wanted = record { count = core-count tests path s core is; within = is.within; patterns = words-have tests s core word is.on_slot }
+
     pub word-wider : (states : ℕ) (texts : List (List ℕ)) → ShowWider (wanted_patterns tests core shape) states texts → ShowWider (patterns_at schema tests path s) states texts
     word-wider states texts =
-        widths schema tests path s core shape states texts (record { within = is.within; answered = is.answered; on_slot = is.on_slot; patterns = words-have tests s core word is.on_slot }) (word-shape schema s word)
+        widths schema tests path s core shape states texts (record { within = is.within; answered = is.answered; on_slot = is.on_slot; patterns = words-have tests s core word is.on_slot }) (word-some schema s word)
+        (word-shape schema s word)
 
     pub word-permitted : (w : List ℕ) → Meets (wanted_patterns tests core shape) (wanted_clauses path core shape 0) w × IsText w → Permits schema s (value.Word w)
     word-permitted w met = permits-word schema s w word (met-word tests path shape core (words-have tests s core word is.on_slot) w met.1 met.0)
@@ -176,7 +204,10 @@ module _ (schema : Schema) (tests : List Test) (path : Answers) (core : List ℕ
     word-new w n met wrong among =
         wrong.wrong (All-contains (IsRight tests path (value.Word w)) core n (words-right tests path core s w word is.on_slot (met-so tests path shape core (words-have tests s core word is.on_slot) w met)) among)
 
-  module _ (k : PrincipalKind) (is : IsCore tests path core slot.Principal) where
+  module _ (k : PrincipalKind) (on : s ≡ slot.Principal) (core_is : IsCoreOf q core) where
+    is : IsCore tests path core slot.Principal
+    is = subst (λ (x : Slot). IsCore tests path core x) on core_is
+
     abbrev open_numbers : List ℕ
     open_numbers = open_tests tests k core
 
@@ -186,21 +217,27 @@ module _ (schema : Schema) (tests : List Test) (path : Answers) (core : List ℕ
     abbrev is_open : ℕ → Bool
     is_open n = is_none (fixed_at k (test_at tests n))
 
-    pub open-within : All (λ n. n < length tests) open_numbers
+    open-within : All (λ n. n < length tests) open_numbers
     open-within = All-filter is_open (λ n. n < length tests) core is.within
 
-    pub kind-wider : (states : ℕ) (texts : List (List ℕ)) → ShowWider (wanted_patterns tests open_numbers id_shape) states texts → ShowWider (patterns_at schema tests path slot.Principal) states texts
-    kind-wider states texts =
-        widths schema tests path slot.Principal open_numbers id_shape states texts (record {
-          within = open-within;
-          answered = All-filter is_open (λ n. IsSome (answer_of path n)) core is.answered;
-          on_slot = All-filter is_open (λ n. slot_of (test_at tests n) ≡ slot.Principal) core is.on_slot;
-          patterns = open-have tests k core is.on_slot;
-        }) (kind-shape schema.shapes k)
+    pub kind-wanted : AreWanted q open_numbers
+    kind-wanted = record {
+      count = omega (arith, filter-few is_open core, core-count tests path slot.Principal core is);
+      within = open-within;
+      patterns = open-have tests k core is.on_slot;
+    }
 
-    pub id-permitted : (id : List ℕ) → Meets (wanted_patterns tests open_numbers id_shape) (wanted_clauses path open_numbers id_shape 0) id × IsText id → Permits schema slot.Principal (value.Principal k id)
-    id-permitted id met = met-word tests path id_shape open_numbers (open-have tests k core is.on_slot) id met.1 met.0
+    pub kind-wider : (states : ℕ) (texts : List (List ℕ)) → ShowWider (wanted_patterns tests open_numbers id_shape) states texts → ShowWider (patterns_at schema tests path s) states texts
+    kind-wider states texts wide = subst (λ (x : Slot). ShowWider (patterns_at schema tests path x) states texts) (sym on) (widths schema tests path slot.Principal open_numbers id_shape states texts (record {
+      within = open-within;
+      answered = All-filter is_open (λ n. IsSome (answer_of path n)) core is.answered;
+      on_slot = All-filter is_open (λ n. slot_of (test_at tests n) ≡ slot.Principal) core is.on_slot;
+      patterns = open-have tests k core is.on_slot;
+    }) (zero, omega arith, refl) (behind_some (id_shapes schema.shapes) (option_to_list id_shape) (kind-shape schema.shapes k)) wide)
 
-    pub id-new : (id : List ℕ) (n : ℕ) → (Any (IsContradicted tests path k) core → ⊥) → Meets (wanted_patterns tests open_numbers id_shape) (wanted_clauses path open_numbers id_shape 0) id → IsWrong tests path slot.Principal (value.Principal k id) n → Contains core n → ⊥
+    pub id-permitted : (id : List ℕ) → Meets (wanted_patterns tests open_numbers id_shape) (wanted_clauses path open_numbers id_shape 0) id × IsText id → Permits schema s (value.Principal k id)
+    id-permitted id met = subst (λ (x : Slot). Permits schema x (value.Principal k id)) (sym on) (met-word tests path id_shape open_numbers (open-have tests k core is.on_slot) id met.1 met.0)
+
+    pub id-new : (id : List ℕ) (n : ℕ) → (Any (IsContradicted tests path k) core → ⊥) → Meets (wanted_patterns tests open_numbers id_shape) (wanted_clauses path open_numbers id_shape 0) id → IsWrong tests path s (value.Principal k id) n → Contains core n → ⊥
     id-new id n none met wrong among =
         wrong.wrong (All-contains (IsRight tests path (value.Principal k id)) core n (open-right tests path core k id is.on_slot none (met-so tests path id_shape open_numbers (open-have tests k core is.on_slot) id met)) among)

@@ -1,10 +1,11 @@
 -- Cores that grow and shrink.
-use Rattle.std.proofs.Common.{◌≡◌, ◌≢◌, ℕ, zero, suc, ◌+◌, ◌<◌, ◌≤◌, List, [], ◌∷◌, length, get_or, take, drop, true, nat_le, IsSome, All, Contains, refl, sym, ◌∙◌, subst, arith}
-use Rattle.std.specs.List.{insert, remove}
+use Rattle.std.proofs.Common.{◌≡◌, ◌≢◌, ℕ, zero, suc, ◌+◌, ◌<◌, ◌≤◌, List, [], ◌∷◌, length, get_or, take, drop, Bool, true, nat_le, IsSome, All, Contains, refl, sym, ◌∙◌, subst, arith}
+use Rattle.std.specs.List.{filter, insert, remove}
 use Rattle.std.proofs.lemmas.Bool.{and_parts, and_from}
 use Rattle.std.proofs.lemmas.Bool.Decides.{nat_tests}
 use Rattle.std.proofs.lemmas.List.{get_or_default}
 use Rattle.std.proofs.lemmas.List.Edits.{length-insert}
+use Rattle.std.proofs.lemmas.List.Sums.{length-filter, count_by-le-length}
 use Rattle.std.proofs.lemmas.List.Elements.{All-cons, All-head, All-tail, All-append, All-take, All-drop}
 use Rattle.pattern_automata.specs.Closed.{rises_from}
 use Rattle.formula_tree.specs.Answers.{Answers, answer_of}
@@ -56,6 +57,10 @@ few (x ∷ xs) a n r w h =
     let below : x < n = All-head (λ m. m < n) x xs w in
     omega (arith, test-le a x both.0, few xs (x + 1) n both.1 (All-tail (λ m. m < n) x xs w) (omega arith))
 
+-- a filter keeps no more than there is
+pub filter-few : (p : ℕ → Bool) (xs : List ℕ) → length (filter p xs) ≤ length xs
+filter-few p xs = omega (arith, length-filter p xs, count_by-le-length p xs)
+
 pub All-insert : (P : ℕ → Type 0) (xs : List ℕ) (i n : ℕ) → All P xs → P n → All P (insert xs i n)
 All-insert P xs i n a p = All-append P (take i xs) (n ∷ drop i xs) (All-take P i xs a) (All-cons P n (drop i xs) p (All-drop P i xs a))
 
@@ -65,7 +70,7 @@ All-remove P [] (suc i) a = a
 All-remove P (x ∷ xs) zero a = All-tail P x xs a
 All-remove P (x ∷ xs) (suc i) a = All-cons P x (remove xs i) (All-head P x xs a) (All-remove P xs i (All-tail P x xs a))
 
--- a number that isn't in the core, and isn't below those before its place, is above them
+-- a number that isn't in the core, and isn't below those before its index, is above them
 pub above : (xs : List ℕ) (n i k : ℕ) → (Contains xs n → ⊥) → i ≤ length xs → ((j : ℕ) → j < i → get_or xs j 0 ≤ n) → k < i → get_or xs k 0 < n
 above xs n i k new w before h =
     let differs : get_or xs k 0 ≢ n = λ e. new (k, omega arith, sym (get_or_default xs k 0 n (omega arith)) ∙ e) in
@@ -75,15 +80,15 @@ some-length : (xs : List ℕ) → 0 < length xs → xs ≢ []
 some-length [] h e = omega arith
 some-length (x ∷ xs) h e = absurd (cc)
 
-pub with-by : (core : List ℕ) (n place : ℕ) (numbers more : List ℕ) → rises_from 0 core ≡ true → (Contains core n → ⊥) → place ≤ length core → ((k : ℕ) → k < place → get_or core k 0 ≤ n) → (place < length core → n < get_or core place 0) →
-    numbers ≡ core → more ≡ insert numbers place n → IsWith core n more
-with-by core n place numbers more r new within before behind same is =
-    let e : more ≡ insert core place n = rw same at is in
+pub with-by : (core : List ℕ) (n index : ℕ) (numbers more : List ℕ) → rises_from 0 core ≡ true → (Contains core n → ⊥) → index ≤ length core → ((k : ℕ) → k < index → get_or core k 0 ≤ n) → (index < length core → n < get_or core index 0) →
+    numbers ≡ core → more ≡ insert numbers index n → IsWith core n more
+with-by core n index numbers more r new within before behind same is =
+    let e : more ≡ insert core index n = rw same at is in
     record {
-      place = place;
+      index = index;
       within = within;
       is = e;
-      rises = rw e (rises-insert core place 0 n r (omega arith) within (λ k h. above core n place k new within before h) behind);
+      rises = rw e (rises-insert core index 0 n r (omega arith) within (λ k h. above core n index k new within before h) behind);
     }
 
 pub length-less : (xs : List ℕ) (i : ℕ) → i < length xs → length (remove xs i) + 1 ≡ length xs
@@ -95,17 +100,17 @@ module _ (tests : List Test) (path : Answers) (s : Slot) (core : List ℕ) where
   -- the core with one more test is a core
   pub core-with : (n : ℕ) (more : List ℕ) → IsCore tests path core s → IsAnsweredOn tests path s n → n < length tests → IsWith core n more → IsCore tests path more s
   core-with n more is on within with =
-      let e : more ≡ insert core with.place n = with.is in
+      let e : more ≡ insert core with.index n = with.is in
       record {
-        some = rw e (some-length (insert core with.place n) (omega (arith, length-insert core with.place n with.within)));
+        some = rw e (some-length (insert core with.index n) (omega (arith, length-insert core with.index n with.within)));
         rises = with.rises;
-        within = rw e (All-insert (λ m. m < length tests) core with.place n is.within within);
-        answered = rw e (All-insert (λ m. IsSome (answer_of path m)) core with.place n is.answered on.answered);
-        on_slot = rw e (All-insert (λ m. slot_of (test_at tests m) ≡ s) core with.place n is.on_slot on.on_slot);
+        within = rw e (All-insert (λ m. m < length tests) core with.index n is.within within);
+        answered = rw e (All-insert (λ m. IsSome (answer_of path m)) core with.index n is.answered on.answered);
+        on_slot = rw e (All-insert (λ m. slot_of (test_at tests m) ≡ s) core with.index n is.on_slot on.on_slot);
       }
 
   pub length-with : (n : ℕ) (more : List ℕ) → IsWith core n more → length more ≡ length core + 1
-  length-with n more with = rw with.is (length-insert core with.place n with.within)
+  length-with n more with = rw with.is (length-insert core with.index n with.within)
 
   -- the core without one of its tests is a core where one is left
   pub core-without : (i : ℕ) (fewer : List ℕ) → IsCore tests path core s → fewer ≡ remove core i → 0 < length fewer → IsCore tests path fewer s

@@ -1,5 +1,5 @@
 -- A sample of a pattern is a text that the pattern matches, and where nothing is asked any value answers.
-use Rattle.std.proofs.Common.{◌≡◌, ◌≢◌, ◌≤◌, ℕ, List, [], ◌∷◌, length, take, true, refl, sym, ap, ◌∙◌, subst, codes, nat_eq, arith}
+use Rattle.std.proofs.Common.{◌≡◌, ◌≢◌, ◌≤◌, ℕ, List, [], ◌∷◌, length, take, true, refl, sym, ap, ◌∙◌, subst, codes, arith}
 use Rattle.std.specs.Prelude.{Option, Some, None}
 use Rattle.std.specs.List.{flat_map}
 use Rattle.std.proofs.lemmas.Bool.{and_parts, and_from}
@@ -11,6 +11,7 @@ use Rattle.wildcard_lang.specs.Text.{IsText}
 use Rattle.wildcard_lang.specs.Patterns.{own}
 use Rattle.wildcard_lang.specs.Matching.{Matches, no_pieces, takes_one, is_done, takes_more}
 use Rattle.policy_model.specs.Requests.{IsWord}
+use Rattle.policy_model.specs.Soundness.{WordShapeIsSound}
 use Rattle.formula_tree.specs.Answers.{Answers}
 use Rattle.policy_model.specs.declared.test.Slot.{Slot}
 use Rattle.policy_model.specs.declared.test.Test.{Test}
@@ -19,9 +20,9 @@ use Rattle.slot_theory.specs.declared.outcome.SlotValue.{SlotValue}
 use Rattle.slot_theory.specs.Slots.{AnswersSlot, slot_of}
 use Rattle.slot_theory.specs.Cores.{HasTest}
 use Rattle.std.proofs.lemmas.Option.{get_or_from_slice_get}
-use Rattle.slot_theory.specs.Unasked.{or_x, sample}
+use Rattle.slot_theory.specs.Unasked.{or_x, sample, stated_word}
 
-sample-text : (ps : List Piece) → IsText (flat_map own ps) → IsText (sample ps)
+pub sample-text : (ps : List Piece) → IsText (flat_map own ps) → IsText (sample ps)
 sample-text [] h = refl
 sample-text (Lit c ∷ ps) h = let parts = and_parts _ _ h in and_from _ _ parts.0 (sample-text ps parts.1)
 sample-text (LitFold c ∷ ps) h = let parts = and_parts _ _ h in and_from _ _ parts.0 (sample-text ps parts.1)
@@ -78,6 +79,15 @@ or_x-some t (c ∷ cs) is some = is
 pub or_x-none : (t u : List ℕ) → t ≡ u → t ≡ [] → codes "x" ≡ or_x u
 or_x-none t [] is none = refl
 or_x-none t (c ∷ cs) is none = absurd (cc (is, none))
+
+or_x-word : (shape : List Piece) (t : List ℕ) → t ≡ sample shape → IsText t → shape ≢ [] → IsWord (Some shape) (or_x t)
+or_x-word shape [] is text some = word-x shape [] some is refl
+or_x-word shape (c ∷ cs) is text some = word-sample shape (c ∷ cs) is (λ e. absurd cc) text
+
+-- the stated word is a word of its shape
+pub stated-is-word : (shape : Option (List Piece)) → WordShapeIsSound shape → IsWord shape (stated_word shape)
+stated-is-word None sound = word-free
+stated-is-word (Some shape) sound = or_x-word shape (sample shape) refl (sample-text shape sound.pattern.scalars) (λ e. sound.some (ap (λ (ps : List Piece). Some ps) e))
 
 -- what isn't asked is answered by any value
 pub unasked-answers : (tests : List Test) (path : Answers) (s : Slot) (v : SlotValue) → ¬ HasTest tests path s → AnswersSlot tests path s v

@@ -10,7 +10,7 @@ use Rattle.formula_tree.specs.Answers.{Answers, answer_of}
 use Rattle.pattern_automata.specs.declared.wants.Literal.{Literal}
 use Rattle.pattern_automata.specs.declared.wants.Wants.{Wants}
 use Rattle.pattern_automata.specs.Closed.{InRange, IsClosed, IsLiteralMet, Meets}
-use Rattle.pattern_automata.proofs.Empty.{closed_sets_are_empty}
+use Rattle.pattern_automata.proofs.Laws.{closed_sets_are_empty}
 use Rattle.policy_model.specs.declared.test.Test.{Test}
 use Rattle.policy_model.specs.Requests.{FitsShape, IsWord}
 use Rattle.slot_theory.specs.Slots.{HasPattern, pattern_of, some_word, test_at}

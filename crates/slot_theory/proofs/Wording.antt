@@ -10,7 +10,7 @@ use Rattle.policy_model.specs.declared.test.Test.{Test}
 use Rattle.policy_model.specs.declared.test.Test.TheVariants.{Principal, Action, Resource}
 use Rattle.slot_theory.specs.declared.outcome.SlotValue.{SlotValue}
 use Rattle.slot_theory.specs.Slots.{IsBuiltSlot, AnswersSlot, is_on, slot_of, test_at, AnswersTest}
-use Rattle.slot_theory.specs.Possible.{InRange}
+use Rattle.slot_theory.specs.Possible.{PathInRange}
 use Rattle.slot_theory.specs.Cores.{HasTest, IsAnsweredOn}
 use Rattle.slot_theory.specs.Steps.{IsOtherwise, IsWrong}
 
@@ -44,14 +44,14 @@ answer-place (p ∷ ps) n b h =
           (suc w.0, omega (arith, w.1), w.2)
     ]
 
-pub range-at : (tests : List Test) (ps : Answers) (i : ℕ) (d : ℕ × Bool) → InRange tests ps → IsDistinct ps → i < length ps → (get_or ps i d).0 < length tests
+pub range-at : (tests : List Test) (ps : Answers) (i : ℕ) (d : ℕ × Bool) → PathInRange tests ps → IsDistinct ps → i < length ps → (get_or ps i d).0 < length tests
 range-at tests ps i d range h l = range _ _ (answer-at ps i d h l)
 
 some-answer : (o : Option Bool) → IsSome o → (b : Bool) × (o ≡ Some b)
 some-answer None h = absurd (cc)
 some-answer (Some b) h = (b, refl)
 
-pub on-within : (tests : List Test) (path : Answers) (s : Slot) (n : ℕ) → InRange tests path → IsAnsweredOn tests path s n → n < length tests
+pub on-within : (tests : List Test) (path : Answers) (s : Slot) (n : ℕ) → PathInRange tests path → IsAnsweredOn tests path s n → n < length tests
 on-within tests path s n range on = let w = some-answer (answer_of path n) on.answered in range n w.0 w.1
 
 -- ---- the slot of a test
@@ -110,7 +110,7 @@ slot-answered tests ps s v each n b t answered at on =
 pub own-test : (tests : List Test) (n : ℕ) (t : Test) → n < length tests → t ≡ get_or tests n t → t ≡ test_at tests n
 own-test tests n t h read = read ∙ get_or_default tests n t (Action []) h
 
-module _ (tests : List Test) (ps : Answers) (s : Slot) (range : InRange tests ps) (distinct : IsDistinct ps) where
+module _ (tests : List Test) (ps : Answers) (s : Slot) (range : PathInRange tests ps) (distinct : IsDistinct ps) where
   abbrev at : ℕ → ℕ × Bool → ℕ
   at i d = (get_or ps i d).0
 

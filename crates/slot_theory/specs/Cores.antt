@@ -36,11 +36,11 @@ pub record HasTest (tests : List Test) (path : Answers) (s : Slot) : Type 0 wher
   pub number : ℕ
   pub is : IsAnsweredOn tests path s number
 
--- the core with one more test, at its place
+-- the core with one more test, where its number belongs
 pub record IsWith (core : List ℕ) (n : ℕ) (more : List ℕ) : Type 0 where
-  pub place : ℕ
-  pub within : place ≤ length core
-  pub is : more ≡ insert core place n
+  pub index : ℕ
+  pub within : index ≤ length core
+  pub is : more ≡ insert core index n
   pub rises : rises_from 0 more ≡ true
 
 -- the tests among these that have no fixed answer for the kind
@@ -55,7 +55,8 @@ IsContradicted tests path k n = IsSomeAnd (fixed_at k (test_at tests n)) (λ b. 
 -- a closed set for what its tests without one want of an id
 abbrev pub KindShows : Schema → List Test → Answers → List ℕ → PrincipalKind → KindProof → Type 0
 KindShows schema tests path core k Never = Any (IsContradicted tests path k) core
-KindShows schema tests path core k (Closed closed) = IsClosedFor tests path (open_tests tests k core) (shape_of schema.shapes k) closed
+KindShows schema tests path core k (Closed closed) =
+    IsClosedFor tests path (open_tests tests k core) (shape_of schema.shapes k) closed
 
 -- the proof shows that no value of the slot answers the core as the path does: a word by a closed set, a principal kind by kind
 abbrev pub Shows : Schema → List Test → Answers → List ℕ → Slot → SlotProof → Type 0
@@ -64,8 +65,13 @@ Shows schema tests path core s (Kinds aws service federated canonical_user) =
     (s ≡ slot.Principal) × KindShows schema tests path core Aws aws × KindShows schema tests path core Service service ×
     KindShows schema tests path core Federated federated × KindShows schema tests path core CanonicalUser canonical_user
 
--- the core and its proof are accepted under the path
+-- the core is one of the slot, and the proof shows that no value of the slot answers it as the path does
+pub record IsConflict (schema : Schema) (tests : List Test) (path : Answers) (s : Slot) (core : List ℕ) (proof : SlotProof)
+    : Type 0 where
+  pub core_is : IsCore tests path core s
+  pub shows : Shows schema tests path core s proof
+
+-- the core and its proof are accepted under the path: they are a conflict of some slot
 pub record Accepts (schema : Schema) (tests : List Test) (path : Answers) (core : List ℕ) (proof : SlotProof) : Type 0 where
   pub slot : Slot
-  pub core_is : IsCore tests path core slot
-  pub shows : Shows schema tests path core slot proof
+  pub conflict : IsConflict schema tests path slot core proof

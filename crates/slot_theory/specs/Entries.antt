@@ -29,7 +29,8 @@ any_part = ManyNoColon ∷ Lit 58 ∷ []
 
 -- the pattern of the ids of an account: `arn:*:*:*:ACCOUNT:*`, of which the first three wildcards take no colon
 abbrev pub account_pattern : List ℕ → List Piece
-account_pattern account = literals false (codes "arn:") ++ (any_part ++ (any_part ++ (any_part ++ (literals false account ++ Lit 58 ∷ Many ∷ []))))
+account_pattern account =
+    literals false (codes "arn:") ++ (any_part ++ (any_part ++ (any_part ++ (literals false account ++ Lit 58 ∷ Many ∷ []))))
 
 -- the pattern that the entry asks the ids of a kind to match where it has no fixed answer
 abbrev pub entry_pattern : Entry → Option (List Piece)

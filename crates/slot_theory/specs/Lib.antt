@@ -6,4 +6,5 @@ pub mod Cores
 pub mod Outcome
 pub mod Unasked
 pub mod Steps
-pub mod Laws
+pub mod Question
+pub mod Acceptance

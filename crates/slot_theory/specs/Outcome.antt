@@ -8,11 +8,11 @@ use Rattle.policy_model.specs.declared.test.Test.{Test}
 use Rattle.slot_theory.specs.declared.outcome.Possible.{Possible}
 use Rattle.slot_theory.specs.declared.outcome.Possible.TheVariants.{Found, Conflict, TooMany}
 use Rattle.slot_theory.specs.Slots.{IsSlotValue, patterns_at}
-use Rattle.slot_theory.specs.Cores.{Accepts}
+use Rattle.slot_theory.specs.Cores.{IsConflict}
 
--- a value of the slot at the path; or a core and proof that are accepted;
--- or one more text than the number of states, with different lists of places of the slot's patterns
-abbrev pub IsOutcome : Schema → List Test → Answers → Slot → ℕ → Possible → Type 0
-IsOutcome schema tests path s states (Found v) = IsSlotValue schema tests path s v
-IsOutcome schema tests path s states (Conflict core proof) = Accepts schema tests path core proof
-IsOutcome schema tests path s states (TooMany texts) = ShowWider (patterns_at schema tests path s) states texts
+-- a value of the slot at the path; or a core of the slot with a proof that no value answers it as the path does;
+-- or one more text than the number of states, with different product states of the slot's patterns
+abbrev pub IsSlotOutcome : Schema → List Test → Answers → Slot → ℕ → Possible → Type 0
+IsSlotOutcome schema tests path s states (Found v) = IsSlotValue schema tests path s v
+IsSlotOutcome schema tests path s states (Conflict core proof) = IsConflict schema tests path s core proof
+IsSlotOutcome schema tests path s states (TooMany texts) = ShowWider (patterns_at schema tests path s) states texts

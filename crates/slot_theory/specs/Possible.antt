@@ -8,16 +8,20 @@ use Rattle.policy_model.specs.Requests.{IsValid}
 use Rattle.policy_model.specs.Tests.{TestHolds}
 
 -- each answered test has a number in range
-abbrev pub InRange : List Test → Answers → Type 0
-InRange tests path = (n : ℕ) (b : Bool) → answer_of path n ≡ Some b → n < length tests
+abbrev pub PathInRange : List Test → Answers → Type 0
+PathInRange tests path = (n : ℕ) (b : Bool) → answer_of path n ≡ Some b → n < length tests
 
 -- the request answers each answered test as the path does
 abbrev pub AnswersPath : List Test → Answers → Request → Type 0
-AnswersPath tests path r = (n : ℕ) (b : Bool) (t : Test) → answer_of path n ≡ Some b → slice_get tests n ≡ Some t → MatchBool b (TestHolds r t) (¬ TestHolds r t)
+AnswersPath tests path r =
+    (n : ℕ) (b : Bool) (t : Test) → answer_of path n ≡ Some b → slice_get tests n ≡ Some t →
+    MatchBool b (TestHolds r t) (¬ TestHolds r t)
 
 -- the request answers each test of the core as the path does
 abbrev pub AnswersCore : List Test → Answers → List ℕ → Request → Type 0
-AnswersCore tests path core r = (n : ℕ) (b : Bool) (t : Test) → Contains core n → answer_of path n ≡ Some b → slice_get tests n ≡ Some t → MatchBool b (TestHolds r t) (¬ TestHolds r t)
+AnswersCore tests path core r =
+    (n : ℕ) (b : Bool) (t : Test) → Contains core n → answer_of path n ≡ Some b → slice_get tests n ≡ Some t →
+    MatchBool b (TestHolds r t) (¬ TestHolds r t)
 
 -- some valid request answers the path
 pub record IsPossible (schema : Schema) (tests : List Test) (path : Answers) : Type 0 where

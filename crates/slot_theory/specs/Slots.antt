@@ -1,17 +1,23 @@
 -- The slots of a request, the tests on each of them, and the values that answer them.
-use Rattle.std.specs.Prelude.{◌≡◌, ⊤, ℕ, ◌+◌, ◌&&◌, List, [], ◌∷◌, ◌++◌, Bool, true, false, Option, Some, None, is_some, IsSome, slice_get, slice_index_or, MatchBool, if◌then◌else◌}
+use Rattle.std.specs.Prelude.{◌≡◌, ⊤, ℕ, ◌+◌, ◌&&◌, List, [], ◌∷◌, ◌++◌, flat_map, slice_get, slice_index_or}
+use Rattle.std.specs.Prelude.{Bool, true, false, Option, Some, None, is_some, unwrap_or, IsSome, MatchBool, if◌then◌else◌}
 use Rattle.std.specs.Option.{option_to_list}
+use Rattle.text_table.specs.Table.{item_at}
 use Rattle.wildcard_lang.specs.declared.piece.Piece.{Piece}
 use Rattle.wildcard_lang.specs.declared.piece.Piece.TheVariants.{One, Many}
 use Rattle.wildcard_lang.specs.Matching.{Matches}
+use Rattle.wildcard_lang.specs.Reading.{literals}
 use Rattle.formula_tree.specs.Answers.{Answers, answer_of}
 use Rattle.policy_model.specs.declared.principal.PrincipalKind.{PrincipalKind}
+use Rattle.policy_model.specs.declared.schema.KeyRule.{KeyRule}
 use Rattle.policy_model.specs.declared.schema.Shapes.{Shapes}
 use Rattle.policy_model.specs.declared.schema.Schema.{Schema}
 use Rattle.policy_model.specs.declared.test.Slot.{Slot}
 use Rattle.policy_model.specs.declared.test.Slot.TheVariants as slot
 use Rattle.policy_model.specs.declared.test.Test.{Test}
 use Rattle.policy_model.specs.declared.test.Test.TheVariants.{Principal, Action, Resource}
+use Rattle.policy_model.specs.declared.value.Value.{Value}
+use Rattle.policy_model.specs.declared.value.Value.TheVariants.{Word, Truth}
 use Rattle.policy_model.specs.Principals.{EntryNames}
 use Rattle.policy_model.specs.Requests.{IsWord, shape_of}
 use Rattle.slot_theory.specs.Entries.{entry_pattern, fixed_answer}
@@ -78,21 +84,38 @@ shape_at schema (slot.Key name) = None
 
 -- the shapes of the ids of principals, in the order of the kinds
 abbrev pub id_shapes : Shapes → List (List Piece)
-id_shapes shapes = option_to_list shapes.aws ++ (option_to_list shapes.service ++ (option_to_list shapes.federated ++ option_to_list shapes.canonical_user))
+id_shapes shapes =
+    option_to_list shapes.aws ++
+    (option_to_list shapes.service ++ (option_to_list shapes.federated ++ option_to_list shapes.canonical_user))
 
--- the shapes that the schema gives the values of the slot
-abbrev pub shapes_at : Schema → Slot → List (List Piece)
-shapes_at schema slot.Principal = id_shapes schema.shapes
-shapes_at schema s = option_to_list (shape_at schema s)
+-- a listed text, as the pattern that matches it alone
+abbrev pub listed_pattern : Value → List (List Piece)
+listed_pattern (Word t) = literals false t ∷ []
+listed_pattern (Truth b) = []
+
+-- what the rule of a key asks of its values: its shape, or its listed texts in their order
+abbrev pub rule_patterns : KeyRule → List (List Piece)
+rule_patterns rule = option_to_list rule.shape ++ flat_map listed_pattern (unwrap_or rule.among [])
+
+-- what the schema asks of every value of the slot: a word matches `?*` and its shape, an id the shape of its kind, and a key's
+-- value what its rule asks
+abbrev pub asked_by_schema : Schema → Slot → List (List Piece)
+asked_by_schema schema slot.Principal = some_word ∷ id_shapes schema.shapes
+asked_by_schema schema slot.Action = some_word ∷ option_to_list schema.shapes.action
+asked_by_schema schema slot.Resource = some_word ∷ option_to_list schema.shapes.resource
+asked_by_schema schema (slot.Key name) = flat_map rule_patterns (option_to_list (item_at name schema.keys))
 
 -- the patterns of the answered tests of the slot among these, which are numbered from n on
 abbrev pub answered_patterns : List Test → Answers → Slot → ℕ → List (List Piece)
 answered_patterns [] path s n = []
-answered_patterns (t ∷ ts) path s n = (if is_on s t && is_some (answer_of path n) then option_to_list (pattern_of t) ++ answered_patterns ts path s (n + 1) else answered_patterns ts path s (n + 1))
+answered_patterns (t ∷ ts) path s n =
+    (if is_on s t && is_some (answer_of path n) then option_to_list (pattern_of t) ++ answered_patterns ts path s (n + 1)
+    else answered_patterns ts path s (n + 1))
 
--- the patterns of a slot at a path: those of its answered tests in the order of their numbers, then `?*`, then the shapes
+-- the patterns of a slot at a path: those of its answered tests in the order of their numbers, and then what the schema asks: of
+-- the principal, the action and the resource `?*` and then the shapes, of a key its shape or its listed texts
 abbrev pub patterns_at : Schema → List Test → Answers → Slot → List (List Piece)
-patterns_at schema tests path s = answered_patterns tests path s 0 ++ some_word ∷ shapes_at schema s
+patterns_at schema tests path s = answered_patterns tests path s 0 ++ asked_by_schema schema s
 
 -- the schema permits the value in the slot
 abbrev pub Permits : Schema → Slot → SlotValue → Type 0
@@ -119,7 +142,8 @@ AnswersTest v t answer = MatchBool answer (ValueMeets v t) (¬ ValueMeets v t)
 
 -- the value answers each answered test of the slot as the path does
 abbrev pub AnswersSlot : List Test → Answers → Slot → SlotValue → Type 0
-AnswersSlot tests path s v = (n : ℕ) (b : Bool) (t : Test) → answer_of path n ≡ Some b → slice_get tests n ≡ Some t → slot_of t ≡ s → AnswersTest v t b
+AnswersSlot tests path s v =
+    (n : ℕ) (b : Bool) (t : Test) → answer_of path n ≡ Some b → slice_get tests n ≡ Some t → slot_of t ≡ s → AnswersTest v t b
 
 -- a value of the slot at the path: the schema permits it, and it answers the slot's tests as the path does
 abbrev pub IsSlotValue : Schema → List Test → Answers → Slot → SlotValue → Type 0

@@ -4,60 +4,58 @@ ghost use Rattle.policy_model.specs.declared.test.Slot.TheVariants.{Principal};
 ghost use Rattle.policy_model.specs.Soundness.{TestSuits};
 ghost use Rattle.slot_theory.specs.declared.outcome.SlotProof.TheVariants.{Word};
 ghost use Rattle.slot_theory.specs.Slots.{IsWordSlot};
-ghost use Rattle.slot_theory.specs.Possible.{InRange};
-ghost use Rattle.slot_theory.specs.Cores.{Accepts, IsCore, KindShows, Shows};
+ghost use Rattle.slot_theory.specs.Possible.{PathInRange};
+ghost use Rattle.slot_theory.specs.Cores.{Accepts};
+ghost use Rattle.slot_theory.specs.Question.{IsAskable, IsConflictOf, IsCoreOf, KindShowsOf, ShowsOf};
 
 use crate::cores::is_core;
 use crate::kinds::{is_contradicted, open_tests};
 use crate::outcome::{Core, KindProof, SlotProof};
+use crate::question::Question;
 use crate::slots::{shape_at, slot_of};
 use crate::wants::is_closed_for;
 use formula_tree::Path;
 use pattern_automata::Closed;
 use plain_lists::NoMemory;
 use policy_model::PrincipalKind::{self, Aws, CanonicalUser, Federated, Service};
-use policy_model::{Schema, Slot, Test, TestList, shape_of};
+use policy_model::{Schema, Slot, TestList, shape_of};
 use std::alloc::Global;
 
 /// Whether the set is closed for what the core wants of a word.
 fn word_shows(
     alloc: Global,
-    schema: &Schema,
-    tests: &[Test],
-    path: &Path,
+    question: &Question<'_>,
     core: &[u32],
-    slot: &Slot,
     closed: &Closed,
 ) -> Result<bool, NoMemory>
-    requires suit { All (TestSuits schema.now) tests.now }
-    requires core { IsCore tests.now path.now core.now slot.now }
-    requires slot { IsWordSlot slot.now }
-    ensures { IfOk result (λ yes. IsTrue yes ↔ Shows schema.now tests.now path.now core.now slot.now (Word closed.now)) }
+    requires askable { IsAskable question.now }
+    requires core { IsCoreOf question.now core.now }
+    requires slot { IsWordSlot question.now.slot.now }
+    ensures { IfOk result (λ yes. IsTrue yes ↔ ShowsOf question.now core.now (Word closed.now)) }
 {
-    let shape = shape_at(schema, slot);
-    is_closed_for(alloc, tests, path, core, shape, closed)
+    let shape = shape_at(question.schema, question.slot);
+    is_closed_for(alloc, question, core, shape, closed)
 }
 
 /// Whether the proof shows that no principal of the kind answers the core as the path does.
 fn kind_shows(
     alloc: Global,
-    schema: &Schema,
-    tests: &[Test],
-    path: &Path,
+    question: &Question<'_>,
     core: &[u32],
     kind: PrincipalKind,
     proof: &KindProof,
 ) -> Result<bool, NoMemory>
-    requires suit { All (TestSuits schema.now) tests.now }
-    requires core { IsCore tests.now path.now core.now Principal }
-    ensures { IfOk result (λ yes. IsTrue yes ↔ KindShows schema.now tests.now path.now core.now kind proof.now) }
+    requires askable { IsAskable question.now }
+    requires core { IsCoreOf question.now core.now }
+    requires slot { question.now.slot.now ≡ Principal }
+    ensures { IfOk result (λ yes. IsTrue yes ↔ KindShowsOf question.now core.now kind proof.now) }
 {
     match proof {
-        KindProof::Never => Ok(is_contradicted(tests, path, core, kind)),
+        KindProof::Never => Ok(is_contradicted(question.tests, question.path, core, kind)),
         KindProof::Closed(closed) => {
-            let open = open_tests(alloc, tests, core, kind)?;
-            let shape = shape_of(&schema.shapes, kind);
-            is_closed_for(alloc, tests, path, open.as_slice(), shape, closed)
+            let open = open_tests(alloc, question.tests, core, kind)?;
+            let shape = shape_of(&question.schema.shapes, kind);
+            is_closed_for(alloc, question, open.as_slice(), shape, closed)
         }
     }
 }
@@ -65,27 +63,24 @@ fn kind_shows(
 /// Whether the proof shows that no value of the slot answers the core as the path does.
 fn shows(
     alloc: Global,
-    schema: &Schema,
-    tests: &[Test],
-    path: &Path,
+    question: &Question<'_>,
     core: &[u32],
-    slot: &Slot,
     proof: &SlotProof,
 ) -> Result<bool, NoMemory>
-    requires suit { All (TestSuits schema.now) tests.now }
-    requires core { IsCore tests.now path.now core.now slot.now }
-    ensures { IfOk result (λ yes. IsTrue yes ↔ Shows schema.now tests.now path.now core.now slot.now proof.now) }
+    requires askable { IsAskable question.now }
+    requires core { IsCoreOf question.now core.now }
+    ensures { IfOk result (λ yes. IsTrue yes ↔ ShowsOf question.now core.now proof.now) }
 {
-    match (slot, proof) {
+    match (question.slot, proof) {
         (Slot::Action | Slot::Resource, SlotProof::Word(closed)) => {
-            word_shows(alloc, schema, tests, path, core, slot, closed)
+            word_shows(alloc, question, core, closed)
         }
         (Slot::Principal, SlotProof::Kinds(aws, service, federated, canonical)) => {
             Ok(
-                kind_shows(alloc, schema, tests, path, core, Aws, aws)?
-                    && kind_shows(alloc, schema, tests, path, core, Service, service)?
-                    && kind_shows(alloc, schema, tests, path, core, Federated, federated)?
-                    && kind_shows(alloc, schema, tests, path, core, CanonicalUser, canonical)?,
+                kind_shows(alloc, question, core, Aws, aws)?
+                    && kind_shows(alloc, question, core, Service, service)?
+                    && kind_shows(alloc, question, core, Federated, federated)?
+                    && kind_shows(alloc, question, core, CanonicalUser, canonical)?,
             )
         }
         _ => Ok(false),
@@ -93,23 +88,19 @@ fn shows(
 }
 
 /// Whether the core is one of the slot, and the proof shows that no value answers it as the path does.
-fn accepts_on(
+fn is_conflict(
     alloc: Global,
-    schema: &Schema,
-    tests: &[Test],
-    path: &Path,
+    question: &Question<'_>,
     core: &[u32],
-    slot: &Slot,
     proof: &SlotProof,
 ) -> Result<bool, NoMemory>
-    requires suit { All (TestSuits schema.now) tests.now }
-    requires range { InRange tests.now path.now }
-    ensures { IfOk result (λ yes. IsTrue yes ↔ (IsCore tests.now path.now core.now slot.now × Shows schema.now tests.now path.now core.now slot.now proof.now)) }
+    requires askable { IsAskable question.now }
+    ensures { IfOk result (λ yes. IsTrue yes ↔ IsConflictOf question.now core.now proof.now) }
 {
-    if !is_core(tests, path, slot, core) {
+    if !is_core(question.tests, question.path, question.slot, core) {
         return Ok(false);
     }
-    shows(alloc, schema, tests, path, core, slot, proof)
+    shows(alloc, question, core, proof)
 }
 
 /// Whether the core and its proof are accepted under the path: the core has a test, its numbers
@@ -120,7 +111,8 @@ fn accepts_on(
 /// shape want of a word. For the principal it shows kind by kind that none answers so: a test with a
 /// fixed answer for the kind that isn't the path's, or a closed set for the tests without one.
 ///
-/// The tests suit the schema, and the path's are in range. The only error is want of memory.
+/// The tests suit the schema and are numbered by 32 bits, and the path's are in range. The only error
+/// is want of memory.
 pub fn accepts(
     alloc: Global,
     schema: &Schema,
@@ -131,8 +123,9 @@ pub fn accepts(
 ) -> Result<bool, NoMemory>
     requires suit { All (TestSuits schema.now) tests.now }
     requires count { length tests.now < 2 ^ 32 }
-    requires range { InRange tests.now path.now }
-    ensures { IfOk result (λ yes. IsTrue yes ↔ Accepts schema.now tests.now path.now core.now proof.now) }
+    requires range { PathInRange tests.now path.now }
+    ensures { IfOk result (λ yes.
+        IsTrue yes ↔ Accepts schema.now tests.now path.now core.now proof.now) }
 {
     let Some(first) = core.get(0) else {
         return Ok(false);
@@ -141,13 +134,11 @@ pub fn accepts(
         return Ok(false);
     };
     let slot = slot_of(alloc, test)?;
-    accepts_on(
-        alloc,
+    let question = Question {
         schema,
-        tests.as_slice(),
+        tests: tests.as_slice(),
         path,
-        core.as_slice(),
-        &slot,
-        proof,
-    )
+        slot: &slot,
+    };
+    is_conflict(alloc, &question, core.as_slice(), proof)
 }

@@ -1,7 +1,7 @@
 //! Cores: lists of test numbers that strictly rise.
 ghost use Rattle.std.specs.Prelude.{◌≡◌, ◌<◌, ◌≤◌, ◌↔◌, ℕ, true, IfOk, IsTrue, All, Contains, length, slice_index, remove};
 ghost use Rattle.pattern_automata.specs.Closed.{rises_from};
-ghost use Rattle.slot_theory.specs.Possible.{InRange};
+ghost use Rattle.slot_theory.specs.Possible.{PathInRange};
 ghost use Rattle.slot_theory.specs.Cores.{IsAnsweredOn, IsCore, IsWith};
 
 use crate::outcome::Core;
@@ -14,7 +14,7 @@ use std::alloc::Global;
 
 /// Whether the path answers the test, and the test is on the slot.
 fn is_answered_on(tests: &[Test], path: &Path, slot: &Slot, n: u32) -> bool
-    requires range { InRange tests.now path.now }
+    requires range { PathInRange tests.now path.now }
     ensures { IsTrue result ↔ IsAnsweredOn tests.now path.now slot.now n }
 {
     match path.answer(n) {
@@ -25,7 +25,7 @@ fn is_answered_on(tests: &[Test], path: &Path, slot: &Slot, n: u32) -> bool
 
 /// Whether the path answers each test, and each is on the slot.
 fn all_answered_on(tests: &[Test], path: &Path, slot: &Slot, core: &[u32]) -> bool
-    requires range { InRange tests.now path.now }
+    requires range { PathInRange tests.now path.now }
     ensures { IsTrue result ↔ All (IsAnsweredOn tests.now path.now slot.now) core.now }
 {
     for n in core {
@@ -38,7 +38,7 @@ fn all_answered_on(tests: &[Test], path: &Path, slot: &Slot, core: &[u32]) -> bo
 
 /// Whether the numbers are a core of the slot.
 pub fn is_core(tests: &[Test], path: &Path, slot: &Slot, core: &[u32]) -> bool
-    requires range { InRange tests.now path.now }
+    requires range { PathInRange tests.now path.now }
     ensures { IsTrue result ↔ IsCore tests.now path.now core.now slot.now }
 {
     if core.is_empty() || !rises(core) {
@@ -47,8 +47,8 @@ pub fn is_core(tests: &[Test], path: &Path, slot: &Slot, core: &[u32]) -> bool
     all_answered_on(tests, path, slot, core)
 }
 
-/// The place of the first number above n, or the length where there is none.
-fn place_of(core: &[u32], n: u32) -> usize
+/// The index of the first number above n, or the length where there is none.
+fn index_of(core: &[u32], n: u32) -> usize
     ensures within { result ≤ length core.now }
     ensures before { (k : ℕ) → k < result → slice_index core.now k ≤ n }
     ensures behind { result < length core.now → n < slice_index core.now result }
@@ -67,18 +67,18 @@ pub fn with_test(alloc: Global, core: &[u32], n: u32) -> Result<Core, NoMemory>
     requires new { Contains core.now n → ⊥ }
     ensures { IfOk result (IsWith core.now n) }
 {
-    let place = place_of(core, n);
+    let index = index_of(core, n);
     let mut numbers = Vec::from_slice(alloc, core)?;
-    numbers.insert(place, n)?;
+    numbers.insert(index, n)?;
     Ok(Core::from_vec(numbers))
 }
 
-/// The core without the test at a place.
-pub fn without(alloc: Global, core: &[u32], place: usize) -> Result<Core, NoMemory>
-    requires { place < length core.now }
-    ensures { IfOk result (λ v. v ≡ remove core.now place) }
+/// The core without the test at an index.
+pub fn without(alloc: Global, core: &[u32], index: usize) -> Result<Core, NoMemory>
+    requires { index < length core.now }
+    ensures { IfOk result (λ v. v ≡ remove core.now index) }
 {
     let mut numbers = Vec::from_slice(alloc, core)?;
-    numbers.remove(place);
+    numbers.remove(index);
     Ok(Core::from_vec(numbers))
 }

@@ -1,13 +1,12 @@
 //! What an entry asks of the principals of one kind: a fixed answer, or a pattern of their ids.
-ghost use Rattle.std.specs.Prelude.{◌≡◌, ◌≤◌, None, Some, Ok, false, IfOk, length, if◌then◌else◌};
-ghost use Rattle.wildcard_lang.specs.Reading.{literals};
+ghost use Rattle.std.specs.Prelude.{◌≡◌, None, Some, false, IfOk, if◌then◌else◌};
 ghost use Rattle.policy_model.specs.Soundness.{EntryIsSound, IsAccount};
 ghost use Rattle.slot_theory.specs.Entries.{account_pattern, entry_pattern, fixed_answer, is_kind};
 
 use plain_lists::NoMemory;
 use policy_model::{Entry, PrincipalKind};
-use std::alloc::{AllocError, Global};
-use wildcard_lang::{Pattern, PatternFault, Text, read_arn, read_literal};
+use std::alloc::Global;
+use wildcard_lang::{Pattern, Piece, Text};
 
 /// Whether the kinds are the same.
 fn is_kind(kind: PrincipalKind, other: PrincipalKind) -> bool
@@ -40,33 +39,33 @@ pub fn fixed_answer(entry: &Entry, kind: PrincipalKind) -> Option<bool>
     }
 }
 
-/// The pattern that was read. Any fault counts as want of memory.
-pub fn or_no_memory(read: Result<Pattern, PatternFault>) -> Result<Pattern, NoMemory>
-    ensures { IfOk result (λ p. read ≡ Ok p) }
-{
-    match read {
-        Ok(pattern) => Ok(pattern),
-        Err(_) => Err(AllocError),
-    }
-}
-
-/// The pattern that matches this text alone.
-fn literal(alloc: Global, text: &Text) -> Result<Pattern, NoMemory>
-    requires { length text.now ≤ 2048 }
-    ensures { IfOk result (λ p. p ≡ literals false text.now) }
-{
-    let text = text.to_utf8()?;
-    or_no_memory(read_literal(alloc, &text, false, false))
-}
+/// The pieces before the account in the pattern of its ids: `arn:*:*:*:`, of which no wildcard takes
+/// a colon.
+const BEFORE_ACCOUNT: [Piece; 10] = [
+    Piece::Lit('a'),
+    Piece::Lit('r'),
+    Piece::Lit('n'),
+    Piece::Lit(':'),
+    Piece::ManyNoColon,
+    Piece::Lit(':'),
+    Piece::ManyNoColon,
+    Piece::Lit(':'),
+    Piece::ManyNoColon,
+    Piece::Lit(':'),
+];
 
 /// The pattern of the ids of an account.
 fn account_pattern(alloc: Global, account: &Text) -> Result<Pattern, NoMemory>
     requires { IsAccount account.now }
     ensures { IfOk result (λ p. p ≡ account_pattern account.now) }
 {
-    let account = account.to_utf8()?;
-    let text = format!(in alloc; "arn:*:*:*:{account}:*")?;
-    or_no_memory(read_arn(alloc, &text, false))
+    let mut pieces = Vec::from_slice(alloc, &BEFORE_ACCOUNT)?;
+    for c in account.as_slice() {
+        pieces.push(Piece::Lit(*c))?;
+    }
+    pieces.push(Piece::Lit(':'))?;
+    pieces.push(Piece::Many)?;
+    Ok(Pattern::from_pieces(pieces))
 }
 
 /// The pattern that the entry asks ids to match where it has no fixed answer, if it ever asks so.
@@ -77,6 +76,6 @@ pub fn entry_pattern(alloc: Global, entry: &Entry) -> Result<Option<Pattern>, No
     match entry {
         Entry::All | Entry::Kind(_) => Ok(None),
         Entry::Account(account) => Ok(Some(account_pattern(alloc, account)?)),
-        Entry::Exact(_, id) => Ok(Some(literal(alloc, id)?)),
+        Entry::Exact(_, id) => Ok(Some(Pattern::literal(alloc, id)?)),
     }
 }

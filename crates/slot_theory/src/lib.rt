@@ -2,13 +2,14 @@
 //! that there is none.
 #![tactic(auto)]
 
+mod acceptance;
 mod attempt;
 mod check;
 mod cores;
 mod entries;
 mod kinds;
-mod laws;
 mod outcome;
+mod question;
 mod search;
 mod slots;
 mod steps;
@@ -16,12 +17,9 @@ mod trial;
 mod unasked;
 mod wants;
 
+pub use acceptance::{accepted_cores_are_impossible, accepts_by_the_core_alone};
 pub use check::accepts;
-pub use laws::accepted_cores_are_impossible;
 pub use outcome::{Core, KindProof, Possible, SlotProof, SlotValue};
 pub use search::possible;
 pub use slots::{meets, slot_of};
 pub use unasked::{sample, stated_value};
-
-#[cfg(test)]
-mod tests;

@@ -33,7 +33,7 @@ pub enum KindProof {
     /// Some test of the core has the same answer for all principals of the kind, and the path has
     /// the other one.
     Never,
-    /// No id does: a closed set of lists of places for the patterns of the core's tests on which the
+    /// No id does: a closed set of product states for the patterns of the core's tests on which the
     /// answer depends on the id.
     Closed(Closed),
 }
@@ -41,7 +41,7 @@ pub enum KindProof {
 /// Why the tests of a core can't be answered as a path answers them.
 #[derive(Drop)]
 pub enum SlotProof {
-    /// No word does: a closed set of lists of places for the core's patterns.
+    /// No word does: a closed set of product states for the core's patterns.
     Word(Closed),
     /// No principal does: of the kinds `Aws`, `Service`, `Federated` and `CanonicalUser`, in this
     /// order.
@@ -58,6 +58,6 @@ pub enum Possible {
     Found(SlotValue),
     /// Tests of the slot that no value answers as the path does.
     Conflict(Core, SlotProof),
-    /// One more text than the number of states, with pairwise different lists of places.
+    /// One more text than the number of states, with pairwise different product states.
     TooMany(TextList),
 }

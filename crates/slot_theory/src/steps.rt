@@ -7,7 +7,7 @@ use wildcard_lang::TextList;
 pub enum Attempt {
     /// There is none.
     Empty(SlotProof),
-    /// There are too many lists of places.
+    /// There are too many product states.
     Full(TextList),
     /// It answers all tests of the slot as the path does.
     Right(SlotValue),

@@ -2,18 +2,20 @@
 ghost use Rattle.std.specs.Prelude.{◌≡◌, MatchBool, MatchOption};
 ghost use Rattle.formula_tree.specs.Answers.{IsDistinct};
 ghost use Rattle.slot_theory.specs.Slots.{AnswersSlot, slot_of, AnswersTest};
-ghost use Rattle.slot_theory.specs.Possible.{InRange};
+ghost use Rattle.slot_theory.specs.Possible.{PathInRange};
+ghost use Rattle.slot_theory.specs.Question.{IsAskable};
 ghost use Rattle.slot_theory.specs.Steps.{IsOtherwise, IsTried, IsWrong};
 
 use crate::outcome::SlotValue;
+use crate::question::Question;
 use crate::slots::{is_on, meets};
 use crate::steps::Attempt;
-use formula_tree::Path;
 use policy_model::{Slot, Test};
 
 /// Whether the test is on the slot and the value answers it otherwise.
 fn is_wrong(slot: &Slot, test: &Test, value: &SlotValue, holds: bool) -> bool
-    ensures { MatchBool result (IsOtherwise slot.now value.now test.now holds) (slot_of test.now ≡ slot.now → AnswersTest value.now test.now holds) }
+    ensures { MatchBool result (IsOtherwise slot.now value.now test.now holds)
+        (slot_of test.now ≡ slot.now → AnswersTest value.now test.now holds) }
 {
     if !is_on(slot, test) {
         return false;
@@ -28,9 +30,10 @@ fn first_wrong(
     slot: &Slot,
     value: &SlotValue,
 ) -> Option<u32>
-    requires range { InRange tests.now answers.now }
+    requires range { PathInRange tests.now answers.now }
     requires distinct { IsDistinct answers.now }
-    ensures { MatchOption result (AnswersSlot tests.now answers.now slot.now value.now) (IsWrong tests.now answers.now slot.now value.now) }
+    ensures { MatchOption result (AnswersSlot tests.now answers.now slot.now value.now)
+        (IsWrong tests.now answers.now slot.now value.now) }
 {
     for i in 0..answers.len() {
         let (n, holds) = answers[i];
@@ -42,11 +45,16 @@ fn first_wrong(
 }
 
 /// The value, tried on all answered tests of the slot.
-pub fn tried(tests: &[Test], path: &Path, slot: &Slot, value: SlotValue) -> Attempt
-    requires { InRange tests.now path.now }
-    ensures { IsTried tests.now path.now slot.now value result }
+pub fn tried(question: &Question<'_>, value: SlotValue) -> Attempt
+    requires askable { IsAskable question.now }
+    ensures { IsTried question.now value result }
 {
-    match first_wrong(tests, path.as_slice(), slot, &value) {
+    match first_wrong(
+        question.tests,
+        question.path.as_slice(),
+        question.slot,
+        &value,
+    ) {
         None => Attempt::Right(value),
         Some(n) => Attempt::Wrong(n),
     }

@@ -3,7 +3,7 @@ ghost use Rattle.std.specs.Prelude.{◌≡◌, ◌≢◌, ◌++◌, Some, [], If
 ghost use Rattle.wildcard_lang.specs.Matching.{Matches};
 ghost use Rattle.wildcard_lang.specs.Text.{IsText};
 ghost use Rattle.policy_model.specs.Requests.{IsWord};
-ghost use Rattle.policy_model.specs.Soundness.{SchemaIsSound};
+ghost use Rattle.policy_model.specs.Soundness.{SchemaIsSound, WordShapeIsSound};
 ghost use Rattle.slot_theory.specs.Slots.{IsBuiltSlot, Permits};
 ghost use Rattle.slot_theory.specs.Unasked.{or_x, sample, sampled, stated_value, stated_word};
 
@@ -61,7 +61,7 @@ fn word_of_shape(alloc: Global, shape: &Pattern) -> Result<Text, NoMemory>
 
 /// The word of a slot without a test.
 fn stated_word(alloc: Global, shape: &Option<Pattern>) -> Result<Text, NoMemory>
-    requires { shape.now ≢ Some [] }
+    requires { WordShapeIsSound shape.now }
     ensures value { IfOk result (λ t. t ≡ stated_word shape.now) }
     ensures word { IfOk result (IsWord shape.now) }
 {

@@ -1,68 +1,71 @@
-use Rattle.std.proofs.Common.{◌≡◌, ◌<◌, true, false, None, length, sym, ap, ◌∙◌, arith}
-use Rattle.std.proofs.lemmas.Bool.{iff_false}
-use Rattle.formula_tree.specs.Answers.{answer_of}
+use Rattle.std.proofs.Common.{true, false, ap, ◌∙◌, arith}
 use Rattle.formula_tree.specs.Runs.{answered}
-use Rattle.formula_tree.specs.Trees.{tree_of}
-use Rattle.formula_tree.specs.declared.value.Three.TheVariants.{No}
-use Rattle.refute_check.specs.Closing.{Closes, FailsAt}
-use Rattle.refute_check.specs.Proofs.{proof_of, size}
-use Rattle.refute_check.proofs.Walking.{of-split, of-value, of-slot, range_more, popped, first-split, first-value, first-slot, below-yes, below-no, both, sides_smaller}
+use Rattle.refute_check.specs.Proofs.{proof_of}
+use Rattle.refute_check.specs.declared.verdict.Walked.TheVariants.{Closed, Failed}
+use Rattle.refute_check.proofs.Walking.{fails-here, no-fails, popped, range_more, sides-smaller, split-closes, split-own, walked-at, yes-fails}
 use Rattle.refute_check.proofs.verdict.+walk.Goals as goal
 
-pub returns-then-not-may_split-clause-walked : goal.returns-then-not-may_split-clause-walked
-returns-then-not-may_split-clause-walked t c =
-    let form = of-split c.in-Split.test c.in-Split.yes c.in-Split.no c.args.part.now c.in-Split.is in
-    first-split c.args.schema.now c.args.query.now.tests (tree_of c.args.query.now.formula.value) c.args.path.now c.in-Split.test (proof_of c.in-Split.yes.value) (proof_of c.in-Split.no.value) (proof_of c.args.part.now) form (iff_false c.may_split.ensures c.if-not-may_split.true)
+pub returns-then-not-branch-clause-walked : goal.returns-then-not-branch-clause-walked
+returns-then-not-branch-clause-walked t c =
+    fails-here c.args.schema.now c.args.query.now c.args.path.now c.args.part.now (λ holds. let no = c.in_ok-holds_here.ensures.1 holds in absurd (cc))
 
 pub walk-requires : goal.walk-requires
 walk-requires t c =
-    let form = of-split c.in-Split.test c.in-Split.yes c.in-Split.no c.args.part.now c.in-Split.is in
-    let own : (c.in-Split.test < length c.args.query.now.tests) × (answer_of c.args.path.now c.in-Split.test ≡ None) = c.may_split.ensures.0 c.if-not-may_split.false in
-    let small = sides_smaller c.in-Split.test (proof_of c.in-Split.yes.value) (proof_of c.in-Split.no.value) (proof_of c.args.part.now) form in
-    let e = ap proof_of c.deref-in-Split.ensures in
-    (rw e (omega (arith, small.0, c.decreases)), (c.requires.suit, (c.requires.count, (rw c.in_ok-push-in-Split.ensures.ok (range_more c.args.query.now.tests c.args.path.now c.in-Split.test true c.requires.range own.0), rw e (omega (arith, small.0, c.requires.nodes))))))
+    let q = c.args.query.now in
+    let path = c.args.path.now in
+    let own = c.in_ok-holds_here.ensures.0 c.if-not-branch.false in
+    let here = split-own c.args.schema.now q path c.args.part.now c.in-Split.test c.in-Split.yes c.in-Split.no c.in-Split.is own in
+    let small = sides-smaller c.args.schema.now q path c.args.part.now c.in-Split.test c.in-Split.yes c.in-Split.no c.in-Split.is in
+    let e = ap proof_of c.deref.ensures in
+    (rw e (omega (arith, small.0, c.decreases)), (c.requires.suit, (c.requires.count, (rw c.in_ok-push-in-Split.ensures.ok (range_more q.tests path c.in-Split.test true c.requires.range here.0), rw e (omega (arith, small.0, c.requires.nodes))))))
 
-pub returns-in-Failed-clause-walked : goal.returns-in-Failed-clause-walked
-returns-in-Failed-clause-walked t c =
-    let form = of-split c.in-Split.test c.in-Split.yes c.in-Split.no c.args.part.now c.in-Split.is in
-    let own : (c.in-Split.test < length c.args.query.now.tests) × (answer_of c.args.path.now c.in-Split.test ≡ None) = c.may_split.ensures.0 c.if-not-may_split.false in
-    let tree = tree_of c.args.query.now.formula.value in
-    let first : FailsAt c.args.schema.now c.args.query.now.tests tree (proof_of c.in-Split.yes.value) (answered c.args.path.now c.in-Split.test true) c.in-Failed.node × (c.in-Failed.node < size (proof_of c.in-Split.yes.value)) = rw (c.in-Failed.is, ap proof_of c.deref-in-Split.ensures, c.in_ok-push-in-Split.ensures.ok) at c.in_ok-first-in-Split.ensures.walked in
-    below-yes c.args.schema.now c.args.query.now.tests tree c.args.path.now c.in-Split.test c.in-Failed.node (proof_of c.in-Split.yes.value) (proof_of c.in-Split.no.value) (proof_of c.args.part.now) form own first
+pub push-requires-in-Split : goal.push-requires-in-Split
+push-requires-in-Split t c =
+    let q = c.args.query.now in
+    let path = c.args.path.now in
+    let own = c.in_ok-holds_here.ensures.0 c.if-not-branch.false in
+    let here = split-own c.args.schema.now q path c.args.part.now c.in-Split.test c.in-Split.yes c.in-Split.no c.in-Split.is own in
+    let back = popped path c.in-Split.test true c.walk.new.path c.pop.new.self c.pop.result (c.in_ok-first-in-Split.ensures.path ∙ c.in_ok-push-in-Split.ensures.ok) c.pop.ensures.last c.pop.ensures.some in
+    rw back here.1
 
 pub walk-requires-in-Split : goal.walk-requires-in-Split
 walk-requires-in-Split t c =
-    let form = of-split c.in-Split.test c.in-Split.yes c.in-Split.no c.args.part.now c.in-Split.is in
-    let own : (c.in-Split.test < length c.args.query.now.tests) × (answer_of c.args.path.now c.in-Split.test ≡ None) = c.may_split.ensures.0 c.if-not-may_split.false in
-    let small = sides_smaller c.in-Split.test (proof_of c.in-Split.yes.value) (proof_of c.in-Split.no.value) (proof_of c.args.part.now) form in
-    let e = ap proof_of c.deref-in-Split-2.ensures in
-    let back = popped c.args.path.now c.in-Split.test true c.walk.new.path c.pop.new.self c.pop.result (c.in_ok-first-in-Split.ensures.path ∙ c.in_ok-push-in-Split.ensures.ok) c.pop.ensures.last c.pop.ensures.some in
-    (rw e (omega (arith, small.1, c.decreases)), (c.requires.suit, (c.requires.count, (rw (c.in_ok-push-in-Split-2.ensures.ok, back) (range_more c.args.query.now.tests c.args.path.now c.in-Split.test false c.requires.range own.0), rw e (omega (arith, small.1, c.requires.nodes))))))
+    let q = c.args.query.now in
+    let path = c.args.path.now in
+    let own = c.in_ok-holds_here.ensures.0 c.if-not-branch.false in
+    let here = split-own c.args.schema.now q path c.args.part.now c.in-Split.test c.in-Split.yes c.in-Split.no c.in-Split.is own in
+    let small = sides-smaller c.args.schema.now q path c.args.part.now c.in-Split.test c.in-Split.yes c.in-Split.no c.in-Split.is in
+    let back = popped path c.in-Split.test true c.walk.new.path c.pop.new.self c.pop.result (c.in_ok-first-in-Split.ensures.path ∙ c.in_ok-push-in-Split.ensures.ok) c.pop.ensures.last c.pop.ensures.some in
+    let e = ap proof_of c.deref-in-Split.ensures in
+    (rw e (omega (arith, small.1, c.decreases)), (c.requires.suit, (c.requires.count, (rw (c.in_ok-push-in-Split-2.ensures.ok, back) (range_more q.tests path c.in-Split.test false c.requires.range here.0), rw e (omega (arith, small.1, c.requires.nodes))))))
 
-pub returns-else-eq-clause-walked : goal.returns-else-eq-clause-walked
-returns-else-eq-clause-walked t c =
-    first-value c.args.schema.now c.args.query.now.tests (tree_of c.args.query.now.formula.value) c.args.path.now (proof_of c.args.part.now) (of-value c.args.part.now c.in-ByValue.is) (λ is. let no : c.value3.result ≡ No = (rw c.deref.ensures at c.value3.ensures) ∙ is in let same : false ≡ true = rw no at (sym c.if-eq.false ∙ c.eq.ensures) in absurd (cc))
-
-pub returns-else-branch-clause-walked : goal.returns-else-branch-clause-walked
-returns-else-branch-clause-walked t c =
-    first-slot c.args.schema.now c.args.query.now.tests (tree_of c.args.query.now.formula.value) c.args.path.now c.in-BySlot.core c.in-BySlot.proof (proof_of c.args.part.now) (of-slot c.in-BySlot.core c.in-BySlot.proof c.args.part.now c.in-BySlot.is) (iff_false c.in_ok-accepts-in-BySlot.ensures c.if-branch.false)
+pub returns-in-Failed-clause-walked : goal.returns-in-Failed-clause-walked
+returns-in-Failed-clause-walked t c =
+    let q = c.args.query.now in
+    let path = c.args.path.now in
+    let own = c.in_ok-holds_here.ensures.0 c.if-not-branch.false in
+    let here = split-own c.args.schema.now q path c.args.part.now c.in-Split.test c.in-Split.yes c.in-Split.no c.in-Split.is own in
+    let first = walked-at c.args.schema.now q _ _ _ (answered path c.in-Split.test true) _ (Failed c.in-Failed.node) c.deref.ensures c.in_ok-push-in-Split.ensures.ok c.in-Failed.is c.in_ok-first-in-Split.ensures.walked in
+    yes-fails c.args.schema.now q path c.args.part.now c.in-Split.test c.in-Split.yes c.in-Split.no c.in-Split.is c.in-Failed.node own first
 
 pub returns-in-Closed-second-clause-walked : goal.returns-in-Closed-second-clause-walked
 returns-in-Closed-second-clause-walked t c =
-    let form = of-split c.in-Split.test c.in-Split.yes c.in-Split.no c.args.part.now c.in-Split.is in
-    let own : (c.in-Split.test < length c.args.query.now.tests) × (answer_of c.args.path.now c.in-Split.test ≡ None) = c.may_split.ensures.0 c.if-not-may_split.false in
-    let tree = tree_of c.args.query.now.formula.value in
-    let back = popped c.args.path.now c.in-Split.test true c.walk.new.path c.pop.new.self c.pop.result (c.in_ok-first-in-Split.ensures.path ∙ c.in_ok-push-in-Split.ensures.ok) c.pop.ensures.last c.pop.ensures.some in
-    let first : Closes c.args.schema.now c.args.query.now.tests tree (proof_of c.in-Split.yes.value) (answered c.args.path.now c.in-Split.test true) × (c.in-Closed.nodes ≡ size (proof_of c.in-Split.yes.value)) = rw (c.in-Closed.is, ap proof_of c.deref-in-Split.ensures, c.in_ok-push-in-Split.ensures.ok) at c.in_ok-first-in-Split.ensures.walked in
-    let second : Closes c.args.schema.now c.args.query.now.tests tree (proof_of c.in-Split.no.value) (answered c.args.path.now c.in-Split.test false) × (c.in-Closed-second.more ≡ size (proof_of c.in-Split.no.value)) = rw (c.in-Closed-second.is, ap proof_of c.deref-in-Split-2.ensures, c.in_ok-push-in-Split-2.ensures.ok, back) at c.in_ok-second-in-Split.ensures.walked in
-    both c.args.schema.now c.args.query.now.tests tree c.args.path.now c.in-Split.test c.in-Closed.nodes c.in-Closed-second.more (proof_of c.in-Split.yes.value) (proof_of c.in-Split.no.value) (proof_of c.args.part.now) form own first second
+    let q = c.args.query.now in
+    let path = c.args.path.now in
+    let own = c.in_ok-holds_here.ensures.0 c.if-not-branch.false in
+    let here = split-own c.args.schema.now q path c.args.part.now c.in-Split.test c.in-Split.yes c.in-Split.no c.in-Split.is own in
+    let back = popped path c.in-Split.test true c.walk.new.path c.pop.new.self c.pop.result (c.in_ok-first-in-Split.ensures.path ∙ c.in_ok-push-in-Split.ensures.ok) c.pop.ensures.last c.pop.ensures.some in
+    let first = walked-at c.args.schema.now q _ _ _ (answered path c.in-Split.test true) _ (Closed c.in-Closed.nodes) c.deref.ensures c.in_ok-push-in-Split.ensures.ok c.in-Closed.is c.in_ok-first-in-Split.ensures.walked in
+    let second = walked-at c.args.schema.now q _ _ _ (answered path c.in-Split.test false) _ (Closed c.in-Closed-second.more) c.deref-in-Split.ensures (c.in_ok-push-in-Split-2.ensures.ok ∙ ap (λ p. answered p c.in-Split.test false) back) c.in-Closed-second.is c.in_ok-second-in-Split.ensures.walked in
+    split-closes c.args.schema.now q path c.args.part.now c.in-Split.test c.in-Split.yes c.in-Split.no c.in-Split.is c.in-Closed.nodes c.in-Closed-second.more own first second
 
 pub returns-in-Failed-second-clause-walked : goal.returns-in-Failed-second-clause-walked
 returns-in-Failed-second-clause-walked t c =
-    let form = of-split c.in-Split.test c.in-Split.yes c.in-Split.no c.args.part.now c.in-Split.is in
-    let own : (c.in-Split.test < length c.args.query.now.tests) × (answer_of c.args.path.now c.in-Split.test ≡ None) = c.may_split.ensures.0 c.if-not-may_split.false in
-    let tree = tree_of c.args.query.now.formula.value in
-    let back = popped c.args.path.now c.in-Split.test true c.walk.new.path c.pop.new.self c.pop.result (c.in_ok-first-in-Split.ensures.path ∙ c.in_ok-push-in-Split.ensures.ok) c.pop.ensures.last c.pop.ensures.some in
-    let first : Closes c.args.schema.now c.args.query.now.tests tree (proof_of c.in-Split.yes.value) (answered c.args.path.now c.in-Split.test true) × (c.in-Closed.nodes ≡ size (proof_of c.in-Split.yes.value)) = rw (c.in-Closed.is, ap proof_of c.deref-in-Split.ensures, c.in_ok-push-in-Split.ensures.ok) at c.in_ok-first-in-Split.ensures.walked in
-    let second : FailsAt c.args.schema.now c.args.query.now.tests tree (proof_of c.in-Split.no.value) (answered c.args.path.now c.in-Split.test false) c.in-Failed-second.node × (c.in-Failed-second.node < size (proof_of c.in-Split.no.value)) = rw (c.in-Failed-second.is, ap proof_of c.deref-in-Split-2.ensures, c.in_ok-push-in-Split-2.ensures.ok, back) at c.in_ok-second-in-Split.ensures.walked in
-    below-no c.args.schema.now c.args.query.now.tests tree c.args.path.now c.in-Split.test c.in-Failed-second.node c.in-Closed.nodes (proof_of c.in-Split.yes.value) (proof_of c.in-Split.no.value) (proof_of c.args.part.now) form own first second
+    let q = c.args.query.now in
+    let path = c.args.path.now in
+    let own = c.in_ok-holds_here.ensures.0 c.if-not-branch.false in
+    let here = split-own c.args.schema.now q path c.args.part.now c.in-Split.test c.in-Split.yes c.in-Split.no c.in-Split.is own in
+    let back = popped path c.in-Split.test true c.walk.new.path c.pop.new.self c.pop.result (c.in_ok-first-in-Split.ensures.path ∙ c.in_ok-push-in-Split.ensures.ok) c.pop.ensures.last c.pop.ensures.some in
+    let first = walked-at c.args.schema.now q _ _ _ (answered path c.in-Split.test true) _ (Closed c.in-Closed.nodes) c.deref.ensures c.in_ok-push-in-Split.ensures.ok c.in-Closed.is c.in_ok-first-in-Split.ensures.walked in
+    let second = walked-at c.args.schema.now q _ _ _ (answered path c.in-Split.test false) _ (Failed c.in-Failed-second.node) c.deref-in-Split.ensures (c.in_ok-push-in-Split-2.ensures.ok ∙ ap (λ p. answered p c.in-Split.test false) back) c.in-Failed-second.is c.in_ok-second-in-Split.ensures.walked in
+    no-fails c.args.schema.now q path c.args.part.now c.in-Split.test c.in-Split.yes c.in-Split.no c.in-Split.is c.in-Closed.nodes c.in-Failed-second.node own first second

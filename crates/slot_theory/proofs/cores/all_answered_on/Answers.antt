@@ -1,6 +1,6 @@
 use Rattle.std.proofs.Common.{refl}
 use Rattle.std.proofs.lemmas.List.Elements.{All-more}
-use Rattle.pattern_automata.proofs.Indexing.{all-end}
+use Rattle.policy_model.proofs.Laws.{All-done}
 use Rattle.slot_theory.specs.Cores.{IsAnsweredOn}
 use Rattle.slot_theory.proofs.cores.all_answered_on.Goals as goal
 
@@ -9,4 +9,4 @@ loop-n-preserved c =
     All-more (IsAnsweredOn c.args.tests.now c.args.path.now c.args.slot.now) c.args.core.now _ 0 c.loop-n-test.true c.loop-n.invariant (c.is_answered_on.ensures.0 c.if-not-is_answered_on.false)
 
 pub returns : goal.returns
-returns c = (λ _. all-end (IsAnsweredOn c.args.tests.now c.args.path.now c.args.slot.now) c.args.core.now _ c.loop-n-test.false c.loop-n.invariant, λ _. refl)
+returns c = (λ _. All-done (IsAnsweredOn c.args.tests.now c.args.path.now c.args.slot.now) c.args.core.now _ c.loop-n-test.false c.loop-n.invariant, λ _. refl)

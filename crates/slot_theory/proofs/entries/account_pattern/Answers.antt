@@ -1,9 +1,14 @@
-use Rattle.slot_theory.proofs.Accepting.{if-ok}
-use Rattle.slot_theory.proofs.Spelling.{account-pattern, arn-read}
+use Rattle.std.proofs.Common.{◌∙◌, sym, subst}
+use Rattle.wildcard_lang.specs.Patterns.{IsPattern}
+use Rattle.slot_theory.proofs.Accounts.{account-is-pattern, account-made}
 use Rattle.slot_theory.proofs.entries.account_pattern.Goals as goal
+
+pub from_pieces-requires : goal.from_pieces-requires
+from_pieces-requires c =
+    let made = account-made c.args.account.now _ _ _ _ _ c.as_slice-c-items.ensures.value c.loop-c-test.false c.loop-c.invariant c.in_ok-push-2.ensures.items c.in_ok-push-3.ensures.items in
+    subst IsPattern (sym made) (account-is-pattern c.args.account.now c.requires)
 
 pub returns : goal.returns
 returns c =
-    if-ok c.or_no_memory.result _ _
-    (λ p is. account-pattern c.args.account.now _ _ c.deref.result.now p c.requires.digits c.deref.utf8 c.deref.ensures c.in_ok-text.ensures.ok c.in_ok-account.ensures (arn-read _ c.read_arn.result p is c.read_arn.ensures))
-    c.or_no_memory.ensures
+    c.from_pieces.ensures
+    ∙ account-made c.args.account.now _ _ _ _ _ c.as_slice-c-items.ensures.value c.loop-c-test.false c.loop-c.invariant c.in_ok-push-2.ensures.items c.in_ok-push-3.ensures.items

@@ -1,5 +1,5 @@
 use Rattle.std.proofs.lemmas.List.Elements.{All-more}
-use Rattle.pattern_automata.proofs.Indexing.{all-end}
+use Rattle.policy_model.proofs.Laws.{All-done}
 use Rattle.slot_theory.specs.Cores.{IsContradicted}
 use Rattle.slot_theory.proofs.Contradicted.{any-none, not-contradicted}
 use Rattle.slot_theory.proofs.kinds.is_contradicted.Goals as goal
@@ -12,5 +12,5 @@ loop-n-preserved c =
 pub returns : goal.returns
 returns c = (
   λ e. absurd (cc),
-  λ some. absurd (any-none (IsContradicted c.args.tests.now c.args.path.now c.args.kind) c.args.core.now (all-end (λ n. IsContradicted c.args.tests.now c.args.path.now c.args.kind n → ⊥) c.args.core.now _ c.loop-n-test.false c.loop-n.invariant) some),
+  λ some. absurd (any-none (IsContradicted c.args.tests.now c.args.path.now c.args.kind) c.args.core.now (All-done (λ n. IsContradicted c.args.tests.now c.args.path.now c.args.kind n → ⊥) c.args.core.now _ c.loop-n-test.false c.loop-n.invariant) some),
 )

@@ -7,22 +7,24 @@ use Rattle.slot_theory.proofs.search.smaller.Goals as goal
 
 pub attempt-requires-clause-core : goal.attempt-requires-clause-core
 attempt-requires-clause-core c =
-    let e : c.in_ok-fewer.fewer ≡ remove c.args.kept.core c.args.place = c.in_ok-fewer.ensures ∙ ap (λ (xs : List ℕ). remove xs c.args.place) c.as_slice.ensures in
-    let count = length-less c.args.kept.core c.args.place c.requires.within in
-    rw c.as_slice-2.ensures (core-without c.args.tests.now c.args.path.now c.args.slot.now c.args.kept.core c.args.place c.in_ok-fewer.fewer c.requires.kept.core e (rw e (omega (arith, count, c.if-len-lt2.false))))
+    let q = c.args.question.now in
+    let e : c.in_ok-fewer.fewer ≡ remove c.args.kept.core c.args.index = c.in_ok-fewer.ensures ∙ ap (λ (xs : List ℕ). remove xs c.args.index) c.as_slice.ensures in
+    let count = length-less c.args.kept.core c.args.index c.requires.within in
+    rw c.as_slice-2.ensures (core-without q.tests.now q.path.now q.slot.now c.args.kept.core c.args.index c.in_ok-fewer.fewer c.requires.kept.core_is e (rw e (omega (arith, count, c.if-len-lt2.false))))
 
 pub returns-in-Empty-clause-kept : goal.returns-in-Empty-clause-kept
 returns-in-Empty-clause-kept c =
-    let e : c.in_ok-fewer.fewer ≡ remove c.args.kept.core c.args.place = c.in_ok-fewer.ensures ∙ ap (λ (xs : List ℕ). remove xs c.args.place) c.as_slice.ensures in
-    let count = length-less c.args.kept.core c.args.place c.requires.within in
-    let answer : IsAttempt c.args.schema.now c.args.tests.now c.args.path.now c.args.slot.now c.args.states c.as_slice-2.result.now (Empty c.in-Empty.proof) = rw c.in-Empty.is at c.in_ok-proof.ensures in
+    let q = c.args.question.now in
+    let e : c.in_ok-fewer.fewer ≡ remove c.args.kept.core c.args.index = c.in_ok-fewer.ensures ∙ ap (λ (xs : List ℕ). remove xs c.args.index) c.as_slice.ensures in
+    let count = length-less c.args.kept.core c.args.index c.requires.within in
+    let answer : IsAttempt q c.args.states c.as_slice-2.result.now (Empty c.in-Empty.proof) = rw c.in-Empty.is at c.in_ok-proof.ensures in
     record {
-      core = core-without c.args.tests.now c.args.path.now c.args.slot.now c.args.kept.core c.args.place c.in_ok-fewer.fewer c.requires.kept.core e (rw e (omega (arith, count, c.if-len-lt2.false)));
-      shows = subst (λ (xs : List ℕ). IsAttempt c.args.schema.now c.args.tests.now c.args.path.now c.args.slot.now c.args.states xs (Empty c.in-Empty.proof)) c.as_slice-2.ensures answer;
+      core_is = core-without q.tests.now q.path.now q.slot.now c.args.kept.core c.args.index c.in_ok-fewer.fewer c.requires.kept.core_is e (rw e (omega (arith, count, c.if-len-lt2.false)));
+      shows = subst (λ (xs : List ℕ). IsAttempt q c.args.states xs (Empty c.in-Empty.proof)) c.as_slice-2.ensures answer;
     }
 
 pub returns-in-Empty-clause-length : goal.returns-in-Empty-clause-length
 returns-in-Empty-clause-length c =
-    let e : c.in_ok-fewer.fewer ≡ remove c.args.kept.core c.args.place = c.in_ok-fewer.ensures ∙ ap (λ (xs : List ℕ). remove xs c.args.place) c.as_slice.ensures in
-    let count = length-less c.args.kept.core c.args.place c.requires.within in
+    let e : c.in_ok-fewer.fewer ≡ remove c.args.kept.core c.args.index = c.in_ok-fewer.ensures ∙ ap (λ (xs : List ℕ). remove xs c.args.index) c.as_slice.ensures in
+    let count = length-less c.args.kept.core c.args.index c.requires.within in
     rw e (omega (arith, count))

@@ -5,7 +5,8 @@ use Rattle.slot_theory.specs.Steps.{IsWrong}
 use Rattle.slot_theory.proofs.trial.tried.Goals as goal
 
 pub returns-in-None : goal.returns-in-None
-returns-in-None c = (refl, subst (λ (ps : Answers). AnswersSlot c.args.tests.now ps c.args.slot.now c.args.value) c.as_slice.ensures.value c.in-None.ensures)
+returns-in-None c =
+    let q = c.args.question.now in (refl, subst (λ (ps : Answers). AnswersSlot q.tests.now ps q.slot.now c.args.value) c.as_slice.ensures.value c.in-None.ensures)
 
 pub returns-in-Some : goal.returns-in-Some
-returns-in-Some c = subst (λ (ps : Answers). IsWrong c.args.tests.now ps c.args.slot.now c.args.value c.in-Some.n) c.as_slice.ensures.value c.in-Some.ensures
+returns-in-Some c = let q = c.args.question.now in subst (λ (ps : Answers). IsWrong q.tests.now ps q.slot.now c.args.value c.in-Some.n) c.as_slice.ensures.value c.in-Some.ensures

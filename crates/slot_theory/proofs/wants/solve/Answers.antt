@@ -2,4 +2,4 @@ use Rattle.slot_theory.proofs.Wanting.{wants-range}
 use Rattle.slot_theory.proofs.wants.solve.Goals as goal
 
 pub product-requires-clause-range : goal.product-requires-clause-range
-product-requires-clause-range c = wants-range _ _ _ _ c.requires.patterns _ c.in_ok-wants.ensures
+product-requires-clause-range c = wants-range _ _ _ _ c.requires.wanted.patterns _ c.in_ok-wants.ensures

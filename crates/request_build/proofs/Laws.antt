@@ -1,0 +1,15 @@
+-- The lemmas on joined requests that crates above cite.
+use Rattle.std.proofs.Common.{List}
+use Rattle.formula_tree.specs.Answers.{Answers}
+use Rattle.policy_model.specs.declared.schema.Schema.{Schema}
+use Rattle.policy_model.specs.declared.test.Slot.{Slot}
+use Rattle.policy_model.specs.declared.test.Test.{Test}
+use Rattle.slot_theory.specs.declared.outcome.SlotValue.{SlotValue}
+use Rattle.slot_theory.specs.Possible.{AnswersPath}
+use Rattle.request_build.specs.Built.{AreSlotValues}
+use Rattle.request_build.specs.Taken.{joined}
+use Rattle.request_build.proofs.Joining as joins
+
+-- the request that is joined from one value for each slot of a test answers the path
+pub joined-answers : (schema : Schema) (tests : List Test) (path : Answers) (values : List (Slot × SlotValue)) → AreSlotValues schema tests path values → AnswersPath tests path (joined schema values)
+joined-answers = joins.joined-answers

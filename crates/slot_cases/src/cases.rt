@@ -1,0 +1,144 @@
+//! Three tests of a slot with their answers.
+ghost use Rattle.std.specs.Prelude.{◌≡◌, ◌<◌, ℕ, Bool, Some, length, All, IfOk};
+ghost use Rattle.formula_tree.specs.Answers.{answer_of};
+ghost use Rattle.policy_model.specs.Soundness.{EntryIsSound, TestSuits};
+ghost use Rattle.policy_model.specs.declared.schema.Schema.{Schema};
+ghost use Rattle.slot_theory.specs.Slots.{IsBuiltSlot};
+ghost use Rattle.slot_cases.specs.Cases.{IsCase};
+
+use crate::schemas::schema_of;
+use formula_tree::Path;
+use policy_model::{Entry, PrincipalKind, Schema, Slot, Test, TestList, is_account};
+use std::alloc::Global;
+use std::io;
+use std::io::ErrorKind;
+use wildcard_lang::{MOST_PIECES, Pattern, Text, read_glob};
+
+pub(crate) fn slot_named(name: &str) -> io::Result<Slot>
+    ensures { IfOk result IsBuiltSlot }
+{
+    match name {
+        "action" => Ok(Slot::Action),
+        "resource" => Ok(Slot::Resource),
+        "principal" => Ok(Slot::Principal),
+        _ => Err(ErrorKind::InvalidData.into()),
+    }
+}
+
+fn kind_named(name: &str) -> Option<PrincipalKind> {
+    match name {
+        "AWS" => Some(PrincipalKind::Aws),
+        "Service" => Some(PrincipalKind::Service),
+        "Federated" => Some(PrincipalKind::Federated),
+        "CanonicalUser" => Some(PrincipalKind::CanonicalUser),
+        _ => None,
+    }
+}
+
+fn exact(alloc: Global, kind: &str, id: &str) -> io::Result<Entry>
+    ensures { IfOk result EntryIsSound }
+{
+    let id = Text::of(alloc, id)?;
+    match kind_named(kind) {
+        Some(kind) if id.len() <= MOST_PIECES => Ok(Entry::Exact(kind, id)),
+        _ => Err(ErrorKind::InvalidData.into()),
+    }
+}
+
+fn account(alloc: Global, digits: &str) -> io::Result<Entry>
+    ensures { IfOk result EntryIsSound }
+{
+    let account = Text::of(alloc, digits)?;
+    if !is_account(account.as_slice()) {
+        return Err(ErrorKind::InvalidData.into());
+    }
+    Ok(Entry::Account(account))
+}
+
+fn entry_of(alloc: Global, word: &str) -> io::Result<Entry>
+    ensures { IfOk result EntryIsSound }
+{
+    if word == "*" {
+        return Ok(Entry::All);
+    }
+    if let Some((kind, id)) = word.split_once('=') {
+        return exact(alloc, kind, id);
+    }
+    match kind_named(word) {
+        Some(kind) => Ok(Entry::Kind(kind)),
+        None => account(alloc, word),
+    }
+}
+
+fn pattern_of(alloc: Global, word: &str) -> io::Result<Pattern> {
+    match read_glob(alloc, word, false, false) {
+        Ok(pattern) => Ok(pattern),
+        Err(_) => Err(ErrorKind::InvalidData.into()),
+    }
+}
+
+// The test of a word, of which the first character is its answer.
+fn test_of(alloc: Global, slot: &Slot, word: &str) -> io::Result<Test>
+    ensures { IfOk result (λ t. (schema : Schema) → TestSuits schema t) }
+{
+    let word = word.strip_prefix(|c| c == '+' || c == '-').unwrap_or(word);
+    match slot {
+        Slot::Principal => Ok(Test::Principal(entry_of(alloc, word)?)),
+        Slot::Action => Ok(Test::Action(pattern_of(alloc, word)?)),
+        _ => Ok(Test::Resource(pattern_of(alloc, word)?)),
+    }
+}
+
+// The tests of three words.
+fn tests_of(alloc: Global, slot: &Slot, words: [&str; 3]) -> io::Result<TestList>
+    ensures suit { IfOk result (λ v. (schema : Schema) → All (TestSuits schema) v) }
+    ensures count { IfOk result (λ v. length v ≡ 3) }
+{
+    let mut tests = TestList::new(alloc);
+    tests.push(test_of(alloc, slot, words[0])?)?;
+    tests.push(test_of(alloc, slot, words[1])?)?;
+    tests.push(test_of(alloc, slot, words[2])?)?;
+    Ok(tests)
+}
+
+// The path that gives three tests these answers.
+fn path_of(alloc: Global, answers: [bool; 3]) -> io::Result<Path>
+    ensures { IfOk result (λ p. (n : ℕ) (b : Bool) → answer_of p n ≡ Some b → n < 3) }
+{
+    let mut path = Path::new(alloc);
+    path.push(0, answers[0])?;
+    path.push(1, answers[1])?;
+    path.push(2, answers[2])?;
+    Ok(path)
+}
+
+/// Tests with their answers, under a schema.
+#[derive(Drop)]
+pub(crate) struct Case {
+    pub(crate) schema: Schema,
+    pub(crate) tests: TestList,
+    pub(crate) path: Path,
+    /// The path of the other answers.
+    pub(crate) other: Path,
+}
+
+/// The case of a shape and three words.
+pub(crate) fn case_of(alloc: Global, slot: &Slot, shape: &str, words: [&str; 3]) -> io::Result<Case>
+    ensures { IfOk result IsCase }
+{
+    let schema = schema_of(alloc, shape)?;
+    let tests = tests_of(alloc, slot, words)?;
+    let yes = [
+        words[0].starts_with('+'),
+        words[1].starts_with('+'),
+        words[2].starts_with('+'),
+    ];
+    let path = path_of(alloc, yes)?;
+    let other = path_of(alloc, [!yes[0], !yes[1], !yes[2]])?;
+    Ok(Case {
+        schema,
+        tests,
+        path,
+        other,
+    })
+}
