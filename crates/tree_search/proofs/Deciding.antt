@@ -4,7 +4,7 @@ use Rattle.std.proofs.lemmas.Bool.Decides.{Decides-and}
 use Rattle.std.proofs.lemmas.Slice.Eq.{bytes_eq-Decides}
 use Rattle.std.specs.Str.{bytes_eq}
 use Rattle.wildcard_lang.specs.Accepts.{accepts}
-use Rattle.wildcard_lang.proofs.Accept.{Decides-accepts}
+use Rattle.wildcard_lang.proofs.Laws.{Decides-accepts}
 use Rattle.policy_model.specs.declared.principal.Entry.{Entry}
 use Rattle.policy_model.specs.declared.principal.Entry.TheVariants.{All, Kind, Account, Exact}
 use Rattle.policy_model.specs.declared.principal.PrincipalKind.{PrincipalKind}
@@ -14,9 +14,9 @@ use Rattle.policy_model.specs.declared.test.Test.{Test}
 use Rattle.policy_model.specs.declared.test.Test.TheVariants.{Principal, Action, Resource}
 use Rattle.policy_model.specs.Principals.{EntryNames, IsOfAccount, account_test}
 use Rattle.policy_model.specs.Tests.{TestHolds}
-use Rattle.policy_model.proofs.Accounts.{account_test-is, account_test-of}
+use Rattle.policy_model.proofs.Laws.{account_test-is, account_test-of}
 use Rattle.slot_theory.specs.Entries.{is_kind}
-use Rattle.slot_theory.proofs.Naming.{kind-same, same-kind}
+use Rattle.slot_theory.proofs.Laws.{kind-same, same-kind}
 
 Decides-kind : (j k : PrincipalKind) → Decides (is_kind j k) (j ≡ k)
 Decides-kind j k = (same-kind j k, kind-same j k)

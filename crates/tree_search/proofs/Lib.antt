@@ -1,6 +1,8 @@
-pub mod Deciding
-pub mod Renewing
-pub mod Meeting
-pub mod Searching
-pub mod Nesting
-pub mod Below
+mod Below
+mod Carrying
+mod Deciding
+pub mod Laws
+mod Meeting
+mod Nesting
+mod Possible
+mod Searching

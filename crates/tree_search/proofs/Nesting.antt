@@ -3,14 +3,18 @@ use Rattle.std.proofs.Common.{◌≤◌, ℕ, List, [], length, true, false, ari
 use Rattle.formula_tree.specs.Answers.{Answers}
 use Rattle.formula_tree.specs.Runs.{answered, unanswered}
 use Rattle.formula_tree.specs.Trees.{Tree}
-use Rattle.formula_tree.proofs.Running.{unanswered-more, unanswered-start}
+use Rattle.formula_tree.proofs.Laws.{unanswered-more, unanswered-start}
 use Rattle.policy_model.specs.declared.schema.Schema.{Schema}
 use Rattle.policy_model.specs.declared.test.Test.{Test}
 use Rattle.refute_check.specs.Closing.{Closes}
-use Rattle.refute_check.specs.Proofs.{Proof, by_slot, by_value, depth, proof_of, split}
+use Rattle.refute_check.specs.Proofs.{Proof, by_slot, by_value, depth, split}
+use Rattle.tree_search.specs.declared.outcome.Budgets.{Budgets}
 use Rattle.tree_search.specs.declared.outcome.Decided.{Decided}
 use Rattle.tree_search.specs.declared.outcome.Decided.TheVariants.{Refuted, Met, OutOfSplits, OutOfStates}
-use Rattle.tree_search.specs.Decisions.{IsDecidedFrom, NestsWithin}
+use Rattle.policy_compile.specs.declared.outcome.Query.{Query}
+use Rattle.refute_check.specs.Proofs.{proof_of}
+use Rattle.tree_search.specs.Decisions.{IsDecision, IsRefutation, asked_tree}
+use Rattle.tree_search.specs.Search.{IsDecidedFrom, IsRefutedAt}
 
 module _ (schema : Schema) (tests : List Test) (tree : Tree) where
   -- no deeper than there are tests that the path leaves open, since each split answers one of them
@@ -27,9 +31,24 @@ module _ (schema : Schema) (tests : List Test) (tree : Tree) where
   nests-within : (p : Proof) → Closes schema tests tree p [] → depth p ≤ length tests
   nests-within p closes = let open_tests = nests-open p [] closes in let all = unanswered-start (length tests) in omega arith
 
-  -- so do those of every decision
-  pub decisions-nest : (states splits used : ℕ) (d : Decided) → IsDecidedFrom schema tests tree states [] splits used d → NestsWithin tests d
-  decisions-nest states splits used (Refuted r) is = nests-within (proof_of r.value) is.closes
-  decisions-nest states splits used (Met q) is = tt
-  decisions-nest states splits used OutOfSplits is = tt
-  decisions-nest states splits used (OutOfStates w) is = tt
+module _ (schema : Schema) (query : Query) where
+  -- a refutation at the start by no more splits than there may be
+  pub refutation-from : (most used : ℕ) (p : Proof) → IsRefutedAt schema query [] used p → used ≤ most → IsRefutation schema query most p
+  refutation-from most used p is few = record {
+    closes = is.closes;
+    few = let count = is.count in omega arith;
+    nests = nests-within schema query.tests (asked_tree query) p is.closes;
+  }
+
+  -- what is decided from the start is decided of the query
+  pub decision-from : (budgets : Budgets) (used : ℕ) (d : Decided) → used ≤ budgets.splits → IsDecidedFrom schema query budgets.states [] budgets.splits used d → IsDecision schema query budgets d
+  decision-from budgets used (Refuted r) few is = refutation-from budgets.splits used (proof_of r.value) is few
+  decision-from budgets used (Met q) few is = is
+  decision-from budgets used OutOfSplits few is = is
+  decision-from budgets used (OutOfStates w) few is = record {
+    node = is.node;
+    near = record { count = is.near.count; lead = is.near.lead; few = let less = is.near.few in omega arith };
+    not_no = is.not_no;
+    asked = is.asked;
+    texts = is.texts;
+  }

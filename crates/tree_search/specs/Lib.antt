@@ -1,4 +1,4 @@
 pub mod Nodes
 pub mod Decisions
 pub mod Values
-pub mod Steps
+pub mod Search

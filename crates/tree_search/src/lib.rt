@@ -1,14 +1,14 @@
 //! The search: a query refuted over all requests, or met by one.
 #![tactic(auto)]
 
-mod met;
 mod outcome;
-mod renewal;
+mod refutations;
+mod runs;
 mod search;
-mod step;
 mod values;
 
 pub use outcome::{Budgets, Decided, Wide};
+pub use runs::{PossiblePaths, queries_have_runs};
 pub use search::decide;
 
 #[cfg(test)]

@@ -10,17 +10,17 @@ use wildcard_lang::TextList;
 pub struct Budgets {
     /// The most splits on a test.
     pub splits: u32,
-    /// The most lists of places of a slot's patterns.
+    /// The most product states of a slot's patterns.
     pub states: u32,
 }
 
-/// A slot whose patterns have more lists of places than there may be.
+/// A slot whose patterns have more product states than there may be.
 #[derive(Drop)]
 pub struct Wide {
     /// The path of answered tests at which they do.
     pub path: Path,
     pub slot: Slot,
-    /// One more text than the number of states, with pairwise different lists of places.
+    /// One more text than the number of states, with pairwise different product states.
     pub texts: TextList,
 }
 

@@ -1,166 +1,186 @@
 //! The search.
-ghost use Rattle.std.specs.Prelude.{◌≡◌, ◌≢◌, ◌≤◌, ◌<◌, ◌-◌, ◌^◌, None, All, IfOk, OnOk, length};
+ghost use Rattle.std.specs.Prelude.{◌≡◌, ◌≢◌, ◌≤◌, ◌<◌, ◌^◌, [], None, All, IfOk, OnOk, length};
 ghost use Rattle.formula_tree.specs.Answers.{answer_of};
-ghost use Rattle.formula_tree.specs.Runs.{answered};
-ghost use Rattle.formula_tree.specs.Trees.{tree_of};
 ghost use Rattle.formula_tree.specs.Values.{AreBelow, value};
-ghost use Rattle.formula_tree.specs.declared.value.Three.TheVariants.{No};
+ghost use Rattle.formula_tree.specs.declared.value.Three.TheVariants.{No, Yes};
 ghost use Rattle.policy_model.specs.Soundness.{SchemaIsSound, TestSuits};
-ghost use Rattle.slot_theory.specs.Possible.{InRange};
-ghost use Rattle.refute_check.specs.Proofs.{by_slot, by_value, proof_of, split};
-ghost use Rattle.tree_search.specs.Decisions.{IsDecidedFrom, IsDecision, NestsWithin};
-ghost use Rattle.tree_search.specs.Steps.{IsAsked};
-ghost use Rattle.tree_search.specs.Values.{AreValues, IsNext};
+ghost use Rattle.slot_theory.specs.Slots.{slot_of, test_at};
+ghost use Rattle.tree_search.specs.Decisions.{IsDecision, MeetsQuery, asked_tree};
+ghost use Rattle.tree_search.specs.Search.{Carries, CarriesWith, IsAhead, IsDecidedHere, IsDecidedThere, IsReady, IsRestored, MayBeYes};
+ghost use Rattle.tree_search.specs.Values.{IsIndexOf};
 
-use crate::met::{met, someone};
 use crate::outcome::{Budgets, Decided, Wide};
-use crate::renewal::renew;
-use crate::step::Renewed;
-use crate::values::Values;
+use crate::refutations::{by_slot, by_value, split};
+use crate::values::{exchange, index_of, pop};
 use formula_tree::{Path, Three, pick, value3};
 use plain_lists::NoMemory;
 use policy_compile::Query;
-use policy_model::Schema;
-use refute_check::Refutation;
-use slot_theory::{Core, SlotProof, slot_of};
+use policy_model::{Request, Schema, Slot};
+use request_build::{SlotValues, build, sound_schemas_have_requests};
+use slot_theory::{Possible, SlotValue, meets, possible, slot_of};
 use std::alloc::Global;
-use std::rc::Rc;
 
-/// The refutation that splits on a test.
-fn split(
+/// What a search is asked.
+#[derive(Drop)]
+struct Search<'a> {
     alloc: Global,
-    test: u32,
-    yes: Rc<Refutation>,
-    no: Rc<Refutation>,
-) -> Result<Rc<Refutation>, NoMemory>
-    ensures { IfOk result (λ r. proof_of r.value ≡ split test (proof_of yes.value) (proof_of no.value)) }
-{
-    Ok(Rc::new(alloc, Refutation::Split { test, yes, no })?)
-}
-
-/// The refutation by the tree's value.
-fn by_value(alloc: Global) -> Result<Rc<Refutation>, NoMemory>
-    ensures { IfOk result (λ r. proof_of r.value ≡ by_value) }
-{
-    Ok(Rc::new(alloc, Refutation::ByValue)?)
-}
-
-/// The refutation by a core of a slot.
-fn by_slot(alloc: Global, core: Core, proof: SlotProof) -> Result<Rc<Refutation>, NoMemory>
-    ensures { IfOk result (λ r. proof_of r.value ≡ by_slot core proof) }
-{
-    Ok(Rc::new(alloc, Refutation::BySlot { core, proof })?)
-}
-
-/// The search from a path whose tests the values answer, and under which the query isn't no. The
-/// splits that it uses are taken from those left.
-#[cycle(search)]
-fn search(
-    alloc: Global,
-    schema: &Schema,
-    query: &Query,
+    schema: &'a Schema,
+    query: &'a Query,
+    /// The most product states of a slot's patterns.
     states: u32,
-    path: &mut Path,
-    values: &Values,
-    left: &mut u32,
-) -> Result<Decided, NoMemory>
-    requires asked { IsAsked schema.now query.now.tests (tree_of query.now.formula.value) states }
-    requires range { InRange query.now.tests path.old }
-    requires values { AreValues schema.now query.now.tests path.old values.now }
-    requires open { value path.old (tree_of query.now.formula.value) ≢ No }
-    ensures decided { IfOk result (IsDecidedFrom schema.now query.now.tests (tree_of query.now.formula.value) states path.old left.old (left.old - left.new)) }
-    ensures path { OnOk result (path.new ≡ path.old) }
-    ensures left { OnOk result (left.new ≤ left.old) }
-{
-    let Some(test) = pick(&query.formula, path) else {
-        return Ok(Decided::Met(met(alloc, schema, query, path, values)?));
-    };
-    if *left == 0 {
-        return Ok(Decided::OutOfSplits);
-    }
-    *left -= 1;
-    let yes = side(alloc, schema, query, states, path, values, test, true, left)?;
-    let Decided::Refuted(yes) = yes else {
-        return Ok(yes);
-    };
-    let no = side(
-        alloc, schema, query, states, path, values, test, false, left,
-    )?;
-    let Decided::Refuted(no) = no else {
-        return Ok(no);
-    };
-    Ok(Decided::Refuted(split(alloc, test, yes, no)?))
 }
 
-/// The search from the path with one more answer.
-#[cycle(search)]
-fn side(
-    alloc: Global,
-    schema: &Schema,
-    query: &Query,
-    states: u32,
-    path: &mut Path,
-    values: &Values,
-    test: u32,
-    answer: bool,
-    left: &mut u32,
-) -> Result<Decided, NoMemory>
-    requires asked { IsAsked schema.now query.now.tests (tree_of query.now.formula.value) states }
-    requires range { InRange query.now.tests path.old }
-    requires values { AreValues schema.now query.now.tests path.old values.now }
-    requires within { test < length query.now.tests }
-    requires new { answer_of path.old test ≡ None }
-    ensures decided { IfOk result (IsDecidedFrom schema.now query.now.tests (tree_of query.now.formula.value) states (answered path.old test answer) left.old (left.old - left.new)) }
-    ensures path { OnOk result (path.new ≡ path.old) }
-    ensures left { OnOk result (left.new ≤ left.old) }
-{
-    path.push(test, answer)?;
-    let decided = enter(
-        alloc, schema, query, states, path, values, test, answer, left,
-    )?;
-    path.pop();
-    Ok(decided)
+/// Where a search stands.
+#[derive(Drop)]
+struct State {
+    path: Path,
+    /// A value for each slot that the path asks about, and for no other slot. They are changed in
+    /// place and put back, so that no split copies them.
+    values: SlotValues,
+    /// How many splits may still be made.
+    left: u32,
 }
 
-/// The search from a path whose tests but the last the values answer.
-#[cycle(search)]
-fn enter(
-    alloc: Global,
-    schema: &Schema,
-    query: &Query,
-    states: u32,
-    path: &mut Path,
-    values: &Values,
-    test: u32,
-    answer: bool,
-    left: &mut u32,
-) -> Result<Decided, NoMemory>
-    requires asked { IsAsked schema.now query.now.tests (tree_of query.now.formula.value) states }
-    requires range { InRange query.now.tests path.old }
-    requires within { test < length query.now.tests }
-    requires next { IsNext schema.now query.now.tests path.old test answer values.now }
-    ensures decided { IfOk result (IsDecidedFrom schema.now query.now.tests (tree_of query.now.formula.value) states path.old left.old (left.old - left.new)) }
-    ensures path { OnOk result (path.new ≡ path.old) }
-    ensures left { OnOk result (left.new ≤ left.old) }
-{
-    if let Three::No = value3(&query.formula, path) {
-        return Ok(Decided::Refuted(by_value(alloc)?));
-    }
-    let slot = slot_of(alloc, &query.tests.as_slice()[test as usize])?;
-    match renew(
-        alloc, schema, query, states, path, test, answer, &slot, values,
-    )? {
-        Renewed::Kept => search(alloc, schema, query, states, path, values, left),
-        Renewed::Changed(values) => search(alloc, schema, query, states, path, &values, left),
-        Renewed::Conflict(core, proof) => Ok(Decided::Refuted(by_slot(alloc, core, proof)?)),
-        Renewed::TooMany(texts) => {
-            let path = path.copy()?;
-            Ok(Decided::OutOfStates(Wide { path, slot, texts }))
+impl<'a> Search<'a> {
+    /// The search from a path whose tests the values answer, and under which the query isn't no.
+    #[cycle(search)]
+    fn search(&self, state: &mut State) -> Result<Decided, NoMemory>
+        requires ready { IsReady self.now }
+        requires carries { Carries self.now state.old }
+        requires may { MayBeYes self.now state.old }
+        ensures decided { IfOk result (IsDecidedHere self.now state.old state.new) }
+        ensures restored { OnOk result (IsRestored state.old state.new) }
+    {
+        let Some(test) = pick(&self.query.formula, &state.path) else {
+            return Ok(Decided::Met(self.met(state)?));
+        };
+        if state.left == 0 {
+            return Ok(Decided::OutOfSplits);
         }
+        state.left -= 1;
+        let yes = self.side(state, test, true)?;
+        let Decided::Refuted(yes) = yes else {
+            return Ok(yes);
+        };
+        let no = self.side(state, test, false)?;
+        let Decided::Refuted(no) = no else {
+            return Ok(no);
+        };
+        Ok(Decided::Refuted(split(self.alloc, test, yes, no)?))
+    }
+
+    /// The request of the values, where their path makes the query yes.
+    fn met(&self, state: &State) -> Result<Request, NoMemory>
+        requires ready { IsReady self.now }
+        requires carries { Carries self.now state.now }
+        requires yes { value state.now.path (asked_tree self.now.query.now) ≡ Yes }
+        ensures { IfOk result (MeetsQuery self.now.schema.now self.now.query.now) }
+    {
+        let tests = &self.query.tests;
+        build(self.alloc, self.schema, tests, &state.path, &state.values)
+    }
+
+    /// The search from the path with one more answer.
+    #[cycle(search)]
+    fn side(&self, state: &mut State, test: u32, answer: bool) -> Result<Decided, NoMemory>
+        requires ready { IsReady self.now }
+        requires carries { Carries self.now state.old }
+        requires within { test < length self.now.query.now.tests }
+        requires new { answer_of state.old.path test ≡ None }
+        ensures decided { IfOk result (IsDecidedThere self.now state.old test answer state.new) }
+        ensures restored { OnOk result (IsRestored state.old state.new) }
+    {
+        state.path.push(test, answer)?;
+        let decided = self.enter(state, test, answer)?;
+        state.path.pop();
+        Ok(decided)
+    }
+
+    /// The search from a path all of whose tests but the last the values answer.
+    #[cycle(search)]
+    fn enter(&self, state: &mut State, test: u32, answer: bool) -> Result<Decided, NoMemory>
+        requires ready { IsReady self.now }
+        requires ahead { IsAhead self.now state.old test answer }
+        ensures decided { IfOk result (IsDecidedHere self.now state.old state.new) }
+        ensures restored { OnOk result (IsRestored state.old state.new) }
+    {
+        if let Three::No = value3(&self.query.formula, &state.path) {
+            return Ok(Decided::Refuted(by_value(self.alloc)?));
+        }
+        let asked = &self.query.tests.as_slice()[test as usize];
+        let slot = slot_of(self.alloc, asked)?;
+        let index = index_of(&state.values, &slot);
+        if let Some(i) = index {
+            if meets(&state.values.as_slice()[i].1, asked) == answer {
+                return self.search(state);
+            }
+        }
+        self.renew(state, test, answer, slot, index)
+    }
+
+    /// The search from such a path, whose last test its slot's value doesn't answer.
+    #[cycle(search)]
+    fn renew(
+        &self,
+        state: &mut State,
+        test: u32,
+        answer: bool,
+        slot: Slot,
+        index: Option<usize>,
+    ) -> Result<Decided, NoMemory>
+        requires ready { IsReady self.now }
+        requires ahead { IsAhead self.now state.old test answer }
+        requires may { MayBeYes self.now state.old }
+        requires slot { slot ≡ slot_of (test_at self.now.query.now.tests test) }
+        requires index { IsIndexOf slot state.old.values index }
+        ensures decided { IfOk result (IsDecidedHere self.now state.old state.new) }
+        ensures restored { OnOk result (IsRestored state.old state.new) }
+    {
+        let (schema, tests) = (self.schema, &self.query.tests);
+        match possible(self.alloc, schema, tests, &state.path, &slot, self.states)? {
+            Possible::Found(value) => self.go_on(state, (slot, value), index),
+            Possible::Conflict(core, proof) => {
+                Ok(Decided::Refuted(by_slot(self.alloc, core, proof)?))
+            }
+            Possible::TooMany(texts) => {
+                let path = state.path.copy()?;
+                Ok(Decided::OutOfStates(Wide { path, slot, texts }))
+            }
+        }
+    }
+
+    /// The search with one more value, or with one in place of that at the index.
+    #[cycle(search)]
+    fn go_on(
+        &self,
+        state: &mut State,
+        value: (Slot, SlotValue),
+        index: Option<usize>,
+    ) -> Result<Decided, NoMemory>
+        requires ready { IsReady self.now }
+        requires index { IsIndexOf value.0 state.old.values index }
+        requires carries { CarriesWith self.now state.old value index }
+        requires may { MayBeYes self.now state.old }
+        ensures decided { IfOk result (IsDecidedHere self.now state.old state.new) }
+        ensures restored { OnOk result (IsRestored state.old state.new) }
+    {
+        let Some(i) = index else {
+            state.values.push(value)?;
+            let decided = self.search(state)?;
+            pop(self.alloc, &mut state.values);
+            return Ok(decided);
+        };
+        let before = exchange(self.alloc, &mut state.values, i, value);
+        let decided = self.search(state)?;
+        exchange(self.alloc, &mut state.values, i, before);
+        Ok(decided)
     }
 }
 
 /// Decides a query within budgets, by the plain run: it splits on the first open test, yes first.
+///
+/// The schema is sound and every test suits it, the formula's test numbers are below the number of
+/// tests, and both budgets are at least 1. The only error is want of memory.
 pub fn decide(
     alloc: Global,
     schema: &Schema,
@@ -170,26 +190,26 @@ pub fn decide(
     requires sound { SchemaIsSound schema.now }
     requires suit { All (TestSuits schema.now) query.now.tests }
     requires count { length query.now.tests < 2 ^ 32 }
-    requires below { AreBelow (length query.now.tests) (tree_of query.now.formula.value) }
+    requires below { AreBelow (length query.now.tests) (asked_tree query.now) }
     requires splits { 1 ≤ budgets.splits }
     requires states { 1 ≤ budgets.states }
-    ensures decision { IfOk result (IsDecision schema.now query.now.tests (tree_of query.now.formula.value) budgets.splits budgets.states) }
-    ensures nests { IfOk result (NestsWithin query.now.tests) }
+    ensures decision { IfOk result (IsDecision schema.now query.now budgets) }
 {
-    let mut path = Path::new(alloc);
-    if let Three::No = value3(&query.formula, &path) {
+    let mut state = State {
+        path: Path::new(alloc),
+        values: SlotValues::new(alloc),
+        left: budgets.splits,
+    };
+    if let Three::No = value3(&query.formula, &state.path) {
         return Ok(Decided::Refuted(by_value(alloc)?));
     }
-    let _request = someone(alloc, schema, query)?;
-    let values = Values::none();
-    let mut left = budgets.splits;
-    search(
+    // Since some request is valid, each path that values answer is possible.
+    sound_schemas_have_requests();
+    let search = Search {
         alloc,
         schema,
         query,
-        budgets.states,
-        &mut path,
-        &values,
-        &mut left,
-    )
+        states: budgets.states,
+    };
+    search.search(&mut state)
 }

@@ -1,113 +1,49 @@
-//! Values for the slots of a path.
-ghost use Rattle.std.specs.Prelude.{◌≡◌, ◌++◌, ◌↔◌, IfOk, OnOk, IsTrue, option_map};
-ghost use Rattle.slot_theory.specs.Slots.{IsBuiltSlot};
-ghost use Rattle.tree_search.specs.Values.{Keeps, entries_of, entry_of, no_values, value_in, with_value};
+//! The values of slots that a search carries along.
+ghost use Rattle.std.specs.Prelude.{◌≡◌, ◌<◌, ◌↔◌, ◌++◌, Some, IsSome, length, slice_get, slice_set, option_to_list};
+ghost use Rattle.tree_search.specs.Values.{IsIndexOf};
 
-use plain_lists::NoMemory;
-use policy_model::{Slot, Test};
+use policy_model::Slot;
 use request_build::SlotValues;
-use slot_theory::{SlotValue, meets};
+use slot_theory::SlotValue;
 use std::alloc::Global;
+use std::mem::replace;
 
-/// The last value of each slot, where a path answers tests of the slot.
-#[derive(Drop)]
-pub struct Values {
-    pub principal: Option<SlotValue>,
-    pub action: Option<SlotValue>,
-    pub resource: Option<SlotValue>,
-}
-
-/// A copy of a value, where there is one.
-fn copy_of(value: &Option<SlotValue>) -> Result<Option<SlotValue>, NoMemory>
-    ensures { IfOk result (λ v. v ≡ value.now) }
+/// The index of the slot's value, where it has one.
+pub fn index_of(values: &SlotValues, slot: &Slot) -> Option<usize>
+    ensures { IsIndexOf slot.now values.now result }
 {
-    match value {
-        None => Ok(None),
-        Some(value) => Ok(Some(value.copy()?)),
-    }
-}
-
-/// Adds a slot with a copy of its value, where it has one.
-fn push_entry(
-    slot: Slot,
-    value: &Option<SlotValue>,
-    entries: &mut SlotValues,
-) -> Result<(), NoMemory>
-    ensures { OnOk result (entries.new ≡ entries.old ++ entry_of slot value.now) }
-{
-    match value {
-        None => Ok(()),
-        Some(value) => entries.push((slot, value.copy()?)),
-    }
-}
-
-impl Values {
-    /// No values.
-    pub fn none() -> Values
-        ensures { result ≡ no_values }
-    {
-        Values {
-            principal: None,
-            action: None,
-            resource: None,
+    'slots: for i in 0..values.len() {
+        if values.as_slice()[i].0 == *slot {
+            return Some(i);
         }
     }
-
-    /// The value of a slot, where it has one.
-    pub fn get(&self, slot: &Slot) -> Option<&SlotValue>
-        ensures { option_map (λ v. v.now) result ≡ value_in slot.now self.now }
-    {
-        match slot {
-            Slot::Principal => self.principal.as_ref(),
-            Slot::Action => self.action.as_ref(),
-            Slot::Resource => self.resource.as_ref(),
-            Slot::Key(_) => None,
-        }
-    }
-
-    /// The values, with this one for a slot that isn't a key.
-    pub fn with(&self, slot: &Slot, value: SlotValue) -> Result<Values, NoMemory>
-        requires { IsBuiltSlot slot.now }
-        ensures { IfOk result (λ v. v ≡ with_value slot.now value self.now) }
-    {
-        match slot {
-            Slot::Principal => Ok(Values {
-                principal: Some(value),
-                action: copy_of(&self.action)?,
-                resource: copy_of(&self.resource)?,
-            }),
-            Slot::Action => Ok(Values {
-                principal: copy_of(&self.principal)?,
-                action: Some(value),
-                resource: copy_of(&self.resource)?,
-            }),
-            Slot::Resource => Ok(Values {
-                principal: copy_of(&self.principal)?,
-                action: copy_of(&self.action)?,
-                resource: Some(value),
-            }),
-            Slot::Key(_) => unreachable!(),
-        }
-    }
-
-    /// The slots that have a value, each with a copy of it.
-    pub fn entries(&self, alloc: Global) -> Result<SlotValues, NoMemory>
-        ensures { IfOk result (λ v. v ≡ entries_of self.now) }
-    {
-        let mut entries = SlotValues::new(alloc);
-        push_entry(Slot::Principal, &self.principal, &mut entries)?;
-        push_entry(Slot::Action, &self.action, &mut entries)?;
-        push_entry(Slot::Resource, &self.resource, &mut entries)?;
-        Ok(entries)
-    }
+    None
 }
 
-/// Whether the slot has a value that answers the test so.
-pub fn answers(values: &Values, slot: &Slot, test: &Test, answer: bool) -> bool
-    ensures { IsTrue result ↔ Keeps slot.now values.now test.now answer }
+/// Puts a slot's value in place of the one at the index, and gives that one. It takes no memory.
+pub fn exchange(
+    alloc: Global,
+    values: &mut SlotValues,
+    index: usize,
+    value: (Slot, SlotValue),
+) -> (Slot, SlotValue)
+    requires { index < length values.old }
+    ensures new { values.new ≡ slice_set values.old index value }
+    ensures old { slice_get values.old index ≡ Some result }
 {
-    match values.get(slot) {
-        None => false,
-        Some(value) => meets(value, test) == answer,
-    }
+    let mut items = replace(values, SlotValues::new(alloc)).into_vec();
+    let before = replace(&mut items[index], value);
+    *values = SlotValues::from_vec(items);
+    before
+}
+
+/// Takes the last value away. It takes no memory.
+pub fn pop(alloc: Global, values: &mut SlotValues) -> Option<(Slot, SlotValue)>
+    ensures last { values.old ≡ values.new ++ option_to_list result }
+    ensures some { IsSome result ↔ (0 < length values.old) }
+{
+    let mut items = replace(values, SlotValues::new(alloc)).into_vec();
+    let last = items.pop();
+    *values = SlotValues::from_vec(items);
+    last
 }
