@@ -1,21 +1,22 @@
 -- A run over accepted files without faults ends with a comparison.
 use Rattle.std.proofs.Common.{◌≡◌, ℕ, ◌<◌, List, length, Option, Some, None, Ok, Err, arith, subst}
+use Rattle.std.specs.Prelude.{⊤}
 use Rattle.pol_outside.specs.Faults.{Rose}
 use Rattle.pol_outside.specs.Folder.{Files}
 use Rattle.policy_model.specs.declared.set.PolicySet.{PolicySet}
 use Rattle.compare_cli.specs.declared.answer.Role.TheVariants.{First, Second}
 use Rattle.compare_cli.specs.declared.answer.Answer.{Answer}
 use Rattle.compare_cli.specs.declared.answer.Answer.TheVariants as answer
+use Rattle.compare_cli.specs.declared.answer.Refusal.TheVariants as refusal
+use Rattle.compare_cli.specs.declared.answer.Shortage.TheVariants as shortage
 use Rattle.policy_json.specs.declared.fault.PolicyFault.{PolicyFault}
-use Rattle.compare_cli.specs.declared.top.Status.{Status}
-use Rattle.compare_cli.specs.declared.top.Status.TheVariants.{WriteFault, NoMemory, BadProof}
 use Rattle.policy_json.specs.Sets.{set_from}
-use Rattle.compare_cli.specs.Answers.{IsAnswer, StandsFor}
-use Rattle.compare_cli.specs.Comparison.{FitsSplits, NeedsSplits, NeedsStates}
+use Rattle.compare_cli.specs.Answers.{BothRead, IsAnswer, IsCause, TellsFault, OfSets, Reading, StandsFor}
+use Rattle.compare_cli.specs.Comparison.{NeedsSplits, NeedsStates}
 use Rattle.compare_cli.specs.Files.{IsLong, IsShort}
-use Rattle.compare_cli.specs.Words.{Asked}
-use Rattle.compare_cli.specs.Promises.{ReadSets}
-use Rattle.compare_cli.specs.Runs.{Runs, status_of}
+use Rattle.compare_cli.specs.declared.files.TheConstants.{MOST_BYTES}
+use Rattle.compare_cli.specs.Arguments.{Asked}
+use Rattle.compare_cli.specs.Statuses.{status_of}
 use Rattle.compare_cli.specs.Complete.{HoldsSet, IsAccepted, IsDecidable, IsDecided}
 
 not_long : (files : Files) (name : List ℕ) → HoldsSet files name → IsLong (Some files) name → ⊥
@@ -23,7 +24,7 @@ not_long files name h (bytes, held, long) =
     let mine = h.held in
     let same : bytes ≡ h.bytes = cc in
     let short = h.short in
-    let still : 1048576 < length h.bytes = rw (← same) long in
+    let still : MOST_BYTES < length h.bytes = rw (← same) long in
     omega arith
 
 same_bytes : (files : Files) (name bytes : List ℕ) (h : HoldsSet files name) → IsShort (Some files) name bytes → bytes ≡ h.bytes
@@ -44,42 +45,46 @@ same_set files name bytes set h short stands =
     cc
 
 -- what holds of the sets that were read holds of the sets that the folder holds
-of_held : (files : Files) (asked : Asked) (d : IsDecidable files asked) (P : PolicySet → PolicySet → Type 0) → ReadSets (Some files) asked P → P d.first.set d.second.set
-of_held files asked d P (first, second, first_short, second_short, sets) =
-    let one = same_set files asked.0 first sets.one d.first first_short sets.first_stands in
-    let two = same_set files asked.1 second sets.two d.second second_short sets.second_stands in
+of_held : (files : Files) (asked : Asked) (d : IsDecidable files asked) (P : PolicySet → PolicySet → Type 0) → BothRead (Some files) asked (λ first second. OfSets first second P) → P d.first.set d.second.set
+of_held files asked d P read =
+    let sets = read.holds in
+    let one = same_set files asked.first read.first sets.one d.first read.first_short sets.first_stands in
+    let two = same_set files asked.second read.second sets.two d.second read.second_short sets.second_stands in
     subst (λ (b : PolicySet). P d.first.set b) two (subst (λ (a : PolicySet). P a sets.two) one sets.holds)
 
-fits_not_needs : (one two : PolicySet) (splits : ℕ) → FitsSplits one two splits → NeedsSplits one two splits → ⊥
-fits_not_needs one two splits fits needs = let (end, n, run, few) = fits.fits needs.query needs.is in let more = needs.needs end n run in omega arith
+abbrev IsReadFault : Answer → Type 0
+IsReadFault (answer.ReadFault role) = ⊤
+IsReadFault _ = ⊥
 
-answer_decided : (held : Option Files) (before now : ℕ) (last : Option (List ℕ)) (asked : Option Asked) (a : Answer) → IsAccepted held asked → ¬ Rose before now → IsAnswer held before now last asked a → IsDecided (status_of a)
-answer_decided None before now last asked a accepted calm given = absurd accepted
-answer_decided (Some files) before now last None a accepted calm given = absurd accepted
-answer_decided (Some files) before now last (Some asked) answer.Usage accepted calm given = given
-answer_decided (Some files) before now last (Some asked) (answer.ReadFault First) accepted calm given = calm given.0
-answer_decided (Some files) before now last (Some asked) (answer.ReadFault Second) accepted calm given = calm given.1
-answer_decided (Some files) before now last (Some asked) (answer.TooLong First) accepted calm given = not_long files asked.0 accepted.first given
-answer_decided (Some files) before now last (Some asked) (answer.TooLong Second) accepted calm given = not_long files asked.1 accepted.second given.1
-answer_decided (Some files) before now last (Some asked) (answer.Refused First fault) accepted calm given = not_refused files asked.0 given.0 fault accepted.first given.2 given.4
-answer_decided (Some files) before now last (Some asked) (answer.Refused Second fault) accepted calm given = not_refused files asked.1 given.1 fault accepted.second given.3 given.4.1
-answer_decided (Some files) before now last (Some asked) answer.TooManyTests accepted calm given = accepted.tests (of_held files asked accepted _ given)
-answer_decided (Some files) before now last (Some asked) answer.TooManyPieces accepted calm given = accepted.pieces (of_held files asked accepted _ given)
-answer_decided (Some files) before now last (Some asked) (answer.UndecidedSplits n) accepted calm given =
-    let (is, needs) = of_held files asked accepted (λ one two. (n ≡ asked.2.splits) × NeedsSplits one two n) given in
-    fits_not_needs accepted.first.set accepted.second.set asked.2.splits accepted.splits (subst (λ (k : ℕ). NeedsSplits accepted.first.set accepted.second.set k) is needs)
-answer_decided (Some files) before now last (Some asked) (answer.UndecidedStates n s) accepted calm given =
-    let (is, needs) = of_held files asked accepted (λ one two. (n ≡ asked.2.states) × NeedsStates one two n s) given in
+rose : (asked : Asked) (r : Reading) (a : Answer) → TellsFault asked r a → IsReadFault a → Rose r.faults_before r.faults
+rose asked r (answer.ReadFault role) told is = told.0
+rose asked r _ told is = absurd is
+
+-- what two accepted files are answered without a fault of reading is a comparison
+files_decided : (held : Option Files) (asked : Asked) (a : Answer) → IsAccepted held (Some asked) → IsCause asked held a → (IsReadFault a → ⊥) → IsDecided (status_of a)
+files_decided None asked a accepted cause calm = absurd accepted
+files_decided (Some files) asked answer.Usage accepted cause calm = cause
+files_decided (Some files) asked (answer.ReadFault role) accepted cause calm = calm tt
+files_decided (Some files) asked (answer.Refused (refusal.TooLong First)) accepted cause calm = not_long files asked.first accepted.first cause.1
+files_decided (Some files) asked (answer.Refused (refusal.TooLong Second)) accepted cause calm = not_long files asked.second accepted.second cause.1
+files_decided (Some files) asked (answer.Refused (refusal.NoSet First fault)) accepted cause calm = not_refused files asked.first cause.first fault accepted.first cause.first_short cause.holds
+files_decided (Some files) asked (answer.Refused (refusal.NoSet Second fault)) accepted cause calm = not_refused files asked.second cause.second fault accepted.second cause.second_short cause.holds.1
+files_decided (Some files) asked (answer.Refused refusal.TooManyTests) accepted cause calm = accepted.tests (of_held files asked accepted _ cause)
+files_decided (Some files) asked (answer.Refused refusal.TooManyPieces) accepted cause calm = accepted.pieces (of_held files asked accepted _ cause)
+files_decided (Some files) asked (answer.Undecided (shortage.Splits n)) accepted cause calm =
+    let (is, needs) = of_held files asked accepted (λ one two. (n ≡ asked.budgets.splits) × NeedsSplits one two n) cause in
+    accepted.splits (subst (λ (k : ℕ). NeedsSplits accepted.first.set accepted.second.set k) is needs)
+files_decided (Some files) asked (answer.Undecided (shortage.States n s)) accepted cause calm =
+    let (is, needs) = of_held files asked accepted (λ one two. (n ≡ asked.budgets.states) × NeedsStates one two n s) cause in
     accepted.states s (subst (λ (k : ℕ). NeedsStates accepted.first.set accepted.second.set k s) is needs)
-answer_decided (Some files) before now last (Some asked) answer.NotMore accepted calm given = tt
-answer_decided (Some files) before now last (Some asked) (answer.More q) accepted calm given = tt
+files_decided (Some files) asked answer.NotMore accepted cause calm = tt
+files_decided (Some files) asked (answer.More q) accepted cause calm = tt
 
-pub IsDecided-from_Runs : (may : Answer → Type 0) (decided : (a : Answer) → may a → IsDecided (status_of a)) (status : Status) (before now : ℕ) (old new : Option (List ℕ)) → ¬ Rose before now → Runs may status before now old new → IsDecided status
-IsDecided-from_Runs may decided NoMemory before now old new calm runs = tt
-IsDecided-from_Runs may decided WriteFault before now old new calm runs = calm runs.rose
-IsDecided-from_Runs may decided BadProof before now old new calm runs = runs
-IsDecided-from_Runs may decided status before now old new calm runs = subst (λ (s : Status). IsDecided s) runs.status_is (decided runs.answer runs.given)
+no_names : (held : Option Files) → IsAccepted held None → ⊥
+no_names None accepted = accepted
+no_names (Some files) accepted = accepted
 
-pub run_decided : (held : Option Files) (before now : ℕ) (last : Option (List ℕ)) (asked : Option Asked) (status : Status) (s0 s1 : ℕ) (old new : Option (List ℕ)) → Runs (IsAnswer held before now last asked) status s0 s1 old new → IsAccepted held asked → ¬ Rose before now → ¬ Rose s0 s1 → IsDecided status
-run_decided held before now last asked status s0 s1 old new runs accepted calm calm_sink =
-    IsDecided-from_Runs (IsAnswer held before now last asked) (λ a given. answer_decided held before now last asked a accepted calm given) status s0 s1 old new calm_sink runs
+-- an answer over accepted files without a fault of reading is a comparison
+pub answer_decided : (asked : Option Asked) (r : Reading) (a : Answer) → IsAnswer asked r a → IsAccepted r.held asked → ¬ Rose r.faults_before r.faults → IsDecided (status_of a)
+answer_decided None r a given accepted calm = absurd (no_names r.held accepted)
+answer_decided (Some asked) r a given accepted calm = files_decided r.held asked a accepted given.cause (λ is. calm (rose asked r a given.told is))

@@ -1,4 +1,3 @@
-pub mod Comparing
-pub mod Completeness
-pub mod Promises
-pub mod Verdicts
+mod Answering
+mod Comparing
+mod Completeness

@@ -1,4 +1,4 @@
--- Which answer may be given.
+-- Which answer may be given, by what the arguments ask and what the folder holds.
 use Rattle.std.specs.Prelude.{◌≡◌, ℕ, List, Option, Some, None, Result, Ok, Err, ⊤, alloc_error}
 use Rattle.std.specs.declared.alloc.AllocError.{AllocError}
 use Rattle.pol_outside.specs.Faults.{Rose}
@@ -6,17 +6,31 @@ use Rattle.pol_outside.specs.Folder.{Files}
 use Rattle.pol_outside.specs.declared.folder.TakeFault.{TakeFault}
 use Rattle.pol_outside.specs.declared.folder.TakeFault.TheVariants.{Failed, TooLong as too_long, NoMemory}
 use Rattle.policy_model.specs.declared.set.PolicySet.{PolicySet}
+use Rattle.policy_json.specs.Sets.{set_from}
+use Rattle.tree_search.specs.declared.outcome.Budgets.{Budgets}
 use Rattle.compare_cli.specs.declared.answer.Role.{Role}
 use Rattle.compare_cli.specs.declared.answer.Role.TheVariants.{First, Second}
+use Rattle.compare_cli.specs.declared.answer.Refusal.TheVariants.{TooLong, NoSet}
 use Rattle.compare_cli.specs.declared.answer.Answer.{Answer}
-use Rattle.compare_cli.specs.declared.answer.Answer.TheVariants.{Usage, ReadFault, TooLong, Refused}
-use Rattle.compare_cli.specs.Files.{IsShort, IsLong}
-use Rattle.compare_cli.specs.Words.{Asked}
-use Rattle.policy_json.specs.Sets.{set_from}
+use Rattle.compare_cli.specs.declared.answer.Answer.TheVariants.{Usage, ReadFault, Refused}
+use Rattle.compare_cli.specs.Arguments.{Asked}
 use Rattle.compare_cli.specs.Decided.{IsComparison}
-use Rattle.tree_search.specs.declared.outcome.Budgets.{Budgets}
+use Rattle.compare_cli.specs.Files.{IsShort, IsLong}
 
--- a file stands for this set
+-- the folder of a run: what it holds, and how many faults it had and the name of the last, before the run and now
+pub record Reading : Type 0 where
+  pub held : Option Files
+  pub faults_before : ℕ
+  pub faults : ℕ
+  pub last_before : Option (List ℕ)
+  pub last : Option (List ℕ)
+
+-- the name of a role's file
+abbrev pub file_of : Asked → Role → List ℕ
+file_of asked First = asked.first
+file_of asked Second = asked.second
+
+-- the file stands for this set
 abbrev pub StandsFor : List ℕ → PolicySet → Type 0
 StandsFor bytes set = set_from bytes ≡ Ok set
 
@@ -28,41 +42,52 @@ pub record OfSets (first second : List ℕ) (P : PolicySet → PolicySet → Typ
   pub second_stands : StandsFor second two
   pub holds : P one two
 
--- what two files that were read may be answered: the first refusal in their order, or what a comparison of their sets may be
-abbrev pub IsVerdict : List ℕ → List ℕ → Budgets → Answer → Type 0
-IsVerdict first second budgets (Refused First fault) = set_from first ≡ Err fault
-IsVerdict first second budgets (Refused Second fault) = ((set : PolicySet) × StandsFor first set) × (set_from second ≡ Err fault)
-IsVerdict first second budgets answer = OfSets first second (λ one two. IsComparison one two budgets answer)
+-- both files were read within their limits, and of their bytes this holds
+pub record BothRead (held : Option Files) (asked : Asked) (P : List ℕ → List ℕ → Type 0) : Type 0 where
+  pub first : List ℕ
+  pub second : List ℕ
+  pub first_short : IsShort held asked.first first
+  pub second_short : IsShort held asked.second second
+  pub holds : P first second
 
--- both files were read within their limits, and the answer is one of theirs
-abbrev pub BothRead : Option Files → Asked → Answer → Type 0
-BothRead held asked answer = (first : List ℕ) × (second : List ℕ) × IsShort held asked.0 first × IsShort held asked.1 second × IsVerdict first second asked.2 answer
+-- what two files that were read may be answered: the first that stands for no set, with its first fault, or what a comparison of
+-- their sets may be
+abbrev pub AnswersFiles : List ℕ → List ℕ → Budgets → Answer → Type 0
+AnswersFiles first second budgets (Refused (NoSet First fault)) = set_from first ≡ Err fault
+AnswersFiles first second budgets (Refused (NoSet Second fault)) =
+    ((set : PolicySet) × StandsFor first set) × (set_from second ≡ Err fault)
+AnswersFiles first second budgets answer = OfSets first second (λ one two. IsComparison one two budgets answer)
 
--- what two names may be answered, with the folder's count of faults before and now and the name of its last fault
-abbrev pub IsAnswerTo : Option Files → ℕ → ℕ → Option (List ℕ) → Asked → Answer → Type 0
-IsAnswerTo held before now last asked Usage = ⊥
-IsAnswerTo held before now last asked (ReadFault First) = Rose before now × (last ≡ Some asked.0)
-IsAnswerTo held before now last asked (ReadFault Second) = ((first : List ℕ) × IsShort held asked.0 first) × Rose before now × (last ≡ Some asked.1)
-IsAnswerTo held before now last asked (TooLong First) = IsLong held asked.0
-IsAnswerTo held before now last asked (TooLong Second) = ((first : List ℕ) × IsShort held asked.0 first) × IsLong held asked.1
-IsAnswerTo held before now last asked answer = BothRead held asked answer
+-- the files are read in order: the second is reached where the first was read within its limit
+abbrev pub IsReached : Option Files → Asked → Role → Type 0
+IsReached held asked First = ⊤
+IsReached held asked Second = (first : List ℕ) × IsShort held asked.first first
 
-abbrev pub IsUsage : Answer → Type 0
-IsUsage Usage = ⊤
-IsUsage _ = ⊥
+-- a fault of reading names the file at which the folder failed; with every other answer the name of its last fault is as it was
+abbrev pub TellsFault : Asked → Reading → Answer → Type 0
+TellsFault asked r (ReadFault role) = Rose r.faults_before r.faults × (r.last ≡ Some (file_of asked role))
+TellsFault asked r _ = r.last ≡ r.last_before
 
--- what the words may be answered: the usage line exactly where they ask for nothing
-abbrev pub IsAnswer : Option Files → ℕ → ℕ → Option (List ℕ) → Option Asked → Answer → Type 0
-IsAnswer held before now last None answer = IsUsage answer
-IsAnswer held before now last (Some asked) answer = IsAnswerTo held before now last asked answer
+-- why two names are answered so
+abbrev pub IsCause : Asked → Option Files → Answer → Type 0
+IsCause asked held Usage = ⊥
+IsCause asked held (ReadFault role) = IsReached held asked role
+IsCause asked held (Refused (TooLong role)) = IsReached held asked role × IsLong held (file_of asked role)
+IsCause asked held answer = BothRead held asked (λ first second. AnswersFiles first second asked.budgets answer)
+
+-- what two names may be answered
+pub record IsAnswerTo (asked : Asked) (r : Reading) (answer : Answer) : Type 0 where
+  pub cause : IsCause asked r.held answer
+  pub told : TellsFault asked r answer
+
+-- what the arguments may be answered: the usage line exactly where they ask for nothing
+abbrev pub IsAnswer : Option Asked → Reading → Answer → Type 0
+IsAnswer None r Usage = r.last ≡ r.last_before
+IsAnswer None r _ = ⊥
+IsAnswer (Some asked) r answer = IsAnswerTo asked r answer
 
 -- what a fault of reading is answered by
 abbrev pub IsFaultAnswer : Role → TakeFault → Result Answer AllocError → Type 0
 IsFaultAnswer role Failed result = result ≡ Ok (ReadFault role)
-IsFaultAnswer role too_long result = result ≡ Ok (TooLong role)
+IsFaultAnswer role too_long result = result ≡ Ok (Refused (TooLong role))
 IsFaultAnswer role NoMemory result = result ≡ Err alloc_error
-
--- a fault of reading is told: with every other answer the name of the folder's last fault is as it was
-abbrev pub TellsFault : Option (List ℕ) → Option (List ℕ) → Answer → Type 0
-TellsFault last_before last (ReadFault role) = ⊤
-TellsFault last_before last _ = last ≡ last_before

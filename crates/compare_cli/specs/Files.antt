@@ -4,14 +4,15 @@ use Rattle.std.specs.declared.alloc.Global.{Global}
 use Rattle.pol_outside.specs.Folder.{Files, IsFile}
 use Rattle.pol_outside.specs.declared.folder.TakeFault.{TakeFault}
 use Rattle.pol_outside.specs.declared.folder.TakeFault.TheVariants.{Failed, TooLong, NoMemory}
+use Rattle.compare_cli.specs.declared.files.TheConstants.{MOST_BYTES}
 
 -- the file's bytes, within the limit
 abbrev pub IsShort : Option Files → List ℕ → List ℕ → Type 0
-IsShort held name bytes = IsFile held name bytes × (length bytes ≤ 1048576)
+IsShort held name bytes = IsFile held name bytes × (length bytes ≤ MOST_BYTES)
 
 -- the file has more bytes than the limit
 abbrev pub IsLong : Option Files → List ℕ → Type 0
-IsLong held name = (bytes : List ℕ) × IsFile held name bytes × (1048576 < length bytes)
+IsLong held name = (bytes : List ℕ) × IsFile held name bytes × (MOST_BYTES < length bytes)
 
 -- what a read of a whole file answers
 abbrev pub ReadsFile : Option Files → List ℕ → Result (Vec ℕ Global) TakeFault → Type 0

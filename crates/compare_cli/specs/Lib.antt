@@ -1,9 +1,9 @@
 pub mod Answers
+pub mod Arguments
 pub mod Comparison
 pub mod Complete
 pub mod Decided
 pub mod Files
 pub mod Promises
-pub mod Runs
+pub mod Statuses
 pub mod Texts
-pub mod Words

@@ -11,10 +11,18 @@ use Rattle.policy_model.specs.declared.test.Slot.TheVariants as slot
 use Rattle.compare_cli.specs.declared.answer.Role.{Role}
 use Rattle.compare_cli.specs.declared.answer.Role.TheVariants.{First, Second}
 use Rattle.compare_cli.specs.declared.answer.Answer.{Answer}
-use Rattle.compare_cli.specs.declared.answer.Answer.TheVariants.{Usage, ReadFault, TooLong, Refused, TooManyTests, TooManyPieces, UndecidedSplits, UndecidedStates, NotMore, More}
+use Rattle.compare_cli.specs.declared.answer.Answer.TheVariants.{Usage, ReadFault, Refused, Undecided, NotMore, More}
+use Rattle.compare_cli.specs.declared.answer.Refusal.{Refusal}
+use Rattle.compare_cli.specs.declared.answer.Refusal.TheVariants.{TooLong, NoSet, TooManyTests, TooManyPieces}
+use Rattle.compare_cli.specs.declared.answer.Shortage.{Shortage}
+use Rattle.compare_cli.specs.declared.answer.Shortage.TheVariants.{Splits, States}
+use Rattle.compare_cli.specs.declared.files.TheConstants.{MOST_BYTES}
 use Rattle.policy_json.specs.declared.fault.PolicyFault.{PolicyFault}
 use Rattle.policy_json.specs.declared.fault.PolicyCode.{PolicyCode}
-use Rattle.policy_json.specs.declared.fault.PolicyCode.TheVariants.{P0NotBuilt, P1NotJson, P2SetShape, P3UnknownElement, P4WrongShape, P5MissingElement, P6BothElements, P7BadVersion, P8BadEffect, P9PrincipalKind, P10PrincipalWildcard, P11PolicyVariable, P17Limit}
+use Rattle.policy_json.specs.declared.fault.PolicyCode.TheVariants.{P0NotBuilt, P1NotJson, P2SetShape, P3UnknownElement}
+use Rattle.policy_json.specs.declared.fault.PolicyCode.TheVariants.{P4WrongShape, P5MissingElement, P6BothElements, P7BadVersion}
+use Rattle.policy_json.specs.declared.fault.PolicyCode.TheVariants.{P8BadEffect, P9PrincipalKind, P10PrincipalWildcard}
+use Rattle.policy_json.specs.declared.fault.PolicyCode.TheVariants.{P11PolicyVariable, P17Limit}
 
 abbrev pub role_word : Role → List ℕ
 role_word First = codes "first"
@@ -47,7 +55,7 @@ statement_end fault = codes ", statement " ++ decimal fault.statement ++ codes "
 unfoldable pub document_end : PolicyFault → List ℕ
 document_end fault = codes ": document " ++ decimal fault.document ++ statement_end fault
 
--- a fault with its place
+-- a fault with its location
 abbrev pub fault_text : PolicyFault → List ℕ
 fault_text fault = code_word fault.code ++ document_end fault
 
@@ -64,7 +72,11 @@ principal_data q = object (member (kind_word q.kind) (string (encode_utf8_all q.
 
 -- a request without condition keys as JSON
 abbrev pub request_data : Request → Data
-request_data q = object (member (codes "Action") (string (encode_utf8_all q.action)) (member (codes "Context") (object no_members) (member (codes "Principal") (principal_data q) (member (codes "Resource") (string (encode_utf8_all q.resource)) no_members))))
+request_data q =
+    let action = string (encode_utf8_all q.action) in
+    let resource = string (encode_utf8_all q.resource) in
+    let end = member (codes "Principal") (principal_data q) (member (codes "Resource") resource no_members) in
+    object (member (codes "Action") action (member (codes "Context") (object no_members) end))
 
 abbrev pub request_text : Request → List ℕ
 request_text q = compact_text (request_data q)
@@ -76,15 +88,28 @@ slot_word slot.Action = codes "action"
 slot_word slot.Resource = codes "resource"
 slot_word (slot.Key name) = codes "key " ++ encode_utf8_all name
 
+-- the end of the line on a file that is too long
+unfoldable pub too_long_end : List ℕ
+too_long_end = codes ": file longer than " ++ decimal MOST_BYTES ++ codes " bytes\n"
+
+-- the line of a refusal
+unfoldable pub refusal_text : Refusal → List ℕ
+refusal_text (TooLong role) = codes "refused: " ++ role_word role ++ too_long_end
+refusal_text (NoSet role fault) = codes "refused: " ++ role_word role ++ codes ": " ++ fault_text fault ++ codes "\n"
+refusal_text TooManyTests = codes "refused: query: P17 Limit: document 0, statement 0, \"tests\"\n"
+refusal_text TooManyPieces = codes "refused: query: P17 Limit: document 0, statement 0, \"pieces\"\n"
+
+-- the line on a budget that is too small
+unfoldable pub shortage_text : Shortage → List ℕ
+shortage_text (Splits n) = codes "undecided: splits " ++ decimal n ++ codes "\n"
+shortage_text (States n s) = codes "undecided: states " ++ decimal n ++ codes " at " ++ slot_word s ++ codes "\n"
+
 -- the whole text of an answer
 unfoldable pub answer_text : Answer → List ℕ
-answer_text Usage = codes "usage: compare FIRST SECOND | summary SET DIMENSION.. | check FIRST SECOND PROOF | eval SET REQUEST | load N\n"
+answer_text Usage =
+    codes "usage: compare FIRST SECOND | summary SET DIMENSION.. | check FIRST SECOND PROOF | eval SET REQUEST | load N\n"
 answer_text (ReadFault role) = codes "read fault: " ++ role_word role ++ codes "\n"
-answer_text (TooLong role) = codes "refused: " ++ role_word role ++ codes ": file longer than 1048576 bytes\n"
-answer_text (Refused role fault) = codes "refused: " ++ role_word role ++ codes ": " ++ fault_text fault ++ codes "\n"
-answer_text TooManyTests = codes "refused: query: P17 Limit: document 0, statement 0, \"tests\"\n"
-answer_text TooManyPieces = codes "refused: query: P17 Limit: document 0, statement 0, \"pieces\"\n"
-answer_text (UndecidedSplits splits) = codes "undecided: splits " ++ decimal splits ++ codes "\n"
-answer_text (UndecidedStates states s) = codes "undecided: states " ++ decimal states ++ codes " at " ++ slot_word s ++ codes "\n"
+answer_text (Refused refusal) = refusal_text refusal
+answer_text (Undecided shortage) = shortage_text shortage
 answer_text NotMore = codes "not more permissive\n"
 answer_text (More q) = codes "more permissive\n" ++ request_text q ++ codes "\n"

@@ -1,17 +1,14 @@
-//! The comparer of IAM policies: from the words of a command line and the files that they name to the
-//! bytes of an answer and a status.
+//! The comparer of IAM policies: from the arguments of a command line and the files that they name to
+//! the bytes of an answer and a status.
 #![tactic(auto)]
 
 mod answer;
+mod arguments;
 mod decision;
 mod files;
+mod text;
 mod top;
-mod words;
 
-pub use answer::{Answer, Role};
+pub use answer::{Answer, Refusal, Role, Shortage};
+pub use decision::few_tests_are_decided;
 pub use top::{Status, exit_number, run};
-
-#[cfg(test)]
-mod small_sets;
-#[cfg(test)]
-mod tests;

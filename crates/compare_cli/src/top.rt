@@ -1,16 +1,17 @@
-//! One run, from the words to the bytes that are written.
+//! One run, from the arguments to the bytes that are written.
 ghost use Rattle.std.specs.Prelude.{◌≡◌, ◌≤◌, None, IfOk};
 ghost use Rattle.pol_outside.specs.Faults.{Rose};
-ghost use Rattle.compare_cli.specs.Words.{asked_by};
-ghost use Rattle.compare_cli.specs.Answers.{IsAnswer, IsAnswerTo, IsFaultAnswer, IsVerdict, TellsFault};
-ghost use Rattle.compare_cli.specs.Runs.{Runs, exit_number, status_of};
-ghost use Rattle.compare_cli.specs.Promises.{MoreByWords, NotMoreByWords, ReadFaultByCount, RefusedByCause, ToldByStatus, UndecidedByNeed, UsageByWords};
+ghost use Rattle.compare_cli.specs.Answers.{AnswersFiles, IsAnswer, IsAnswerTo, IsFaultAnswer};
+ghost use Rattle.compare_cli.specs.Arguments.{asked_by, names_in};
 ghost use Rattle.compare_cli.specs.Complete.{IsAccepted, IsDecided};
+ghost use Rattle.compare_cli.specs.Promises.{IsUsageOrFault, Promises};
+ghost use Rattle.compare_cli.specs.Statuses.{exit_number, status_of};
 
-use crate::answer::{Answer, Role, answer_text};
+use crate::answer::{Answer, Refusal, Role};
+use crate::arguments::asked;
 use crate::decision::compare;
 use crate::files::read_file;
-use crate::words::asked;
+use crate::text::answer_text;
 use pol_outside::{Folder, Sink, TakeFault, put_all};
 use policy_json::{PolicyAnswer, read_set};
 use std::alloc::{AllocError, Global};
@@ -27,7 +28,7 @@ pub enum Status {
     Refused,
     /// A budget ran out.
     Undecided,
-    /// The words are of no command's form.
+    /// The arguments are of no command's form.
     Usage,
     /// A file couldn't be read.
     ReadFault,
@@ -57,7 +58,7 @@ pub fn exit_number(status: Status) -> u8
 }
 
 // The answer of two files that were read.
-fn verdict(
+fn files_answer(
     alloc: Global,
     first: &[u8],
     second: &[u8],
@@ -65,16 +66,22 @@ fn verdict(
 ) -> Result<Answer, AllocError>
     requires splits { 1 ≤ budgets.splits }
     requires states { 1 ≤ budgets.states }
-    ensures { IfOk result (IsVerdict first.now second.now budgets) }
+    ensures { IfOk result (AnswersFiles first.now second.now budgets) }
 {
     let one = match read_set(alloc, first) {
         Ok(set) => set,
-        Err(PolicyAnswer::Refused(fault)) => return Ok(Answer::Refused(Role::First, fault)),
+        Err(PolicyAnswer::Refused(fault)) => return Ok(Answer::Refused(Refusal::NoSet(
+            Role::First,
+            fault,
+        ))),
         Err(PolicyAnswer::NoMemory) => return Err(AllocError),
     };
     let two = match read_set(alloc, second) {
         Ok(set) => set,
-        Err(PolicyAnswer::Refused(fault)) => return Ok(Answer::Refused(Role::Second, fault)),
+        Err(PolicyAnswer::Refused(fault)) => return Ok(Answer::Refused(Refusal::NoSet(
+            Role::Second,
+            fault,
+        ))),
         Err(PolicyAnswer::NoMemory) => return Err(AllocError),
     };
     compare(alloc, &one, &two, budgets)
@@ -85,7 +92,7 @@ fn fault_answer(role: Role, fault: TakeFault) -> Result<Answer, AllocError>
 {
     match fault {
         TakeFault::Failed => Ok(Answer::ReadFault(role)),
-        TakeFault::TooLong => Ok(Answer::TooLong(role)),
+        TakeFault::TooLong => Ok(Answer::Refused(Refusal::TooLong(role))),
         TakeFault::NoMemory => Err(AllocError),
     }
 }
@@ -100,8 +107,13 @@ fn answer_to<F: Folder>(
 ) -> Result<Answer, AllocError>
     requires splits { 1 ≤ budgets.splits }
     requires states { 1 ≤ budgets.states }
-    ensures given { IfOk result (IsAnswerTo (F.held folder.old) (F.faults folder.old) (F.faults folder.new) (F.last_fault folder.new) (first.now, second.now, budgets)) }
-    ensures told { IfOk result (TellsFault (F.last_fault folder.old) (F.last_fault folder.new)) }
+    ensures given { IfOk result (IsAnswerTo (names_in first.now second.now budgets) (record {
+      held = F.held folder.old;
+      faults_before = F.faults folder.old;
+      faults = F.faults folder.new;
+      last_before = F.last_fault folder.old;
+      last = F.last_fault folder.new;
+    })) }
     ensures held { F.held folder.new ≡ F.held folder.old }
     ensures later { F.faults folder.old ≤ F.faults folder.new }
 {
@@ -113,17 +125,26 @@ fn answer_to<F: Folder>(
         Ok(bytes) => bytes,
         Err(fault) => return fault_answer(Role::Second, fault),
     };
-    verdict(alloc, one.as_slice(), two.as_slice(), budgets)
+    files_answer(alloc, one.as_slice(), two.as_slice(), budgets)
 }
 
-fn answer<F: Folder>(alloc: Global, words: &[String], folder: &mut F) -> Result<Answer, AllocError>
-    ensures given { IfOk result (IsAnswer (F.held folder.old) (F.faults folder.old) (F.faults folder.new) (F.last_fault folder.new) (asked_by words.now)) }
-    ensures untouched { asked_by words.now ≡ None → folder.new ≡ folder.old }
-    ensures told { IfOk result (TellsFault (F.last_fault folder.old) (F.last_fault folder.new)) }
+fn answer<F: Folder>(
+    alloc: Global,
+    arguments: &[String],
+    folder: &mut F,
+) -> Result<Answer, AllocError>
+    ensures given { IfOk result (IsAnswer (asked_by arguments.now) (record {
+      held = F.held folder.old;
+      faults_before = F.faults folder.old;
+      faults = F.faults folder.new;
+      last_before = F.last_fault folder.old;
+      last = F.last_fault folder.new;
+    })) }
+    ensures untouched { asked_by arguments.now ≡ None → folder.new ≡ folder.old }
     ensures held { F.held folder.new ≡ F.held folder.old }
     ensures later { F.faults folder.old ≤ F.faults folder.new }
 {
-    match asked(words) {
+    match asked(arguments) {
         Some((first, second, budgets)) => answer_to(alloc, folder, first, second, budgets),
         None => Ok(Answer::Usage),
     }
@@ -135,32 +156,59 @@ fn status_of(answer: &Answer) -> Status
     match answer {
         Answer::Usage => Status::Usage,
         Answer::ReadFault(_) => Status::ReadFault,
-        Answer::TooLong(_) | Answer::Refused(_, _) | Answer::TooManyTests | Answer::TooManyPieces =>
-            Status::Refused,
-        Answer::UndecidedSplits(_) | Answer::UndecidedStates(_, _) => Status::Undecided,
+        Answer::Refused(_) => Status::Refused,
+        Answer::Undecided(_) => Status::Undecided,
         Answer::NotMore => Status::Holds,
         Answer::More(_) => Status::Fails,
     }
 }
 
-// Answers, and writes the answer.
-fn answer_and_write<F: Folder, S: Sink>(
+/// Reads the files that the arguments name, answers, and writes the answer. The arguments are those
+/// after the program's name.
+///
+/// - `promises`: what each status says, of what the arguments ask, the bytes that the folder holds and
+///   the bytes that were written. With `Holds` the second set allows each valid request that the first
+///   allows, with `Fails` a valid request was written that the first allows and the second doesn't. A
+///   refusal, a budget, a fault of reading and the usage line come only by their cause, with their line.
+///   With `ReadFault` the folder's count of faults rose in this call, with `WriteFault` the sink's, and
+///   with every other answer the name of the folder's last fault is as it was.
+/// - `usage`, `untouched`: where the arguments are no `compare FIRST SECOND [--splits N] [--states N]`
+///   nothing else than `Usage` comes but for want of memory or of room, and the folder is as before.
+/// - `held`, `reads`, `writes`: what the folder holds stays as it is, and no count of faults falls.
+/// - `complete`: two accepted files, budgets that aren't below the need of the plain run and no fault
+///   give a comparison, unless memory is wanting.
+pub fn run<F: Folder, S: Sink>(
     alloc: Global,
-    words: &[String],
+    arguments: &[String],
     folder: &mut F,
     out: &mut S,
 ) -> Status
-    ensures runs { Runs
-        (IsAnswer (F.held folder.old) (F.faults folder.old) (F.faults folder.new) (F.last_fault folder.new)
-        (asked_by words.now))
-        result (S.faults out.old) (S.faults out.new) (S.written out.old) (S.written out.new) }
-    ensures untouched { asked_by words.now ≡ None → folder.new ≡ folder.old }
+    ensures promises { Promises (asked_by arguments.now)
+        (record {
+          held = F.held folder.old;
+          faults_before = F.faults folder.old;
+          faults = F.faults folder.new;
+          last_before = F.last_fault folder.old;
+          last = F.last_fault folder.new;
+        })
+        (record {
+          faults_before = S.faults out.old;
+          faults = S.faults out.new;
+          before = S.written out.old;
+          now = S.written out.new;
+        })
+        result }
+    ensures usage { asked_by arguments.now ≡ None → IsUsageOrFault result }
+    ensures untouched { asked_by arguments.now ≡ None → folder.new ≡ folder.old }
     ensures held { F.held folder.new ≡ F.held folder.old }
     ensures reads { F.faults folder.old ≤ F.faults folder.new }
     ensures writes { S.faults out.old ≤ S.faults out.new }
-    ensures told { ToldByStatus (F.last_fault folder.old) (F.last_fault folder.new) result }
+    ensures complete { IsAccepted (F.held folder.old) (asked_by arguments.now)
+        → ¬ Rose (F.faults folder.old) (F.faults folder.new)
+        → ¬ Rose (S.faults out.old) (S.faults out.new)
+        → IsDecided result }
 {
-    let Ok(answer) = answer(alloc, words, folder) else {
+    let Ok(answer) = answer(alloc, arguments, folder) else {
         return Status::NoMemory;
     };
     let Ok(text) = answer_text(alloc, &answer) else {
@@ -170,58 +218,4 @@ fn answer_and_write<F: Folder, S: Sink>(
         Ok(()) => status_of(&answer),
         Err(_) => Status::WriteFault,
     }
-}
-
-/// Reads the files that the words name, answers, and writes the answer. The words are those after the
-/// program's name. The clauses say, over the words, the bytes that the folder holds, the bytes that were
-/// written and the status:
-///
-/// - `runs`: what was written by each status: the whole text of an answer that may be given, a prefix of
-///   it with `WriteFault`, nothing with `NoMemory`;
-/// - `usage`, `untouched`: `Usage` exactly where the words are no `compare FIRST SECOND [--splits N]
-///   [--states N]`, and then the folder is as before;
-/// - `held`, `reads`, `writes`: what the folder holds stays as it is, and no count of faults falls;
-/// - `read_fault`, `write_fault`: only where the count of faults rose in this call, and a role's fault
-///   of reading only with that role's file as the last fault's name;
-/// - `told`: no fault of reading is passed over: without `ReadFault`, `WriteFault` and `NoMemory` the
-///   last fault's name is as before;
-/// - `refused`: a refusal by the first cause, with its line;
-/// - `undecided`: only where a named budget is below the plain need, with a line that names it;
-/// - `not_more`: the second set allows each valid request that the first allows, over all texts;
-/// - `more`: the second line is a valid request that the first set alone allows;
-/// - `complete`: two accepted files, budgets that are at least the plain need and no fault give a
-///   comparison, unless memory is wanting.
-pub fn run<F: Folder, S: Sink>(
-    alloc: Global,
-    words: &[String],
-    folder: &mut F,
-    out: &mut S,
-) -> Status
-    ensures runs { Runs
-        (IsAnswer (F.held folder.old) (F.faults folder.old) (F.faults folder.new) (F.last_fault folder.new)
-        (asked_by words.now))
-        result (S.faults out.old) (S.faults out.new) (S.written out.old) (S.written out.new) }
-    ensures usage { UsageByWords (asked_by words.now) result }
-    ensures untouched { asked_by words.now ≡ None → folder.new ≡ folder.old }
-    ensures held { F.held folder.new ≡ F.held folder.old }
-    ensures reads { F.faults folder.old ≤ F.faults folder.new }
-    ensures writes { S.faults out.old ≤ S.faults out.new }
-    ensures read_fault { result ≡ Status.ReadFault → ReadFaultByCount (asked_by words.now)
-        (F.faults folder.old) (F.faults folder.new) (F.last_fault folder.new) (S.written out.old) (S.written out.new) }
-    ensures told { ToldByStatus (F.last_fault folder.old) (F.last_fault folder.new) result }
-    ensures write_fault { result ≡ Status.WriteFault → Rose (S.faults out.old) (S.faults out.new) }
-    ensures refused { result ≡ Status.Refused → RefusedByCause (F.held folder.old)
-        (asked_by words.now) (S.written out.old) (S.written out.new) }
-    ensures undecided { result ≡ Status.Undecided → UndecidedByNeed (F.held folder.old)
-        (asked_by words.now) (S.written out.old) (S.written out.new) }
-    ensures not_more { result ≡ Status.Holds → NotMoreByWords (F.held folder.old)
-        (asked_by words.now) (S.written out.old) (S.written out.new) }
-    ensures more { result ≡ Status.Fails → MoreByWords (F.held folder.old)
-        (asked_by words.now) (S.written out.old) (S.written out.new) }
-    ensures complete { IsAccepted (F.held folder.old) (asked_by words.now)
-        → ¬ Rose (F.faults folder.old) (F.faults folder.new)
-        → ¬ Rose (S.faults out.old) (S.faults out.new)
-        → IsDecided result }
-{
-    answer_and_write(alloc, words, folder, out)
 }

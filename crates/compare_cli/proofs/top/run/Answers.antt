@@ -1,28 +1,18 @@
-use Rattle.compare_cli.specs.declared.top.Status.TheVariants.{Holds, Fails, Refused, Undecided, ReadFault, WriteFault}
-use Rattle.compare_cli.proofs.Completeness.{run_decided}
-use Rattle.compare_cli.proofs.Promises.{kept_by, usage_by_words}
+use Rattle.std.proofs.Common.{sym, subst}
+use Rattle.compare_cli.specs.declared.top.Status.{Status}
+use Rattle.compare_cli.specs.Answers.{Reading}
+use Rattle.compare_cli.specs.Arguments.{asked_by}
+use Rattle.compare_cli.specs.Complete.{IsDecided}
+use Rattle.compare_cli.proofs.Completeness.{answer_decided}
 use Rattle.compare_cli.proofs.top.run.Goals as goal
 
-pub returns-clause-usage : goal.returns-clause-usage
-returns-clause-usage g c = usage_by_words _ _ _ _ _ _ _ _ _ _ c.answer_and_write.ensures.runs
-
-pub returns-clause-read_fault : goal.returns-clause-read_fault
-returns-clause-read_fault g c = kept_by ReadFault _ _ _ _ _ _ _ _ _ _ c.answer_and_write.ensures.runs
-
-pub returns-clause-write_fault : goal.returns-clause-write_fault
-returns-clause-write_fault g c = kept_by WriteFault _ _ _ _ _ _ _ _ _ _ c.answer_and_write.ensures.runs
-
-pub returns-clause-refused : goal.returns-clause-refused
-returns-clause-refused g c = kept_by Refused _ _ _ _ _ _ _ _ _ _ c.answer_and_write.ensures.runs
-
-pub returns-clause-undecided : goal.returns-clause-undecided
-returns-clause-undecided g c = kept_by Undecided _ _ _ _ _ _ _ _ _ _ c.answer_and_write.ensures.runs
-
-pub returns-clause-not_more : goal.returns-clause-not_more
-returns-clause-not_more g c = kept_by Holds _ _ _ _ _ _ _ _ _ _ c.answer_and_write.ensures.runs
-
-pub returns-clause-more : goal.returns-clause-more
-returns-clause-more g c = kept_by Fails _ _ _ _ _ _ _ _ _ _ c.answer_and_write.ensures.runs
-
-pub returns-clause-complete : goal.returns-clause-complete
-returns-clause-complete g c = run_decided _ _ _ _ _ _ _ _ _ _ c.answer_and_write.ensures.runs
+pub returns-in-Ok-put_all-clause-complete : goal.returns-in-Ok-put_all-clause-complete
+returns-in-Ok-put_all-clause-complete g c = λ accepted calm calm_sink.
+    let r : Reading = record {
+      held = g.F.Folder.held c.args.folder.now;
+      faults_before = g.F.Folder.faults c.args.folder.now;
+      faults = g.F.Folder.faults c.answer.new.folder;
+      last_before = g.F.Folder.last_fault c.args.folder.now;
+      last = g.F.Folder.last_fault c.answer.new.folder;
+    } in
+    subst (λ (s : Status). IsDecided s) (sym c.status_of.ensures) (answer_decided (asked_by c.args.arguments.now) r c.in-Ok.answer c.in-Ok.ensures.given accepted calm)
