@@ -1,4 +1,6 @@
-mod Cleared
+pub mod Laws
+mod Equal
+mod Around
 mod Runs
 mod Reading
 mod Readings

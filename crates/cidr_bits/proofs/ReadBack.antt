@@ -58,7 +58,7 @@ pub address_read_back : AddressReadBack
 address_read_back a (Ok b) fits read = ap Ok (one_address (address_text a) b a read (spells a fits))
 address_read_back a (Err e) fits read = absurd (read a (spells a fits))
 
-uncleared : (a : Address) (prefix : ℕ) → number a % 2 ^ (width a - prefix) ≡ 0 → a ≡ cleared a prefix
+pub uncleared : (a : Address) (prefix : ℕ) → number a % 2 ^ (width a - prefix) ≡ 0 → a ≡ cleared a prefix
 uncleared (V4 n) prefix clear = let whole = shr_split n (32 - prefix) in ap V4 (omega (arith, whole))
 uncleared (V6 n) prefix clear = let whole = shr_split n (128 - prefix) in ap V6 (omega (arith, whole))
 

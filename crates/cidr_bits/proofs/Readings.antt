@@ -18,12 +18,15 @@ use Rattle.cidr_bits.specs.declared.address.Address.{Address}
 use Rattle.cidr_bits.specs.declared.address.Address.TheVariants.{V4, V6}
 use Rattle.cidr_bits.specs.declared.address.BadAddress.{BadAddress}
 use Rattle.cidr_bits.specs.declared.block.Block.{Block}
-use Rattle.cidr_bits.specs.Numbers.{width, cleared}
-use Rattle.cidr_bits.specs.Forms.{IsAddressText, IsLengthText, IsBlockText, ReadsBlock, parts_of}
-use Rattle.cidr_bits.specs.Readings.{alone, to_end, of_octets, of_groups, address_of, before_slash, from_slash, prefix_written, length_of, block_of}
+use Rattle.cidr_bits.specs.Numbers.{IsAddress, width, cleared}
+use Rattle.cidr_bits.specs.Texts.{address_text}
+use Rattle.cidr_bits.specs.Blocks.{block_around}
+use Rattle.cidr_bits.specs.Forms.{IsAddressText, IsLengthText, IsBlockText, ReadsBlock}
+use Rattle.cidr_bits.specs.Readings.{alone, to_end, of_octets, of_groups, address_of, before_slash, from_slash, prefix_written, length_of, block_of, block_spelled}
 use Rattle.cidr_bits.specs.Laws.{AddressOfIsTheForm, BlockOfIsTheForm}
+use Rattle.cidr_bits.proofs.Around.{block_is_around_its_first}
 use Rattle.cidr_bits.proofs.Reading.{NotSlash, address_not_slash}
-use Rattle.cidr_bits.proofs.ReadBack.{IsRest, is_rest, width_small}
+use Rattle.cidr_bits.proofs.ReadBack.{spells, IsRest, is_rest, width_small}
 
 none_where : {A : Type 0} (o : Option A) → ((x : A) → o ≡ Some x → ⊥) → o ≡ None
 none_where None h = refl
@@ -82,6 +85,9 @@ no_address_of text h = none_where (address_of text) (λ a k. h a (address_back t
 
 pub address_of_is_the_form : AddressOfIsTheForm
 address_of_is_the_form text a = (address_back text a, address_forth text a)
+
+pub address_read_again : (a : Address) → IsAddress a → address_of (address_text a) ≡ Some a
+address_read_again a fits = address_forth (address_text a) a (spells a fits)
 
 -- the text is split at its first `/`
 by_bool : {P : Type 0} (b : Bool) → (b ≡ true → P) → (b ≡ false → P) → P
@@ -165,10 +171,16 @@ block_back text first prefix h =
 pub block_of_is_the_form : BlockOfIsTheForm
 block_of_is_the_form text first prefix = (block_back text first prefix, block_forth text first prefix)
 
-pub no_block_of : (text : List ℕ) → ((first : Address) (prefix : ℕ) → IsBlockText text first prefix → ⊥) → block_of text ≡ None
+no_block_of : (text : List ℕ) → ((first : Address) (prefix : ℕ) → IsBlockText text first prefix → ⊥) → block_of text ≡ None
 no_block_of text h = none_where (block_of text) (λ parts k. h parts.0 parts.1 (block_back text parts.0 parts.1 k))
 
+abbrev around : Address × ℕ → Block
+around parts = block_around parts.0 parts.1
+
+pub no_block_spelled : (text : List ℕ) → ((first : Address) (prefix : ℕ) → IsBlockText text first prefix → ⊥) → block_spelled text ≡ None
+no_block_spelled text h = ap (option_map around) (no_block_of text h)
+
 -- what the reader of blocks answers is what is computed
-pub block_read : (text : List ℕ) (r : Result Block BadAddress) → ReadsBlock text r → option_map parts_of (result_ok r) ≡ block_of text
-block_read text (Ok block) h = sym (block_forth text block.first block.prefix h)
-block_read text (Err e) h = sym (no_block_of text h)
+pub block_read : (text : List ℕ) (r : Result Block BadAddress) → ReadsBlock text r → result_ok r ≡ block_spelled text
+block_read text (Ok block) h = sym (ap (option_map around) (block_forth text block.first block.prefix h) ∙ ap Some (block_is_around_its_first block))
+block_read text (Err e) h = sym (no_block_spelled text h)

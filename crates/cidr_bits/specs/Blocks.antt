@@ -1,8 +1,10 @@
--- The least and the greatest address of a block.
-use Rattle.std.specs.Prelude.{◌≡◌, ℕ, ◌-◌, ◌^◌, ◌≤◌, true}
+-- Blocks: the block around an address, and the least and the greatest address of a block.
+use Rattle.std.specs.Prelude.{◌≡◌, ℕ, ◌-◌, ◌^◌, ◌≤◌, min, true}
 use Rattle.cidr_bits.specs.declared.address.Address.{Address}
+use Rattle.cidr_bits.specs.declared.address.Address.TheVariants.{V4}
 use Rattle.cidr_bits.specs.declared.block.Block.{Block}
-use Rattle.cidr_bits.specs.Numbers.{width, number, lies_in}
+use Rattle.cidr_bits.specs.Numbers.{width, number, cleared, lies_in}
+use Rattle.cidr_bits.specs.Cleared.{fits-cleared, number-cleared}
 
 -- how many addresses the block has
 abbrev pub block_size : Block → ℕ
@@ -21,3 +23,17 @@ pub record IsLeast (block : Block) (least : Address) : Type 0 where
 pub record IsGreatest (block : Block) (greatest : Address) : Type 0 where
   pub inside : LiesIn block greatest
   pub above : (a : Address) → LiesIn block a → number a ≤ number greatest
+
+-- the block of this prefix length that the address lies in; where the length is more than the address has bits, the block of the
+-- address alone
+abbrev pub block_around : Address → ℕ → Block
+block_around a prefix = record {
+  first = cleared a (min prefix (width a));
+  prefix = min prefix (width a);
+  fits = fits-cleared a prefix;
+  clear = number-cleared a (min prefix (width a));
+}
+
+-- the block of all IPv4 addresses
+abbrev pub every_ipv4 : Block
+every_ipv4 = block_around (V4 0) 0

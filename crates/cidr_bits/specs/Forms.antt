@@ -54,7 +54,3 @@ ReadsLength most digits r = MatchResult r (λ p. (digits ≡ decimal p) × (p �
 -- no sign, and no zero before other digits
 abbrev pub IsPlain : List ℕ → Type 0
 IsPlain digits = (get_or digits 0 0 ≢ 43) × (get_or digits 0 0 ≡ 48 → length digits ≡ 1)
-
--- a block as its first address and its prefix length
-abbrev pub parts_of : Block → Address × ℕ
-parts_of block = (block.first, block.prefix)

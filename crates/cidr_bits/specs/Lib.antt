@@ -1,4 +1,5 @@
 pub mod Numbers
+pub mod Cleared
 pub mod Blocks
 pub mod Forms
 pub mod Readings

@@ -7,7 +7,9 @@ use Rattle.std.specs.Str.Parse.{digits_value}
 use Rattle.std.specs.Net.Reader.{read_ipv4, read_ipv6}
 use Rattle.cidr_bits.specs.declared.address.Address.{Address}
 use Rattle.cidr_bits.specs.declared.address.Address.TheVariants.{V4, V6}
+use Rattle.cidr_bits.specs.declared.block.Block.{Block}
 use Rattle.cidr_bits.specs.Numbers.{width, cleared}
+use Rattle.cidr_bits.specs.Blocks.{block_around}
 
 -- the numbers that a reader read, where nothing stands behind them
 abbrev pub alone : List ℕ → List ℕ → Option (List ℕ)
@@ -52,3 +54,7 @@ unfoldable pub block_of : List ℕ → Option (Address × ℕ)
 block_of text = option_and_then
     (λ address. option_map (λ prefix. (cleared address prefix, prefix)) (length_of (width address) (from_slash text)))
     (address_of (before_slash text))
+
+-- the block that the text stands for
+abbrev pub block_spelled : List ℕ → Option Block
+block_spelled text = option_map (λ parts. block_around parts.0 parts.1) (block_of text)

@@ -1,4 +1,7 @@
 //! Addresses as numbers.
+ghost use Rattle.std.proofs.Common.{rules};
+
+use plain_lists::EqualClone;
 
 /// An IPv4 or an IPv6 address, as the number whose bits are those of the address, the first bit of
 /// the address being the highest.
@@ -8,6 +11,10 @@ pub enum Address {
     V4(u32),
     /// An IPv6 address: 128 bits.
     V6(u128),
+}
+
+impl EqualClone for Address {
+    ghost clones_are_equal = { Prim.search rules };
 }
 
 /// The answer of a reader where the text isn't of its form.

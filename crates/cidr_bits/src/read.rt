@@ -1,11 +1,11 @@
 //! Texts to addresses and blocks.
-ghost use Rattle.std.specs.Prelude.{◌≡◌, ◌+◌, ◌-◌, ◌*◌, ◌/◌, ◌^◌, ◌≤◌, ◌↔◌, option_map, IsTrue};
+ghost use Rattle.std.specs.Prelude.{◌≡◌, ◌+◌, ◌-◌, ◌*◌, ◌/◌, ◌^◌, ◌≤◌, ◌↔◌, IsTrue};
 ghost use Rattle.std.specs.Result.{result_ok};
 ghost use Rattle.std.specs.Int.Digits.{number_from_digits};
 ghost use Rattle.std.specs.Net.Addr.{ipv4_octets, ipv6_segments};
 ghost use Rattle.cidr_bits.specs.Numbers.{width, cleared};
-ghost use Rattle.cidr_bits.specs.Forms.{IsPlain, ReadsAddress, ReadsBlock, ReadsWhole, ReadsLength, parts_of};
-ghost use Rattle.cidr_bits.specs.Readings.{address_of, block_of};
+ghost use Rattle.cidr_bits.specs.Forms.{IsPlain, ReadsAddress, ReadsBlock, ReadsWhole, ReadsLength};
+ghost use Rattle.cidr_bits.specs.Readings.{address_of, block_spelled};
 
 use crate::address::{Address, BadAddress};
 use crate::block::Block;
@@ -51,7 +51,7 @@ fn four_groups(a: u16, b: u16, c: u16, d: u16) -> u64
 /// bits of the address after the prefix are ignored. `BadAddress` exactly where the text spells none.
 pub fn read_block(text: &str) -> Result<Block, BadAddress>
     ensures form { ReadsBlock text.now result }
-    ensures value { option_map parts_of (result_ok result) ≡ block_of text.now }
+    ensures value { result_ok result ≡ block_spelled text.now }
 {
     let Some((front, length)) = text.split_once('/') else {
         return read_whole(text);

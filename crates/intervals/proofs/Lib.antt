@@ -1,3 +1,6 @@
+pub mod Laws
+mod Equal
+mod Standing
 mod Numbers
 mod Dates
 mod Fractions

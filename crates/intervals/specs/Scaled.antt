@@ -1,6 +1,6 @@
 -- Scaled numbers: whole numbers of units of 10^-9. That they are less than 10^27 in size is this project's own choice: eighteen
 -- digits before the point, nine behind it.
-use Rattle.std.specs.Prelude.{ℕ, ℤ, pos, ◌*ℤ◌, ◌<◌, ◌≤◌, unsigned_abs, Result, MatchResult}
+use Rattle.std.specs.Prelude.{ℕ, ℤ, pos, ◌*ℤ◌, ◌<◌, ◌≤◌, nat_lt, unsigned_abs, Option, Some, None, Result, MatchResult, if◌then◌else◌}
 
 -- 10^27, which the number of units is less than in size
 abbrev pub size_limit : ℕ
@@ -17,6 +17,10 @@ IsScaled units = unsigned_abs units < size_limit
 -- the units of the whole number n
 abbrev pub units_of_whole : ℤ → ℤ
 units_of_whole n = n *ℤ pos 1_000_000_000
+
+-- the same of a whole number less than 10^18 in size, and none of any other
+abbrev pub whole_units : ℤ → Option ℤ
+whole_units n = (if nat_lt (unsigned_abs n) whole_limit then Some (units_of_whole n) else None)
 
 -- there is a result where n is less than the limit in size, and an error where it isn't
 abbrev pub IsOkBelow : {T E : Type 0} → ℕ → ℤ → Result T E → Type 0

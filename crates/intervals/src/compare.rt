@@ -1,8 +1,10 @@
 //! How a number stands to a bound.
-ghost use Rattle.std.specs.Prelude.{◌↔◌, IsTrue};
-ghost use Rattle.intervals.specs.Compare.{StandsTo};
+ghost use Rattle.std.specs.Prelude.{◌≡◌, ◌↔◌, IsTrue};
+ghost use Rattle.std.proofs.Common.{rules};
+ghost use Rattle.intervals.specs.Compare.{StandsTo, stands_to};
 
 use crate::scaled::Scaled;
+use plain_lists::EqualClone;
 
 /// How a value stands to a bound.
 #[derive(Clone, Copy, PartialEq, Eq, Hash, Debug, Drop)]
@@ -19,9 +21,14 @@ pub enum Compare {
     GreaterOrEqual,
 }
 
+impl EqualClone for Compare {
+    ghost clones_are_equal = { Prim.search rules };
+}
+
 /// Whether the value stands to the bound as named. It takes no memory.
 pub fn satisfies(compare: Compare, bound: Scaled, value: Scaled) -> bool
-    ensures { IsTrue result ↔ StandsTo compare bound value }
+    ensures meaning { IsTrue result ↔ StandsTo compare bound value }
+    ensures value { result ≡ stands_to compare bound value }
 {
     let limit = bound.units();
     let number = value.units();

@@ -7,14 +7,16 @@ mod compare;
 mod decimal;
 mod digits;
 mod fields;
-mod laws;
+mod meanings;
 mod moment;
 mod scaled;
 mod write;
 
 pub use compare::{Compare, satisfies};
 pub use decimal::read_decimal;
-pub use laws::{decimal_of_is_the_form, moment_of_is_the_forms, written_is_read_again};
+pub use meanings::{
+    decimal_of_is_the_form, moment_of_is_the_forms, stands_to_is_computed, written_is_read_again,
+};
 pub use moment::{BadDate, read_moment};
 use plain_lists::List;
 pub use plain_lists::NoMemory;

@@ -1,8 +1,11 @@
 //! Scaled numbers.
 ghost use Rattle.std.specs.Prelude.{◌≡◌, ◌<◌, IfOk};
-ghost use Rattle.intervals.specs.Scaled.{IsScaled, IsOkBelow, size_limit, whole_limit, units_of_whole};
+ghost use Rattle.std.specs.Result.{result_ok};
+ghost use Rattle.std.proofs.Common.{rules};
+ghost use Rattle.intervals.specs.Scaled.{IsScaled, IsOkBelow, size_limit, whole_limit, units_of_whole, whole_units};
 ghost use Rattle.intervals.specs.DecimalTexts.{signed};
 
+use plain_lists::EqualClone;
 use std::marker::Model;
 
 /// A whole number of units of 10^-9, less than 10^27 in size. Contracts see the number of units.
@@ -22,6 +25,10 @@ impl Model for Scaled {
     ghost invariant = { λ s. IsScaled s.units };
 
     ghost inverse = { λ z. record { units = z } };
+}
+
+impl EqualClone for Scaled {
+    ghost clones_are_equal = { Prim.search rules };
 }
 
 /// The answer where a text is no decimal, or a number isn't small enough.
@@ -67,6 +74,7 @@ impl Scaled {
 pub fn from_whole(n: i128) -> Result<Scaled, BadNumber>
     ensures value { IfOk result (λ s. s ≡ units_of_whole n) }
     ensures bounded { IsOkBelow whole_limit n result }
+    ensures computed { result_ok result ≡ whole_units n }
 {
     if n.unsigned_abs() < 1_000_000_000_000_000_000 {
         Ok(Scaled {

@@ -1,6 +1,9 @@
--- Loops over the entries of a map: `rest` are the entries that are left, `e` the next of them and `left` those behind it.
+-- Lemmas that crates above cite. Loops over the entries of a map: `rest` are the entries that are left, `e` the next of them and
+-- `left` those behind it.
 use Rattle.std.proofs.Common.{◌≡◌, ◌↔◌, List, ◌∷◌, All, subst}
 use Rattle.std.proofs.lemmas.List.Elements.{All-head, All-tail, All-cons}
+-- what a look-up finds is an entry with this key, and what holds of each entry holds of it
+pub use Rattle.text_table.proofs.Found.{item_at-entry, item_at-All}
 
 module _ {E : Type 0} (P : E → Type 0) (all rest left : List E) (e : E) (split : rest ≡ e ∷ left) (so_far : All P all ↔ All P rest) where
   -- where P holds of the next entry, it holds of all exactly where it holds of those behind it

@@ -1,3 +1,5 @@
+pub mod Laws
+mod Meets
 mod Floors
 mod NumberPoints
 mod AddressPoints

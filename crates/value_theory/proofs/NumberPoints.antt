@@ -8,11 +8,11 @@ use Rattle.std.specs.Ordering.{int_eq}
 use Rattle.std.proofs.lemmas.Int.{ints}
 use Rattle.intervals.specs.declared.compare.Compare.{Compare}
 use Rattle.intervals.specs.declared.compare.Compare.TheVariants.{Equal, Less, LessOrEqual, Greater, GreaterOrEqual}
+use Rattle.intervals.specs.Compare.{stands_to}
 use Rattle.intervals.specs.Scaled.{IsScaled, size_limit}
 use Rattle.value_theory.specs.declared.kinds.PlainCond.{PlainCond}
 use Rattle.value_theory.specs.declared.kinds.PlainCond.TheVariants.{Compares, Inside, Flag, Equals}
 use Rattle.value_theory.specs.declared.kinds.PlainValue.TheVariants as Value
-use Rattle.value_theory.specs.Meaning.{stands_to}
 use Rattle.value_theory.specs.Solutions.{answers}
 use Rattle.value_theory.specs.Samples.{samples_at, number_at}
 use Rattle.value_theory.proofs.Floors.{In, In-left, In-right, AllReached, IsFloor, floor}

@@ -1,11 +1,7 @@
 -- Which values meet which conditions.
-use Rattle.std.specs.Prelude.{◌≡◌, ◌<◌, Bool, true, false, not, bytes_eq, All, ⊤, ℤ, if◌then◌else◌}
-use Rattle.std.specs.Int.Signed.{lt_z}
-use Rattle.std.specs.Ordering.{int_eq}
-use Rattle.intervals.specs.declared.compare.Compare.{Compare}
-use Rattle.intervals.specs.declared.compare.Compare.TheVariants.{Equal, Less, LessOrEqual, Greater, GreaterOrEqual}
+use Rattle.std.specs.Prelude.{◌≡◌, ◌<◌, Bool, true, false, bytes_eq, All, ⊤, if◌then◌else◌}
 use Rattle.intervals.specs.Scaled.{IsScaled}
-use Rattle.intervals.specs.Compare.{StandsTo}
+use Rattle.intervals.specs.Compare.{StandsTo, stands_to}
 use Rattle.cidr_bits.specs.Numbers.{IsAddress, lies_in}
 use Rattle.cidr_bits.specs.Blocks.{LiesIn}
 use Rattle.value_theory.specs.declared.kinds.PlainKind.{PlainKind}
@@ -60,15 +56,7 @@ PlainMeets (Value.Bytes bs) (Inside block) = ⊥
 PlainMeets (Value.Bytes bs) (Flag t f) = ⊥
 PlainMeets (Value.Bytes bs) (Equals bytes) = bs ≡ bytes
 
--- the same by computation: whether the value stands to the bound as named
-abbrev pub stands_to : Compare → ℤ → ℤ → Bool
-stands_to Equal bound value = int_eq value bound
-stands_to Less bound value = lt_z value bound
-stands_to LessOrEqual bound value = not (lt_z bound value)
-stands_to Greater bound value = lt_z bound value
-stands_to GreaterOrEqual bound value = not (lt_z value bound)
-
--- whether the value meets the condition
+-- the same by computation: whether the value meets the condition
 abbrev pub plain_meets : PlainValue → PlainCond → Bool
 plain_meets (Value.Truth b) (Flag t f) = (if b then t else f)
 plain_meets (Value.Truth b) _ = false

@@ -3,14 +3,13 @@
 
 mod clause;
 mod kinds;
-mod laws;
 mod meaning;
 mod samples;
 mod search;
 
 pub use clause::{ClauseList, Literal, LiteralList};
 pub use kinds::{PlainCond, PlainCondList, PlainKind, PlainValue};
-pub use laws::{meets_is_meaning, samples_stand_for_all};
-pub use meaning::meets_condition;
+pub use meaning::{meets_condition, meets_is_meaning};
 pub use plain_lists::NoMemory;
+pub use samples::samples_stand_for_all;
 pub use search::{PlainWants, Solved, solve};

@@ -1,10 +1,10 @@
 //! Which values meet which conditions.
 ghost use Rattle.std.specs.Prelude.{◌≡◌};
-ghost use Rattle.value_theory.specs.Meaning.{plain_meets, stands_to};
+ghost use Rattle.value_theory.specs.Meaning.{PlainMeetsIsMeaning, plain_meets};
 
 use crate::kinds::{PlainCond, PlainValue};
 use cidr_bits::contains;
-use intervals::{Compare, Scaled, satisfies};
+use intervals::satisfies;
 
 /// Whether the value meets the condition. A value of another kind than the condition's never does. It
 /// takes no memory.
@@ -16,7 +16,7 @@ pub fn meets_condition(value: &PlainValue, cond: &PlainCond) -> bool
             if *truth { *at_true } else { *at_false }
         }
         (PlainValue::Number(number), PlainCond::Compares(compare, bound)) => {
-            number_stands_to(*compare, *bound, *number)
+            satisfies(*compare, *bound, *number)
         }
         (PlainValue::Address(address), PlainCond::Inside(block)) => contains(block, address),
         (PlainValue::Bytes(bytes), PlainCond::Equals(wanted)) => {
@@ -26,8 +26,7 @@ pub fn meets_condition(value: &PlainValue, cond: &PlainCond) -> bool
     }
 }
 
-fn number_stands_to(compare: Compare, bound: Scaled, number: Scaled) -> bool
-    ensures { result ≡ stands_to compare bound number }
-{
-    satisfies(compare, bound, number)
-}
+/// The computation whether a value meets a condition says what the relation says.
+pub fn meets_is_meaning()
+    ensures { PlainMeetsIsMeaning }
+{}

@@ -6,7 +6,7 @@ ghost use Rattle.cidr_bits.specs.Numbers.{number};
 ghost use Rattle.value_theory.specs.declared.kinds.PlainKind.TheVariants as Kind;
 ghost use Rattle.value_theory.specs.declared.kinds.PlainValue.TheVariants as Value;
 ghost use Rattle.value_theory.specs.Meaning.{plain_kind, IsOfPlainKind};
-ghost use Rattle.value_theory.specs.Samples.{samples, first_samples, last_samples, samples_at, number_samples, address_samples, address_at, longest, length_named};
+ghost use Rattle.value_theory.specs.Samples.{SamplesStandForAll, samples, first_samples, last_samples, samples_at, number_samples, address_samples, address_at, longest, length_named};
 
 use crate::kinds::{PlainCond, PlainKind, PlainValue};
 use cidr_bits::{Address, Block, bounds};
@@ -168,3 +168,8 @@ fn copy_of(alloc: Global, bytes: &[u8]) -> Result<ByteList, NoMemory>
 {
     Ok(List::from_vec(Vec::from_slice(alloc, bytes)?))
 }
+
+/// Each value of a kind has a sample point that answers all conditions as it does.
+pub fn samples_stand_for_all()
+    ensures { SamplesStandForAll }
+{}

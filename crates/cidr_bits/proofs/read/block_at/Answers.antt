@@ -1,5 +1,5 @@
 use Rattle.std.proofs.Common.{arith}
-use Rattle.cidr_bits.proofs.Cleared.{width-cleared, number-cleared}
+use Rattle.cidr_bits.specs.Cleared.{width-cleared, number-cleared}
 use Rattle.cidr_bits.proofs.read.block_at.Goals as goal
 
 pub invariant_of-result : goal.invariant_of-result

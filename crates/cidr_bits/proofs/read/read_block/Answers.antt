@@ -3,7 +3,7 @@ use Rattle.std.proofs.lemmas.Result.{MatchResult-weaker}
 use Rattle.cidr_bits.specs.declared.address.Address.{Address}
 use Rattle.cidr_bits.specs.Forms.{IsBlockText}
 use Rattle.cidr_bits.proofs.Reading.{no_whole, parts_at, parts_block, split_text, no_length}
-use Rattle.cidr_bits.proofs.Readings.{block_read, no_block_of}
+use Rattle.cidr_bits.proofs.Readings.{block_read, no_block_spelled}
 use Rattle.cidr_bits.proofs.read.read_block.Goals as goal
 
 pub returns-in_default : goal.returns-in_default
@@ -17,7 +17,7 @@ returns-in_default-read_address c =
     let form : (first : Address) (prefix : ℕ) → IsBlockText c.args.text.now first prefix → ⊥ = λ first prefix h.
     c.in_default-read_address.ensures.form h.address
     (parts_at c.args.text.now first prefix h c.in-Some.front c.in-Some.length c.in-Some.ensures.cases).address in
-    record { form = form; value = sym (no_block_of c.args.text.now form) }
+    record { form = form; value = sym (no_block_spelled c.args.text.now form) }
 
 pub returns-in-Ok-read_length : goal.returns-in-Ok-read_length
 returns-in-Ok-read_length c =
@@ -31,4 +31,4 @@ returns-in-Err c =
     let form : (first : Address) (prefix : ℕ) → IsBlockText c.args.text.now first prefix → ⊥ = λ first prefix h.
     let parts = parts_at c.args.text.now first prefix h c.in-Some.front c.in-Some.length c.in-Some.ensures.cases in
     no_length _ _ c.in-Ok.address h.address prefix c.in-Ok.ensures.form parts (λ p small. c.in-Err.ensures p (omega (arith, c.bits_of.ensures))) in
-    record { form = form; value = sym (no_block_of c.args.text.now form) }
+    record { form = form; value = sym (no_block_spelled c.args.text.now form) }

@@ -1,5 +1,0 @@
-use Rattle.cidr_bits.proofs.ReadBack.{block_read_back}
-use Rattle.cidr_bits.proofs.laws.block_is_read_back.Goals as goal
-
-pub returns : goal.returns
-returns c = block_read_back

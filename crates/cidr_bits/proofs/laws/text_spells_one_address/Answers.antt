@@ -1,5 +1,0 @@
-use Rattle.cidr_bits.proofs.Reading.{one_address}
-use Rattle.cidr_bits.proofs.laws.text_spells_one_address.Goals as goal
-
-pub returns : goal.returns
-returns c = one_address
