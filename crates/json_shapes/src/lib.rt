@@ -1,0 +1,15 @@
+//! Looks into JSON values: their shapes, their members, and the names of objects. Readers of files in
+//! forms of their own stand on it.
+#![tactic(auto)]
+
+mod elements;
+mod names;
+mod read;
+mod shapes;
+
+pub use elements::{are_strings, list_under, members, text_of, values_in};
+pub use names::is_among;
+pub use read::read_json;
+pub use shapes::{
+    has, is_absent_or_string, is_list, is_list_at, is_object, is_object_or_list, is_text_at,
+};
