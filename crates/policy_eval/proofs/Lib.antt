@@ -1,2 +1,3 @@
 mod Firsts
 mod Unique
+mod Tested

@@ -6,6 +6,7 @@ ghost use Rattle.policy_model.specs.Requests.{IsValid};
 ghost use Rattle.policy_model.specs.Soundness.{SchemaFits};
 ghost use Rattle.policy_model.specs.Sets.{Allows, Applies, Decides, MatcherHolds, OptionalHolds, SomeDecides};
 
+use crate::conditions::conditions_hold;
 use policy_model::{
     Document, DocumentList, Entry, GuardList, Matcher, PolicySet, Request, Schema, Statement,
     entry_holds,
@@ -55,9 +56,16 @@ fn resource_holds(matcher: &Option<Matcher<Pattern>>, text: &Text) -> bool
 fn applies(schema: &Schema, statement: &Statement, request: &Request) -> bool
     ensures { IsTrue result ↔ Applies schema.now statement.now request.now }
 {
-    principal_holds(&statement.principal, request)
-        && patterns_hold(&statement.action, &request.action)
-        && resource_holds(&statement.resource, &request.resource)
+    if !principal_holds(&statement.principal, request) {
+        return false;
+    }
+    if !patterns_hold(&statement.action, &request.action) {
+        return false;
+    }
+    if !resource_holds(&statement.resource, &request.resource) {
+        return false;
+    }
+    conditions_hold(schema, &statement.conditions, request)
 }
 
 // Whether the statement has this effect and applies.

@@ -1,6 +1,7 @@
 //! What a set of policies allows, and which statement, or which lack of one, decides.
 #![tactic(auto)]
 
+mod conditions;
 mod eval;
 mod first;
 mod laws;

@@ -1,11 +1,11 @@
 //! Worked examples of what small sets allow, and of what decides.
-ghost use Rattle.std.specs.Prelude.{◌≡◌, ◌≤◌, All, length};
-ghost use Rattle.policy_model.specs.Soundness.{DocumentIsSound, IsSound, StatementIsSound};
+ghost use Rattle.std.specs.Prelude.{◌≡◌, ◌≤◌, ◌+◌, All, length, sum_by};
+ghost use Rattle.policy_model.specs.Soundness.{ConditionFits, DocumentFits, DocumentIsSound, SchemaFits, StatementIsSound};
 
 use crate::{Decider, allows, decider};
 use policy_model::{
-    Context, Document, DocumentList, List, Matcher, PolicySet, PrincipalKind, Request, Schema,
-    Statement, StatementName, valid,
+    Context, Document, DocumentList, GuardList, List, Matcher, PolicySet, PrincipalKind, Request,
+    Schema, Statement, StatementName, valid,
 };
 use std::process::Abort;
 use wildcard_lang::{Pattern, PatternFault, Text, read_glob};
@@ -27,8 +27,9 @@ fn request(rt: &(impl Abort + AllocGlobal), action: &str) -> Request {
 // Whether a statement allows, whether it has a Not element, and its action.
 type Short<'a> = (bool, bool, &'a str);
 
-fn statement(rt: &(impl Abort + AllocGlobal), short: Short) -> Statement
-    ensures { StatementIsSound result }
+fn statement(rt: &(impl Abort + AllocGlobal), schema: &Schema, short: Short) -> Statement
+    ensures sound { StatementIsSound result }
+    ensures fits { All (ConditionFits schema.now) result.conditions }
 {
     let (allow, not, action) = short;
     let read: Result<Pattern, PatternFault> = read_glob(rt.alloc(), action, true, false);
@@ -41,44 +42,69 @@ fn statement(rt: &(impl Abort + AllocGlobal), short: Short) -> Statement
         principal: None,
         action: Matcher { not, items },
         resource: None,
+        conditions: List::new(rt.alloc()),
     }
 }
 
-fn document(rt: &(impl Abort + AllocGlobal), first: Short, second: Short) -> Document
-    ensures { DocumentIsSound result }
+fn document(
+    rt: &(impl Abort + AllocGlobal),
+    schema: &Schema,
+    first: Short,
+    second: Short,
+) -> Document
+    ensures sound { DocumentIsSound result }
+    ensures fits { DocumentFits schema.now result }
 {
     let mut statements = List::new(rt.alloc());
-    statements.push(statement(rt, first)).expect(rt, "memory");
-    statements.push(statement(rt, second)).expect(rt, "memory");
+    statements
+        .push(statement(rt, schema, first))
+        .expect(rt, "memory");
+    statements
+        .push(statement(rt, schema, second))
+        .expect(rt, "memory");
     Document { statements }
 }
 
-fn pooled(rt: &(impl Abort + AllocGlobal), document: Document) -> DocumentList
-    requires { DocumentIsSound document }
+fn pooled(rt: &(impl Abort + AllocGlobal), schema: &Schema, document: Document) -> DocumentList
+    requires sound { DocumentIsSound document }
+    requires fits { DocumentFits schema.now document }
     ensures count { length result ≡ 1 }
     ensures sound { All DocumentIsSound result }
+    ensures fits { All (DocumentFits schema.now) result }
 {
     let mut documents = List::new(rt.alloc());
     documents.push(document).expect(rt, "memory");
     documents
 }
 
-fn grants(rt: &(impl Abort + AllocGlobal)) -> DocumentList
+fn grants(rt: &(impl Abort + AllocGlobal), schema: &Schema) -> DocumentList
     ensures count { length result ≡ 2 }
     ensures sound { All DocumentIsSound result }
+    ensures fits { All (DocumentFits schema.now) result }
 {
-    let gets_and_lists = document(rt, (true, false, "s3:Get*"), (true, false, "s3:List*"));
-    let all_but_a_lock = document(rt, (false, false, "s3:PutLock"), (true, false, "s3:*"));
+    let gets_and_lists = document(
+        rt,
+        schema,
+        (true, false, "s3:Get*"),
+        (true, false, "s3:List*"),
+    );
+    let all_but_a_lock = document(
+        rt,
+        schema,
+        (false, false, "s3:PutLock"),
+        (true, false, "s3:*"),
+    );
     let mut documents = List::new(rt.alloc());
     documents.push(gets_and_lists).expect(rt, "memory");
     documents.push(all_but_a_lock).expect(rt, "memory");
     documents
 }
 
-fn granting(rt: &(impl Abort + AllocGlobal), grants: DocumentList) -> PolicySet
+fn granting(rt: &(impl Abort + AllocGlobal), schema: &Schema, grants: DocumentList) -> PolicySet
     requires count { length grants ≤ 2 }
     requires sound { All DocumentIsSound grants }
-    ensures { IsSound result }
+    requires fits { All (DocumentFits schema.now) grants }
+    ensures { SchemaFits schema.now result }
 {
     PolicySet {
         grants,
@@ -86,56 +112,76 @@ fn granting(rt: &(impl Abort + AllocGlobal), grants: DocumentList) -> PolicySet
     }
 }
 
-// Guarded by all but writes and deletions, and by a document that allows nothing.
-fn guarded(rt: &(impl Abort + AllocGlobal)) -> PolicySet
-    ensures { IsSound result }
+fn set_of(schema: &Schema, grants: DocumentList, guards: GuardList) -> PolicySet
+    requires documents { length grants + sum_by (λ g. length g) guards ≤ 4 }
+    requires count { length guards ≤ 2 }
+    requires granting { All DocumentIsSound grants }
+    requires guarding { All (λ g. All DocumentIsSound g) guards }
+    requires grants_fit { All (DocumentFits schema.now) grants }
+    requires guards_fit { All (λ g. All (DocumentFits schema.now) g) guards }
+    ensures { SchemaFits schema.now result }
 {
-    let first = document(rt, (true, true, "s3:Put*"), (false, false, "s3:Delete*"));
-    let second = document(rt, (false, false, "s3:GetAcl"), (false, false, "s3:PutAcl"));
+    PolicySet { grants, guards }
+}
+
+// Guarded by all but writes and deletions, and by a document that allows nothing.
+fn guarded(rt: &(impl Abort + AllocGlobal), schema: &Schema) -> PolicySet
+    ensures { SchemaFits schema.now result }
+{
+    let first = document(
+        rt,
+        schema,
+        (true, true, "s3:Put*"),
+        (false, false, "s3:Delete*"),
+    );
+    let second = document(
+        rt,
+        schema,
+        (false, false, "s3:GetAcl"),
+        (false, false, "s3:PutAcl"),
+    );
     let mut guards = List::new(rt.alloc());
-    guards.push(pooled(rt, first)).expect(rt, "memory");
-    guards.push(pooled(rt, second)).expect(rt, "memory");
-    PolicySet {
-        grants: grants(rt),
-        guards,
-    }
+    guards.push(pooled(rt, schema, first)).expect(rt, "memory");
+    guards.push(pooled(rt, schema, second)).expect(rt, "memory");
+    set_of(schema, grants(rt, schema), guards)
 }
 
 fn answers(
     rt: &(impl Abort + AllocGlobal),
+    schema: &Schema,
     set: &PolicySet,
     action: &str,
     allowed: bool,
     by: Decider,
 )
-    requires { IsSound set.now }
+    requires { SchemaFits schema.now set.now }
 {
-    let schema = Schema::new(rt.alloc());
     let asked = request(rt, action);
-    assert!(rt; valid(&schema, &asked));
-    assert!(rt; allows(set, &schema, &asked) == allowed, "of {action}");
-    assert!(rt; decider(set, &schema, &asked) == by, "of {action}");
+    assert!(rt; valid(schema, &asked));
+    assert!(rt; allows(set, schema, &asked) == allowed, "of {action}");
+    assert!(rt; decider(set, schema, &asked) == by, "of {action}");
 }
 
 // An action, whether it is allowed, and the numbers of the document and of the statement that decides.
 type Decided<'a> = (&'a str, bool, u32, u32);
 
-fn are_decided(rt: &(impl Abort + AllocGlobal), set: &PolicySet, cases: &[Decided])
-    requires { IsSound set.now }
+fn are_decided(rt: &(impl Abort + AllocGlobal), schema: &Schema, set: &PolicySet, cases: &[Decided])
+    requires { SchemaFits schema.now set.now }
 {
     for (action, allowed, document, statement) in cases {
         let name = StatementName {
             document: *document,
             statement: *statement,
         };
-        answers(rt, set, action, *allowed, Decider::Statement(name));
+        answers(rt, schema, set, action, *allowed, Decider::Statement(name));
     }
 }
 
 #[test]
 fn an_empty_set_grants_nothing(rt: HostRuntime) {
-    let set = granting(&rt, List::new(rt.alloc()));
-    answers(&rt, &set, "s3:GetObject", false, Decider::NoGrant);
+    let schema = Schema::new(rt.alloc());
+    let set = granting(&rt, &schema, List::new(rt.alloc()));
+    answers(&rt, &schema, &set, "s3:GetObject", false, Decider::NoGrant);
 }
 
 const GRANTED: [Decided; 3] = [
@@ -146,9 +192,17 @@ const GRANTED: [Decided; 3] = [
 
 #[test]
 fn statements_decide_by_their_numbers(rt: HostRuntime) {
-    let set = granting(&rt, grants(&rt));
-    are_decided(&rt, &set, &GRANTED);
-    answers(&rt, &set, "sqs:SendMessage", false, Decider::NoGrant);
+    let schema = Schema::new(rt.alloc());
+    let set = granting(&rt, &schema, grants(&rt, &schema));
+    are_decided(&rt, &schema, &set, &GRANTED);
+    answers(
+        &rt,
+        &schema,
+        &set,
+        "sqs:SendMessage",
+        false,
+        Decider::NoGrant,
+    );
 }
 
 const DENIED: [Decided; 3] = [
@@ -159,29 +213,61 @@ const DENIED: [Decided; 3] = [
 
 #[test]
 fn guards_decide_by_their_numbers(rt: HostRuntime) {
-    let set = guarded(&rt);
-    are_decided(&rt, &set, &DENIED);
-    answers(&rt, &set, "sqs:SendMessage", false, Decider::NoGrant);
-    answers(&rt, &set, "s3:PutObject", false, Decider::NoGuard(1));
-    answers(&rt, &set, "s3:GetObject", false, Decider::NoGuard(2));
+    let schema = Schema::new(rt.alloc());
+    let set = guarded(&rt, &schema);
+    are_decided(&rt, &schema, &set, &DENIED);
+    answers(
+        &rt,
+        &schema,
+        &set,
+        "sqs:SendMessage",
+        false,
+        Decider::NoGrant,
+    );
+    answers(
+        &rt,
+        &schema,
+        &set,
+        "s3:PutObject",
+        false,
+        Decider::NoGuard(1),
+    );
+    answers(
+        &rt,
+        &schema,
+        &set,
+        "s3:GetObject",
+        false,
+        Decider::NoGuard(2),
+    );
 }
 
 // The same with the first guard alone.
-fn bounded(rt: &(impl Abort + AllocGlobal)) -> PolicySet
-    ensures { IsSound result }
+fn bounded(rt: &(impl Abort + AllocGlobal), schema: &Schema) -> PolicySet
+    ensures { SchemaFits schema.now result }
 {
-    let first = document(rt, (true, true, "s3:Put*"), (false, false, "s3:Delete*"));
+    let first = document(
+        rt,
+        schema,
+        (true, true, "s3:Put*"),
+        (false, false, "s3:Delete*"),
+    );
     let mut guards = List::new(rt.alloc());
-    guards.push(pooled(rt, first)).expect(rt, "memory");
-    PolicySet {
-        grants: grants(rt),
-        guards,
-    }
+    guards.push(pooled(rt, schema, first)).expect(rt, "memory");
+    set_of(schema, grants(rt, schema), guards)
 }
 
 #[test]
 fn a_guard_bounds_what_is_granted(rt: HostRuntime) {
-    let set = bounded(&rt);
-    are_decided(&rt, &set, &[("s3:GetObject", true, 1, 1)]);
-    answers(&rt, &set, "s3:PutObject", false, Decider::NoGuard(1));
+    let schema = Schema::new(rt.alloc());
+    let set = bounded(&rt, &schema);
+    are_decided(&rt, &schema, &set, &[("s3:GetObject", true, 1, 1)]);
+    answers(
+        &rt,
+        &schema,
+        &set,
+        "s3:PutObject",
+        false,
+        Decider::NoGuard(1),
+    );
 }

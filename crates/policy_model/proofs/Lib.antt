@@ -2,3 +2,6 @@ mod Accounts
 mod Entries
 mod Items
 pub mod Laws
+mod Quantified
+mod Meets
+mod Valued

@@ -1,6 +1,9 @@
 pub mod Keys
 pub mod Principals
 pub mod Requests
+pub mod Conds
+pub mod Operators
+pub mod Conditions
 pub mod Tests
 pub mod Sets
 pub mod StatementNames

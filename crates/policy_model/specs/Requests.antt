@@ -1,6 +1,9 @@
 -- Which requests are valid under a schema. This is this project's own choice: words aren't empty, a word without a shape is free
 -- otherwise, and a request has no keys but those of the schema.
-use Rattle.std.specs.Prelude.{◌≡◌, ◌≢◌, ◌≤◌, ◌⊎◌, ⊤, ℕ, List, [], length, true, Option, Some, None, All, Contains, MatchOption}
+use Rattle.std.specs.Prelude.{◌≡◌, ◌≢◌, ◌≤◌, ◌<◌, ◌⊎◌, ⊤, ℕ, List, [], length, true, All, Contains}
+use Rattle.std.specs.Prelude.{Option, Some, None, MatchOption}
+use Rattle.intervals.specs.Scaled.{IsScaled}
+use Rattle.cidr_bits.specs.Numbers.{IsAddress}
 use Rattle.text_table.specs.Table.{Entries, item_at}
 use Rattle.wildcard_lang.specs.Text.{IsText}
 use Rattle.wildcard_lang.specs.Matching.{Matches}
@@ -34,17 +37,24 @@ shape_of shapes Service = shapes.service
 shape_of shapes Federated = shapes.federated
 shape_of shapes CanonicalUser = shapes.canonical_user
 
--- the value is of the kind
+-- the value is of the kind, in the range of its values: a text of Unicode scalars, a number of units of 10^-9 less than 10^27 in
+-- size, an address of 32 or 128 bits, bytes below 256
 abbrev pub IsOfKind : Kind → Value → Type 0
 IsOfKind kind.Text (value.Word t) = IsText t
-IsOfKind kind.Text (value.Truth b) = ⊥
-IsOfKind kind.Truth (value.Word t) = ⊥
+IsOfKind kind.Text v = ⊥
 IsOfKind kind.Truth (value.Truth b) = ⊤
+IsOfKind kind.Truth v = ⊥
+IsOfKind kind.Number (value.Number n) = IsScaled n
+IsOfKind kind.Number v = ⊥
+IsOfKind kind.Address (value.Address a) = IsAddress a
+IsOfKind kind.Address v = ⊥
+IsOfKind kind.Bytes (value.Bytes bs) = All (λ b. b < 256) bs
+IsOfKind kind.Bytes v = ⊥
 
--- a text matches the shape, where one is given
+-- a text matches the shape, where one is given. Other values have no shape
 abbrev pub ValueFits : Option (List Piece) → Value → Type 0
 ValueFits shape (value.Word t) = FitsShape shape t
-ValueFits shape (value.Truth b) = ⊤
+ValueFits shape v = ⊤
 
 -- the value is among those that are listed, where some are
 abbrev pub IsListed : Option (List Value) → Value → Type 0

@@ -2,6 +2,7 @@
 -- grants that every guard joins, and otherwise the request is denied.
 use Rattle.std.specs.Prelude.{◌≡◌, ⊤, Bool, true, false, List, Any, All, Option, Some, None, MatchBool}
 use Rattle.wildcard_lang.specs.Matching.{Matches}
+use Rattle.policy_model.specs.Conditions.{ConditionHolds}
 use Rattle.policy_model.specs.Principals.{EntryHolds}
 use Rattle.policy_model.specs.declared.matcher.Matcher.{Matcher}
 use Rattle.policy_model.specs.declared.request.Request.{Request}
@@ -19,11 +20,12 @@ abbrev pub OptionalHolds : {T : Type 0} → (T → Type 0) → Option (Matcher T
 OptionalHolds holds None = ⊤
 OptionalHolds holds (Some m) = MatcherHolds holds m
 
--- the statement's principal, action and resource hold of the request
+-- the statement's principal, action, resource and every condition hold of the request
 pub record Applies (schema : Schema) (s : Statement) (r : Request) : Type 0 where
   pub principal : OptionalHolds (EntryHolds r) s.principal
   pub action : MatcherHolds (λ p. Matches p r.action) s.action
   pub resource : OptionalHolds (λ p. Matches p r.resource) s.resource
+  pub conditions : All (ConditionHolds schema r) s.conditions
 
 -- the statement has this effect and applies
 abbrev pub Decides : Schema → Bool → Request → Statement → Type 0

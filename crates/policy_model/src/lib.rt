@@ -2,8 +2,11 @@
 //! a test answers, and what a set allows.
 #![tactic(auto)]
 
+mod cond;
 mod context;
 mod matcher;
+mod operand;
+mod operator;
 mod parts;
 mod principal;
 mod request;
@@ -15,8 +18,14 @@ mod tests;
 mod validity;
 mod value;
 
+pub use cond::{Cond, CondList, cond_meets, meets_some};
 pub use context::Context;
 pub use matcher::Matcher;
+pub use operand::{cond_of, conds_of, operand_meets};
+pub use operator::{
+    Base, Condition, ConditionList, Family, Operand, OperandList, Operator, Quantifier,
+    takes_family,
+};
 pub use parts::{behind_colon, behind_prefix};
 pub use plain_lists::{EqualClone, List, NoMemory};
 pub use principal::{

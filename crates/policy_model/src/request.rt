@@ -1,8 +1,11 @@
 //! Requests.
+ghost use Rattle.std.specs.Prelude.{◌≡◌};
 ghost use Rattle.std.proofs.Common.{rules};
+ghost use Rattle.policy_model.specs.Conditions.{values_at};
 
 use crate::context::Context;
 use crate::principal::PrincipalKind;
+use crate::value::Value;
 use plain_lists::EqualClone;
 use wildcard_lang::Text;
 
@@ -19,4 +22,16 @@ pub struct Request {
 
 impl EqualClone for Request {
     ghost clones_are_equal = { Prim.search rules };
+}
+
+impl Request {
+    /// The values of a key: none where it is absent. It takes no memory.
+    pub fn values_at(&self, key: &Text) -> &[Value]
+        ensures { result.now ≡ values_at self.now key.now }
+    {
+        match self.context.get(key) {
+            Some(values) => values.as_slice(),
+            None => &[],
+        }
+    }
 }

@@ -3,6 +3,7 @@ ghost use Rattle.std.specs.Prelude.{◌≡◌, [], None, length, slice_get, opti
 ghost use Rattle.std.specs.Option.{option_copied};
 ghost use Rattle.text_table.specs.Table.{IsInOrder, item_at, with_item};
 ghost use Rattle.std.proofs.Common.{rules};
+ghost use Rattle.policy_model.specs.Conditions.{kind_at};
 ghost use Rattle.policy_model.specs.Keys.{AreFolded, IsFolded, no_shapes};
 
 use crate::value::{Kind, ValueList};
@@ -180,6 +181,16 @@ impl Schema {
         ensures { option_map (λ v. v.now) result ≡ item_at key.now self.now.keys }
     {
         self.keys.get(key)
+    }
+
+    /// The kind of a key's values. A key that isn't there counts as one of texts.
+    pub fn kind_at(&self, key: &Text) -> Kind
+        ensures { result ≡ kind_at self.now key.now }
+    {
+        match self.keys.get(key) {
+            Some(rule) => rule.kind,
+            None => Kind::Text,
+        }
     }
 
     /// The key at an index in the order of keys, counted from 0, with its rule, or none where there is

@@ -2,12 +2,13 @@
 ghost use Rattle.std.proofs.Common.{rules};
 
 use crate::matcher::Matcher;
+use crate::operator::ConditionList;
 use crate::principal::Entry;
 use plain_lists::{EqualClone, List};
 use wildcard_lang::Pattern;
 
 /// One statement of a policy. An absent principal matches every principal, and an absent resource
-/// every resource.
+/// every resource. Each condition has to hold.
 #[derive(Clone, Drop)]
 pub struct Statement {
     /// `Allow`, or else `Deny`.
@@ -15,6 +16,8 @@ pub struct Statement {
     pub principal: Option<Matcher<Entry>>,
     pub action: Matcher<Pattern>,
     pub resource: Option<Matcher<Pattern>>,
+    /// Operator by operator, and in each key by key.
+    pub conditions: ConditionList,
 }
 
 impl EqualClone for Statement {

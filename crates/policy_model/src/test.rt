@@ -1,10 +1,14 @@
 //! The single tests that a policy makes of a request.
-ghost use Rattle.std.specs.Prelude.{◌↔◌, IsTrue};
+ghost use Rattle.std.specs.Prelude.{◌↔◌, IsTrue, Any};
 ghost use Rattle.std.proofs.Common.{rules};
+ghost use Rattle.policy_model.specs.Conds.{CondMeets, MeetsSome};
 ghost use Rattle.policy_model.specs.Tests.{TestHolds};
 
+use crate::cond::{Cond, CondList, cond_meets, meets_some};
 use crate::principal::{Entry, entry_holds};
 use crate::request::Request;
+use crate::validity::has_value;
+use crate::value::Value;
 use plain_lists::{EqualClone, List};
 use wildcard_lang::{Pattern, Text, matches};
 
@@ -17,6 +21,12 @@ pub enum Test {
     Action(Pattern),
     /// The resource matches.
     Resource(Pattern),
+    /// The condition key of this name, with its ASCII letters lowered, has a value.
+    Present(Text),
+    /// Some value of the key meets what is asked.
+    SomeMeets(Text, Cond),
+    /// Some value of the key meets none of what is asked.
+    SomeMeetsNone(Text, CondList),
 }
 
 impl EqualClone for Test {
@@ -51,5 +61,20 @@ pub fn test_holds(test: &Test, request: &Request) -> bool
         Test::Principal(entry) => entry_holds(entry, request),
         Test::Action(pattern) => matches(pattern, &request.action),
         Test::Resource(pattern) => matches(pattern, &request.resource),
+        Test::Present(key) => has_value(&request.context, key),
+        Test::SomeMeets(key, cond) => some_meets(request.values_at(key), cond),
+        Test::SomeMeetsNone(key, conds) => some_meets_none(request.values_at(key), conds),
     }
+}
+
+fn some_meets(values: &[Value], cond: &Cond) -> bool
+    ensures { IsTrue result ↔ Any (λ v. CondMeets v cond.now) values.now }
+{
+    values.iter().any(|value| cond_meets(value, cond))
+}
+
+fn some_meets_none(values: &[Value], conds: &CondList) -> bool
+    ensures { IsTrue result ↔ Any (λ v. ¬ MeetsSome conds.now v) values.now }
+{
+    values.iter().any(|value| !meets_some(value, conds))
 }

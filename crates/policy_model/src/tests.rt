@@ -3,9 +3,11 @@ ghost use Rattle.std.specs.Prelude.{◌≢◌, []};
 ghost use Rattle.policy_model.specs.Keys.{IsFolded};
 
 use crate::{
-    Context, Entry, KeyRule, Kind, List, PrincipalKind, Request, Schema, Test, Value, ValueList,
-    test_holds, valid,
+    Base, Cond, CondList, Context, Entry, Family, KeyRule, Kind, List, Operand, PrincipalKind,
+    Request, Schema, Test, Value, ValueList, cond_of, operand_meets, test_holds, valid,
 };
+use cidr_bits::{read_address, read_block};
+use intervals::{ByteList, read_decimal};
 use std::process::Abort;
 use wildcard_lang::{Pattern, PatternFault, Text, read_arn, read_glob};
 
@@ -246,4 +248,146 @@ const REQUIRED: [Valued; 3] = [
 fn a_required_key_has_a_value(rt: HostRuntime) {
     let schema = with_name(&rt, true, true);
     permits_each(&rt, &schema, &REQUIRED);
+}
+
+fn bytes(rt: &(impl Abort + AllocGlobal), text: &str) -> ByteList {
+    let mut bytes = List::new(rt.alloc());
+    for byte in text.as_bytes() {
+        bytes.push(*byte).expect(rt, "memory");
+    }
+    bytes
+}
+
+fn operand(rt: &(impl Abort + AllocGlobal), base: Base, text: &str) -> Operand {
+    match base.family() {
+        Family::Text | Family::Arn => Operand::Pattern(glob(rt, text)),
+        Family::Numeric | Family::Date => {
+            Operand::Number(read_decimal(text).expect(rt, "a number"))
+        }
+        Family::Address => Operand::Block(read_block(text).expect(rt, "a block")),
+        Family::Bool | Family::Null => Operand::Truth(text == "true"),
+        Family::Binary => Operand::Bytes(bytes(rt, text)),
+    }
+}
+
+fn value(rt: &(impl Abort + AllocGlobal), kind: Kind, text: &str) -> Value {
+    match kind {
+        Kind::Text => Value::Word(text_of(rt, text)),
+        Kind::Truth => Value::Truth(text == "true"),
+        Kind::Number => Value::Number(read_decimal(text).expect(rt, "a number")),
+        Kind::Address => Value::Address(read_address(text).expect(rt, "an address")),
+        Kind::Bytes => Value::Bytes(bytes(rt, text)),
+    }
+}
+
+// The kind of a key, an operator, the policy's value, the key's, and whether it meets what is asked.
+type Met<'a> = (Kind, Base, &'a str, &'a str, bool);
+
+const MET: [Met; 18] = [
+    (Kind::Text, Base::StringLike, "a*", "ab", true),
+    (Kind::Text, Base::StringNotLike, "a*", "ba", false),
+    (Kind::Text, Base::Bool, "true", "TRUE", true),
+    (Kind::Text, Base::Bool, "false", "TRUE", false),
+    (Kind::Text, Base::Bool, "true", "1", false),
+    (Kind::Truth, Base::Bool, "false", "false", true),
+    (Kind::Truth, Base::Bool, "false", "true", false),
+    (Kind::Truth, Base::StringLike, "t*", "true", true),
+    (Kind::Truth, Base::StringLike, "t*", "false", false),
+    (
+        Kind::Number,
+        Base::NumericLessThan,
+        "10",
+        "9.999999999",
+        true,
+    ),
+    (Kind::Number, Base::NumericLessThan, "10", "10", false),
+    (Kind::Number, Base::DateGreaterThanEquals, "10", "10", true),
+    (Kind::Number, Base::NumericNotEquals, "10", "11", false),
+    (
+        Kind::Address,
+        Base::IpAddress,
+        "10.0.0.0/8",
+        "10.255.0.1",
+        true,
+    ),
+    (
+        Kind::Address,
+        Base::NotIpAddress,
+        "10.0.0.0/8",
+        "11.0.0.0",
+        false,
+    ),
+    (
+        Kind::Address,
+        Base::IpAddress,
+        "10.0.0.0/8",
+        "::ffff:10.0.0.1",
+        false,
+    ),
+    (Kind::Bytes, Base::BinaryEquals, "Hi", "Hi", true),
+    (Kind::Bytes, Base::BinaryEquals, "Hi", "H", false),
+];
+
+fn are_met(rt: &(impl Abort + AllocGlobal), cases: &[Met]) {
+    for (kind, base, own, text, want) in cases {
+        let meets = operand_meets(
+            *kind,
+            *base,
+            &operand(rt, *base, *own),
+            &value(rt, *kind, *text),
+        );
+        assert!(rt; meets == *want, "of {own} {text}");
+    }
+}
+
+#[test]
+fn a_value_meets_what_is_asked(rt: HostRuntime) {
+    are_met(&rt, &MET);
+}
+
+fn asked(rt: &(impl Abort + AllocGlobal), pattern: &str) -> Cond {
+    let own = operand(rt, Base::StringLike, pattern);
+    cond_of(rt.alloc(), Kind::Text, Base::StringLike, &own).expect(rt, "memory")
+}
+
+fn one_asked(rt: &(impl Abort + AllocGlobal), pattern: &str) -> CondList {
+    let mut conds = List::new(rt.alloc());
+    conds.push(asked(rt, pattern)).expect(rt, "memory");
+    conds
+}
+
+fn of_name(rt: &(impl Abort + AllocGlobal), values: ValueList) -> Request {
+    let mut asked = request(rt, AWS, "x", "x", "x");
+    if !values.is_empty() {
+        asked
+            .context
+            .insert(folded_key(rt, NAME), values)
+            .expect(rt, "memory");
+    }
+    asked
+}
+
+// The values of the key, and whether the test holds of them.
+type Named<'a> = (&'a [&'a str], bool);
+
+fn answers_by_name(rt: &(impl Abort + AllocGlobal), test: &Test, cases: &[Named]) {
+    for (values, want) in cases {
+        let asked = of_name(rt, words(rt, values));
+        assert!(rt; test_holds(test, &asked) == *want);
+    }
+}
+
+const PRESENT: [Named; 2] = [(&[], false), (&["bob"], true)];
+
+const SOME: [Named; 3] = [(&[], false), (&["bob"], false), (&["bob", "alice"], true)];
+
+const NONE: [Named; 3] = [(&[], false), (&["alice"], false), (&["alice", "bob"], true)];
+
+#[test]
+fn a_test_asks_of_the_values_of_a_key(rt: HostRuntime) {
+    answers_by_name(&rt, &Test::Present(text_of(&rt, NAME)), &PRESENT);
+    let some = Test::SomeMeets(text_of(&rt, NAME), asked(&rt, "a*"));
+    answers_by_name(&rt, &some, &SOME);
+    let none = Test::SomeMeetsNone(text_of(&rt, NAME), one_asked(&rt, "a*"));
+    answers_by_name(&rt, &none, &NONE);
 }

@@ -1,5 +1,7 @@
 //! Which requests are valid.
-ghost use Rattle.std.specs.Prelude.{◌≡◌, ◌↔◌, IsTrue, All};
+ghost use Rattle.std.specs.Prelude.{◌≡◌, ◌<◌, ◌↔◌, IsTrue, All};
+ghost use Rattle.intervals.specs.Scaled.{IsScaled};
+ghost use Rattle.cidr_bits.specs.Numbers.{IsAddress};
 ghost use Rattle.wildcard_lang.specs.Text.{IsText};
 ghost use Rattle.policy_model.specs.Requests.{EntryIsValid, FitsShape, HasValue, IsValid, PermitsValues, IsListed, IsOfKind, IsThere, KeysAreValid, WordsAreValid, IsValueOf, IsWord, ValueFits, shape_of};
 
@@ -8,6 +10,8 @@ use crate::principal::PrincipalKind;
 use crate::request::Request;
 use crate::schema::{KeyRule, KeyRules, Schema, Shapes};
 use crate::value::{Kind, Value, ValueList};
+use cidr_bits::Address;
+use intervals::{ByteList, Scaled};
 use wildcard_lang::{Pattern, Text, matches};
 
 fn fits_shape(shape: &Option<Pattern>, text: &Text) -> bool
@@ -37,12 +41,38 @@ pub fn shape_of(shapes: &Shapes, kind: PrincipalKind) -> &Option<Pattern>
     }
 }
 
+// The types keep numbers, addresses and bytes in their ranges. The comparisons, which are always true,
+// are how a proof comes to know it.
+fn is_scaled(number: Scaled) -> bool
+    ensures { IsTrue result ↔ IsScaled number }
+{
+    number.units() <= i128::MAX
+}
+
+fn is_address(address: Address) -> bool
+    ensures { IsTrue result ↔ IsAddress address }
+{
+    match address {
+        Address::V4(number) => number <= u32::MAX,
+        Address::V6(number) => number <= u128::MAX,
+    }
+}
+
+fn are_bytes(bytes: &ByteList) -> bool
+    ensures { IsTrue result ↔ All (λ b. b < 256) bytes.now }
+{
+    bytes.as_slice().iter().all(|byte| *byte <= u8::MAX)
+}
+
 fn is_of_kind(kind: Kind, value: &Value) -> bool
     ensures { IsTrue result ↔ IsOfKind kind value.now }
 {
     match value {
         Value::Word(text) => kind == Kind::Text && is_text(text),
         Value::Truth(_) => kind == Kind::Truth,
+        Value::Number(number) => kind == Kind::Number && is_scaled(*number),
+        Value::Address(address) => kind == Kind::Address && is_address(*address),
+        Value::Bytes(bytes) => kind == Kind::Bytes && are_bytes(bytes),
     }
 }
 
@@ -51,7 +81,7 @@ fn value_fits(shape: &Option<Pattern>, value: &Value) -> bool
 {
     match value {
         Value::Word(text) => fits_shape(shape, text),
-        Value::Truth(_) => true,
+        _ => true,
     }
 }
 
@@ -111,7 +141,7 @@ fn is_there(context: &Context, key: &Text, rule: &KeyRule) -> bool
     !rule.required || has_value(context, key)
 }
 
-fn has_value(context: &Context, key: &Text) -> bool
+pub(crate) fn has_value(context: &Context, key: &Text) -> bool
     ensures { IsTrue result ↔ HasValue context.now key.now }
 {
     context.get(key).is_some()

@@ -1,0 +1,4 @@
+use Rattle.policy_eval.proofs.conditions.values_match.Goals as goal
+
+pub returns-in-ForAll : goal.returns-in-ForAll
+returns-in-ForAll c = rw c.in-ForAll.is c.all_match.ensures
