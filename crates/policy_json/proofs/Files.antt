@@ -1,27 +1,15 @@
 -- What a file stands for, by what a read of its bytes says.
-use Rattle.std.proofs.Common.{◌≡◌, List, [], ℕ, Bool, true, false, Option, Some, None, Result, Ok, Err, refl, ap, sym, ◌∙◌, if◌then◌else◌}
-use Rattle.std.specs.Str.{chars, is_utf8, IsUtf8}
-use Rattle.std.proofs.lemmas.Str.{IsUtf8-from_is_utf8, is_utf8-from_IsUtf8}
+use Rattle.std.proofs.Common.{◌≡◌, List, [], ℕ, Some, None, Result, Ok, Err, refl, ap, sym, ◌∙◌}
+use Rattle.std.specs.Str.{chars}
 use Rattle.serde_json.specs.Data.{Data}
-use Rattle.serde_json.specs.Read.{read}
 use Rattle.policy_model.specs.declared.set.PolicySet.{PolicySet}
 use Rattle.policy_json.specs.declared.fault.PolicyFault.{PolicyFault}
 use Rattle.policy_json.specs.declared.fault.PolicyAnswer.{PolicyAnswer}
 use Rattle.policy_json.specs.declared.fault.PolicyAnswer.TheVariants.{Refused, NoMemory}
 use Rattle.policy_json.specs.declared.fault.PolicyCode.TheVariants.{P1NotJson}
 use Rattle.policy_json.specs.Checks.{IsReadOf, IsRefusal, fault_at}
-use Rattle.policy_json.specs.Json.{json_of}
+use Rattle.json_shapes.specs.Json.{json_of}
 use Rattle.policy_json.specs.Sets.{IsSetOf, not_json, nowhere, set_checks, set_of, set_or, set_read}
-
-pub json_of-some : (bytes : List ℕ) (d : Data) → IsUtf8 bytes → read bytes ≡ Some d → json_of bytes ≡ Some d
-json_of-some bytes d utf8 e = rw (is_utf8-from_IsUtf8 bytes utf8) e
-
-none_if : (b : Bool) (o : Option Data) → (b ≡ true → o ≡ None) → (if b then o else None) ≡ None
-none_if true o h = h refl
-none_if false o h = refl
-
-pub json_of-none : (bytes : List ℕ) → (IsUtf8 bytes → read bytes ≡ None) → json_of bytes ≡ None
-json_of-none bytes h = none_if (is_utf8 bytes) (read bytes) (λ e. h (IsUtf8-from_is_utf8 bytes e))
 
 not_json_at : fault_at nowhere P1NotJson [] ≡ not_json
 unfolding chars

@@ -1,13 +1,13 @@
 mod Answering
 mod Choosing
-mod Composing
 mod Files
-mod Items
 mod Lists
-mod Loops
-mod Members
 mod Numbering
+mod OperatorNaming
+mod OperatorRows
 mod Naming
+mod Patterns
 mod Roots
 mod Sound
+mod SoundConditions
 mod Steps

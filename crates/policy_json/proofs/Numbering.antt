@@ -3,7 +3,7 @@ use Rattle.std.proofs.Common.{◌≡◌, ℕ, ◌+◌, List, [], ◌∷◌, ◌+
 use Rattle.std.proofs.lemmas.List.{append_assoc}
 use Rattle.std.proofs.lemmas.List.Sums.{sum_by-cons}
 use Rattle.serde_json.specs.Data.{Data}
-use Rattle.policy_json.specs.Checks.{Check}
+use Rattle.policy_json.specs.Checks.{PolicyCheck}
 use Rattle.policy_json.specs.Documents.{document_checks, statements_in}
 use Rattle.policy_json.specs.Sets.{documents_checks, statement_count}
 
@@ -17,4 +17,4 @@ documents_checks-append n b m c [] ys p q = same_numbers n m b c ys (omega (arit
 documents_checks-append n b m c (x ∷ xs) ys p q =
     let count : statement_count (x ∷ xs) ≡ length (statements_in x) + statement_count xs = sum_by-cons (λ d. length (statements_in d)) x xs in
     let rest = documents_checks-append (n + 1) (b + length (statements_in x)) m c xs ys (omega (arith, p)) (omega (arith, q, count)) in
-    ap (λ (some : List Check). document_checks n b x ++ some) rest ∙ sym (append_assoc (document_checks n b x) (documents_checks (n + 1) (b + length (statements_in x)) xs) (documents_checks m c ys))
+    ap (λ (some : List PolicyCheck). document_checks n b x ++ some) rest ∙ sym (append_assoc (document_checks n b x) (documents_checks (n + 1) (b + length (statements_in x)) xs) (documents_checks m c ys))

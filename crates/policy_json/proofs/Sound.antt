@@ -11,12 +11,12 @@ use Rattle.policy_model.specs.declared.principal.Entry.TheVariants.{All, Kind, E
 use Rattle.policy_model.specs.Soundness.{EntryIsSound, IsAccount}
 use Rattle.policy_json.specs.declared.fault.PolicyFault.{PolicyFault}
 use Rattle.policy_json.specs.declared.location.Location.{Location}
-use Rattle.policy_json.specs.Checks.{Check, first_fault}
-use Rattle.policy_json.specs.Json.{one_or_more, pairs_in}
-use Rattle.policy_json.specs.Shapes.{is_object}
-use Rattle.policy_json.specs.Texts.{text_of}
+use Rattle.json_shapes.specs.Checks.{first_fault}
+use Rattle.policy_json.specs.Checks.{PolicyCheck}
+use Rattle.json_shapes.specs.Json.{one_or_more, pairs_in, text_of}
+use Rattle.json_shapes.specs.Shapes.{is_object}
 use Rattle.policy_json.specs.Principals.{account_of, account_or_exact, entries_of, entries_of_kind, entry_of, id_checks, is_star_id, kind_checks, kind_of, principal_checks}
-use Rattle.policy_json.proofs.Composing.{first_fault-rest}
+use Rattle.json_shapes.proofs.Laws.{first_fault-rest}
 use Rattle.policy_json.proofs.Roots.{account_of-is}
 
 -- ---- checks without a fault
@@ -25,20 +25,20 @@ front_passes : (b : Bool) (own : PolicyFault) (front more : Option PolicyFault) 
 front_passes true own front more step e = step e
 front_passes false own front more step e = e
 
-none-front : (front rest : List Check) → first_fault (front ++ rest) ≡ None → first_fault front ≡ None
+pub none-front : (front rest : List PolicyCheck) → first_fault (front ++ rest) ≡ None → first_fault front ≡ None
 none-front [] rest e = refl
 none-front (c ∷ cs) rest e = front_passes c.passes c.fault (first_fault cs) (first_fault (cs ++ rest)) (none-front cs rest) e
 
-none-rest : (front rest : List Check) → first_fault (front ++ rest) ≡ None → first_fault rest ≡ None
+pub none-rest : (front rest : List PolicyCheck) → first_fault (front ++ rest) ≡ None → first_fault rest ≡ None
 none-rest front rest e = sym (first_fault-rest front rest (none-front front rest e)) ∙ e
 
 -- what follows from each member's checks holds of all members
-each_sound : {A : Type 0} (checks : A → List Check) (P : A → Type 0) → ((a : A) → first_fault (checks a) ≡ None → P a) → (all : List A) → first_fault (flat_map checks all) ≡ None → Each P all
+pub each_sound : {A : Type 0} (checks : A → List PolicyCheck) (P : A → Type 0) → ((a : A) → first_fault (checks a) ≡ None → P a) → (all : List A) → first_fault (flat_map checks all) ≡ None → Each P all
 each_sound checks P sound [] e = All-nil P
 each_sound checks P sound (a ∷ all) e =
     All-cons P a all (sound a (none-front (checks a) (flat_map checks all) e)) (each_sound checks P sound all (none-rest (checks a) (flat_map checks all) e))
 
-each_flat : {A X : Type 0} (f : A → List X) (P : X → Type 0) → (all : List A) → Each (λ a. Each P (f a)) all → Each P (flat_map f all)
+pub each_flat : {A X : Type 0} (f : A → List X) (P : X → Type 0) → (all : List A) → Each (λ a. Each P (f a)) all → Each P (flat_map f all)
 each_flat f P [] h = All-nil P
 each_flat f P (a ∷ all) h = All-append P (f a) (flat_map f all) (All-head (λ x. Each P (f x)) a all h) (each_flat f P all (All-tail (λ x. Each P (f x)) a all h))
 
@@ -67,7 +67,7 @@ third_passes false b c x y z e = cc
 id_sound : (location : Location) (name : List ℕ) (kind : PrincipalKind) (d : Data) → first_fault (id_checks location name d) ≡ None → EntryIsSound (entry_of kind (text_of d))
 id_sound location name kind d e = entry_sound kind (text_of d) (leb-true (length (text_of d)) 2048 (third_passes _ _ _ _ _ _ e))
 
-second_passes : (a b : Bool) (x y : PolicyFault) (rest : Option PolicyFault) → (if a then (if b then rest else Some y) else Some x) ≡ None → rest ≡ None
+pub second_passes : (a b : Bool) (x y : PolicyFault) (rest : Option PolicyFault) → (if a then (if b then rest else Some y) else Some x) ≡ None → rest ≡ None
 second_passes true true x y rest e = e
 second_passes true false x y rest e = cc
 second_passes false b x y rest e = cc
@@ -77,7 +77,7 @@ kind_sound location name pair e =
     let passed : first_fault (flat_map (id_checks location name) (one_or_more pair.1)) ≡ None = second_passes _ _ _ _ _ e in
     All-map EntryIsSound (λ (d : Data). entry_of (kind_of pair.0) (text_of d)) (one_or_more pair.1) (each_sound (id_checks location name) (λ d. EntryIsSound (entry_of (kind_of pair.0) (text_of d))) (id_sound location name (kind_of pair.0)) (one_or_more pair.1) passed)
 
-first_passes : (a : Bool) (x : PolicyFault) (rest : Option PolicyFault) → (if a then rest else Some x) ≡ None → rest ≡ None
+pub first_passes : (a : Bool) (x : PolicyFault) (rest : Option PolicyFault) → (if a then rest else Some x) ≡ None → rest ≡ None
 first_passes true x rest e = e
 first_passes false x rest e = cc
 

@@ -8,9 +8,9 @@ use Rattle.policy_json.specs.declared.fault.PolicyCode.TheVariants.{P2SetShape, 
 use Rattle.policy_json.specs.declared.location.Location.{Location}
 use Rattle.policy_json.specs.declared.fault.PolicyAnswer.{PolicyAnswer}
 use Rattle.policy_model.specs.declared.set.Statement.{Statement}
-use Rattle.policy_json.specs.Checks.{Check, IsReadOf, check}
-use Rattle.policy_json.specs.Json.{has_name, one_or_more}
-use Rattle.policy_json.specs.Shapes.{is_object, is_object_or_list, is_string, is_text, is_there_and, name_checks, where_there}
+use Rattle.policy_json.specs.Checks.{PolicyCheck, IsReadOf, check, name_checks}
+use Rattle.json_shapes.specs.Json.{has_name, one_or_more}
+use Rattle.json_shapes.specs.Shapes.{is_object, is_object_or_list, is_string, is_text, is_there_and, where_there}
 use Rattle.policy_json.specs.Statements.{statement_checks, statement_of}
 use Rattle.policy_json.specs.declared.document.TheConstants.{MOST_DOCUMENTS}
 
@@ -40,14 +40,14 @@ abbrev pub statements_in : Data → List Data
 statements_in d = statements_at (get (codes "Statement") d)
 
 -- it is one of the first 32 documents, and an object with known names
-abbrev pub object_checks : Location → Data → List Check
+abbrev pub object_checks : Location → Data → List PolicyCheck
 object_checks location d =
     check location (nat_le location.document MOST_DOCUMENTS) P17Limit [] ∷
     check location (is_object d) P2SetShape [] ∷
     name_checks location document_names d
 
 -- its version and its id are as they must be, and it has statements
-abbrev pub element_checks : Location → Data → List Check
+abbrev pub element_checks : Location → Data → List PolicyCheck
 element_checks location d =
     check location (where_there is_string (get (codes "Version") d)) P4WrongShape (codes "Version") ∷
     check location (where_there is_version (get (codes "Version") d)) P7BadVersion (codes "Version") ∷
@@ -55,18 +55,18 @@ element_checks location d =
     check location (has_name (codes "Statement") d) P5MissingElement (codes "Statement") ∷
     check location (is_there_and is_object_or_list (get (codes "Statement") d)) P4WrongShape (codes "Statement") ∷ []
 
-abbrev pub head_checks : Location → Data → List Check
+abbrev pub head_checks : Location → Data → List PolicyCheck
 head_checks location d = object_checks location d ++ element_checks location d
 
 -- statements are numbered in their document and in their set, in both from these numbers on
-abbrev pub numbered_checks : ℕ → ℕ → ℕ → Bool → List Data → List Check
+abbrev pub numbered_checks : ℕ → ℕ → ℕ → Bool → List Data → List PolicyCheck
 numbered_checks document statement in_set escapes [] = []
 numbered_checks document statement in_set escapes (d ∷ ds) =
     statement_checks (record { document = document; statement = statement }) in_set escapes d
     ++ numbered_checks document (statement + 1) (in_set + 1) escapes ds
 
 -- all checks of the document of this number, before which this many statements stand in the set
-abbrev pub document_checks : ℕ → ℕ → Data → List Check
+abbrev pub document_checks : ℕ → ℕ → Data → List PolicyCheck
 document_checks number before d =
     head_checks (record { document = number; statement = 0 }) d
     ++ numbered_checks number 1 (before + 1) (has_escapes d) (statements_in d)

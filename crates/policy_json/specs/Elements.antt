@@ -6,11 +6,11 @@ use Rattle.serde_json.specs.View.{view}
 use Rattle.policy_json.specs.declared.element.Element.{Element}
 use Rattle.policy_json.specs.declared.fault.PolicyCode.TheVariants.{P6BothElements}
 use Rattle.policy_json.specs.declared.location.Location.{Location}
-use Rattle.policy_json.specs.Checks.{Check, check}
-use Rattle.policy_json.specs.Json.{has_name}
+use Rattle.policy_json.specs.Checks.{PolicyCheck, check}
+use Rattle.json_shapes.specs.Json.{has_name}
 
 -- an element and its Not element don't stand together
-abbrev pub both_checks : Location → List ℕ → List ℕ → Data → List Check
+abbrev pub both_checks : Location → List ℕ → List ℕ → Data → List PolicyCheck
 both_checks location name not_name d = check location (not (has_name name d && has_name not_name d)) P6BothElements name ∷ []
 
 -- the object has no element of the first name, and one of the second name

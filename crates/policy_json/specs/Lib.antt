@@ -1,9 +1,11 @@
-pub mod Json
 pub mod Checks
-pub mod Shapes
 pub mod Texts
 pub mod Principals
 pub mod Elements
+pub mod OperatorNames
+pub mod OperatorParts
+pub mod Operands
+pub mod Conditions
 pub mod Statements
 pub mod Documents
 pub mod Sets

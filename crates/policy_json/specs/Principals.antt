@@ -13,10 +13,9 @@ use Rattle.policy_model.specs.Soundness.{IsAccount}
 use Rattle.policy_json.specs.declared.fault.PolicyCode.TheVariants.{P4WrongShape, P9PrincipalKind, P10PrincipalWildcard, P17Limit}
 use Rattle.policy_json.specs.declared.location.Location.{Location}
 use Rattle.policy_json.specs.declared.fault.PolicyAnswer.{PolicyAnswer}
-use Rattle.policy_json.specs.Checks.{Check, IsReadOf, check}
-use Rattle.policy_json.specs.Json.{one_or_more, pairs_in}
-use Rattle.policy_json.specs.Shapes.{are_strings, is_among, is_object, is_text}
-use Rattle.policy_json.specs.Texts.{text_of}
+use Rattle.policy_json.specs.Checks.{PolicyCheck, IsReadOf, check}
+use Rattle.json_shapes.specs.Json.{one_or_more, pairs_in, text_of}
+use Rattle.json_shapes.specs.Shapes.{are_strings, is_among, is_object, is_text}
 use Rattle.policy_json.specs.declared.principals.TheConstants.{MOST_CHARACTERS}
 
 -- ---- what is checked
@@ -34,21 +33,21 @@ abbrev pub is_star_id : List ℕ → Bool
 is_star_id text = bytes_eq text (codes "*")
 
 -- an id isn't empty, has no wildcard unless it is `*` alone, and has at most 2,048 characters
-abbrev pub id_checks : Location → List ℕ → Data → List Check
+abbrev pub id_checks : Location → List ℕ → Data → List PolicyCheck
 id_checks location name d =
     check location (not (nat_le (length (text_of d)) 0)) P4WrongShape name ∷
     check location (is_star_id (text_of d) || not (has_wildcard (text_of d))) P10PrincipalWildcard name ∷
     check location (nat_le (length (text_of d)) MOST_CHARACTERS) P17Limit name ∷ []
 
 -- a member of a principal element has the name of a kind, its value is a string or a list of strings, and each is an id
-abbrev pub kind_checks : Location → List ℕ → List ℕ × Data → List Check
+abbrev pub kind_checks : Location → List ℕ → List ℕ × Data → List PolicyCheck
 kind_checks location name pair =
     check location (is_among kind_names pair.0) P9PrincipalKind pair.0 ∷
     check location (are_strings pair.1) P4WrongShape name ∷
     flat_map (id_checks location name) (one_or_more pair.1)
 
 -- a principal element, where it is there, is the string `*` or an object, whose members are checked in the order of their names
-abbrev pub principal_checks : Location → List ℕ → Option Data → List Check
+abbrev pub principal_checks : Location → List ℕ → Option Data → List PolicyCheck
 principal_checks location name None = []
 principal_checks location name (Some d) =
     check location (is_text (codes "*") d || is_object d) P4WrongShape name ∷ flat_map (kind_checks location name) (pairs_in d)

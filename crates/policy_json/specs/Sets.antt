@@ -12,9 +12,10 @@ use Rattle.policy_json.specs.declared.fault.PolicyCode.TheVariants.{P1NotJson, P
 use Rattle.policy_json.specs.declared.location.Location.{Location}
 use Rattle.policy_json.specs.declared.counts.Counts.{Counts}
 use Rattle.policy_model.specs.declared.set.Document.{Document}
-use Rattle.policy_json.specs.Checks.{Check, IsReadOf, check, first_fault}
-use Rattle.policy_json.specs.Json.{has_name, json_of, values_in}
-use Rattle.policy_json.specs.Shapes.{is_list, is_object, is_object_or_list, is_there_and, name_checks}
+use Rattle.json_shapes.specs.Checks.{first_fault}
+use Rattle.policy_json.specs.Checks.{PolicyCheck, IsReadOf, check, name_checks}
+use Rattle.json_shapes.specs.Json.{has_name, json_of, list_under, values_in}
+use Rattle.json_shapes.specs.Shapes.{is_list, is_object, is_object_or_list, is_there_and}
 use Rattle.policy_json.specs.Documents.{document_checks, document_of, statements_in}
 use Rattle.policy_json.specs.declared.set.TheConstants.{MOST_GUARDS}
 
@@ -26,11 +27,6 @@ nowhere = record { document = 0; statement = 0 }
 abbrev pub is_guarded : Data → Bool
 is_guarded d = has_name (codes "Grants") d || has_name (codes "Guards") d
 
--- the list under a name
-abbrev pub list_under : Option Data → List Data
-list_under None = []
-list_under (Some d) = values_in d
-
 -- the documents of the grants
 abbrev pub granting : Data → List Data
 granting d = list_under (get (codes "Grants") d)
@@ -40,7 +36,7 @@ abbrev pub guards_in : Data → List Data
 guards_in d = list_under (get (codes "Guards") d)
 
 -- both names of a guarded set are there, both are lists, and there are at most 16 guards, each a list
-abbrev pub list_checks : Data → List Check
+abbrev pub list_checks : Data → List PolicyCheck
 list_checks d =
     check nowhere (has_name (codes "Grants") d) P5MissingElement (codes "Grants") ∷
     check nowhere (has_name (codes "Guards") d) P5MissingElement (codes "Guards") ∷
@@ -50,11 +46,11 @@ list_checks d =
     check nowhere (list_all is_list (guards_in d)) P4WrongShape (codes "Guards") ∷ []
 
 -- a guarded set has no other name
-abbrev pub guarded_checks : Data → List Check
+abbrev pub guarded_checks : Data → List PolicyCheck
 guarded_checks d = name_checks nowhere (codes "Grants" ∷ codes "Guards" ∷ []) d ++ list_checks d
 
 -- a file without guards is an object or a list
-abbrev pub plain_checks : Data → List Check
+abbrev pub plain_checks : Data → List PolicyCheck
 plain_checks d = check nowhere (is_object_or_list d) P2SetShape [] ∷ []
 
 -- the documents of the file in order: of a guarded set the grants, and then the guards one by one
@@ -64,7 +60,7 @@ documents_in d =
     else (if is_object d then d ∷ [] else values_in d))
 
 -- documents are numbered in order, and statements are counted through all documents
-abbrev pub documents_checks : ℕ → ℕ → List Data → List Check
+abbrev pub documents_checks : ℕ → ℕ → List Data → List PolicyCheck
 documents_checks number before [] = []
 documents_checks number before (d ∷ ds) =
     document_checks number before d ++ documents_checks (number + 1) (before + length (statements_in d)) ds
@@ -74,7 +70,7 @@ abbrev pub statement_count : List Data → ℕ
 statement_count ds = sum_by (λ d. length (statements_in d)) ds
 
 -- all checks of a file's value
-abbrev pub set_checks : Data → List Check
+abbrev pub set_checks : Data → List PolicyCheck
 set_checks d = (if is_guarded d then guarded_checks d else plain_checks d) ++ documents_checks 1 0 (documents_in d)
 
 -- the set of these grants, and of these guards, each a list of documents

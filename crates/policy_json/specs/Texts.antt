@@ -3,23 +3,17 @@
 -- case, and in a document of version 2012-10-17 they have escapes and policy variables.
 use Rattle.std.specs.Prelude.{ℕ, List, [], ◌∷◌, length, map, Bool, true, false, nat_le, is_some, Option, Some, None, Result, unwrap_or}
 use Rattle.std.specs.List.{flat_map}
-use Rattle.std.specs.Str.{chars}
 use Rattle.serde_json.specs.Data.{Data}
-use Rattle.serde_json.specs.Find.{as_str}
 use Rattle.wildcard_lang.specs.declared.piece.Piece.{Piece}
 use Rattle.wildcard_lang.specs.Reading.{glob_pieces}
 use Rattle.policy_model.specs.declared.matcher.Matcher.{Matcher}
 use Rattle.policy_json.specs.declared.fault.PolicyCode.TheVariants.{P4WrongShape, P11PolicyVariable, P17Limit}
 use Rattle.policy_json.specs.declared.location.Location.{Location}
 use Rattle.policy_json.specs.declared.fault.PolicyAnswer.{PolicyAnswer}
-use Rattle.policy_json.specs.Checks.{Check, IsReadOf, check}
-use Rattle.policy_json.specs.Json.{one_or_more}
-use Rattle.policy_json.specs.Shapes.{are_strings}
+use Rattle.policy_json.specs.Checks.{PolicyCheck, IsReadOf, check}
+use Rattle.json_shapes.specs.Json.{one_or_more, text_of}
+use Rattle.json_shapes.specs.Shapes.{are_strings}
 use Rattle.wildcard_lang.specs.declared.pattern.TheConstants.{MOST_PIECES}
-
--- the text of a string (of any other value, which no check passes, the empty text)
-abbrev pub text_of : Data → List ℕ
-text_of d = chars (unwrap_or (as_str d) [])
 
 -- the pieces that a string stands for, or none where a policy variable stands in it
 abbrev pub pieces_of : Bool → Bool → Data → Option (List Piece)
@@ -30,13 +24,13 @@ abbrev pub glob_of : Bool → Bool → Data → List Piece
 glob_of fold escapes d = unwrap_or (pieces_of fold escapes d) []
 
 -- a string has no policy variable, and then at most 2,048 pieces; folding changes no count of pieces
-abbrev pub pattern_checks : Location → List ℕ → Bool → Data → List Check
+abbrev pub pattern_checks : Location → List ℕ → Bool → Data → List PolicyCheck
 pattern_checks location name escapes d =
     check location (is_some (pieces_of false escapes d)) P11PolicyVariable name ∷
     check location (nat_le (length (glob_of false escapes d)) MOST_PIECES) P17Limit name ∷ []
 
 -- an element of patterns, where it is there, is a string or a list of strings, and then each is a pattern
-abbrev pub patterns_checks : Location → List ℕ → Bool → Option Data → List Check
+abbrev pub patterns_checks : Location → List ℕ → Bool → Option Data → List PolicyCheck
 patterns_checks location name escapes None = []
 patterns_checks location name escapes (Some d) =
     check location (are_strings d) P4WrongShape name ∷ flat_map (pattern_checks location name escapes) (one_or_more d)

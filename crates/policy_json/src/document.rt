@@ -1,21 +1,19 @@
 //! Reads documents.
 ghost use Rattle.std.specs.Prelude.{◌≡◌, ◌+◌, ◌≤◌, All, IfOk, length, codes};
 ghost use Rattle.serde_json.specs.Find.{get};
-ghost use Rattle.policy_json.specs.Shapes.{where_there};
+ghost use Rattle.json_shapes.specs.Shapes.{where_there};
 ghost use Rattle.serde_json.specs.View.{view};
 ghost use Rattle.policy_model.specs.Soundness.{DocumentIsSound, StatementIsSound};
 ghost use Rattle.policy_json.specs.Checks.{IsReadOf};
 ghost use Rattle.policy_json.specs.Documents.{AreStatementsRead, IsDocumentRead, element_checks, has_escapes, head_checks, is_version, object_checks, statements_in};
-ghost use Rattle.policy_json.specs.Json.{views};
+ghost use Rattle.json_shapes.specs.Json.{views};
 
 use crate::fault::{PolicyAnswer, PolicyCode, refusal};
 use crate::location::Location;
 use crate::names::check_names;
-use crate::requirement::{
-    has, is_absent_or_string, is_object, is_object_or_list, is_text_at, require,
-};
+use crate::requirement::require;
 use crate::statement::read_statement;
-use crate::strings::members;
+use json_shapes::{is_absent_or_string, is_object, is_object_or_list, is_text_at, members};
 use policy_model::{Document, List, StatementList};
 use serde_json::Value;
 use std::alloc::Global;

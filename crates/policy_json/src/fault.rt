@@ -10,8 +10,6 @@ use wildcard_lang::Text;
 /// What is wrong with a file.
 #[derive(Clone, Copy, Debug, PartialEq, Eq)]
 pub enum PolicyCode {
-    /// The statement has conditions, which aren't built yet.
-    P0NotBuilt,
     /// The file has no reading as a JSON value (RFC 8259) by `serde_json`, which takes values nested at
     /// most 127 deep and numbers up to the greatest float.
     P1NotJson,
@@ -19,7 +17,8 @@ pub enum PolicyCode {
     P2SetShape,
     /// A name that the language doesn't have.
     P3UnknownElement,
-    /// A value isn't of its form: an element, a statement, a guard, or an id of a principal that is empty.
+    /// A value isn't of its form: an element, a statement, a guard, an id of a principal that is empty,
+    /// an operator or a key of a condition.
     P4WrongShape,
     /// A needed element is missing.
     P5MissingElement,
@@ -33,8 +32,15 @@ pub enum PolicyCode {
     P9PrincipalKind,
     /// A wildcard in a principal's id that isn't `*` alone.
     P10PrincipalWildcard,
-    /// A policy variable.
+    /// A policy variable, in a resource or in a value of a condition on texts or ARNs.
     P11PolicyVariable,
+    /// A condition operator that the language doesn't have, in this spelling.
+    P12UnknownOperator,
+    /// A value of a condition that isn't of its operator's form, or a number that isn't a whole number
+    /// of 64 bits.
+    P13BadValue,
+    /// A value of a condition on ARNs that has fewer than six parts.
+    P14ArnParts,
     /// More than a limit: 32 documents, 2,000 statements and 16 guards in a set, 2,048 pieces in a
     /// pattern, 2,048 characters in a principal's id.
     P17Limit,

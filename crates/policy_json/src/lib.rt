@@ -2,6 +2,7 @@
 #![tactic(auto)]
 
 mod accounts;
+mod conditions;
 mod counts;
 mod document;
 mod element;
@@ -9,13 +10,14 @@ mod fault;
 mod laws;
 mod location;
 mod names;
+mod operands;
+mod operator_names;
 mod principals;
 mod requirement;
 mod set;
 mod statement;
-mod strings;
 mod texts;
 
 pub use fault::{PolicyAnswer, PolicyCode, PolicyFault};
-pub use laws::accounts_are_read;
+pub use laws::{accounts_are_read, operators_are_named};
 pub use set::read_set;

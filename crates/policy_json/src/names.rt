@@ -1,25 +1,13 @@
 //! The names of an object's members.
-ghost use Rattle.std.specs.Prelude.{◌≡◌};
 ghost use Rattle.serde_json.specs.View.{view};
-ghost use Rattle.policy_json.specs.Checks.{IsReadOf};
-ghost use Rattle.policy_json.specs.Shapes.{is_among, name_checks, texts};
+ghost use Rattle.policy_json.specs.Checks.{IsReadOf, name_checks};
+ghost use Rattle.json_shapes.specs.Shapes.{texts};
 
 use crate::fault::{PolicyAnswer, PolicyCode, refusal};
 use crate::location::Location;
+use json_shapes::is_among;
 use serde_json::Value;
 use std::alloc::Global;
-
-// Whether the name is one of these.
-fn is_among(names: &[&str], name: &str) -> bool
-    ensures { result ≡ is_among (texts names.now) name.now }
-{
-    for known in names {
-        if name == *known {
-            return true;
-        }
-    }
-    false
-}
 
 /// Refuses the first name of the object, in the order of its names, that isn't one of these.
 pub(crate) fn check_names(

@@ -5,42 +5,24 @@ ghost use Rattle.serde_json.specs.Find.{get};
 ghost use Rattle.serde_json.specs.View.{view};
 ghost use Rattle.policy_model.specs.Soundness.{DocumentIsSound, IsSound};
 ghost use Rattle.policy_json.specs.Checks.{IsReadOf};
-ghost use Rattle.policy_json.specs.Json.{json_of, values_in, views};
-ghost use Rattle.policy_json.specs.Shapes.{is_list};
-ghost use Rattle.policy_json.specs.Sets.{AreDocumentsRead, AreGuardsRead, ArePartsRead, CountsDocuments, CountsGuards, CountsStatements, IsSetOf, IsValueRead, guarded_checks, guards_in, is_guarded, list_checks, list_under};
+ghost use Rattle.json_shapes.specs.Json.{json_of, values_in, views, list_under};
+ghost use Rattle.json_shapes.specs.Shapes.{is_list};
+ghost use Rattle.policy_json.specs.Sets.{AreDocumentsRead, AreGuardsRead, ArePartsRead, CountsDocuments, CountsGuards, CountsStatements, IsSetOf, IsValueRead, guarded_checks, guards_in, is_guarded, list_checks};
 
 use crate::counts::Counts;
 use crate::document::read_document;
 use crate::fault::{PolicyAnswer, PolicyCode, refusal};
 use crate::location::NOWHERE;
 use crate::names::check_names;
-use crate::requirement::{has, is_list, is_list_at, is_object_or_list, require};
-use crate::strings::members;
+use crate::requirement::require;
+use json_shapes::{
+    has, is_list, is_list_at, is_object_or_list, list_under, members, read_json, values_in,
+};
 use policy_model::{DocumentList, GuardList, List, PolicySet};
 use serde_json::Value;
 use std::alloc::Global;
 
 const MOST_GUARDS: usize = 16;
-
-// The values of a list, and none of any other value.
-fn values_in(value: &Value) -> &[Value]
-    ensures { views result.now ≡ values_in (view value.now) }
-{
-    match value.as_array() {
-        Some(values) => values.as_slice(),
-        None => &[],
-    }
-}
-
-// The values of the list under a name.
-fn list_under<'a>(object: &'a Value, name: &str) -> &'a [Value]
-    ensures { views result.now ≡ list_under (get name.now (view object.now)) }
-{
-    match object.get(name) {
-        Some(element) => values_in(element),
-        None => &[],
-    }
-}
 
 // Whether each of the values is a list.
 fn are_lists(values: &[Value]) -> bool
@@ -185,15 +167,9 @@ fn read_value(alloc: Global, bytes: &[u8]) -> Result<Value, PolicyAnswer>
     ensures ok { IfOk result (λ v. json_of bytes.now ≡ Some (view v)) }
     ensures err { IfErr result (λ e. IsSetOf bytes.now (Err e)) }
 {
-    match Value::from_slice(alloc, bytes) {
-        Ok(value) => Ok(value),
-        Err(error) => {
-            if error.is_memory() {
-                Err(PolicyAnswer::NoMemory)
-            } else {
-                Err(refusal(alloc, NOWHERE, PolicyCode::P1NotJson, ""))
-            }
-        }
+    match read_json(alloc, bytes)? {
+        Some(value) => Ok(value),
+        None => Err(refusal(alloc, NOWHERE, PolicyCode::P1NotJson, "")),
     }
 }
 

@@ -3,14 +3,16 @@ ghost use Rattle.std.specs.Prelude.{IfOk};
 ghost use Rattle.serde_json.specs.View.{view};
 ghost use Rattle.policy_model.specs.Soundness.{StatementIsSound};
 ghost use Rattle.policy_json.specs.Checks.{IsReadOf};
-ghost use Rattle.policy_json.specs.Statements.{IsEffectRead, IsStatementRead, condition_checks, form_checks};
+ghost use Rattle.policy_json.specs.Statements.{IsEffectRead, IsStatementRead, form_checks};
 
+use crate::conditions::read_conditions;
 use crate::fault::{PolicyAnswer, PolicyCode, refusal};
 use crate::location::Location;
 use crate::names::check_names;
 use crate::principals::read_who;
-use crate::requirement::{has, is_absent_or_string, is_object, require};
+use crate::requirement::require;
 use crate::texts::{read_action, read_resource};
+use json_shapes::{is_absent_or_string, is_object};
 use policy_model::Statement;
 use serde_json::Value;
 use std::alloc::Global;
@@ -61,20 +63,6 @@ fn read_effect(alloc: Global, location: Location, statement: &Value) -> Result<b
     }
 }
 
-// Conditions aren't built yet.
-fn check_condition(alloc: Global, location: Location, statement: &Value) -> Result<(), PolicyAnswer>
-    ensures { IsReadOf (condition_checks location (view statement.now)) tt result }
-{
-    let is_absent = !has(statement, "Condition");
-    require(
-        alloc,
-        location,
-        is_absent,
-        PolicyCode::P0NotBuilt,
-        "Condition",
-    )
-}
-
 /// Reads the statement of this number in its set, of a document with escapes or without.
 pub(crate) fn read_statement(
     alloc: Global,
@@ -91,11 +79,12 @@ pub(crate) fn read_statement(
     let principal = read_who(alloc, location, statement)?;
     let action = read_action(alloc, location, statement)?;
     let resource = read_resource(alloc, location, escapes, statement)?;
-    check_condition(alloc, location, statement)?;
+    let conditions = read_conditions(alloc, location, escapes, statement)?;
     Ok(Statement {
         allow,
         principal,
         action,
         resource,
+        conditions,
     })
 }

@@ -1,13 +1,13 @@
 //! Reads actions and resources.
 ghost use Rattle.serde_json.specs.View.{view};
-ghost use Rattle.policy_json.specs.Json.{views};
+ghost use Rattle.json_shapes.specs.Json.{views};
 ghost use Rattle.policy_json.specs.Statements.{IsActionRead, IsResourceRead};
 ghost use Rattle.policy_json.specs.Texts.{ArePatternsRead, IsElementRead, IsPatternRead};
 
 use crate::element::{element_of, not_both};
 use crate::fault::{PolicyAnswer, PolicyCode, refusal};
 use crate::location::Location;
-use crate::strings::{are_strings, members, text_of};
+use json_shapes::{are_strings, members, text_of};
 use plain_lists::List;
 use policy_model::Matcher;
 use serde_json::Value;

@@ -1,6 +1,7 @@
 //! Prints the set that each line of standard input stands for as a file, or the file's first fault.
 #![tactic(auto)]
 
+mod conditions;
 mod showing;
 
 use policy_json::{PolicyAnswer, PolicyFault, read_set};

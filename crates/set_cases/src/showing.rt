@@ -1,4 +1,5 @@
 //! Sets as text: `=` stands before the items of an element, and `!=` before those of a Not element.
+use crate::conditions::push_condition;
 use policy_model::{Document, Entry, Matcher, PolicySet, PrincipalKind, Statement};
 use std::alloc::{AllocError, Global};
 use wildcard_lang::{Pattern, Text, write_pattern};
@@ -83,6 +84,9 @@ fn push_statement(
     push_patterns(alloc, out, " action", &statement.action)?;
     if let Some(patterns) = &statement.resource {
         push_patterns(alloc, out, " resource", patterns)?;
+    }
+    for condition in statement.conditions.as_slice() {
+        push_condition(alloc, out, condition)?;
     }
     Ok(())
 }

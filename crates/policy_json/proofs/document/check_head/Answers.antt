@@ -1,7 +1,7 @@
 use Rattle.std.proofs.Common.{refl}
 use Rattle.serde_json.specs.View.{view}
 use Rattle.policy_json.specs.Documents.{element_checks, head_checks, object_checks}
-use Rattle.policy_json.proofs.Composing.{first_fault-rest}
+use Rattle.json_shapes.proofs.Laws.{first_fault-rest}
 use Rattle.policy_json.proofs.Steps.{continued, refused}
 use Rattle.policy_json.proofs.document.check_head.Goals as goal
 

@@ -3,10 +3,10 @@ use Rattle.serde_json.specs.Data.{Data}
 use Rattle.serde_json.specs.View.{view}
 use Rattle.policy_model.specs.declared.set.Document.{Document}
 use Rattle.policy_model.specs.declared.set.Statement.{Statement}
-use Rattle.policy_json.specs.Checks.{first_fault}
+use Rattle.json_shapes.specs.Checks.{first_fault}
 use Rattle.policy_json.specs.Documents.{document_checks, document_of, has_escapes, head_checks, numbered_checks, statements_in}
 use Rattle.policy_json.specs.Statements.{statement_of}
-use Rattle.policy_json.proofs.Composing.{first_fault-rest}
+use Rattle.json_shapes.proofs.Laws.{first_fault-rest}
 use Rattle.policy_json.proofs.Steps.{refused, refused_last}
 use Rattle.policy_json.proofs.document.read_document.Goals as goal
 

@@ -7,16 +7,16 @@ use Rattle.serde_json.specs.View.{view}
 use Rattle.policy_model.specs.Soundness.{StatementIsSound}
 use Rattle.policy_model.specs.declared.set.Statement.{Statement}
 use Rattle.policy_json.specs.declared.location.Location.{Location}
-use Rattle.policy_json.specs.Checks.{Check, first_fault}
+use Rattle.json_shapes.specs.Checks.{first_fault}
+use Rattle.policy_json.specs.Checks.{PolicyCheck}
 use Rattle.policy_json.specs.Documents.{numbered_checks}
 use Rattle.policy_json.specs.Statements.{statement_checks, statement_of}
-use Rattle.policy_json.proofs.Composing.{front_passes-none}
-use Rattle.policy_json.proofs.Loops.{from_here}
+use Rattle.json_shapes.proofs.Laws.{front_passes-none, from_here}
 use Rattle.policy_json.proofs.Lists.{Next, Reading, reads-next, refuses-next}
 use Rattle.policy_json.proofs.document.read_statements.Goals as goal
 
 -- the next of the statements that are left, with its numbers
-next_of : (document statement in_set n m : ℕ) (escapes : Bool) (all : List Check) (whole done : List Statement) (left : List Data) (d : Data) (ds : List Data) → left ≡ d ∷ ds → n ≡ statement → m ≡ in_set
+next_of : (document statement in_set n m : ℕ) (escapes : Bool) (all : List PolicyCheck) (whole done : List Statement) (left : List Data) (d : Data) (ds : List Data) → left ≡ d ∷ ds → n ≡ statement → m ≡ in_set
     → Reading all (numbered_checks document statement in_set escapes left) whole done (map (statement_of escapes) left)
     → Next all (statement_checks (record { document = document; statement = n }) m escapes d) (numbered_checks document (statement + 1) (in_set + 1) escapes ds) whole done (statement_of escapes d) (map (statement_of escapes) ds)
 next_of document statement in_set n m escapes all whole done left d ds is same_n same_m here =

@@ -1,8 +1,8 @@
 use Rattle.std.proofs.Common.{◌≡◌, map}
 use Rattle.serde_json.specs.Data.{object}
 use Rattle.serde_json.specs.View.{view, members_view}
-use Rattle.policy_json.specs.Checks.{first_fault}
-use Rattle.policy_json.specs.Shapes.{name_checks}
+use Rattle.json_shapes.specs.Checks.{first_fault}
+use Rattle.policy_json.specs.Checks.{name_checks}
 use Rattle.policy_json.proofs.names.check_names.Given as goal
 
 abbrev pub invariant-loop-name : goal.invariant-loop-name

@@ -1,8 +1,8 @@
 use Rattle.std.proofs.Common.{map, drop}
 use Rattle.serde_json.specs.View.{view}
 use Rattle.policy_json.specs.Principals.{entry_of, id_checks}
-use Rattle.policy_json.specs.Texts.{text_of}
-use Rattle.policy_json.proofs.Loops.{IsRead}
+use Rattle.json_shapes.specs.Json.{text_of}
+use Rattle.json_shapes.proofs.Laws.{IsRead}
 use Rattle.policy_json.proofs.principals.read_ids.Given as goal
 
 abbrev pub invariant-loop-value : goal.invariant-loop-value

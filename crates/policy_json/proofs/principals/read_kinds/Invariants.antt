@@ -1,9 +1,9 @@
 use Rattle.std.proofs.Common.{[]}
 use Rattle.std.specs.List.{flat_map}
 use Rattle.serde_json.specs.View.{members_view}
-use Rattle.policy_json.specs.Json.{pairs_of}
+use Rattle.json_shapes.specs.Json.{pairs_of}
 use Rattle.policy_json.specs.Principals.{entries_of_kind, kind_checks}
-use Rattle.policy_json.proofs.Loops.{IsRead}
+use Rattle.json_shapes.proofs.Laws.{IsRead}
 use Rattle.policy_json.proofs.principals.read_kinds.Given as goal
 
 abbrev pub invariant-loop-kind_name : goal.invariant-loop-kind_name

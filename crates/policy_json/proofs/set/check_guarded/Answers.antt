@@ -1,8 +1,8 @@
 use Rattle.std.proofs.Common.{[], ◌∷◌, codes, refl}
 use Rattle.serde_json.specs.View.{view}
-use Rattle.policy_json.specs.Shapes.{name_checks}
+use Rattle.policy_json.specs.Checks.{name_checks}
 use Rattle.policy_json.specs.Sets.{guarded_checks, list_checks, nowhere}
-use Rattle.policy_json.proofs.Composing.{first_fault-rest}
+use Rattle.json_shapes.proofs.Laws.{first_fault-rest}
 use Rattle.policy_json.proofs.Steps.{continued, refused}
 use Rattle.policy_json.proofs.set.check_guarded.Goals as goal
 

@@ -6,16 +6,16 @@ use Rattle.serde_json.specs.Data.{Data}
 use Rattle.serde_json.specs.View.{view}
 use Rattle.policy_model.specs.Soundness.{DocumentIsSound}
 use Rattle.policy_model.specs.declared.set.Document.{Document}
-use Rattle.policy_json.specs.Checks.{Check}
+use Rattle.policy_json.specs.Checks.{PolicyCheck}
 use Rattle.policy_json.specs.Documents.{document_checks, document_of, has_escapes, statements_in}
 use Rattle.policy_json.specs.Sets.{documents_checks, statement_count}
 use Rattle.policy_json.specs.Statements.{statement_of}
-use Rattle.policy_json.proofs.Loops.{from_here}
+use Rattle.json_shapes.proofs.Laws.{from_here}
 use Rattle.policy_json.proofs.Lists.{Next, Reading, reads-next, refuses-next}
 use Rattle.policy_json.proofs.set.read_documents.Goals as goal
 
 -- the next of the documents that are left
-next_of : (number before : ℕ) (all : List Check) (whole done : List Document) (left : List Data) (d : Data) (ds : List Data) → left ≡ d ∷ ds
+next_of : (number before : ℕ) (all : List PolicyCheck) (whole done : List Document) (left : List Data) (d : Data) (ds : List Data) → left ≡ d ∷ ds
     → Reading all (documents_checks number before left) whole done (map document_of left)
     → Next all (document_checks number before d) (documents_checks (number + 1) (before + length (statements_in d)) ds) whole done (document_of d) (map document_of ds)
 next_of number before all whole done left d ds is here =

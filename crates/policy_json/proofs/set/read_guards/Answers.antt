@@ -7,11 +7,12 @@ use Rattle.serde_json.specs.Data.{Data}
 use Rattle.serde_json.specs.View.{view}
 use Rattle.policy_model.specs.Soundness.{DocumentIsSound}
 use Rattle.policy_model.specs.declared.set.Document.{Document}
-use Rattle.policy_json.specs.Checks.{Check, first_fault}
+use Rattle.json_shapes.specs.Checks.{first_fault}
+use Rattle.policy_json.specs.Checks.{PolicyCheck}
 use Rattle.policy_json.specs.Documents.{document_of}
-use Rattle.policy_json.specs.Json.{values_in}
+use Rattle.json_shapes.specs.Json.{values_in}
 use Rattle.policy_json.specs.Sets.{documents_checks, statement_count}
-use Rattle.policy_json.proofs.Loops.{from_here}
+use Rattle.json_shapes.proofs.Laws.{from_here}
 use Rattle.policy_json.proofs.Lists.{Next, Reading, reads-next, refuses-next}
 use Rattle.policy_json.proofs.Numbering.{documents_checks-append}
 use Rattle.policy_json.proofs.set.read_guards.Goals as goal
@@ -21,7 +22,7 @@ abbrev guard_of : Data → List Document
 guard_of g = map document_of (values_in g)
 
 -- the next of the guards that are left, whose documents are these
-next_of : (number before m b : ℕ) (all : List Check) (whole done : List (List Document)) (left : List Data) (g : Data) (gs ds : List Data) → left ≡ g ∷ gs → ds ≡ values_in g → m ≡ number + length ds → b ≡ before + statement_count ds
+next_of : (number before m b : ℕ) (all : List PolicyCheck) (whole done : List (List Document)) (left : List Data) (g : Data) (gs ds : List Data) → left ≡ g ∷ gs → ds ≡ values_in g → m ≡ number + length ds → b ≡ before + statement_count ds
     → Reading all (documents_checks number before (flat_map values_in left)) whole done (map guard_of left)
     → Next all (documents_checks number before ds) (documents_checks m b (flat_map values_in gs)) whole done (map document_of ds) (map guard_of gs)
 next_of number before m b all whole done left g gs ds is same same_m same_b here =

@@ -3,7 +3,7 @@ use Rattle.std.specs.List.{flat_map}
 use Rattle.serde_json.specs.View.{view}
 use Rattle.policy_model.specs.Soundness.{DocumentIsSound}
 use Rattle.policy_json.specs.Documents.{document_of}
-use Rattle.policy_json.specs.Json.{values_in}
+use Rattle.json_shapes.specs.Json.{values_in}
 use Rattle.policy_json.specs.Sets.{documents_checks}
 use Rattle.policy_json.proofs.Lists.{Reading}
 use Rattle.policy_json.proofs.set.read_guards.Given as goal

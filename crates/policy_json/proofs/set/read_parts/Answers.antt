@@ -3,11 +3,11 @@ use Rattle.std.proofs.lemmas.List.{length-map}
 use Rattle.std.specs.List.{flat_map}
 use Rattle.serde_json.specs.Data.{Data}
 use Rattle.serde_json.specs.View.{view}
-use Rattle.policy_json.specs.Checks.{first_fault}
+use Rattle.json_shapes.specs.Checks.{first_fault}
 use Rattle.policy_json.specs.Documents.{document_of}
-use Rattle.policy_json.specs.Json.{values_in}
+use Rattle.json_shapes.specs.Json.{values_in}
 use Rattle.policy_json.specs.Sets.{documents_checks, set_with, statement_count}
-use Rattle.policy_json.proofs.Composing.{first_fault-rest}
+use Rattle.json_shapes.proofs.Laws.{first_fault-rest}
 use Rattle.policy_json.proofs.Numbering.{documents_checks-append}
 use Rattle.policy_json.proofs.Steps.{refused, refused_last}
 use Rattle.policy_json.proofs.set.read_parts.Goals as goal

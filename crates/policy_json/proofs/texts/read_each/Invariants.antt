@@ -1,7 +1,7 @@
 use Rattle.std.proofs.Common.{[], map, unwrap_or, drop}
 use Rattle.serde_json.specs.View.{view}
 use Rattle.policy_json.specs.Texts.{pattern_checks, pieces_of}
-use Rattle.policy_json.proofs.Loops.{IsRead}
+use Rattle.json_shapes.proofs.Laws.{IsRead}
 use Rattle.policy_json.proofs.texts.read_each.Given as goal
 
 abbrev pub invariant-loop-value : goal.invariant-loop-value
