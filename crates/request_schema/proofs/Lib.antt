@@ -1,0 +1,14 @@
+mod Comparing
+mod Entries
+mod Files
+mod Finding
+mod Fitting
+mod Further
+mod Inferring
+mod Keys
+mod Listed
+mod OfSets
+mod Passing
+mod Putting
+mod RuleSound
+mod Steps

@@ -1,0 +1,10 @@
+pub mod BuiltIn
+pub mod ValueTexts
+pub mod SchemaChecks
+pub mod SchemaHeads
+pub mod SchemaRules
+pub mod SchemaWords
+pub mod SchemaFiles
+pub mod Uses
+pub mod RunSchemas
+pub mod KeyUses
