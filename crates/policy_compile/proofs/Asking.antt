@@ -10,6 +10,7 @@ use Rattle.std.specs.List.{list_any}
 use Rattle.indexmap.specs.IndexSet.{insert_key}
 use Rattle.policy_model.specs.contracts.test.TestPartialEq.TheImpl as test
 use Rattle.policy_model.specs.declared.test.Test.{Test}
+use Rattle.policy_compile.specs.declared.builder.TheConstants.{MOST_TESTS}
 use Rattle.policy_compile.specs.declared.builder.Builder.{Builder}
 use Rattle.policy_compile.specs.declared.nodes.Node.{Node}
 use Rattle.policy_compile.specs.declared.nodes.Node.TheVariants as node
@@ -119,10 +120,10 @@ asked old mid new t n i test_had node_had = record {
 
 -- whether there is room for a test
 abbrev HasRoom : List Test → Test → Type 0
-HasRoom xs t = (length xs < 1000) ⊎ Contains xs t
+HasRoom xs t = (length xs < MOST_TESTS) ⊎ Contains xs t
 
 abbrev IsFull : List Test → Test → Type 0
-IsFull xs t = (1000 ≤ length xs) × ¬ Contains xs t
+IsFull xs t = (MOST_TESTS ≤ length xs) × ¬ Contains xs t
 
 pub no-room : (xs : List Test) (t : Test) (b : Bool) → b ≡ false → MatchBool b (HasRoom xs t) (IsFull xs t) → IsFull xs t
 no-room xs t true e h = absurd (cc)
@@ -133,24 +134,24 @@ room xs t true e h = h
 room xs t false e h = absurd (cc)
 
 -- the tests stay few where there was room, or the test was had
-pub still-few : (xs ys : List Test) (t : Test) → ys ≡ insert_key test.eq-value.it xs t → length xs ≤ 1000 → (length xs < 1000) ⊎ Contains xs t → length ys ≤ 1000
+pub still-few : (xs ys : List Test) (t : Test) → ys ≡ insert_key test.eq-value.it xs t → length xs ≤ MOST_TESTS → (length xs < MOST_TESTS) ⊎ Contains xs t → length ys ≤ MOST_TESTS
 still-few xs ys t is few room = by (list_any (test.eq-value.it t) xs) refl room
   where
-    by : (b : Bool) → list_any (test.eq-value.it t) xs ≡ b → (length xs < 1000) ⊎ Contains xs t → length ys ≤ 1000
-    by true found h = subst (λ (zs : List Test). length zs ≤ 1000) (sym (is ∙ ap (λ b. if b then xs else xs ++ t ∷ []) found)) few
-    by false none (inl h) = subst (λ (zs : List Test). length zs ≤ 1000) (sym (is ∙ ap (λ b. if b then xs else xs ++ t ∷ []) none)) (omega (arith, length-append xs (t ∷ []), h))
+    by : (b : Bool) → list_any (test.eq-value.it t) xs ≡ b → (length xs < MOST_TESTS) ⊎ Contains xs t → length ys ≤ MOST_TESTS
+    by true found h = subst (λ (zs : List Test). length zs ≤ MOST_TESTS) (sym (is ∙ ap (λ b. if b then xs else xs ++ t ∷ []) found)) few
+    by false none (inl h) = subst (λ (zs : List Test). length zs ≤ MOST_TESTS) (sym (is ∙ ap (λ b. if b then xs else xs ++ t ∷ []) none)) (omega (arith, length-append xs (t ∷ []), h))
     by false none (inr had) = absurd (not_had test.eq-value.it tests-Decides xs t none had)
 
 -- the same whether there was memory or not
-pub still-few-after : {X E : Type 0} (xs ys : List Test) (t : Test) (r : Result X E) → IfOk r (λ x. ys ≡ insert_key test.eq-value.it xs t) → OnErr r (ys ≡ xs) → length xs ≤ 1000 → (length xs < 1000) ⊎ Contains xs t → length ys ≤ 1000
+pub still-few-after : {X E : Type 0} (xs ys : List Test) (t : Test) (r : Result X E) → IfOk r (λ x. ys ≡ insert_key test.eq-value.it xs t) → OnErr r (ys ≡ xs) → length xs ≤ MOST_TESTS → (length xs < MOST_TESTS) ⊎ Contains xs t → length ys ≤ MOST_TESTS
 still-few-after xs ys t (Ok x) is same few room = still-few xs ys t is few room
-still-few-after xs ys t (Err e) is same few room = subst (λ (zs : List Test). length zs ≤ 1000) (sym same) few
+still-few-after xs ys t (Err e) is same few room = subst (λ (zs : List Test). length zs ≤ MOST_TESTS) (sym same) few
 
 -- a test that isn't had is one too many where 1,000 are had
-pub one-too-many : (xs : List Test) (t : Test) → 1000 ≤ length xs → ¬ Contains xs t → HasTooMany xs (t ∷ [])
+pub one-too-many : (xs : List Test) (t : Test) → MOST_TESTS ≤ length xs → ¬ Contains xs t → HasTooMany xs (t ∷ [])
 one-too-many xs t full new = record { front = t ∷ []; rest = []; got = xs ++ t ∷ []; is = refl; collects = anew new nothing; many = omega (arith, length-append xs (t ∷ []), full) }
 
 -- whether there is room for a test where 1,000 are had, as a search for an equal one tells
-pub had-or-full : (xs : List Test) (t : Test) (b : Bool) → b ≡ list_any (test.eq-value.it t) xs → 1000 ≤ length xs → MatchBool b ((length xs < 1000) ⊎ Contains xs t) ((1000 ≤ length xs) × ¬ Contains xs t)
+pub had-or-full : (xs : List Test) (t : Test) (b : Bool) → b ≡ list_any (test.eq-value.it t) xs → MOST_TESTS ≤ length xs → MatchBool b ((length xs < MOST_TESTS) ⊎ Contains xs t) ((MOST_TESTS ≤ length xs) × ¬ Contains xs t)
 had-or-full xs t true e full = inr (Contains-from_any (λ x y h. (tests-Decides x y).0 h) t xs (sym e))
 had-or-full xs t false e full = (full, not_had test.eq-value.it tests-Decides xs t (sym e))

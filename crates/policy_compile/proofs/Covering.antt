@@ -8,7 +8,7 @@ use Rattle.policy_model.specs.declared.schema.Schema.{Schema}
 use Rattle.policy_model.specs.declared.set.PolicySet.{PolicySet}
 use Rattle.policy_model.specs.declared.test.Test.{Test}
 use Rattle.policy_model.specs.Sets.{Allows}
-use Rattle.policy_compile.specs.Meaning.{AnswersAs}
+use Rattle.policy_compile.specs.Laws.{AsksPair}
 use Rattle.policy_compile.specs.Numbering.{AreNumbered, IsNumbered, numbered_all, numbered_more, numbered_not}
 use Rattle.policy_compile.specs.Plans.{Plan, Plans, all, more, none, not}
 use Rattle.policy_compile.specs.Sets.{query_plan, set_plan}
@@ -51,16 +51,18 @@ second-part schema first second tests t h =
     let two = of-more tests (not (set_plan schema second)) none one.1.parts one.1.numbered in
     of-not tests (set_plan schema second) two.0.part two.0.numbered
 
-pub query-covers : (schema : Schema) (first second : PolicySet) (r : Request) (tests : List Test) (t : tree.Tree) (answers : ℕ → Bool) → AnswersAs answers r tests →
-    IsNumbered tests (query_plan schema first second) t → holds answers t ≡ false → Allows schema first r → Allows schema second r
-query-covers schema first second r tests t answers say numbered refuted allowed =
-    let second_set = second-part schema first second tests t numbered in
-    let second_says = holds-numbered answers r tests say (set_plan schema second) second_set.part second_set.numbered in
-    let whole_says = holds-numbered answers r tests say (query_plan schema first second) t numbered in
+pub query-covers : (schema : Schema) (first second : PolicySet) (r : Request) (t : tree.Tree) (answers : ℕ → Bool) → AsksPair schema first second r answers t →
+    holds answers t ≡ false → Allows schema first r → Allows schema second r
+query-covers schema first second r t answers asks refuted allowed =
+    let second_set = second-part schema first second asks.tests t asks.numbered in
+    let second_says = holds-numbered answers r asks.tests asks.say (set_plan schema second) second_set.part second_set.numbered in
+    let whole_says = holds-numbered answers r asks.tests asks.say (query_plan schema first second) t asks.numbered in
+    let second_allows = set-holds schema r second asks.second_fits asks.valid in
+    let pair_says = query-holds schema r first second asks.first_fits asks.second_fits asks.valid in
     elim (cases_Bool (holds answers second_set.part)) [
-      | inl e ↦ (set-holds schema r second).0 (second_says.0 e)
+      | inl e ↦ second_allows.0 (second_says.0 e)
       | inr e ↦
-          let refused : ¬ Allows schema second r = λ a. let yes = second_says.1 ((set-holds schema r second).1 a) in absurd (cc) in
-          let met = whole_says.1 ((query-holds schema r first second).1 (allowed, refused)) in
+          let refused : ¬ Allows schema second r = λ a. let yes = second_says.1 (second_allows.1 a) in absurd (cc) in
+          let met = whole_says.1 (pair_says.1 (allowed, refused)) in
           absurd (cc)
     ]

@@ -6,8 +6,10 @@ use Rattle.policy_model.specs.declared.request.Request.{Request}
 use Rattle.policy_model.specs.declared.schema.Schema.{Schema}
 use Rattle.policy_model.specs.declared.set.PolicySet.{PolicySet}
 use Rattle.policy_model.specs.declared.test.Test.{Test}
+use Rattle.policy_model.specs.Requests.{IsValid}
 use Rattle.policy_model.specs.Sets.{Allows}
 use Rattle.policy_model.specs.Soundness.{SchemaFits, TestSuits}
+use Rattle.policy_compile.specs.Laws.{AsksPair}
 use Rattle.policy_compile.specs.Meaning.{AnswersAs}
 use Rattle.policy_compile.specs.Numbering.{Collects, IsNumbered}
 use Rattle.policy_compile.specs.Plans.{Plan, PlanHolds, tests_in}
@@ -20,17 +22,18 @@ use Rattle.policy_compile.proofs.Ranges as ranges
 pub holds-numbered : (answers : ℕ → Bool) (r : Request) (tests : List Test) → AnswersAs answers r tests → (p : Plan) (t : tree.Tree) → IsNumbered tests p t → (IsTrue (holds answers t) ↔ PlanHolds r p)
 holds-numbered = meanings.holds-numbered
 
--- a set's plan holds where the set allows the request
-pub set-holds : (schema : Schema) (r : Request) (set : PolicySet) → (PlanHolds r (set_plan schema set) ↔ Allows schema set r)
+-- on a valid request a set's plan holds where the set allows the request
+pub set-holds : (schema : Schema) (r : Request) (set : PolicySet) → SchemaFits schema set → IsValid schema r → (PlanHolds r (set_plan schema set) ↔ Allows schema set r)
 set-holds = meanings.set-holds
 
--- a query's plan holds where the first set alone allows the request
-pub query-holds : (schema : Schema) (r : Request) (first second : PolicySet) → (PlanHolds r (query_plan schema first second) ↔ (Allows schema first r × ¬ Allows schema second r))
+-- on a valid request a query's plan holds where the first set alone allows the request
+pub query-holds : (schema : Schema) (r : Request) (first second : PolicySet) → SchemaFits schema first → SchemaFits schema second → IsValid schema r →
+    (PlanHolds r (query_plan schema first second) ↔ (Allows schema first r × ¬ Allows schema second r))
 query-holds = meanings.query-holds
 
 -- where a query's tree doesn't hold, and the first set allows the request, so does the second
-pub query-covers : (schema : Schema) (first second : PolicySet) (r : Request) (tests : List Test) (t : tree.Tree) (answers : ℕ → Bool) → AnswersAs answers r tests →
-    IsNumbered tests (query_plan schema first second) t → holds answers t ≡ false → Allows schema first r → Allows schema second r
+pub query-covers : (schema : Schema) (first second : PolicySet) (r : Request) (t : tree.Tree) (answers : ℕ → Bool) → AsksPair schema first second r answers t →
+    holds answers t ≡ false → Allows schema first r → Allows schema second r
 query-covers = covering.query-covers
 
 -- each number in a numbered tree is below the number of the tests

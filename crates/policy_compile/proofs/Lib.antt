@@ -2,9 +2,15 @@ mod Asking
 mod Collecting
 mod Covering
 mod Equal
+mod Grouping
+mod Items
 pub mod Laws
 mod Meanings
+mod Operating
 mod Pieces
 mod Ranges
+mod Single
 mod Standing
 mod Steps
+mod Suiting
+mod Suits

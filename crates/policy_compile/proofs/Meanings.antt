@@ -1,15 +1,16 @@
 -- What numbered trees, and the plans of sets, say of a request.
-use Rattle.std.proofs.Common.{◌≡◌, ◌<◌, ℕ, zero, suc, List, [], ◌∷◌, ◌++◌, length, get_or, Bool, true, false, ◌&&◌, ◌||◌, Option, Some, None, refl, sym, subst, arith, inl, inr}
+use Rattle.std.proofs.Common.{◌≡◌, ℕ, List, [], ◌∷◌, get_or, Bool, true, false, ◌&&◌, ◌||◌, Option, Some, None, refl, inl, inr}
 use Rattle.std.specs.Prelude.{◌↔◌, ◌⊎◌, IsTrue, All, Any, MatchBool}
 use Rattle.std.specs.Prelude.{not as opposite}
-use Rattle.std.specs.List.{flat_map}
-use Rattle.std.proofs.lemmas.List.Elements.{All-cons, All-nil}
 use Rattle.formula_tree.specs.Trees as tree
 use Rattle.formula_tree.specs.Values.{holds, each_holds, some_holds}
 use Rattle.wildcard_lang.specs.Matching.{Matches}
 use Rattle.wildcard_lang.specs.declared.piece.Piece.{Piece}
+use Rattle.policy_model.specs.Conditions.{ConditionHolds}
 use Rattle.policy_model.specs.Principals.{EntryHolds}
+use Rattle.policy_model.specs.Requests.{IsValid}
 use Rattle.policy_model.specs.Sets.{MatcherHolds, OptionalHolds, Applies, Decides, SomeDecides, Allows}
+use Rattle.policy_model.specs.Soundness.{ConditionFits, DocumentFits, SchemaFits}
 use Rattle.policy_model.specs.declared.matcher.Matcher.{Matcher}
 use Rattle.policy_model.specs.declared.principal.Entry.{Entry}
 use Rattle.policy_model.specs.declared.request.Request.{Request}
@@ -23,7 +24,11 @@ use Rattle.policy_compile.specs.declared.elements.RequestWord.TheVariants as wor
 use Rattle.policy_compile.specs.Plans.{Plan, Plans, yes, ask, not, all, one_of, none, more, of_plans, PlanHolds, EachHolds, SomeHolds}
 use Rattle.policy_compile.specs.Sets.{entry_plans, pattern_test, pattern_plans, some_or_none, entries_plan, patterns_plan, principal_plan, resource_plan, statement_plan, where_same, statement_plans, document_plans, guard_plans, guard_deny_plans, grants_plan, deny_plans, no_deny_plan, set_plan, query_plan}
 use Rattle.policy_compile.specs.Numbering.{IsNumbered, AreNumbered, numbered_yes, numbered_ask, numbered_not, numbered_all, numbered_one_of, numbered_none, numbered_more}
+use Rattle.policy_compile.specs.Conditions.{conditions_plan}
 use Rattle.policy_compile.specs.Meaning.{AnswersAs}
+use Rattle.policy_compile.proofs.Items.{each-append, each-items-where, some-append, some-items, some-items-where, some-single}
+use Rattle.policy_compile.proofs.Operating.{conditions-hold}
+use Rattle.policy_compile.proofs.Single.{valid-single}
 
 -- ---- tests that decide facts
 
@@ -81,64 +86,6 @@ mutual
   some-numbered f r tests say (more p ps) (tree.more t ts) (numbered_more first rest) =
       or-iff (holds f t) (some_holds f ts) (PlanHolds r p) (SomeHolds r ps) (holds-numbered f r tests say p t first) (some-numbered f r tests say ps ts rest)
 
--- ---- some and each of a list
-
-Any-here : {T : Type 0} (P : T → Type 0) (x : T) (xs : List T) → P x → Any P (x ∷ xs)
-Any-here P x xs h = (0, x, omega arith, refl, h)
-
-Any-later : {T : Type 0} (P : T → Type 0) (x : T) (xs : List T) → Any P xs → Any P (x ∷ xs)
-Any-later P x xs h = (suc h.0, h.1, omega arith, h.3, h.4)
-
-Any-index : {T : Type 0} (P : T → Type 0) (x : T) (xs : List T) (k : ℕ) (y : T) → k < length (x ∷ xs) → get_or (x ∷ xs) k y ≡ y → P y → P x ⊎ Any P xs
-Any-index P x xs zero y within is h = inl (subst P (sym is) h)
-Any-index P x xs (suc k) y within is h = inr (k, y, omega arith, is, h)
-
-Any-split : {T : Type 0} (P : T → Type 0) (x : T) (xs : List T) → Any P (x ∷ xs) → P x ⊎ Any P xs
-Any-split P x xs h = Any-index P x xs h.0 h.1 h.2 h.3 h.4
-
-Any-same : {T : Type 0} (P Q : T → Type 0) (xs : List T) → ((x : T) → P x ↔ Q x) → (Any P xs ↔ Any Q xs)
-Any-same P Q xs same = (λ h. (h.0, h.1, h.2, h.3, (same h.1).0 h.4), λ h. (h.0, h.1, h.2, h.3, (same h.1).1 h.4))
-
-All-head : {T : Type 0} (P : T → Type 0) (x : T) (xs : List T) → All P (x ∷ xs) → P x
-All-head P x xs all_hold = all_hold 0 x (omega arith)
-
-All-tail : {T : Type 0} (P : T → Type 0) (x : T) (xs : List T) → All P (x ∷ xs) → All P xs
-All-tail P x xs all_hold = λ k d h. all_hold (suc k) d (omega arith)
-
-some-append : (r : Request) (ps qs : List Plan) → (SomeHolds r (of_plans (ps ++ qs)) ↔ (SomeHolds r (of_plans ps) ⊎ SomeHolds r (of_plans qs)))
-some-append r [] qs = (λ h. inr h, λ h. elim h [ inl x ↦ absurd x | inr y ↦ y ])
-some-append r (p ∷ ps) qs = (
-  λ h. elim h [ inl x ↦ inl (inl x) | inr y ↦ elim ((some-append r ps qs).0 y) [ inl a ↦ inl (inr a) | inr b ↦ inr b ] ],
-  λ h. elim h [ inl x ↦ elim x [ inl a ↦ inl a | inr b ↦ inr ((some-append r ps qs).1 (inl b)) ] | inr y ↦ inr ((some-append r ps qs).1 (inr y)) ],
-)
-
-each-append : (r : Request) (ps qs : List Plan) → (EachHolds r (of_plans (ps ++ qs)) ↔ (EachHolds r (of_plans ps) × EachHolds r (of_plans qs)))
-each-append r [] qs = (λ h. (tt, h), λ h. h.1)
-each-append r (p ∷ ps) qs = (
-  λ h. let rest = (each-append r ps qs).0 h.1 in ((h.0, rest.0), rest.1),
-  λ h. (h.0.0, (each-append r ps qs).1 (h.0.1, h.1)),
-)
-
--- some of the plans of the items, where the plans of an item say P
-some-items : {T : Type 0} (r : Request) (k : T → List Plan) (P : T → Type 0) → ((x : T) → SomeHolds r (of_plans (k x)) ↔ P x) → (xs : List T) → (SomeHolds r (of_plans (flat_map k xs)) ↔ Any P xs)
-some-items r k P says [] = (λ h. absurd h, λ h. absurd (omega (arith, h.2)))
-some-items r k P says (x ∷ xs) = (
-  λ h. elim ((some-append r (k x) (flat_map k xs)).0 h) [ inl a ↦ Any-here P x xs ((says x).0 a) | inr b ↦ Any-later P x xs ((some-items r k P says xs).0 b) ],
-  λ h. elim (Any-split P x xs h) [ inl a ↦ (some-append r (k x) (flat_map k xs)).1 (inl ((says x).1 a)) | inr b ↦ (some-append r (k x) (flat_map k xs)).1 (inr ((some-items r k P says xs).1 b)) ],
-)
-
--- each of the plans of the items
-each-items : {T : Type 0} (r : Request) (k : T → List Plan) (P : T → Type 0) → ((x : T) → EachHolds r (of_plans (k x)) ↔ P x) → (xs : List T) → (EachHolds r (of_plans (flat_map k xs)) ↔ All P xs)
-each-items r k P says [] = (λ h. All-nil P, λ h. tt)
-each-items r k P says (x ∷ xs) = (
-  λ h. let parts = (each-append r (k x) (flat_map k xs)).0 h in All-cons P x xs ((says x).0 parts.0) ((each-items r k P says xs).0 parts.1),
-  λ h. (each-append r (k x) (flat_map k xs)).1 ((says x).1 (All-head P x xs h), (each-items r k P says xs).1 (All-tail P x xs h)),
-)
-
--- one plan among no others
-some-single : (r : Request) (p : Plan) → (SomeHolds r (of_plans (p ∷ [])) ↔ PlanHolds r p)
-some-single r p = (λ h. elim h [ inl x ↦ x | inr y ↦ absurd y ], λ h. inl h)
-
 -- ---- elements
 
 some_or_none-holds : {T : Type 0} (r : Request) (m : Matcher T) (ps : List Plan) (P : T → Type 0) → (SomeHolds r (of_plans ps) ↔ Any P m.items) → (n : Bool) → m.not ≡ n → (PlanHolds r (some_or_none n ps) ↔ MatchBool n (¬ Any P m.items) (Any P m.items))
@@ -166,61 +113,87 @@ resource-holds r (Some m) = resources-hold r m
 
 -- ---- statements and sets
 
-statement-holds : (schema : Schema) (r : Request) (s : Statement) → (PlanHolds r (statement_plan schema s) ↔ Applies schema s r)
-statement-holds schema r s = (
-  λ h. record { principal = (principal-holds r s.principal).0 h.0; action = (actions-hold r s.action).0 h.1.0; resource = (resource-holds r s.resource).0 h.1.1.0 },
-  λ a. ((principal-holds r s.principal).1 a.principal, ((actions-hold r s.action).1 a.action, ((resource-holds r s.resource).1 a.resource, (tt, tt)))),
-)
+-- the conditions of a statement, of each of the documents and of each guard fit
+abbrev pub StatementFits : Schema → Statement → Type 0
+StatementFits schema s = All (ConditionFits schema) s.conditions
 
-same-holds : (schema : Schema) (r : Request) (s : Statement) (allow own : Bool) → (SomeHolds r (of_plans (where_same allow own (statement_plan schema s ∷ []))) ↔ ((own ≡ allow) × Applies schema s r))
-same-holds schema r s true true = (λ h. (refl, (statement-holds schema r s).0 ((some-single r (statement_plan schema s)).0 h)), λ h. inl ((statement-holds schema r s).1 h.1))
-same-holds schema r s true false = (λ h. absurd h, λ h. absurd (cc (h.0)))
-same-holds schema r s false true = (λ h. absurd h, λ h. absurd (cc (h.0)))
-same-holds schema r s false false = (λ h. (refl, (statement-holds schema r s).0 ((some-single r (statement_plan schema s)).0 h)), λ h. inl ((statement-holds schema r s).1 h.1))
+abbrev pub AllFit : Schema → List Document → Type 0
+AllFit schema documents = All (DocumentFits schema) documents
 
-statements-hold : (schema : Schema) (r : Request) (allow : Bool) (statements : List Statement) → (SomeHolds r (of_plans (statement_plans schema allow statements)) ↔ Any (Decides schema allow r) statements)
-statements-hold schema r allow statements = some-items r (λ s. where_same allow s.allow (statement_plan schema s ∷ [])) (Decides schema allow r) (λ s. same-holds schema r s allow s.allow) statements
+module _ (schema : Schema) (r : Request) (valid : IsValid schema r) where
+  statement-conditions : (s : Statement) → StatementFits schema s → (PlanHolds r (conditions_plan schema s.conditions) ↔ All (ConditionHolds schema r) s.conditions)
+  statement-conditions s fits = conditions-hold schema r s.conditions (λ i c within. valid-single schema r (get_or s.conditions i c) valid (fits i c within))
 
-documents-hold : (schema : Schema) (r : Request) (allow : Bool) (documents : List Document) → (SomeHolds r (of_plans (document_plans schema allow documents)) ↔ SomeDecides schema allow r documents)
-documents-hold schema r allow documents = some-items r (λ d. statement_plans schema allow d.statements) (λ d. Any (Decides schema allow r) d.statements) (λ d. statements-hold schema r allow d.statements) documents
+  statement-holds : (s : Statement) → StatementFits schema s → (PlanHolds r (statement_plan schema s) ↔ Applies schema s r)
+  statement-holds s fits = (
+    λ h. record {
+      principal = (principal-holds r s.principal).0 h.0;
+      action = (actions-hold r s.action).0 h.1.0;
+      resource = (resource-holds r s.resource).0 h.1.1.0;
+      conditions = (statement-conditions s fits).0 h.1.1.1.0;
+    },
+    λ a. ((principal-holds r s.principal).1 a.principal, ((actions-hold r s.action).1 a.action, ((resource-holds r s.resource).1 a.resource, ((statement-conditions s fits).1 a.conditions, tt)))),
+  )
 
-guards-hold : (schema : Schema) (r : Request) (guards : List (List Document)) → (EachHolds r (of_plans (guard_plans schema guards)) ↔ All (SomeDecides schema true r) guards)
-guards-hold schema r guards =
-    each-items r (λ g. grants_plan schema g ∷ []) (SomeDecides schema true r)
-    (λ g. (λ h. (documents-hold schema r true g).0 h.0, λ h. ((documents-hold schema r true g).1 h, tt))) guards
+  same-holds : (s : Statement) (allow own : Bool) → StatementFits schema s → (SomeHolds r (of_plans (where_same allow own (statement_plan schema s ∷ []))) ↔ ((own ≡ allow) × Applies schema s r))
+  same-holds s true true fits = (λ h. (refl, (statement-holds s fits).0 ((some-single r (statement_plan schema s)).0 h)), λ h. inl ((statement-holds s fits).1 h.1))
+  same-holds s true false fits = (λ h. absurd h, λ h. absurd (cc (h.0)))
+  same-holds s false true fits = (λ h. absurd h, λ h. absurd (cc (h.0)))
+  same-holds s false false fits = (λ h. (refl, (statement-holds s fits).0 ((some-single r (statement_plan schema s)).0 h)), λ h. inl ((statement-holds s fits).1 h.1))
 
-guards-deny : (schema : Schema) (r : Request) (guards : List (List Document)) → (SomeHolds r (of_plans (guard_deny_plans schema guards)) ↔ Any (SomeDecides schema false r) guards)
-guards-deny schema r guards = some-items r (λ g. document_plans schema false g) (SomeDecides schema false r) (λ g. documents-hold schema r false g) guards
+  statements-hold : (allow : Bool) (statements : List Statement) → All (StatementFits schema) statements → (SomeHolds r (of_plans (statement_plans schema allow statements)) ↔ Any (Decides schema allow r) statements)
+  statements-hold allow statements fit =
+      some-items-where r (λ s. where_same allow s.allow (statement_plan schema s ∷ [])) (Decides schema allow r) (StatementFits schema) (λ s fits. same-holds s allow s.allow fits) statements fit
 
-denies-hold : (schema : Schema) (r : Request) (set : PolicySet) → (SomeHolds r (of_plans (deny_plans schema set)) ↔ (SomeDecides schema false r set.grants ⊎ Any (SomeDecides schema false r) set.guards))
-denies-hold schema r set =
-    let parts = some-append r (document_plans schema false set.grants) (guard_deny_plans schema set.guards) in (
-      λ h. elim (parts.0 h) [ inl a ↦ inl ((documents-hold schema r false set.grants).0 a) | inr b ↦ inr ((guards-deny schema r set.guards).0 b) ],
-      λ h. elim h [ inl a ↦ parts.1 (inl ((documents-hold schema r false set.grants).1 a)) | inr b ↦ parts.1 (inr ((guards-deny schema r set.guards).1 b)) ],
-    )
+  documents-hold : (allow : Bool) (documents : List Document) → AllFit schema documents → (SomeHolds r (of_plans (document_plans schema allow documents)) ↔ SomeDecides schema allow r documents)
+  documents-hold allow documents fit =
+      some-items-where r (λ d. statement_plans schema allow d.statements) (λ d. Any (Decides schema allow r) d.statements) (DocumentFits schema) (λ d fits. statements-hold allow d.statements fits) documents fit
 
-pub set-holds : (schema : Schema) (r : Request) (set : PolicySet) → (PlanHolds r (set_plan schema set) ↔ Allows schema set r)
-set-holds schema r set =
-    let rest = each-append r (guard_plans schema set.guards) (no_deny_plan schema set ∷ []) in (
-      λ h.
-          let parts = rest.0 h.1 in
-          record {
-            granted = (documents-hold schema r true set.grants).0 h.0;
-            guarded = (guards-hold schema r set.guards).0 parts.0;
-            not_denied = λ d. parts.1.0 ((denies-hold schema r set).1 (inl d));
-            not_denied_by_guard = λ d. parts.1.0 ((denies-hold schema r set).1 (inr d));
-          },
-      λ a. (
-        (documents-hold schema r true set.grants).1 a.granted,
-        rest.1 (
-          (guards-hold schema r set.guards).1 a.guarded,
-          ((λ s. elim ((denies-hold schema r set).0 s) [ inl d ↦ a.not_denied d | inr d ↦ a.not_denied_by_guard d ]), tt),
+  guards-hold : (guards : List (List Document)) → All (AllFit schema) guards → (EachHolds r (of_plans (guard_plans schema guards)) ↔ All (SomeDecides schema true r) guards)
+  guards-hold guards fit =
+      each-items-where r (λ g. grants_plan schema g ∷ []) (SomeDecides schema true r) (AllFit schema)
+      (λ g fits. (λ h. (documents-hold true g fits).0 h.0, λ h. ((documents-hold true g fits).1 h, tt))) guards fit
+
+  guards-deny : (guards : List (List Document)) → All (AllFit schema) guards → (SomeHolds r (of_plans (guard_deny_plans schema guards)) ↔ Any (SomeDecides schema false r) guards)
+  guards-deny guards fit = some-items-where r (λ g. document_plans schema false g) (SomeDecides schema false r) (AllFit schema) (λ g fits. documents-hold false g fits) guards fit
+
+  denies-hold : (set : PolicySet) → SchemaFits schema set → (SomeHolds r (of_plans (deny_plans schema set)) ↔ (SomeDecides schema false r set.grants ⊎ Any (SomeDecides schema false r) set.guards))
+  denies-hold set fits =
+      let parts = some-append r (document_plans schema false set.grants) (guard_deny_plans schema set.guards) in
+      let of_grants = documents-hold false set.grants fits.granting in
+      let of_guards = guards-deny set.guards fits.guarding in (
+        λ h. elim (parts.0 h) [ inl a ↦ inl (of_grants.0 a) | inr b ↦ inr (of_guards.0 b) ],
+        λ h. elim h [ inl a ↦ parts.1 (inl (of_grants.1 a)) | inr b ↦ parts.1 (inr (of_guards.1 b)) ],
+      )
+
+  pub set-says : (set : PolicySet) → SchemaFits schema set → (PlanHolds r (set_plan schema set) ↔ Allows schema set r)
+  set-says set fits =
+      let rest = each-append r (guard_plans schema set.guards) (no_deny_plan schema set ∷ []) in
+      let granting = documents-hold true set.grants fits.granting in
+      let guarding = guards-hold set.guards fits.guarding in
+      let denying = denies-hold set fits in (
+        λ h.
+            let parts = rest.0 h.1 in
+            record {
+              granted = granting.0 h.0;
+              guarded = guarding.0 parts.0;
+              not_denied = λ d. parts.1.0 (denying.1 (inl d));
+              not_denied_by_guard = λ d. parts.1.0 (denying.1 (inr d));
+            },
+        λ a. (
+          granting.1 a.granted,
+          rest.1 (guarding.1 a.guarded, ((λ s. elim (denying.0 s) [ inl d ↦ a.not_denied d | inr d ↦ a.not_denied_by_guard d ]), tt)),
         ),
-      ),
-    )
+      )
 
-pub query-holds : (schema : Schema) (r : Request) (first second : PolicySet) → (PlanHolds r (query_plan schema first second) ↔ (Allows schema first r × ¬ Allows schema second r))
-query-holds schema r first second = (
-  λ h. ((set-holds schema r first).0 h.0, λ a. h.1.0 ((set-holds schema r second).1 a)),
-  λ a. ((set-holds schema r first).1 a.0, ((λ p. a.1 ((set-holds schema r second).0 p)), tt)),
-)
+pub set-holds : (schema : Schema) (r : Request) (set : PolicySet) → SchemaFits schema set → IsValid schema r → (PlanHolds r (set_plan schema set) ↔ Allows schema set r)
+set-holds schema r set fits valid = set-says schema r valid set fits
+
+pub query-holds : (schema : Schema) (r : Request) (first second : PolicySet) → SchemaFits schema first → SchemaFits schema second → IsValid schema r →
+    (PlanHolds r (query_plan schema first second) ↔ (Allows schema first r × ¬ Allows schema second r))
+query-holds schema r first second first_fits second_fits valid =
+    let one = set-says schema r valid first first_fits in
+    let other = set-says schema r valid second second_fits in (
+      λ h. (one.0 h.0, λ a. h.1.0 (other.1 a)),
+      λ a. (one.1 a.0, ((λ p. a.1 (other.0 p)), tt)),
+    )

@@ -1,45 +1,9 @@
 -- Whether two pieces are equal.
-use Rattle.std.proofs.Common.{◌≡◌, ap, refl}
+use Rattle.std.proofs.Common.{◌≡◌, arith}
 use Rattle.std.specs.Bool.{Decides}
-use Rattle.std.proofs.lemmas.Bool.Decides.{Decides-eqb}
+use Rattle.std.proofs.lemmas.Grind.{common_steps}
 use Rattle.wildcard_lang.specs.contracts.piece.PiecePartialEq.TheImpl.{eq-value}
 use Rattle.wildcard_lang.specs.declared.piece.Piece.{Piece}
-use Rattle.wildcard_lang.specs.declared.piece.Piece.TheVariants.{Lit, LitFold, One, Many, OneNoColon, ManyNoColon}
 
 pub pieces-Decides : (a b : Piece) → Decides (eq-value.it a b) (a ≡ b)
-pieces-Decides (Lit x) (Lit y) = (λ e. ap Lit ((Decides-eqb x y).0 e), λ e. (Decides-eqb x y).1 (cc))
-pieces-Decides (Lit x) (LitFold y) = (λ e. absurd (cc), λ e. absurd (cc))
-pieces-Decides (Lit x) One = (λ e. absurd (cc), λ e. absurd (cc))
-pieces-Decides (Lit x) Many = (λ e. absurd (cc), λ e. absurd (cc))
-pieces-Decides (Lit x) OneNoColon = (λ e. absurd (cc), λ e. absurd (cc))
-pieces-Decides (Lit x) ManyNoColon = (λ e. absurd (cc), λ e. absurd (cc))
-pieces-Decides (LitFold x) (Lit y) = (λ e. absurd (cc), λ e. absurd (cc))
-pieces-Decides (LitFold x) (LitFold y) = (λ e. ap LitFold ((Decides-eqb x y).0 e), λ e. (Decides-eqb x y).1 (cc))
-pieces-Decides (LitFold x) One = (λ e. absurd (cc), λ e. absurd (cc))
-pieces-Decides (LitFold x) Many = (λ e. absurd (cc), λ e. absurd (cc))
-pieces-Decides (LitFold x) OneNoColon = (λ e. absurd (cc), λ e. absurd (cc))
-pieces-Decides (LitFold x) ManyNoColon = (λ e. absurd (cc), λ e. absurd (cc))
-pieces-Decides One (Lit y) = (λ e. absurd (cc), λ e. absurd (cc))
-pieces-Decides One (LitFold y) = (λ e. absurd (cc), λ e. absurd (cc))
-pieces-Decides One One = (λ e. refl, λ e. refl)
-pieces-Decides One Many = (λ e. absurd (cc), λ e. absurd (cc))
-pieces-Decides One OneNoColon = (λ e. absurd (cc), λ e. absurd (cc))
-pieces-Decides One ManyNoColon = (λ e. absurd (cc), λ e. absurd (cc))
-pieces-Decides Many (Lit y) = (λ e. absurd (cc), λ e. absurd (cc))
-pieces-Decides Many (LitFold y) = (λ e. absurd (cc), λ e. absurd (cc))
-pieces-Decides Many One = (λ e. absurd (cc), λ e. absurd (cc))
-pieces-Decides Many Many = (λ e. refl, λ e. refl)
-pieces-Decides Many OneNoColon = (λ e. absurd (cc), λ e. absurd (cc))
-pieces-Decides Many ManyNoColon = (λ e. absurd (cc), λ e. absurd (cc))
-pieces-Decides OneNoColon (Lit y) = (λ e. absurd (cc), λ e. absurd (cc))
-pieces-Decides OneNoColon (LitFold y) = (λ e. absurd (cc), λ e. absurd (cc))
-pieces-Decides OneNoColon One = (λ e. absurd (cc), λ e. absurd (cc))
-pieces-Decides OneNoColon Many = (λ e. absurd (cc), λ e. absurd (cc))
-pieces-Decides OneNoColon OneNoColon = (λ e. refl, λ e. refl)
-pieces-Decides OneNoColon ManyNoColon = (λ e. absurd (cc), λ e. absurd (cc))
-pieces-Decides ManyNoColon (Lit y) = (λ e. absurd (cc), λ e. absurd (cc))
-pieces-Decides ManyNoColon (LitFold y) = (λ e. absurd (cc), λ e. absurd (cc))
-pieces-Decides ManyNoColon One = (λ e. absurd (cc), λ e. absurd (cc))
-pieces-Decides ManyNoColon Many = (λ e. absurd (cc), λ e. absurd (cc))
-pieces-Decides ManyNoColon OneNoColon = (λ e. absurd (cc), λ e. absurd (cc))
-pieces-Decides ManyNoColon ManyNoColon = (λ e. refl, λ e. refl)
+pieces-Decides a b = grind (arith, common_steps)

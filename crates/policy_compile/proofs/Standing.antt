@@ -9,6 +9,8 @@ use Rattle.std.specs.declared.alloc.Global.{Global}
 use Rattle.std.proofs.lemmas.List.{get_or-map, length-append, length-map, map_push}
 use Rattle.std.proofs.lemmas.Option.{slice_get-get_or, slice_get-map}
 use Rattle.formula_tree.specs.declared.formula.Formula.{Formula}
+use Rattle.policy_compile.specs.declared.compile.TheConstants.{MOST_PIECES}
+use Rattle.policy_compile.specs.declared.builder.TheConstants.{MOST_TESTS}
 use Rattle.policy_compile.specs.declared.builder.Builder.{Builder}
 use Rattle.policy_compile.specs.Building.{Makes}
 use Rattle.policy_compile.specs.Queries.{IsQuery, test_pieces}
@@ -93,13 +95,13 @@ formula-more nodes fs gs seen i n r f earlier count stand within is same made va
 
 -- a query of the tests and of the formula of its plan's node
 pub query-made : (builder : Builder) (plan : Plan) (i : ℕ) (fs : List (Rc Formula Global)) (f v : Rc Formula Global) (nodes : List Node) (tests : List Test) → Makes builder plan i → nodes ≡ builder.nodes.keys → StandFor nodes (map tree_at fs) → i < length fs →
-    f ≡ get_or fs i f → v.value ≡ f.value → tests ≡ builder.tests.keys → length builder.tests.keys ≤ 1000 → sum_by test_pieces builder.tests.keys ≤ 65536 → IsQuery plan (record { formula = v; tests = tests })
+    f ≡ get_or fs i f → v.value ≡ f.value → tests ≡ builder.tests.keys → length builder.tests.keys ≤ MOST_TESTS → sum_by test_pieces builder.tests.keys ≤ MOST_PIECES → IsQuery plan (record { formula = v; tests = tests })
 query-made builder plan i fs f v nodes tests makes same stand within is value kept few small =
     let here : slice_get (map tree_at fs) i ≡ Some (tree_at f) = slice_get-map tree_at fs i ∙ ap (option_map tree_at) (slice_get-get_or fs i f within ∙ ap (λ (r : Rc Formula Global). Some r) (sym is)) in
     let numbered : IsNumbered builder.tests.keys plan (tree_at f) = stand builder.tests.keys plan i (tree_at f) (subst (λ (ns : List Node). IsNode builder.tests.keys ns plan i) (sym same) makes.node) here in
     record {
       tests = subst (λ (ts : List Test). Collects [] (tests_in plan) ts) (sym kept) makes.collects;
-      few = subst (λ (ts : List Test). length ts ≤ 1000) (sym kept) few;
-      small = subst (λ (ts : List Test). sum_by test_pieces ts ≤ 65536) (sym kept) small;
+      few = subst (λ (ts : List Test). length ts ≤ MOST_TESTS) (sym kept) few;
+      small = subst (λ (ts : List Test). sum_by test_pieces ts ≤ MOST_PIECES) (sym kept) small;
       tree = subst (λ (ts : List Test). IsNumbered ts plan (tree_at v)) (sym kept) (subst (λ (x : Formula). IsNumbered builder.tests.keys plan (tree.tree_of x)) (sym value) numbered);
     }

@@ -6,12 +6,16 @@ use Rattle.std.specs.List.{flat_map}
 use Rattle.std.proofs.lemmas.List.{append_assoc, append-nil, take_more, take_all, take-append-drop}
 use Rattle.std.proofs.lemmas.List.Elements.{All-cons, All-nil}
 use Rattle.std.proofs.lemmas.Option.{slice_get_within}
+use Rattle.policy_model.specs.declared.operator.Condition.{Condition}
+use Rattle.policy_model.specs.declared.operator.Operand.{Operand}
+use Rattle.policy_model.specs.declared.operator.Operand.TheVariants as operand
 use Rattle.policy_model.specs.declared.test.Test.{Test}
 use Rattle.policy_compile.specs.declared.builder.Builder.{Builder}
 use Rattle.policy_compile.specs.declared.nodes.Node.{Node}
 use Rattle.policy_compile.specs.declared.nodes.Node.TheVariants as node
 use Rattle.policy_compile.specs.declared.outcome.QueryFault.{QueryFault}
 use Rattle.policy_compile.specs.declared.outcome.QueryFault.TheVariants.{TooManyTests, TooManyPieces, NoMemory}
+use Rattle.policy_compile.specs.Conditions.{null_plans}
 use Rattle.policy_compile.specs.Plans.{Plan, Plans, yes, ask, not, all, one_of, none, more, of_plans, tests_in, tests_in_each}
 use Rattle.policy_compile.specs.Sets.{some_or_none, where_same}
 use Rattle.policy_compile.specs.Nodes.{IsNode, AreNodes, node_yes, node_ask, node_not, node_all, node_one_of, nodes_none, nodes_more}
@@ -78,12 +82,9 @@ nodes-append a m (p ∷ ps) qs [] js h second = elim h [ ]
 pub Built-within : (old new : Builder) (p : Plan) (i : ℕ) → Built old new p i → i < length new.nodes.keys
 Built-within old new p i h = node-within new.tests.keys new.nodes.keys p i h.node
 
--- a node without formulas inside
+-- the node that always holds
 pub yes-built : (old new : Builder) (i : ℕ) → HasNode old new node.Yes i → Built old new yes i
 yes-built old new i h = record { collects = subst (λ (xs : List Test). Collects old.tests.keys [] xs) (sym h.tests) nothing; grows = h.grows; node = node_yes h.at }
-
-pub nothing-built : (old new : Builder) (i : ℕ) → HasNode old new (node.All []) i → Built old new (all none) i
-nothing-built old new i h = record { collects = subst (λ (xs : List Test). Collects old.tests.keys [] xs) (sym h.tests) nothing; grows = h.grows; node = node_all h.at nodes_none }
 
 pub not-built : (old mid new : Builder) (p : Plan) (c i : ℕ) → Built old mid p c → HasNode mid new (node.Not c) i → Built old new (not p) i
 not-built old mid new p c i inside h = record {
@@ -111,6 +112,9 @@ none-built old new ps false i e h = absurd (cc)
 -- the same plan under another name
 pub at-plan : (old new : Builder) (p q : Plan) (i : ℕ) → p ≡ q → Built old new p i → Built old new q i
 at-plan old new p q i e h = subst (λ (x : Plan). Built old new x i) e h
+
+pub built-at : (old new : Builder) (p q : Plan) (r : Result ℕ QueryFault) → p ≡ q → IsBuilt old new p r → IsBuilt old new q r
+built-at old new p q r e h = subst (λ (x : Plan). IsBuilt old new x r) e h
 
 pub at-plans : (old new : Builder) (ps qs : List Plan) (s t : List ℕ) → ps ≡ qs → Added old new ps s t → Added old new qs s t
 at-plans old new ps qs s t e h = subst (λ (xs : List Plan). Added old new xs s t) e h
@@ -240,6 +244,19 @@ item-fails k xs i x within is old mid s t e first h =
     subst (λ (ps : List Plan). Fails old.tests.keys (tests_in_each (of_plans ps)) e) (sym (flat_map-split k xs i x within is))
     (front-fails old.tests.keys (flat_map k (take i xs) ++ k x) (flat_map k (drop (i + 1) xs)) e (next-fails old mid (flat_map k (take i xs)) (k x) s t e first h))
 
+-- the same behind items that are done, of a list that goes on with an item
+pub behind-added : {X : Type 0} (k : X → List Plan) (done : List X) (x : X) → (old mid new : Builder) (s t u : List ℕ) →
+    Added old mid (flat_map k done) s t → Added mid new (k x) t u → Added old new (flat_map k (done ++ x ∷ [])) s u
+behind-added k done x old mid new s t u first last =
+    subst (λ (ps : List Plan). Added old new ps s u) (sym (flat_map-append k done (x ∷ []) ∙ ap (λ zs. flat_map k done ++ zs) (append-nil (k x))))
+    (Added-then old mid new (flat_map k done) (k x) s t u first last)
+
+pub behind-fails : {X : Type 0} (k : X → List Plan) (xs done : List X) (x : X) (left : List X) → xs ≡ done ++ x ∷ left → (old mid : Builder) (s t : List ℕ) (e : QueryFault) →
+    Added old mid (flat_map k done) s t → Fails mid.tests.keys (tests_in_each (of_plans (k x))) e → Fails old.tests.keys (tests_in_each (of_plans (flat_map k xs))) e
+behind-fails k xs done x left split old mid s t e first h =
+    subst (λ (ps : List Plan). Fails old.tests.keys (tests_in_each (of_plans ps)) e) (sym (ap (flat_map k) split ∙ flat_map-append k done (x ∷ left)))
+    (next-fails old mid (flat_map k done) (flat_map k (x ∷ left)) s t e first (front-fails mid.tests.keys (k x) (flat_map k left) e h))
+
 -- ---- effects
 
 pub where_same-other : (allow own : Bool) (ps : List Plan) → opposite (beq own allow) ≡ true → where_same allow own ps ≡ []
@@ -253,3 +270,13 @@ where_same-same true true ps h = refl
 where_same-same true false ps h = absurd (cc)
 where_same-same false true ps h = absurd (cc)
 where_same-same false false ps h = refl
+
+-- ---- values of a `Null`
+
+-- values that aren't truth values ask nothing
+pub nothing-asked : (c : Condition) (o : Operand) → ((b : Bool) → ¬ (o ≡ operand.Truth b)) → null_plans c o ≡ []
+nothing-asked c (operand.Truth b) other = absurd (other b refl)
+nothing-asked c (operand.Pattern p) other = refl
+nothing-asked c (operand.Number n) other = refl
+nothing-asked c (operand.Block block) other = refl
+nothing-asked c (operand.Bytes bytes) other = refl

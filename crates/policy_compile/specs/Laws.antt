@@ -2,6 +2,7 @@
 use Rattle.std.specs.Prelude.{◌↔◌, ◌≡◌, ℕ, List, [], All, Bool, false, IsTrue, length}
 use Rattle.formula_tree.specs.Trees.{Tree}
 use Rattle.formula_tree.specs.Values.{AreBelow, holds}
+use Rattle.policy_model.specs.Requests.{IsValid}
 use Rattle.policy_model.specs.Sets.{Allows}
 use Rattle.policy_model.specs.Soundness.{SchemaFits, TestSuits}
 use Rattle.policy_model.specs.declared.schema.Schema.{Schema}
@@ -13,26 +14,42 @@ use Rattle.policy_compile.specs.Numbering.{Collects, IsNumbered}
 use Rattle.policy_compile.specs.Plans.{Plan, tests_in}
 use Rattle.policy_compile.specs.Sets.{query_plan, set_plan}
 
--- where each test is answered as the request answers it, the tree of a query holds where the first set alone allows the request
+-- the request is valid under the schema, which fits both sets, and the tree of their query is numbered by tests, each of which is
+-- answered as the request answers it
+pub record AsksPair (schema : Schema) (first second : PolicySet) (r : Request) (answers : ℕ → Bool) (tree : Tree) : Type 0 where
+  pub first_fits : SchemaFits schema first
+  pub second_fits : SchemaFits schema second
+  pub valid : IsValid schema r
+  pub tests : List Test
+  pub say : AnswersAs answers r tests
+  pub numbered : IsNumbered tests (query_plan schema first second) tree
+
+-- the same of one set
+pub record AsksSet (schema : Schema) (set : PolicySet) (r : Request) (answers : ℕ → Bool) (tree : Tree) : Type 0 where
+  pub fits : SchemaFits schema set
+  pub valid : IsValid schema r
+  pub tests : List Test
+  pub say : AnswersAs answers r tests
+  pub numbered : IsNumbered tests (set_plan schema set) tree
+
+-- the tree of a query holds where the first set alone allows the request
 abbrev pub QueriesCompare : Type 0
 QueriesCompare =
-    (schema : Schema) (first second : PolicySet) (r : Request) (tests : List Test) (tree : Tree) (answers : ℕ → Bool) →
-    AnswersAs answers r tests → IsNumbered tests (query_plan schema first second) tree →
+    (schema : Schema) (first second : PolicySet) (r : Request) (answers : ℕ → Bool) (tree : Tree) →
+    AsksPair schema first second r answers tree →
     (IsTrue (holds answers tree) ↔ (Allows schema first r × ¬ Allows schema second r))
 
 -- where it doesn't hold, and the first set allows the request, so does the second
 abbrev pub RefutedQueriesCover : Type 0
 RefutedQueriesCover =
-    (schema : Schema) (first second : PolicySet) (r : Request) (tests : List Test) (tree : Tree) (answers : ℕ → Bool) →
-    AnswersAs answers r tests → IsNumbered tests (query_plan schema first second) tree →
-    holds answers tree ≡ false → Allows schema first r → Allows schema second r
+    (schema : Schema) (first second : PolicySet) (r : Request) (answers : ℕ → Bool) (tree : Tree) →
+    AsksPair schema first second r answers tree → holds answers tree ≡ false → Allows schema first r → Allows schema second r
 
 -- the tree of a set's query holds where the set allows the request
 abbrev pub SetQueriesAllow : Type 0
 SetQueriesAllow =
-    (schema : Schema) (set : PolicySet) (r : Request) (tests : List Test) (tree : Tree) (answers : ℕ → Bool) →
-    AnswersAs answers r tests → IsNumbered tests (set_plan schema set) tree →
-    (IsTrue (holds answers tree) ↔ Allows schema set r)
+    (schema : Schema) (set : PolicySet) (r : Request) (answers : ℕ → Bool) (tree : Tree) →
+    AsksSet schema set r answers tree → (IsTrue (holds answers tree) ↔ Allows schema set r)
 
 -- each number in the tree of a plan is below the number of the tests
 abbrev pub NumbersAreBelow : Type 0

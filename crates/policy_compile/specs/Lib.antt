@@ -1,4 +1,5 @@
 pub mod Plans
+pub mod Conditions
 pub mod Sets
 pub mod Numbering
 pub mod Nodes

@@ -2,6 +2,7 @@
 use Rattle.std.specs.Prelude.{◌≡◌, ◌<◌, ℕ, List, [], ◌∷◌, ◌++◌, length, Some, Contains, slice_get}
 use Rattle.formula_tree.specs.Trees as tree
 use Rattle.policy_model.specs.declared.test.Test.{Test}
+use Rattle.policy_compile.specs.declared.builder.TheConstants.{MOST_TESTS}
 use Rattle.policy_compile.specs.Plans.{Plan, Plans, yes, ask, not, all, one_of, none, more}
 
 -- with the tests that are had already, what is had after these tests were read: each that isn't had is added at the end
@@ -32,4 +33,4 @@ pub record HasTooMany (had read : List Test) : Type 0 where
   pub got : List Test
   pub is : read ≡ front ++ rest
   pub collects : Collects had front got
-  pub many : 1000 < length got
+  pub many : MOST_TESTS < length got

@@ -1,10 +1,14 @@
 -- What a query is, and when there is none.
-use Rattle.std.specs.Prelude.{◌≤◌, ◌<◌, ⊤, ℕ, List, [], length, sum_by, Result, Ok, Err}
+use Rattle.std.specs.Prelude.{◌≡◌, ◌≤◌, ◌<◌, ◌+◌, ⊤, ℕ, List, [], length, sum_by, Option, Some, None, Result, Ok, Err}
 use Rattle.formula_tree.specs.Trees.{tree_of}
 use Rattle.policy_model.specs.declared.principal.Entry.{Entry}
 use Rattle.policy_model.specs.declared.principal.Entry.TheVariants.{All, Kind, Account, Exact}
 use Rattle.policy_model.specs.declared.test.Test.{Test}
-use Rattle.policy_model.specs.declared.test.Test.TheVariants.{Principal, Action, Resource}
+use Rattle.policy_model.specs.declared.cond.Cond.{Cond}
+use Rattle.policy_model.specs.declared.cond.Cond.TheVariants as cond
+use Rattle.policy_model.specs.declared.test.Test.TheVariants.{Principal, Action, Resource, Present, SomeMeets, SomeMeetsNone}
+use Rattle.policy_compile.specs.declared.builder.TheConstants.{MOST_TESTS}
+use Rattle.policy_compile.specs.declared.compile.TheConstants.{ACCOUNT_PIECES, MOST_PIECES}
 use Rattle.policy_compile.specs.declared.outcome.Query.{Query}
 use Rattle.policy_compile.specs.declared.outcome.QueryFault.{QueryFault}
 use Rattle.policy_compile.specs.declared.outcome.QueryFault.TheVariants.{TooManyTests, TooManyPieces, NoMemory}
@@ -15,27 +19,40 @@ use Rattle.policy_compile.specs.Numbering.{Collects, IsNumbered, HasTooMany}
 abbrev pub entry_pieces : Entry → ℕ
 entry_pieces All = 0
 entry_pieces (Kind kind) = 0
-entry_pieces (Account account) = 24
+entry_pieces (Account account) = ACCOUNT_PIECES
 entry_pieces (Exact kind id) = length id
+
+-- what is asked of a text has the pieces of its pattern, and what is asked of another value has none
+abbrev pub cond_pieces : Cond → ℕ
+cond_pieces (cond.Matches pattern) = length pattern
+cond_pieces c = 0
 
 abbrev pub test_pieces : Test → ℕ
 test_pieces (Principal entry) = entry_pieces entry
 test_pieces (Action pattern) = length pattern
 test_pieces (Resource pattern) = length pattern
+test_pieces (Present key) = 0
+test_pieces (SomeMeets key c) = cond_pieces c
+test_pieces (SomeMeetsNone key cs) = sum_by cond_pieces cs
+
+-- what is left of so much room where so many pieces are taken, or none where they are more
+abbrev pub IsRoomAfter : ℕ → ℕ → Option ℕ → Type 0
+IsRoomAfter room pieces None = room < pieces
+IsRoomAfter room pieces (Some left) = left + pieces ≡ room
 
 -- the plan's tests, each once, at most 1,000 with at most 65,536 pieces together, and the plan with their numbers
 pub record IsQuery (plan : Plan) (q : Query) : Type 0 where
   pub tests : Collects [] (tests_in plan) q.tests
-  pub few : length q.tests ≤ 1000
-  pub small : sum_by test_pieces q.tests ≤ 65536
+  pub few : length q.tests ≤ MOST_TESTS
+  pub small : sum_by test_pieces q.tests ≤ MOST_PIECES
   pub tree : IsNumbered q.tests plan (tree_of q.formula.value)
 
 -- at most 1,000 tests have more than 65,536 pieces together
 pub record HasTooManyPieces (plan : Plan) : Type 0 where
   pub tests : List Test
   pub collects : Collects [] (tests_in plan) tests
-  pub few : length tests ≤ 1000
-  pub large : 65536 < sum_by test_pieces tests
+  pub few : length tests ≤ MOST_TESTS
+  pub large : MOST_PIECES < sum_by test_pieces tests
 
 -- a query, or why there is none
 abbrev pub IsQueryOf : Plan → Result Query QueryFault → Type 0

@@ -12,6 +12,7 @@ use Rattle.policy_model.specs.declared.test.Test.{Test}
 use Rattle.policy_model.specs.declared.test.Test.TheVariants.{Principal, Action, Resource}
 use Rattle.policy_compile.specs.declared.elements.RequestWord.{RequestWord}
 use Rattle.policy_compile.specs.declared.elements.RequestWord.TheVariants as word
+use Rattle.policy_compile.specs.Conditions.{conditions_plan}
 use Rattle.policy_compile.specs.Plans.{Plan, yes, ask, not, all, one_of, of_plans}
 
 -- the tests of the items of an element
@@ -46,10 +47,11 @@ abbrev pub resource_plan : Option (Matcher (List Piece)) → Plan
 resource_plan None = yes
 resource_plan (Some m) = patterns_plan word.Resource m
 
--- a statement: its principal, its action, its resource, and its conditions, of which there are none
+-- a statement: its principal, its action, its resource, and its conditions
 abbrev pub element_plans : Schema → Statement → List Plan
 element_plans schema s =
-    principal_plan s.principal ∷ patterns_plan word.Action s.action ∷ resource_plan s.resource ∷ all (of_plans []) ∷ []
+    principal_plan s.principal ∷ patterns_plan word.Action s.action ∷ resource_plan s.resource ∷
+    conditions_plan schema s.conditions ∷ []
 
 abbrev pub statement_plan : Schema → Statement → Plan
 statement_plan schema s = all (of_plans (element_plans schema s))

@@ -1,5 +1,6 @@
 //! A query in the making.
 ghost use Rattle.std.specs.Prelude.{◌≡◌, ◌≤◌, [], IfOk, MatchBool, length};
+ghost use Rattle.policy_compile.specs.declared.builder.TheConstants.{MOST_TESTS};
 ghost use Rattle.policy_compile.specs.Nodes.{AreEarlier, children};
 ghost use Rattle.policy_compile.specs.Plans.{ask};
 
@@ -19,7 +20,7 @@ pub(crate) struct Builder {
     pub(crate) alloc: Global,
     pub(crate) tests: IndexSet<Test>,
     pub(crate) nodes: IndexSet<Node>,
-    ghost few: { length tests.keys ≤ 1000 },
+    ghost few: { length tests.keys ≤ MOST_TESTS },
     ghost earlier: { AreEarlier nodes.keys },
 }
 

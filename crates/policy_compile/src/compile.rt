@@ -1,44 +1,80 @@
 //! Queries of sets.
 ghost use Rattle.std.specs.Prelude.{◌≡◌, ◌≤◌, ◌<◌, ◌↔◌, IsTrue, length, sum_by};
+ghost use Rattle.policy_compile.specs.declared.compile.TheConstants.{MOST_PIECES};
 ghost use Rattle.policy_compile.specs.Building.{Makes};
 ghost use Rattle.policy_compile.specs.Plans.{Plan};
-ghost use Rattle.policy_compile.specs.Queries.{IsQueryOf, test_pieces};
+ghost use Rattle.policy_compile.specs.Queries.{IsQueryOf, IsRoomAfter, cond_pieces, entry_pieces, test_pieces};
 ghost use Rattle.policy_compile.specs.Sets.{query_plan, set_plan};
 
 use crate::builder::Builder;
 use crate::nodes::formulas_of;
 use crate::outcome::{Query, QueryFault};
 use crate::sets::{pair_node, set_node};
-use policy_model::{Entry, PolicySet, Schema, Test};
+use policy_model::{Cond, Entry, PolicySet, Schema, Test};
 use std::alloc::Global;
 
 /// The most pieces that the patterns of a query's tests have together.
 const MOST_PIECES: usize = 65_536;
 
-// How many pieces the patterns of a test have.
-fn pieces_of(test: &Test) -> usize
-    ensures { result ≡ test_pieces test.now }
+/// How many pieces the form of an account's ARNs has.
+const ACCOUNT_PIECES: usize = 24;
+
+// How many pieces an entry is matched by.
+fn entry_pieces(entry: &Entry) -> usize
+    ensures { result ≡ entry_pieces entry.now }
+{
+    match entry {
+        Entry::Account(_) => ACCOUNT_PIECES,
+        Entry::Exact(_, id) => id.len(),
+        _ => 0,
+    }
+}
+
+// The room that is left of so many pieces, or none where the condition has more.
+fn room_after_cond(room: usize, cond: &Cond) -> Option<usize>
+    ensures { IsRoomAfter room (cond_pieces cond.now) result }
+{
+    match cond {
+        Cond::Matches(pattern) => room.checked_sub(pattern.len()),
+        _ => Some(room),
+    }
+}
+
+// The same of a list, which may have more pieces than a number holds.
+fn room_after_conds(room: usize, conds: &[Cond]) -> Option<usize>
+    ensures { IsRoomAfter room (sum_by cond_pieces conds.now) result }
+{
+    let mut left = room;
+    for cond in conds {
+        left = room_after_cond(left, cond)?;
+    }
+    Some(left)
+}
+
+// The same of a test's patterns.
+fn room_after(room: usize, test: &Test) -> Option<usize>
+    ensures { IsRoomAfter room (test_pieces test.now) result }
 {
     match test {
-        Test::Principal(Entry::Account(_)) => 24,
-        Test::Principal(Entry::Exact(_, id)) => id.len(),
-        Test::Principal(_) => 0,
-        Test::Action(pattern) => pattern.len(),
-        Test::Resource(pattern) => pattern.len(),
+        Test::Principal(entry) => room.checked_sub(entry_pieces(entry)),
+        Test::Action(pattern) => room.checked_sub(pattern.len()),
+        Test::Resource(pattern) => room.checked_sub(pattern.len()),
+        Test::Present(_) => Some(room),
+        Test::SomeMeets(_, cond) => room_after_cond(room, cond),
+        Test::SomeMeetsNone(_, conds) => room_after_conds(room, conds.as_slice()),
     }
 }
 
 // Whether the patterns of the tests have few enough pieces together.
 fn are_small(tests: &[Test]) -> bool
-    ensures { IsTrue result ↔ (sum_by test_pieces tests.now ≤ 65536) }
+    ensures { IsTrue result ↔ (sum_by test_pieces tests.now ≤ MOST_PIECES) }
 {
-    let mut total = 0;
+    let mut room = MOST_PIECES;
     for test in tests {
-        let more = pieces_of(test);
-        if more > MOST_PIECES - total {
+        let Some(left) = room_after(room, test) else {
             return false;
-        }
-        total += more;
+        };
+        room = left;
     }
     true
 }
@@ -58,8 +94,8 @@ fn finished(builder: Builder, index: usize) -> Result<Query, QueryFault>
 
 /// The query 'the first set allows the request and the second doesn't'. `TooManyTests` comes exactly
 /// where it has more than 1,000 different tests, and `TooManyPieces` exactly where it has fewer and
-/// their patterns have more than 65,536 pieces together; for this an account has 24 pieces, and an
-/// exact id one for each character.
+/// their patterns have more than 65,536 pieces together; for this an account has 24 pieces, an exact
+/// id one for each character, and what is asked of values that aren't texts none.
 pub fn query(
     alloc: Global,
     schema: &Schema,

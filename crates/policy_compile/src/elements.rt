@@ -1,10 +1,11 @@
 //! The nodes of statements and their elements.
 ghost use Rattle.std.specs.Prelude.{◌≡◌};
 ghost use Rattle.policy_compile.specs.Building.{AreIndices, IsAdded, IsBuilt, MakesElement};
-ghost use Rattle.policy_compile.specs.Plans.{all, none, yes};
+ghost use Rattle.policy_compile.specs.Plans.{yes};
 ghost use Rattle.policy_compile.specs.Sets.{element_plans, entries_plan, entry_plans, pattern_plans, pattern_test, patterns_plan, principal_plan, resource_plan, statement_plan};
 
 use crate::builder::Builder;
+use crate::conditions::conditions;
 use crate::nodes::Node;
 use crate::outcome::QueryFault;
 use plain_lists::{EqualClone, List};
@@ -117,22 +118,14 @@ fn resource(builder: &mut Builder, matcher: &Option<Matcher<Pattern>>) -> Result
     }
 }
 
-// The conditions of a statement, of which there are none.
-fn conditions(builder: &mut Builder) -> Result<usize, QueryFault>
-    ensures { IsBuilt builder.old builder.new (all none) result }
-{
-    let index = builder.insert(Node::All(List::new(builder.alloc)))?;
-    Ok(index)
-}
-
 // Adds the statement's principal, action, resource and conditions.
 fn add_elements(
     builder: &mut Builder,
     indices: &mut List<usize>,
-    _schema: &Schema,
+    schema: &Schema,
     statement: &Statement,
 ) -> Result<(), QueryFault>
-    ensures { IsAdded builder.old builder.new (element_plans _schema.now statement.now)
+    ensures { IsAdded builder.old builder.new (element_plans schema.now statement.now)
         indices.old indices.new result }
 {
     let principal = principal(builder, &statement.principal)?;
@@ -141,7 +134,7 @@ fn add_elements(
     indices.push(action)?;
     let resource = resource(builder, &statement.resource)?;
     indices.push(resource)?;
-    let conditions = conditions(builder)?;
+    let conditions = conditions(builder, schema, statement.conditions.as_slice())?;
     indices.push(conditions)?;
     Ok(())
 }

@@ -3,6 +3,7 @@
 
 mod builder;
 mod compile;
+mod conditions;
 mod elements;
 mod meaning;
 mod nodes;

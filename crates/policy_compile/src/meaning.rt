@@ -1,20 +1,21 @@
 //! What queries mean. Each law is a function that does nothing, and whose contract states it.
 ghost use Rattle.policy_compile.specs.Laws.{NumbersAreBelow, QueriesCompare, RefutedQueriesCover, SetQueriesAllow, TestsOfQueriesSuit, TestsOfSetQueriesSuit};
 
-/// Where each test is answered as the request answers it, the tree of `query` holds exactly where the
-/// first set allows the request and the second doesn't.
+/// On a valid request under a schema that fits both sets, where each test is answered as the request
+/// answers it, the tree of `query` holds exactly where the first set allows the request and the second
+/// doesn't.
 pub fn queries_compare()
     ensures { QueriesCompare }
 {}
 
-/// Where each test is answered as the request answers it, the tree of `query` doesn't hold and the first
-/// set allows the request, the second allows it too.
+/// Under the same conditions, where the tree of `query` doesn't hold and the first set allows the
+/// request, the second allows it too.
 pub fn refuted_queries_cover()
     ensures { RefutedQueriesCover }
 {}
 
-/// Where each test is answered as the request answers it, the tree of `set_query` holds exactly where
-/// the set allows the request.
+/// On a valid request under a schema that fits the set, where each test is answered as the request
+/// answers it, the tree of `set_query` holds exactly where the set allows the request.
 pub fn set_queries_allow()
     ensures { SetQueriesAllow }
 {}

@@ -27,6 +27,7 @@ fn statement(rt: &(impl Abort + AllocGlobal), not: bool) -> Statement {
             not: false,
             items: one(rt, resource.expect(rt, "a pattern")),
         }),
+        conditions: List::new(rt.alloc()),
     }
 }
 

@@ -2,4 +2,4 @@ use Rattle.policy_compile.proofs.Covering.{query-covers}
 use Rattle.policy_compile.proofs.meaning.refuted_queries_cover.Goals as goal
 
 pub returns : goal.returns
-returns c = λ schema first second r tests tree answers say numbered. query-covers schema first second r tests tree answers say numbered
+returns c = λ schema first second r answers tree asks. query-covers schema first second r tree answers asks

@@ -1,0 +1,7 @@
+use Rattle.policy_compile.specs.Conditions.{some_meets}
+use Rattle.policy_compile.proofs.Steps.{not-built}
+use Rattle.policy_compile.proofs.conditions.no_meets.Goals as goal
+
+pub returns : goal.returns
+returns c =
+    not-built c.args.builder.now c.some_meets.new.builder c.insert.new.self (some_meets c.args.kind c.args.condition.now) c.in_ok-some.some c.in_ok-index.index c.in_ok-some.ensures c.in_ok-index.ensures
