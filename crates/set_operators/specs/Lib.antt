@@ -1,0 +1,9 @@
+pub mod Asks
+pub mod Members
+pub mod Clauses
+pub mod Wants
+pub mod Shown
+pub mod Answers
+pub mod Laws
+pub mod Steps
+pub mod Plain
