@@ -1,6 +1,6 @@
 //! The check of refutations.
 ghost use Rattle.std.specs.Prelude.{◌≡◌, ◌<◌, ◌^◌, ◌↔◌, All, IfOk, IsTrue, OnOk, length};
-ghost use Rattle.policy_model.specs.Soundness.{TestSuits};
+ghost use Rattle.policy_model.specs.Soundness.{SchemaIsSound, TestSuits};
 ghost use Rattle.slot_theory.specs.Possible.{PathInRange};
 ghost use Rattle.refute_check.specs.Proofs.{proof_of, size};
 ghost use Rattle.refute_check.specs.Queries.{ClosesQuery, HoldsHere};
@@ -41,6 +41,7 @@ fn holds_here(
     node: &Refutation,
     path: &Path,
 ) -> Result<bool, NoMemory>
+    requires sound { SchemaIsSound schema.now }
     requires suit { All (TestSuits schema.now) query.now.tests }
     requires count { length query.now.tests < 2 ^ 32 }
     requires range { PathInRange query.now.tests path.now }
@@ -65,6 +66,7 @@ fn closes(
     part: &Refutation,
     path: &mut Path,
 ) -> Result<bool, NoMemory>
+    requires sound { SchemaIsSound schema.now }
     requires suit { All (TestSuits schema.now) query.now.tests }
     requires count { length query.now.tests < 2 ^ 32 }
     requires range { PathInRange query.now.tests path.old }
@@ -101,6 +103,7 @@ fn walk(
     part: &Refutation,
     path: &mut Path,
 ) -> Result<Walked, NoMemory>
+    requires sound { SchemaIsSound schema.now }
     requires suit { All (TestSuits schema.now) query.now.tests }
     requires count { length query.now.tests < 2 ^ 32 }
     requires range { PathInRange query.now.tests path.old }
@@ -135,7 +138,7 @@ fn walk(
 
 /// Whether the refutation closes the query under the path.
 ///
-/// The tests suit the schema and are numbered by 32 bits, and the path answers none but them. The only
+/// The schema is sound, the tests suit it and are numbered by 32 bits, and the path answers none but them. The only
 /// error is want of memory.
 pub fn closes_under(
     alloc: Global,
@@ -144,6 +147,7 @@ pub fn closes_under(
     refutation: &Refutation,
     path: &Path,
 ) -> Result<bool, NoMemory>
+    requires sound { SchemaIsSound schema.now }
     requires suit { All (TestSuits schema.now) query.now.tests }
     requires count { length query.now.tests < 2 ^ 32 }
     requires range { PathInRange query.now.tests path.now }
@@ -157,7 +161,7 @@ pub fn closes_under(
 /// Whether the refutation closes the query under the empty path: `Closes` exactly where it does, and
 /// otherwise the first node in reading order whose own rule fails.
 ///
-/// The tests suit the schema and are numbered by 32 bits, and so are the refutation's nodes, a shared
+/// The schema is sound, the tests suit it and are numbered by 32 bits, and so are the refutation's nodes, a shared
 /// one as often as it stands. The only error is want of memory.
 pub fn check(
     alloc: Global,
@@ -165,6 +169,7 @@ pub fn check(
     query: &Query,
     refutation: &Refutation,
 ) -> Result<Verdict, NoMemory>
+    requires sound { SchemaIsSound schema.now }
     requires suit { All (TestSuits schema.now) query.now.tests }
     requires count { length query.now.tests < 2 ^ 32 }
     requires nodes { size (proof_of refutation.now) < 2 ^ 32 }

@@ -1,5 +1,5 @@
 -- Under a sound schema some request is valid: the one of stated words, in which each key has the value that its rule states.
-use Rattle.std.proofs.Common.{◌≡◌, ◌≢◌, ℕ, zero, suc, Bool, true, List, [], ◌∷◌, Ordering, Less, Equal, Greater, Option, Some, None, IfSome, All, Contains, refl, sym, subst, ◌∙◌, inl, inr, arith}
+use Rattle.std.proofs.Common.{◌≡◌, ◌≢◌, ℕ, zero, suc, true, List, [], ◌∷◌, Ordering, Less, Equal, Greater, Option, Some, None, IfSome, All, Contains, refl, sym, subst, ◌∙◌, inl, inr, arith}
 use Rattle.std.specs.Prelude.{MatchOption}
 use Rattle.std.specs.BTreeMap.{is_at}
 use Rattle.std.specs.Ordering.{is_eq, nat_cmp, ordering_reverse}
@@ -9,43 +9,20 @@ use Rattle.std.proofs.lemmas.Cmp.{nat_list_cmp_total}
 use Rattle.std.proofs.lemmas.Map.Entries.{All-lookup, lookup_head, lookup_tail}
 use Rattle.std.proofs.lemmas.List.Elements.{All-nil, All-cons, All-contains_itself}
 use Rattle.text_table.specs.Table.{Entries, item_at}
-use Rattle.wildcard_lang.specs.declared.piece.Piece.{Piece}
 use Rattle.policy_model.specs.declared.principal.PrincipalKind.TheVariants.{Aws}
 use Rattle.policy_model.specs.declared.schema.KeyRule.{KeyRule}
-use Rattle.policy_model.specs.declared.value.Kind.{Kind}
-use Rattle.policy_model.specs.declared.value.Kind.TheVariants as kind
 use Rattle.policy_model.specs.declared.value.Value.{Value}
-use Rattle.policy_model.specs.declared.value.Value.TheVariants.{Word, Truth}
-use Rattle.policy_model.specs.Requests.{EntryIsValid, HasValue, IsOfKind, IsThere, IsValueOf, PermitsValues, ValueFits}
+use Rattle.policy_model.specs.declared.value.Value.TheVariants.{Truth}
+use Rattle.policy_model.specs.Requests.{EntryIsValid, HasValue, IsThere, IsValueOf, PermitsValues}
 use Rattle.policy_model.specs.Soundness.{RuleIsSound}
-use Rattle.slot_theory.specs.Unasked.{sample, stated_word}
-use Rattle.slot_theory.proofs.Laws.{sample-matches, sample-text, stated-is-word}
+use Rattle.slot_theory.specs.Unasked.{stated_key, stated_word}
+use Rattle.slot_theory.proofs.Laws.{key-permitted, stated-is-word}
 use Rattle.request_build.specs.Existence.{SoundSchemasHaveRequests}
-use Rattle.request_build.specs.Taken.{listed_or, plain_value, shaped_or, stated_key}
 
--- ---- the stated value of a key is one that its rule permits
-
-free-fits : (v : Value) → ValueFits None v
-free-fits (Word t) = tt
-free-fits (Truth b) = tt
-
-plain-kind : (k : Kind) → IsOfKind k (plain_value k)
-plain-kind kind.Text = refl
-plain-kind kind.Truth = tt
-
-stated-permitted : (k : Kind) (many required : Bool) (among : Option (List Value)) (shape : Option (List Piece)) →
-    RuleIsSound (record { kind = k; many = many; required = required; among = among; shape = shape }) →
-    IsValueOf (record { kind = k; many = many; required = required; among = among; shape = shape }) (listed_or among (shaped_or shape (plain_value k)))
-stated-permitted k many required (Some []) shape sound = absurd (sound.listed.0 refl)
-stated-permitted k many required (Some (v ∷ vs)) None sound = record { kind = sound.listed.1 0 v (omega arith); fits = free-fits v; listed = (zero, omega arith, refl) }
-stated-permitted k many required (Some (v ∷ vs)) (Some shape) sound = let none = sound.shape.2 in absurd (cc)
-stated-permitted k many required None None sound = record { kind = plain-kind k; fits = free-fits (plain_value k); listed = tt }
-stated-permitted k many required None (Some shape) sound =
-    record { kind = subst (λ (j : Kind). IsOfKind j (Word (sample shape))) (sym sound.shape.1) (sample-text shape sound.shape.0.scalars); fits = sample-matches shape; listed = tt }
-
+-- the stated value of a key is one that its rule permits, whether it is required or not
 rule-permits : (rule : KeyRule) → RuleIsSound rule → PermitsValues rule (stated_key rule ∷ [])
 rule-permits rule sound = record {
-  each = All-cons (IsValueOf rule) (stated_key rule) [] (stated-permitted rule.kind rule.many rule.required rule.among rule.shape sound) (All-nil (IsValueOf rule));
+  each = All-cons (IsValueOf rule) (stated_key rule) [] (key-permitted rule sound) (All-nil (IsValueOf rule));
   count = inr (omega arith);
 }
 

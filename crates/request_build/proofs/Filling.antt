@@ -1,34 +1,39 @@
--- The context that has each required key: how it grows key by key, and that it is valid.
-use Rattle.std.proofs.Common.{◌≡◌, ◌++◌, ◌+◌, ◌<◌, ℕ, zero, suc, Bool, true, false, List, [], ◌∷◌, length, take, get_or, slice_get, Ordering, Less, Greater, Some, All, Contains, refl, sym, ap, subst, ◌∙◌, inr, arith}
-use Rattle.std.specs.Prelude.{if◌then◌else◌}
-use Rattle.std.specs.List.{AllByRecursion, IsDistinct}
+-- The context that gives each key its values: how it grows key by key, what it has at a key, and that it is valid.
+use Rattle.std.proofs.Common.{◌≡◌, ◌≢◌, ◌++◌, ◌+◌, ◌<◌, ℕ, zero, suc, List, [], ◌∷◌, length, take, get_or, slice_get, Ordering, Less, Greater, Option, Some, None, All, Contains, refl, sym, ap, subst, ◌∙◌, arith}
+use Rattle.std.specs.Prelude.{MatchOption, unwrap_or}
+use Rattle.std.specs.BTreeMap.{is_at}
+use Rattle.std.specs.List.{flat_map}
 use Rattle.std.specs.Map.{keys_of}
-use Rattle.std.specs.Ordering.{nat_cmp, ordering_reverse, eq_by_cmp}
+use Rattle.std.specs.Ordering.{nat_cmp, ordering_reverse}
 use Rattle.std.specs.Cmp.Lexicographic.{slice_cmp}
-use Rattle.std.proofs.lemmas.Cmp.{eq_by_cmp_equiv, nat_list_cmp_total}
-use Rattle.std.proofs.lemmas.Map.Keys.{IsDistinct-cons, IsDistinct-from_sorted, sorted_tail}
+use Rattle.std.proofs.lemmas.Cmp.{eq_by_cmp_equiv, nat_list_cmp_total, tied_itself}
+use Rattle.std.proofs.lemmas.Map.Entries.{lookup_head, lookup_tail}
+use Rattle.std.proofs.lemmas.Map.Keys.{IsDistinct-from_sorted, sorted_tail}
 use Rattle.std.proofs.lemmas.Map.Views.{All-after_first, lookup-from_Contains}
 use Rattle.std.proofs.lemmas.Grind.{flat_map-append}
 use Rattle.std.proofs.lemmas.List.{append-nil, take_more}
-use Rattle.std.proofs.lemmas.List.Elements.{All-nil, All-cons, All-head, All-tail, All-contains, All-contains_itself, Contains-append_right}
+use Rattle.std.proofs.lemmas.List.Elements.{All-nil, All-cons, All-head, All-tail, All-contains, All-contains_itself}
 use Rattle.text_table.specs.Table.{Entries, IsInOrder, item_at, with_item}
 use Rattle.policy_model.specs.declared.schema.KeyRule.{KeyRule}
 use Rattle.policy_model.specs.declared.value.Value.{Value}
 use Rattle.policy_model.specs.Keys.{AreFolded, IsFolded}
 use Rattle.policy_model.specs.Soundness.{RuleIsSound}
-use Rattle.policy_model.specs.Requests.{EntryIsValid, IsThere, IsValueOf, KeysAreValid, PermitsValues}
+use Rattle.policy_model.specs.Requests.{EntryIsValid, IsThere, KeysAreValid}
 use Rattle.policy_model.proofs.Laws.{slice_get-at}
-use Rattle.request_build.specs.Taken.{required_entry, stated_context, stated_key}
+use Rattle.set_operators.specs.Asks.{AreValuesOf}
+use Rattle.request_build.specs.Taken.{filled_entry, with_some}
 
 abbrev cmp : List ℕ → List ℕ → Ordering
 cmp = slice_cmp nat_cmp
 
+abbrev pub Rule : Type 0
+Rule = List ℕ × KeyRule
+
 abbrev Rules : Type 0
 Rules = Entries KeyRule
 
--- the entry of a key that is required
-abbrev when : Bool → List ℕ → List Value → Entries (List Value)
-when required key values = (if required then (key, values) ∷ [] else [])
+abbrev Filled : Type 0
+Filled = Entries (List Value)
 
 -- ---- keys in order
 
@@ -73,104 +78,96 @@ sound-at keys i key rule sound there =
     let at = slice_get-at keys i (key, rule) (key, rule) there in
     subst (λ (e : List ℕ × KeyRule). RuleIsSound e.1) at.1 (sound i (key, rule) at.0)
 
--- ---- keys that are kept
-
-kept-one : (Q : List ℕ → Type 0) (required : Bool) (key : List ℕ) (values : List Value) (rest : Entries (List Value)) → Q key → All Q (keys_of rest) → All Q (keys_of (when required key values ++ rest))
-kept-one Q true key values rest here there = All-cons Q key (keys_of rest) here there
-kept-one Q false key values rest here there = there
-
--- what holds of all keys holds of the required ones
-keys-kept : (Q : List ℕ → Type 0) (keys : Rules) → All Q (keys_of keys) → All Q (keys_of (stated_context keys))
-keys-kept Q [] all = All-nil Q
-keys-kept Q (e ∷ es) all =
-    kept-one Q e.1.required e.0 (stated_key e.1 ∷ []) (stated_context es) (All-head Q e.0 (keys_of es) all) (keys-kept Q es (All-tail Q e.0 (keys_of es) all))
-
-by-recursion : (Q : List ℕ → Type 0) (ks : List (List ℕ)) → All Q ks → AllByRecursion Q ks
-by-recursion Q [] all = tt
-by-recursion Q (k ∷ ks) all = (All-head Q k ks all, by-recursion Q ks (All-tail Q k ks all))
-
--- a key below another isn't equal to it
-apart : (key q : List ℕ) → cmp key q ≡ Less → eq_by_cmp cmp key q ≡ false
-apart key q less = rw less refl
-
-distinct-one : (required : Bool) (key : List ℕ) (values : List Value) (rest : Entries (List Value)) → All (λ q. cmp key q ≡ Less) (keys_of rest) → IsDistinct (eq_by_cmp cmp) (keys_of rest) → IsDistinct (eq_by_cmp cmp) (keys_of (when required key values ++ rest))
-distinct-one true key values rest above distinct =
-    IsDistinct-cons (eq_by_cmp cmp) key (keys_of rest) (by-recursion (λ q. eq_by_cmp cmp key q ≡ false) (keys_of rest) (λ i d within. apart key _ (above i d within))) distinct
-distinct-one false key values rest above distinct = distinct
-
--- the required keys differ
-context-distinct : (keys : Rules) → IsInOrder keys → IsDistinct (eq_by_cmp cmp) (keys_of (stated_context keys))
-context-distinct [] order = IsDistinct-from_sorted cmp [] order
-context-distinct (e ∷ es) order =
-    distinct-one e.1.required e.0 (stated_key e.1 ∷ []) (stated_context es) (keys-kept (λ q. cmp e.0 q ≡ Less) es (All-after_first cmp e.0 (keys_of es) order)) (context-distinct es (sorted_tail cmp e.0 (keys_of es) order))
-
--- ---- one key more
-
-grows-one : (required : Bool) (key : List ℕ) (v : Value) (context : Entries (List Value)) → All (λ q. cmp q key ≡ Less) (keys_of context) → (if required then with_item context key (v ∷ []) else context) ≡ context ++ when required key (v ∷ [])
-grows-one true key v context below = above-appends context key (v ∷ []) below
-grows-one false key v context below = sym (append-nil context)
-
--- with the key at a place the context is that of one key more
-pub grows : (keys : Rules) (i : ℕ) (key : List ℕ) (rule : KeyRule) (old new : Entries (List Value)) → IsInOrder keys → slice_get keys i ≡ Some (key, rule) → old ≡ stated_context (take i keys) →
-    new ≡ (if rule.required then with_item old key (stated_key rule ∷ []) else old) → new ≡ stated_context (take (i + 1) keys)
-grows keys i key rule old new order there so_far made =
-    let at = slice_get-at keys i (key, rule) (key, rule) there in
-    let below : All (λ q. cmp q key ≡ Less) (keys_of (take i keys)) = subst (λ (e : List ℕ × KeyRule). All (λ q. cmp q e.0 ≡ Less) (keys_of (take i keys))) at.1 (below-at keys i (key, rule) order at.0) in
-    let one : (if rule.required then with_item (stated_context (take i keys)) key (stated_key rule ∷ []) else stated_context (take i keys)) ≡ stated_context (take i keys) ++ required_entry (key, rule) =
-    grows-one rule.required key (stated_key rule) (stated_context (take i keys)) (keys-kept (λ q. cmp q key ≡ Less) (take i keys) below) in
-    let more : take (i + 1) keys ≡ take i keys ++ (key, rule) ∷ [] = take_more keys i (key, rule) at.0 ∙ ap (λ (e : List ℕ × KeyRule). take i keys ++ e ∷ []) at.1 in
-    made ∙ ap (λ (c : Entries (List Value)). (if rule.required then with_item c key (stated_key rule ∷ []) else c)) so_far ∙ one
-    ∙ sym (ap stated_context more ∙ flat_map-append required_entry (take i keys) ((key, rule) ∷ []) ∙ ap (λ zs. stated_context (take i keys) ++ zs) (append-nil (required_entry (key, rule))))
-
--- ---- the context is valid
-
 -- each entry has its own item
-own-item : {V : Type 0} (es : Entries V) → IsDistinct (eq_by_cmp cmp) (keys_of es) → (e : List ℕ × V) → Contains es e → item_at e.0 es ≡ Some e.1
-own-item es distinct e among = lookup-from_Contains (eq_by_cmp_equiv nat_list_cmp_total) e.0 e.1 es distinct among
+pub own-item : {V : Type 0} (es : Entries V) → IsInOrder es → (e : List ℕ × V) → Contains es e → item_at e.0 es ≡ Some e.1
+own-item es order e among = lookup-from_Contains (eq_by_cmp_equiv nat_list_cmp_total) e.0 e.1 es (IsDistinct-from_sorted cmp (keys_of es) order) among
 
--- the value of a key is one that its rule permits, where the key is required
-abbrev pub IsPermitted : List ℕ × KeyRule → Type 0
-IsPermitted e = e.1.required ≡ true → IsValueOf e.1 (stated_key e.1)
+-- ---- one key with its values
 
-one-permitted : (rule : KeyRule) (v : Value) → IsValueOf rule v → PermitsValues rule (v ∷ [])
-one-permitted rule v is = record { each = All-cons (IsValueOf rule) v [] is (All-nil (IsValueOf rule)); count = inr (omega arith) }
+kept-one : (Q : List ℕ → Type 0) (key : List ℕ) (vs : List Value) (rest : Filled) → Q key → All Q (keys_of rest) → All Q (keys_of (filled_entry key vs ++ rest))
+kept-one Q key [] rest here there = there
+kept-one Q key (v ∷ vs) rest here there = All-cons Q key (keys_of rest) here there
 
-valid-one : (keys : Rules) (required : Bool) (key : List ℕ) (rule : KeyRule) (rest : Entries (List Value)) → item_at key keys ≡ Some rule → (required ≡ true → IsValueOf rule (stated_key rule)) → All (EntryIsValid keys) rest →
-    All (EntryIsValid keys) (when required key (stated_key rule ∷ []) ++ rest)
-valid-one keys true key rule rest own is there =
-    All-cons (EntryIsValid keys) (key, stated_key rule ∷ []) rest (rw own (one-permitted rule (stated_key rule) (is refl))) there
-valid-one keys false key rule rest own is there = there
+grows-one : (key : List ℕ) (vs : List Value) (context : Filled) → All (λ q. cmp q key ≡ Less) (keys_of context) → with_some context key vs ≡ context ++ filled_entry key vs
+grows-one key [] context below = sym (append-nil context)
+grows-one key (v ∷ vs) context below = above-appends context key (v ∷ vs) below
 
-entries-valid : (keys some : Rules) → All (λ e. item_at e.0 keys ≡ Some e.1) some → All IsPermitted some → All (EntryIsValid keys) (stated_context some)
-entries-valid keys [] own permitted = All-nil (EntryIsValid keys)
-entries-valid keys (e ∷ es) own permitted =
-    valid-one keys e.1.required e.0 e.1 (stated_context es) (All-head (λ (x : List ℕ × KeyRule). item_at x.0 keys ≡ Some x.1) e es own) (All-head IsPermitted e es permitted)
-    (entries-valid keys es (All-tail (λ (x : List ℕ × KeyRule). item_at x.0 keys ≡ Some x.1) e es own) (All-tail IsPermitted e es permitted))
+-- a key below all others has no item among them
+above-none : (key : List ℕ) (es : Filled) → All (λ q. cmp key q ≡ Less) (keys_of es) → item_at key es ≡ None
+above-none key [] above = refl
+above-none key (e ∷ es) above =
+    let less : cmp key e.0 ≡ Less = All-head (λ q. cmp key q ≡ Less) e.0 (keys_of es) above in
+    lookup_tail (is_at (cmp key)) e es (rw less refl) ∙ above-none key es (All-tail (λ q. cmp key q ≡ Less) e.0 (keys_of es) above)
 
-here-one : (required : Bool) (key : List ℕ) (values : List Value) (rest : Entries (List Value)) → required ≡ true → Contains (when required key values ++ rest) (key, values)
-here-one true key values rest is = (zero, omega arith, refl)
-here-one false key values rest is = absurd (cc)
+found-one : (key : List ℕ) (vs : List Value) (rest : Filled) → All (λ q. cmp key q ≡ Less) (keys_of rest) → unwrap_or (item_at key (filled_entry key vs ++ rest)) [] ≡ vs
+found-one key [] rest above = rw (above-none key rest above) refl
+found-one key (v ∷ vs) rest above = rw (lookup_head (is_at (cmp key)) (key, v ∷ vs) rest (rw (tied_itself nat_list_cmp_total key) refl)) refl
 
--- a required key is there with its value
-entry-there : (keys : Rules) (e : List ℕ × KeyRule) → Contains keys e → e.1.required ≡ true → Contains (stated_context keys) (e.0, stated_key e.1 ∷ [])
-entry-there [] e among is = absurd (omega (arith, among.1))
-entry-there (x ∷ xs) e (zero, within, at) is =
-    subst (λ (y : List ℕ × KeyRule). Contains (required_entry x ++ stated_context xs) (y.0, stated_key y.1 ∷ [])) at (here-one x.1.required x.0 (stated_key x.1 ∷ []) (stated_context xs) (subst (λ (y : List ℕ × KeyRule). y.1.required ≡ true) (sym at) is))
-entry-there (x ∷ xs) e (suc k, within, at) is =
-    Contains-append_right (required_entry x) (stated_context xs) (e.0, stated_key e.1 ∷ []) (entry-there xs e (k, omega (arith, within), at) is)
+skips-one : (key other : List ℕ) (vs : List Value) (rest : Filled) → cmp other key ≡ Less → item_at key (filled_entry other vs ++ rest) ≡ item_at key rest
+skips-one key other [] rest less = refl
+skips-one key other (v ∷ vs) rest less =
+    let greater : cmp key other ≡ Greater = nat_list_cmp_total.antisymm key other ∙ ap ordering_reverse less in
+    lookup_tail (is_at (cmp key)) (other, v ∷ vs) rest (rw greater refl)
 
-key-there : (keys : Rules) → IsInOrder keys → (e : List ℕ × KeyRule) → Contains keys e → IsThere (stated_context keys) e
-key-there keys order e among is =
-    let found : item_at e.0 (stated_context keys) ≡ Some (stated_key e.1 ∷ []) = own-item (stated_context keys) (context-distinct keys order) (e.0, stated_key e.1 ∷ []) (entry-there keys e among is) in
-    rw found (λ none. absurd (cc))
+valid-one : (keys : Rules) (key : List ℕ) (rule : KeyRule) (vs : List Value) (rest : Filled) → item_at key keys ≡ Some rule → AreValuesOf rule vs → All (EntryIsValid keys) rest → All (EntryIsValid keys) (filled_entry key vs ++ rest)
+valid-one keys key rule [] rest own are there = there
+valid-one keys key rule (v ∷ vs) rest own are there = All-cons (EntryIsValid keys) (key, v ∷ vs) rest (rw own are.permitted) there
 
-all-among : {X : Type 0} (P : X → Type 0) (xs : List X) → ((x : X) → Contains xs x → P x) → All P xs
+some-there : (o : Option (List Value)) (vs : List Value) → unwrap_or o [] ≡ vs → vs ≢ [] → MatchOption o ⊥ (λ ws. ws ≢ [])
+some-there None vs is some = some (sym is)
+some-there (Some ws) vs is some = λ none. some (sym is ∙ none)
+
+pub all-among : {X : Type 0} (P : X → Type 0) (xs : List X) → ((x : X) → Contains xs x → P x) → All P xs
 all-among P xs each k d within = each _ (All-contains_itself xs k d within)
 
--- where the keys are in order, and the value of each required one is permitted
-pub context-valid : (keys : Rules) (context : Entries (List Value)) → IsInOrder keys → context ≡ stated_context keys → All IsPermitted keys → KeysAreValid keys context
-context-valid keys context order is permitted =
-    subst (λ (c : Entries (List Value)). KeysAreValid keys c) (sym is) (record {
-      each = entries-valid keys keys (all-among (λ (x : List ℕ × KeyRule). item_at x.0 keys ≡ Some x.1) keys (own-item keys (IsDistinct-from_sorted cmp (keys_of keys) order))) permitted;
-      required = all-among (IsThere (stated_context keys)) keys (key-there keys order);
-    })
+-- ---- each key with the values that it is given
+
+module _ (given : List ℕ → KeyRule → List Value) where
+  abbrev context : Rules → Filled
+  context keys = flat_map (λ (e : Rule). filled_entry e.0 (given e.0 e.1)) keys
+
+  -- what holds of all keys holds of those that have values
+  keys-kept : (Q : List ℕ → Type 0) (keys : Rules) → All Q (keys_of keys) → All Q (keys_of (context keys))
+  keys-kept Q [] all = All-nil Q
+  keys-kept Q (e ∷ es) all = kept-one Q e.0 (given e.0 e.1) (context es) (All-head Q e.0 (keys_of es) all) (keys-kept Q es (All-tail Q e.0 (keys_of es) all))
+
+  -- with the key at a place the context is that of one key more
+  pub grows : (keys : Rules) (i : ℕ) (key : List ℕ) (rule : KeyRule) (vs : List Value) (old new : Filled) → IsInOrder keys → slice_get keys i ≡ Some (key, rule) → old ≡ context (take i keys) → vs ≡ given key rule → new ≡ with_some old key vs → new ≡ context (take (i + 1) keys)
+  grows keys i key rule vs old new order there so_far are made =
+      let at = slice_get-at keys i (key, rule) (key, rule) there in
+      let below : All (λ q. cmp q key ≡ Less) (keys_of (take i keys)) = subst (λ (e : Rule). All (λ q. cmp q e.0 ≡ Less) (keys_of (take i keys))) at.1 (below-at keys i (key, rule) order at.0) in
+      let one : with_some (context (take i keys)) key (given key rule) ≡ context (take i keys) ++ filled_entry key (given key rule) =
+      grows-one key (given key rule) (context (take i keys)) (keys-kept (λ q. cmp q key ≡ Less) (take i keys) below) in
+      let more : take (i + 1) keys ≡ take i keys ++ (key, rule) ∷ [] = take_more keys i (key, rule) at.0 ∙ ap (λ (e : Rule). take i keys ++ e ∷ []) at.1 in
+      let both : new ≡ with_some (context (take i keys)) key (given key rule) = rw (sym so_far, sym are) made in
+      both ∙ one
+      ∙ sym (ap context more ∙ flat_map-append (λ (e : Rule). filled_entry e.0 (given e.0 e.1)) (take i keys) ((key, rule) ∷ []) ∙ ap (λ zs. context (take i keys) ++ zs) (append-nil (filled_entry key (given key rule))))
+
+  -- a key has the values that it is given
+  pub has-given : (keys : Rules) → IsInOrder keys → (e : Rule) → Contains keys e → unwrap_or (item_at e.0 (context keys)) [] ≡ given e.0 e.1
+  has-given [] order e among = absurd (omega (arith, among.1))
+  has-given (x ∷ xs) order e (zero, within, at) =
+      let above : All (λ q. cmp x.0 q ≡ Less) (keys_of (context xs)) = keys-kept (λ q. cmp x.0 q ≡ Less) xs (All-after_first cmp x.0 (keys_of xs) order) in
+      subst (λ (y : Rule). unwrap_or (item_at y.0 (context (x ∷ xs))) [] ≡ given y.0 y.1) at (found-one x.0 (given x.0 x.1) (context xs) above)
+  has-given (x ∷ xs) order e (suc k, within, at) =
+      let inside : k < length xs = omega (arith, within) in
+      let less : cmp x.0 e.0 ≡ Less = subst (λ (y : Rule). cmp x.0 y.0 ≡ Less) at (after-first x xs k e order inside) in
+      ap (λ (o : Option (List Value)). unwrap_or o []) (skips-one e.0 x.0 (given x.0 x.1) (context xs) less) ∙ has-given xs (sorted_tail cmp x.0 (keys_of xs) order) e (k, inside, at)
+
+  -- the values that an entry is given are permitted by its rule
+  abbrev pub IsGivenWell : Rule → Type 0
+  IsGivenWell e = AreValuesOf e.1 (given e.0 e.1)
+
+  entries-valid : (keys some : Rules) → All (λ (e : Rule). item_at e.0 keys ≡ Some e.1) some → All IsGivenWell some → All (EntryIsValid keys) (context some)
+  entries-valid keys [] own well = All-nil (EntryIsValid keys)
+  entries-valid keys (e ∷ es) own well =
+      valid-one keys e.0 e.1 (given e.0 e.1) (context es) (All-head (λ (x : Rule). item_at x.0 keys ≡ Some x.1) e es own) (All-head IsGivenWell e es well)
+      (entries-valid keys es (All-tail (λ (x : Rule). item_at x.0 keys ≡ Some x.1) e es own) (All-tail IsGivenWell e es well))
+
+  -- where the keys are in order, and each is given what its rule permits
+  pub context-valid : (keys : Rules) → IsInOrder keys → All IsGivenWell keys → KeysAreValid keys (context keys)
+  context-valid keys order well = record {
+    each = entries-valid keys keys (all-among (λ (x : Rule). item_at x.0 keys ≡ Some x.1) keys (own-item keys order)) well;
+    required = all-among (IsThere (context keys)) keys (λ e among required.
+        some-there (item_at e.0 (context keys)) (given e.0 e.1) (has-given keys order e among) ((All-contains IsGivenWell keys e well among).there required));
+  }

@@ -1,12 +1,8 @@
--- Values of a path that answers a test of the action and one of the resource, and sound rules of keys.
-use Rattle.std.proofs.Common.{◌≡◌, ◌≢◌, ◌≤◌, ℕ, List, [], ◌∷◌, length, Bool, true, false, All, Ordering, Less, Equal, Greater, Option, Some, None, IsSome, AllPairs, Any, ◌⊎◌, inl, inr, refl, sym, ◌∙◌, subst, arith}
+-- Sound rules of keys.
+use Rattle.std.proofs.Common.{◌≡◌, ◌≤◌, ℕ, List, [], ◌∷◌, length, true, false, All, Ordering, Less, Equal, Greater, Some, None, sym, subst}
 use Rattle.std.specs.Ordering.{match_ordering, nat_cmp}
 use Rattle.std.specs.Cmp.Lexicographic.{slice_cmp}
 use Rattle.std.proofs.lemmas.List.Elements.{All-nil, All-cons, All-head, All-tail}
-use Rattle.std.proofs.lemmas.List.Kept.{AllPairs-cons}
-use Rattle.wildcard_lang.specs.declared.piece.Piece.{Piece}
-use Rattle.formula_tree.specs.Answers.{Answers, answer_of}
-use Rattle.formula_tree.proofs.Laws.{answer_of-besides, cases_eq}
 use Rattle.text_table.specs.Table.{Entries, with_item}
 use Rattle.wildcard_lang.specs.Text.{IsText}
 use Rattle.policy_model.specs.declared.schema.KeyRule.{KeyRule}
@@ -16,80 +12,12 @@ use Rattle.policy_model.specs.declared.value.Value.{Value}
 use Rattle.policy_model.specs.declared.value.Value.TheVariants.{Word}
 use Rattle.policy_model.specs.Requests.{IsOfKind}
 use Rattle.policy_model.specs.Soundness.{IsShortValue, RuleIsSound, SchemaIsSound}
-use Rattle.policy_model.specs.declared.test.Slot.{Slot}
-use Rattle.policy_model.specs.declared.test.Slot.TheVariants as slot
-use Rattle.policy_model.specs.declared.test.Test.{Test}
-use Rattle.policy_model.specs.declared.test.Test.TheVariants.{Action, Resource}
-use Rattle.slot_theory.specs.declared.outcome.SlotValue.{SlotValue}
-use Rattle.slot_theory.specs.Slots.{IsSlotValue, slot_of, test_at}
-use Rattle.slot_theory.specs.Cores.{HasTest}
-use Rattle.request_build.specs.Built.{AreSlotValues}
 
 abbrev IsSoundEntry : List ℕ × KeyRule → Type 0
 IsSoundEntry e = RuleIsSound e.1
 
 abbrev Sound : Entries KeyRule → Type 0
 Sound keys = All IsSoundEntry keys
-
-abbrev Differ : Slot × SlotValue → Slot × SlotValue → Type 0
-Differ p q = p.0 ≢ q.0
-
-none-differ : AllPairs Differ []
-none-differ i j d l m = absurd (omega arith)
-
-one-differs : (p : Slot × SlotValue) → AllPairs Differ (p ∷ [])
-one-differs p = AllPairs-cons Differ p [] (All-nil (Differ p)) none-differ
-
-unanswered : (o : Option Bool) → o ≡ None → IsSome o → ⊥
-unanswered None e h = absurd (cc)
-unanswered (Some b) e h = absurd (cc)
-
--- ---- a test of the action and one of the resource
-
-module _ (schema : Schema) (p q : List Piece) (a b : Bool) where
-  abbrev pair : List Test
-  pair = Action p ∷ Resource q ∷ []
-
-  abbrev two : Answers
-  two = (0, a) ∷ (1, b) ∷ []
-
-  action-asked : HasTest pair two slot.Action
-  action-asked = record { number = 0; is = record { answered = refl; on_slot = refl } }
-
-  resource-asked : HasTest pair two slot.Resource
-  resource-asked = record { number = 1; is = record { answered = refl; on_slot = refl } }
-
-  two-alone : (x : Slot) → HasTest pair two x → (slot.Resource ≡ x) ⊎ (slot.Action ≡ x)
-  two-alone x h =
-      elim (cases_eq h.number 1) [
-        | inl e ↦ inl (subst (λ (k : ℕ). slot_of (test_at pair k) ≡ x) e h.is.on_slot)
-        | inr ne ↦
-            elim (cases_eq h.number 0) [
-              | inl e ↦ inr (subst (λ (k : ℕ). slot_of (test_at pair k) ≡ x) e h.is.on_slot)
-              | inr other ↦ absurd (unanswered (answer_of two h.number) (answer_of-besides ((0, a) ∷ []) 1 b h.number ne ∙ answer_of-besides [] 0 a h.number other) h.is.answered)
-            ]
-      ]
-
-  two-there : (x : Slot) (v w : SlotValue) → (slot.Resource ≡ x) ⊎ (slot.Action ≡ x) → Any (λ (r : Slot × SlotValue). r.0 ≡ x) ((slot.Resource, w) ∷ (slot.Action, v) ∷ [])
-  two-there x v w (inl e) = (0, (slot.Resource, w), omega arith, refl, e)
-  two-there x v w (inr e) = (1, (slot.Action, v), omega arith, refl, e)
-
-  two-values : (v w : SlotValue) → IsSlotValue schema pair two slot.Action v → IsSlotValue schema pair two slot.Resource w → AreSlotValues schema pair two ((slot.Resource, w) ∷ (slot.Action, v) ∷ [])
-  two-values v w action resource =
-      let other : slot.Resource ≢ slot.Action = λ e. absurd (cc) in
-      record {
-        each = All-cons (λ r. IsSlotValue schema pair two r.0 r.1) (slot.Resource, w) ((slot.Action, v) ∷ []) resource (All-cons (λ r. IsSlotValue schema pair two r.0 r.1) (slot.Action, v) [] action (All-nil (λ r. IsSlotValue schema pair two r.0 r.1)));
-        needed = All-cons (λ r. HasTest pair two r.0) (slot.Resource, w) ((slot.Action, v) ∷ []) resource-asked (All-cons (λ r. HasTest pair two r.0) (slot.Action, v) [] action-asked (All-nil (λ r. HasTest pair two r.0)));
-        there = λ x h. two-there x v w (two-alone x h);
-        once = AllPairs-cons Differ (slot.Resource, w) ((slot.Action, v) ∷ []) (All-cons (Differ (slot.Resource, w)) (slot.Action, v) [] other (All-nil (Differ (slot.Resource, w)))) (one-differs (slot.Action, v));
-      }
-
-pub resource-given : (tests : List Test) (path : Answers) (p q : List Piece) (a b : Bool) → tests ≡ Action p ∷ Resource q ∷ [] → path ≡ (0, a) ∷ (1, b) ∷ [] → HasTest tests path slot.Resource
-resource-given tests path p q a b tests_are path_is = rw (tests_are, path_is) (record { number = 1; is = record { answered = refl; on_slot = refl } })
-
-pub two-given : (schema : Schema) (tests : List Test) (path : Answers) (values : List (Slot × SlotValue)) (p q : List Piece) (a b : Bool) (v w : SlotValue) → tests ≡ Action p ∷ Resource q ∷ [] → path ≡ (0, a) ∷ (1, b) ∷ [] → values ≡ (slot.Resource, w) ∷ (slot.Action, v) ∷ [] → IsSlotValue schema tests path slot.Action v → IsSlotValue schema tests path slot.Resource w → AreSlotValues schema tests path values
-two-given schema tests path values p q a b v w tests_are path_is values_are action resource =
-    rw (tests_are, path_is, values_are) (two-values schema p q a b v w (rw (tests_are, path_is) at action) (rw (tests_are, path_is) at resource))
 
 -- ---- rules of keys
 

@@ -3,4 +3,3 @@ mod Filling
 mod Given
 mod Joining
 pub mod Laws
-mod Stating

@@ -1,8 +1,8 @@
 -- What a request takes from slot values, and what it has where there is none.
-use Rattle.std.specs.Prelude.{ℕ, List, [], ◌∷◌, Option, Some, None, true, codes, if◌then◌else◌}
+use Rattle.std.specs.Prelude.{ℕ, List, [], ◌∷◌, Option, Some, None, unwrap_or, if◌then◌else◌}
 use Rattle.std.specs.List.{flat_map}
-use Rattle.text_table.specs.Table.{Entries}
-use Rattle.wildcard_lang.specs.declared.piece.Piece.{Piece}
+use Rattle.std.specs.Str.{bytes_eq}
+use Rattle.text_table.specs.Table.{Entries, with_item}
 use Rattle.policy_model.specs.declared.principal.PrincipalKind.{PrincipalKind}
 use Rattle.policy_model.specs.declared.principal.PrincipalKind.TheVariants.{Aws}
 use Rattle.policy_model.specs.declared.request.Request.{Request}
@@ -11,13 +11,10 @@ use Rattle.policy_model.specs.declared.schema.Schema.{Schema}
 use Rattle.policy_model.specs.declared.schema.Shapes.{Shapes}
 use Rattle.policy_model.specs.declared.test.Slot.{Slot}
 use Rattle.policy_model.specs.declared.test.Slot.TheVariants as slot
-use Rattle.policy_model.specs.declared.value.Kind.{Kind}
-use Rattle.policy_model.specs.declared.value.Kind.TheVariants as kind
 use Rattle.policy_model.specs.declared.value.Value.{Value}
-use Rattle.policy_model.specs.declared.value.Value.TheVariants.{Word, Truth}
 use Rattle.slot_theory.specs.declared.outcome.SlotValue.{SlotValue}
 use Rattle.slot_theory.specs.declared.outcome.SlotValue.TheVariants as value
-use Rattle.slot_theory.specs.Unasked.{sample, stated_word}
+use Rattle.slot_theory.specs.Unasked.{stated_values, stated_word}
 
 -- the kind and the id of a value of the principal
 abbrev pub principal_or : Slot → SlotValue → PrincipalKind × List ℕ → PrincipalKind × List ℕ
@@ -34,6 +31,11 @@ abbrev pub resource_or : Slot → SlotValue → List ℕ → List ℕ
 resource_or slot.Resource (value.Word t) rest = t
 resource_or s v rest = rest
 
+-- the values of a key of this name
+abbrev pub values_at_key : List ℕ → Slot → SlotValue → Option (List Value)
+values_at_key name (slot.Key key) (value.Values vs) = (if bytes_eq key name then Some vs else None)
+values_at_key name s v = None
+
 -- the first principal among the values, or the stated one
 abbrev pub principal_in : Shapes → List (Slot × SlotValue) → PrincipalKind × List ℕ
 principal_in shapes [] = (Aws, stated_word shapes.aws)
@@ -49,40 +51,31 @@ abbrev pub resource_in : Shapes → List (Slot × SlotValue) → List ℕ
 resource_in shapes [] = stated_word shapes.resource
 resource_in shapes (p ∷ ps) = resource_or p.0 p.1 (resource_in shapes ps)
 
--- `x` or true
-abbrev pub plain_value : Kind → Value
-plain_value kind.Text = Word (codes "x")
-plain_value kind.Truth = Truth true
+-- the first values of the key among these, or the stated ones
+abbrev pub key_values : List (Slot × SlotValue) → List ℕ → KeyRule → List Value
+key_values [] name rule = stated_values rule
+key_values (p ∷ ps) name rule = unwrap_or (values_at_key name p.0 p.1) (key_values ps name rule)
 
--- a sample of the shape, where one is given
-abbrev pub shaped_or : Option (List Piece) → Value → Value
-shaped_or None v = v
-shaped_or (Some shape) v = Word (sample shape)
+-- the key with its values, where it has some
+abbrev pub filled_entry : List ℕ → List Value → Entries (List Value)
+filled_entry name [] = []
+filled_entry name (v ∷ vs) = (name, v ∷ vs) ∷ []
 
--- the first of the listed values, where some are listed
-abbrev pub listed_or : Option (List Value) → Value → Value
-listed_or None v = v
-listed_or (Some []) v = v
-listed_or (Some (first ∷ rest)) v = first
+-- the context with these values of the key, if there are any
+abbrev pub with_some : Entries (List Value) → List ℕ → List Value → Entries (List Value)
+with_some context name [] = context
+with_some context name (v ∷ vs) = with_item context name (v ∷ vs)
 
--- the value of a required key: the first listed one, or else a sample of the key's shape, or else `x` or true by its kind
-abbrev pub stated_key : KeyRule → Value
-stated_key rule = listed_or rule.among (shaped_or rule.shape (plain_value rule.kind))
+-- each key of the schema that has values, with them
+abbrev pub context_in : List (Slot × SlotValue) → Entries KeyRule → Entries (List Value)
+context_in values keys = flat_map (λ entry. filled_entry entry.0 (key_values values entry.0 entry.1)) keys
 
--- the key with its value, where it is required
-abbrev pub required_entry : List ℕ × KeyRule → Entries (List Value)
-required_entry entry = (if entry.1.required then (entry.0, stated_key entry.1 ∷ []) ∷ [] else [])
-
--- each required key with its value
-abbrev pub stated_context : Entries KeyRule → Entries (List Value)
-stated_context = flat_map required_entry
-
--- the request that has these values, and each required key
+-- the request that has these values, and the stated ones where there are none
 abbrev pub joined : Schema → List (Slot × SlotValue) → Request
 joined schema values = record {
   kind = (principal_in schema.shapes values).0;
   id = (principal_in schema.shapes values).1;
   action = action_in schema.shapes values;
   resource = resource_in schema.shapes values;
-  context = stated_context schema.keys;
+  context = context_in values schema.keys;
 }

@@ -1,17 +1,16 @@
 //! Builds requests.
 ghost use Rattle.std.specs.Prelude.{◌≡◌, IfOk, All};
-ghost use Rattle.policy_model.specs.Requests.{IsValid, IsWord, shape_of};
+ghost use Rattle.policy_model.specs.Requests.{IsValid};
 ghost use Rattle.policy_model.specs.Soundness.{SchemaIsSound, TestSuits};
 ghost use Rattle.policy_model.specs.declared.principal.PrincipalKind.TheVariants.{Aws};
 ghost use Rattle.policy_model.specs.declared.test.Slot.TheVariants as slot;
 ghost use Rattle.slot_theory.specs.Cores.{HasTest};
 ghost use Rattle.slot_theory.specs.Possible.{AnswersPath, PathInRange};
-ghost use Rattle.slot_theory.specs.Slots.{Permits};
 ghost use Rattle.slot_theory.specs.Unasked.{stated_word};
-ghost use Rattle.request_build.specs.Built.{AreSlotValues};
+ghost use Rattle.request_build.specs.Built.{AreSlotValues, KeysAreStated};
 ghost use Rattle.request_build.specs.Taken.{action_in, joined, principal_in, resource_in};
 
-use crate::context::stated_context;
+use crate::context::context_in;
 use formula_tree::Path;
 use plain_lists::{List, NoMemory};
 use policy_model::{PrincipalKind, Request, Schema, Slot, TestList};
@@ -25,36 +24,33 @@ pub type SlotValues = List<(Slot, SlotValue)>;
 // The kind and the id of a principal that nothing is asked of.
 fn stated_principal(alloc: Global, schema: &Schema) -> Result<(PrincipalKind, Text), NoMemory>
     requires { SchemaIsSound schema.now }
-    ensures value { IfOk result (λ p. p ≡ (Aws, stated_word schema.now.shapes.aws)) }
-    ensures word { IfOk result (λ p. IsWord (shape_of schema.now.shapes p.0) p.1) }
+    ensures { IfOk result (λ p. p ≡ (Aws, stated_word schema.now.shapes.aws)) }
 {
     match stated_value(alloc, schema, &Slot::Principal)? {
         SlotValue::Principal(kind, id) => Ok((kind, id)),
-        SlotValue::Word(_) => unreachable!(),
+        SlotValue::Word(_) | SlotValue::Values(_) => unreachable!(),
     }
 }
 
 // The action that nothing is asked of.
 fn stated_action(alloc: Global, schema: &Schema) -> Result<Text, NoMemory>
     requires { SchemaIsSound schema.now }
-    ensures value { IfOk result (λ t. t ≡ stated_word schema.now.shapes.action) }
-    ensures word { IfOk result (IsWord schema.now.shapes.action) }
+    ensures { IfOk result (λ t. t ≡ stated_word schema.now.shapes.action) }
 {
     match stated_value(alloc, schema, &Slot::Action)? {
         SlotValue::Word(text) => Ok(text),
-        SlotValue::Principal(_, _) => unreachable!(),
+        SlotValue::Principal(_, _) | SlotValue::Values(_) => unreachable!(),
     }
 }
 
 // The resource that nothing is asked of.
 fn stated_resource(alloc: Global, schema: &Schema) -> Result<Text, NoMemory>
     requires { SchemaIsSound schema.now }
-    ensures value { IfOk result (λ t. t ≡ stated_word schema.now.shapes.resource) }
-    ensures word { IfOk result (IsWord schema.now.shapes.resource) }
+    ensures { IfOk result (λ t. t ≡ stated_word schema.now.shapes.resource) }
 {
     match stated_value(alloc, schema, &Slot::Resource)? {
         SlotValue::Word(text) => Ok(text),
-        SlotValue::Principal(_, _) => unreachable!(),
+        SlotValue::Principal(_, _) | SlotValue::Values(_) => unreachable!(),
     }
 }
 
@@ -64,10 +60,8 @@ fn principal_in(
     schema: &Schema,
     values: &[(Slot, SlotValue)],
 ) -> Result<(PrincipalKind, Text), NoMemory>
-    requires sound { SchemaIsSound schema.now }
-    requires permitted { All (λ p. Permits schema.now p.0 p.1) values.now }
-    ensures value { IfOk result (λ p. p ≡ principal_in schema.now.shapes values.now) }
-    ensures word { IfOk result (λ p. IsWord (shape_of schema.now.shapes p.0) p.1) }
+    requires { SchemaIsSound schema.now }
+    ensures { IfOk result (λ p. p ≡ principal_in schema.now.shapes values.now) }
 {
     match values {
         [] => stated_principal(alloc, schema),
@@ -78,10 +72,8 @@ fn principal_in(
 
 // The word of the first value of the action, or the stated one.
 fn action_in(alloc: Global, schema: &Schema, values: &[(Slot, SlotValue)]) -> Result<Text, NoMemory>
-    requires sound { SchemaIsSound schema.now }
-    requires permitted { All (λ p. Permits schema.now p.0 p.1) values.now }
-    ensures value { IfOk result (λ t. t ≡ action_in schema.now.shapes values.now) }
-    ensures word { IfOk result (IsWord schema.now.shapes.action) }
+    requires { SchemaIsSound schema.now }
+    ensures { IfOk result (λ t. t ≡ action_in schema.now.shapes values.now) }
 {
     match values {
         [] => stated_action(alloc, schema),
@@ -96,10 +88,8 @@ fn resource_in(
     schema: &Schema,
     values: &[(Slot, SlotValue)],
 ) -> Result<Text, NoMemory>
-    requires sound { SchemaIsSound schema.now }
-    requires permitted { All (λ p. Permits schema.now p.0 p.1) values.now }
-    ensures value { IfOk result (λ t. t ≡ resource_in schema.now.shapes values.now) }
-    ensures word { IfOk result (IsWord schema.now.shapes.resource) }
+    requires { SchemaIsSound schema.now }
+    ensures { IfOk result (λ t. t ≡ resource_in schema.now.shapes values.now) }
 {
     match values {
         [] => stated_resource(alloc, schema),
@@ -110,8 +100,9 @@ fn resource_in(
 
 /// The request whose slots have these values. A slot without a value has a stated one: the principal
 /// is an `AWS` principal, and its id, the action and the resource are a sample of their shape, or `x`
-/// where they have none or the sample is empty. Each required key has one value, the first listed one,
-/// or else a sample of the key's shape, or else `x` or true by its kind; no other key has one.
+/// where they have none or the sample is empty. Each required key without values has one, the first
+/// listed one, or else a sample of the key's shape, or else `x`, true, 0, 0.0.0.0 or no bytes by its
+/// kind; no other key without values is there.
 ///
 /// The schema is sound, and the values are one for each slot of a test of the path, each permitted and
 /// answering its slot's tests as the path does. The only error is want of memory.
@@ -135,13 +126,15 @@ pub fn build(
         r.action ≡ stated_word schema.now.shapes.action) }
     ensures resource { IfOk result (λ r. ¬ HasTest _tests.now _path.now slot.Resource →
         r.resource ≡ stated_word schema.now.shapes.resource) }
+    ensures keys { IfOk result (KeysAreStated schema.now _tests.now _path.now) }
 {
-    let (kind, id) = principal_in(alloc, schema, values.as_slice())?;
+    let values = values.as_slice();
+    let (kind, id) = principal_in(alloc, schema, values)?;
     Ok(Request {
         kind,
         id,
-        action: action_in(alloc, schema, values.as_slice())?,
-        resource: resource_in(alloc, schema, values.as_slice())?,
-        context: stated_context(alloc, &schema.keys)?,
+        action: action_in(alloc, schema, values)?,
+        resource: resource_in(alloc, schema, values)?,
+        context: context_in(alloc, schema, values)?,
     })
 }

@@ -1,20 +1,13 @@
-//! Requests built from the values of two tests, and from none under schemas with shapes and keys.
-ghost use Rattle.std.specs.Prelude.{◌≡◌, ◌∷◌, ◌≤◌, [], length, List};
-ghost use Rattle.wildcard_lang.specs.declared.piece.Piece.{Piece};
-ghost use Rattle.policy_model.specs.declared.test.Slot.TheVariants as slot;
-ghost use Rattle.policy_model.specs.declared.test.Test.TheVariants.{Action, Resource};
+//! Requests built from no values under schemas with shapes and keys.
+ghost use Rattle.std.specs.Prelude.{◌≡◌, ◌∷◌, ◌≤◌, [], length};
 ghost use Rattle.policy_model.specs.declared.value.Value.TheVariants.{Word};
-ghost use Rattle.slot_theory.specs.Cores.{HasTest};
-ghost use Rattle.slot_theory.specs.Possible.{PathInRange};
-ghost use Rattle.slot_theory.specs.Slots.{IsBuiltSlot, IsSlotValue};
 ghost use Rattle.wildcard_lang.specs.Text.{IsText};
 ghost use Rattle.policy_model.specs.Keys.{IsFolded};
 ghost use Rattle.policy_model.specs.Soundness.{RuleIsSound, SchemaIsSound, WordShapeIsSound};
 
 use crate::{SlotValues, build, sound_schemas_have_requests};
 use formula_tree::Path;
-use policy_model::{KeyRule, Kind, Request, Schema, Slot, Test, TestList, Value, ValueList, valid};
-use slot_theory::{Possible, SlotValue, possible};
+use policy_model::{KeyRule, Kind, Request, Schema, TestList, Value, ValueList, valid};
 use std::process::Abort;
 use wildcard_lang::{MOST_PIECES, Pattern, PatternFault, Text, read_glob};
 
@@ -32,82 +25,10 @@ fn short(rt: &(impl Abort + AllocGlobal), own: &str) -> Text
     text
 }
 
-// The tests that the action is `a` and that the resource is `b`.
-fn tests_of(rt: &(impl Abort + AllocGlobal)) -> TestList
-    ensures { (p : List Piece) × (q : List Piece) × (result ≡ Action p ∷ Resource q ∷ []) }
-{
-    let action = Pattern::literal(rt.alloc(), &short(rt, "a")).expect(rt, "memory");
-    let resource = Pattern::literal(rt.alloc(), &short(rt, "b")).expect(rt, "memory");
-    let mut tests = TestList::new(rt.alloc());
-    tests.push(Test::Action(action)).expect(rt, "memory");
-    tests.push(Test::Resource(resource)).expect(rt, "memory");
-    tests
-}
-
-// A value that answers the slot's tests as the path does.
-fn value_of(
-    rt: &(impl Abort + AllocGlobal),
-    schema: &Schema,
-    tests: &TestList,
-    path: &Path,
-    slot: &Slot,
-) -> SlotValue
-    requires sound { SchemaIsSound schema.now }
-    requires tests { (p : List Piece) × (q : List Piece) ×
-        (tests.now ≡ Action p ∷ Resource q ∷ []) }
-    requires range { PathInRange tests.now path.now }
-    requires slot { IsBuiltSlot slot.now }
-    requires asked { HasTest tests.now path.now slot.now }
-    ensures { IsSlotValue schema.now tests.now path.now slot.now result }
-{
-    match possible(rt.alloc(), schema, tests, path, slot, 100).expect(rt, "memory") {
-        Possible::Found(value) => value,
-        Possible::Conflict(_core, _proof) => panic!(rt; "no value"),
-        Possible::TooMany(_texts) => panic!(rt; "no value"),
-    }
-}
-
-// The path that answers both tests.
-fn path_of(rt: &(impl Abort + AllocGlobal), action: bool, resource: bool) -> Path
-    ensures { result ≡ (0, action) ∷ (1, resource) ∷ [] }
-{
-    let mut path = Path::new(rt.alloc());
-    path.push(0, action).expect(rt, "memory");
-    path.push(1, resource).expect(rt, "memory");
-    path
-}
-
-// The values of both slots, in another order than the tests.
-fn values_of(rt: &(impl Abort + AllocGlobal), action: SlotValue, resource: SlotValue) -> SlotValues
-    ensures { result ≡ (slot.Resource, resource) ∷ (slot.Action, action) ∷ [] }
-{
-    let mut values = SlotValues::new(rt.alloc());
-    values.push((Slot::Resource, resource)).expect(rt, "memory");
-    values.push((Slot::Action, action)).expect(rt, "memory");
-    values
-}
-
-// The request of a path that answers both tests.
-fn of_both(rt: &(impl Abort + AllocGlobal), action: bool, resource: bool) -> Request {
-    let schema = Schema::new(rt.alloc());
-    let tests = tests_of(rt);
-    let path = path_of(rt, action, resource);
-    let first = value_of(rt, &schema, &tests, &path, &Slot::Action);
-    let second = value_of(rt, &schema, &tests, &path, &Slot::Resource);
-    let values = values_of(rt, first, second);
-    build(rt.alloc(), &schema, &tests, &path, &values).expect(rt, "memory")
-}
-
 fn has(rt: &(impl Abort + AllocGlobal), request: &Request, id: &str, action: &str, resource: &str) {
     assert!(rt; request.id == text(rt, id));
     assert!(rt; request.action == text(rt, action));
     assert!(rt; request.resource == text(rt, resource));
-}
-
-#[test]
-fn each_slot_has_its_own_value(rt: HostRuntime) {
-    sound_schemas_have_requests();
-    has(&rt, &of_both(&rt, true, true), "x", "a", "b");
 }
 
 // The request of a path without answers under the schema. It is valid.
@@ -138,6 +59,7 @@ fn shape(rt: &(impl Abort + AllocGlobal), text: &str) -> Option<Pattern>
 
 #[test]
 fn a_stated_word_is_a_sample_of_its_shape(rt: HostRuntime) {
+    sound_schemas_have_requests();
     let mut schema = Schema::new(rt.alloc());
     schema.shapes.action = shape(&rt, "s3:?et*");
     schema.shapes.resource = shape(&rt, "*");

@@ -1,26 +1,30 @@
 //! The answer to a question, and what is accepted of it.
-ghost use Rattle.std.specs.Prelude.{◌≤◌};
+ghost use Rattle.std.specs.Prelude.{◌≤◌, IfOk};
 ghost use Rattle.slot_theory.specs.Possible.{PathInRange};
-ghost use Rattle.slot_theory.specs.Slots.{IsBuiltSlot};
+ghost use Rattle.slot_theory.specs.Slots.{SlotIsIn};
 ghost use Rattle.slot_cases.specs.Cases.{IsCase};
 
-use crate::cases::{Case, case_of, slot_named};
+use crate::cases::{Case, case_of, key_case_of, slot_named};
 use formula_tree::Path;
-use policy_model::Slot;
-use slot_theory::{Core, KindProof, Possible, SlotProof, SlotValue, accepts, meets, possible};
+use policy_model::{Schema, Slot};
+use slot_theory::{
+    Core, KindProof, Possible, SlotProof, SlotValue, accepts, meets, possible, slot_of,
+};
 use std::alloc::Global;
 use std::io;
 use std::io::ErrorKind;
+use wildcard_lang::Text;
 
-// Whether the value gives each test its answer.
-fn answers(case: &Case, value: &SlotValue) -> bool {
+// Whether the value gives each test of the slot its answer.
+fn answers(alloc: Global, case: &Case, slot: &Slot, value: &SlotValue) -> io::Result<bool> {
     for (n, answer) in case.path.as_slice() {
-        match case.tests.get(*n as usize) {
-            Some(test) if meets(value, test) == *answer => {}
-            _ => return false,
+        if let Some(test) = case.tests.get(*n as usize) {
+            if slot_of(alloc, test)? == *slot && meets(value, test) != *answer {
+                return Ok(false);
+            }
         }
     }
-    true
+    Ok(true)
 }
 
 fn word(holds: bool) -> &'static str {
@@ -43,6 +47,18 @@ fn never() -> SlotProof {
     )
 }
 
+fn name_of(proof: &SlotProof) -> &'static str {
+    match proof {
+        SlotProof::Points => "points",
+        SlotProof::Absent => "absent",
+        SlotProof::Required => "required",
+        SlotProof::Word(_) => "word",
+        SlotProof::Kinds(_, _, _, _) => "kinds",
+        SlotProof::Member(_, _) => "member",
+        SlotProof::SomeMember(_) => "some",
+    }
+}
+
 fn accepted(
     alloc: Global,
     case: &Case,
@@ -61,7 +77,7 @@ fn accepted(
 fn judged(alloc: Global, case: &Case, core: &Core, proof: &SlotProof) -> io::Result<String>
     requires { IsCase case.now }
 {
-    let mut text = String::from_str(alloc, "core")?;
+    let mut text = String::from_str(alloc, name_of(proof))?;
     for n in core.as_slice() {
         text.push_str(format!(in alloc; " {n}")?.as_str())?;
     }
@@ -73,18 +89,18 @@ fn judged(alloc: Global, case: &Case, core: &Core, proof: &SlotProof) -> io::Res
 }
 
 // Whether the value gives the path's answers.
-fn found(alloc: Global, case: &Case, value: &SlotValue) -> io::Result<String> {
-    let right = word(answers(case, value));
+fn found(alloc: Global, case: &Case, slot: &Slot, value: &SlotValue) -> io::Result<String> {
+    let right = word(answers(alloc, case, slot, value)?);
     Ok(format!(in alloc; "found: {right}")?)
 }
 
 fn asked(alloc: Global, case: &Case, slot: &Slot, states: u32) -> io::Result<String>
     requires case { IsCase case.now }
-    requires slot { IsBuiltSlot slot.now }
+    requires slot { SlotIsIn case.now.schema slot.now }
     requires some { 1 ≤ states }
 {
     match possible(alloc, &case.schema, &case.tests, &case.path, slot, states)? {
-        Possible::Found(value) => found(alloc, case, &value),
+        Possible::Found(value) => found(alloc, case, slot, &value),
         Possible::Conflict(core, proof) => judged(alloc, case, &core, &proof),
         Possible::TooMany(texts) => {
             let count = texts.len();
@@ -105,6 +121,38 @@ pub(crate) fn answer_to_question(
     let case = case_of(alloc, &slot, shape, words)?;
     match states.parse::<u32>() {
         Ok(states) if states > 0 => asked(alloc, &case, &slot, states),
+        _ => Err(ErrorKind::InvalidData.into()),
+    }
+}
+
+/// The slot of the key `k`.
+pub(crate) fn key_slot(alloc: Global, schema: &Schema) -> io::Result<Slot>
+    ensures { IfOk result (SlotIsIn schema.now) }
+{
+    let key = Text::of(alloc, "k")?;
+    if schema.get(&key).is_none() {
+        return Err(ErrorKind::InvalidData.into());
+    }
+    Ok(Slot::Key(key))
+}
+
+/// The answer to a question on the key `k`.
+pub(crate) fn answer_on_key(
+    alloc: Global,
+    rule: [&str; 3],
+    states: &str,
+    words: [&str; 3],
+) -> io::Result<String> {
+    let case = key_case_of(alloc, rule, words)?;
+    asked_of_key(alloc, &case, states)
+}
+
+fn asked_of_key(alloc: Global, case: &Case, states: &str) -> io::Result<String>
+    requires { IsCase case.now }
+{
+    let slot = key_slot(alloc, &case.schema)?;
+    match states.parse::<u32>() {
+        Ok(states) if states > 0 => asked(alloc, case, &slot, states),
         _ => Err(ErrorKind::InvalidData.into()),
     }
 }

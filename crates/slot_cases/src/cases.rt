@@ -1,12 +1,12 @@
 //! Three tests of a slot with their answers.
-ghost use Rattle.std.specs.Prelude.{◌≡◌, ◌<◌, ℕ, Bool, Some, length, All, IfOk};
-ghost use Rattle.formula_tree.specs.Answers.{answer_of};
+ghost use Rattle.std.specs.Prelude.{◌≡◌, ◌+◌, length, All, IfOk, OnOk};
 ghost use Rattle.policy_model.specs.Soundness.{EntryIsSound, TestSuits};
 ghost use Rattle.policy_model.specs.declared.schema.Schema.{Schema};
-ghost use Rattle.slot_theory.specs.Slots.{IsBuiltSlot};
-ghost use Rattle.slot_cases.specs.Cases.{IsCase};
+ghost use Rattle.slot_theory.specs.Slots.{SlotIsIn};
+ghost use Rattle.slot_cases.specs.Cases.{AnswersBelow, IsCase};
 
-use crate::schemas::schema_of;
+use crate::keys::key_test_of;
+use crate::schemas::{key_schema_of, schema_of};
 use formula_tree::Path;
 use policy_model::{Entry, PrincipalKind, Schema, Slot, Test, TestList, is_account};
 use std::alloc::Global;
@@ -15,7 +15,7 @@ use std::io::ErrorKind;
 use wildcard_lang::{MOST_PIECES, Pattern, Text, read_glob};
 
 pub(crate) fn slot_named(name: &str) -> io::Result<Slot>
-    ensures { IfOk result IsBuiltSlot }
+    ensures { IfOk result (λ s. (schema : Schema) → SlotIsIn schema s) }
 {
     match name {
         "action" => Ok(Slot::Action),
@@ -81,7 +81,7 @@ fn pattern_of(alloc: Global, word: &str) -> io::Result<Pattern> {
 fn test_of(alloc: Global, slot: &Slot, word: &str) -> io::Result<Test>
     ensures { IfOk result (λ t. (schema : Schema) → TestSuits schema t) }
 {
-    let word = word.strip_prefix(|c| c == '+' || c == '-').unwrap_or(word);
+    let word = asked_in(word);
     match slot {
         Slot::Principal => Ok(Test::Principal(entry_of(alloc, word)?)),
         Slot::Action => Ok(Test::Action(pattern_of(alloc, word)?)),
@@ -101,14 +101,54 @@ fn tests_of(alloc: Global, slot: &Slot, words: [&str; 3]) -> io::Result<TestList
     Ok(tests)
 }
 
-// The path that gives three tests these answers.
-fn path_of(alloc: Global, answers: [bool; 3]) -> io::Result<Path>
-    ensures { IfOk result (λ p. (n : ℕ) (b : Bool) → answer_of p n ≡ Some b → n < 3) }
+// The tests on keys of three words.
+fn key_tests_of(alloc: Global, schema: &Schema, words: [&str; 3]) -> io::Result<TestList>
+    ensures suit { IfOk result (All (TestSuits schema.now)) }
+    ensures count { IfOk result (λ v. length v ≡ 3) }
+{
+    let mut tests = TestList::new(alloc);
+    tests.push(key_test_of(alloc, schema, asked_in(words[0]))?)?;
+    tests.push(key_test_of(alloc, schema, asked_in(words[1]))?)?;
+    tests.push(key_test_of(alloc, schema, asked_in(words[2]))?)?;
+    Ok(tests)
+}
+
+// The word behind its answer.
+fn asked_in(word: &str) -> &str {
+    word.strip_prefix(|c| c == '+' || c == '-' || c == '.')
+        .unwrap_or(word)
+}
+
+// The answer of the word, or its contrary.
+fn answer_in(word: &str, contrary: bool) -> Option<bool> {
+    if word.starts_with('.') {
+        return None;
+    }
+    Some(word.starts_with('+') != contrary)
+}
+
+// Gives the test this answer, where there is one.
+fn add_answer(path: &mut Path, n: u32, answer: Option<bool>) -> io::Result<()>
+    requires { AnswersBelow path.old n }
+    ensures { OnOk result (AnswersBelow path.new (n + 1)) }
+{
+    match answer {
+        None => Ok(()),
+        Some(answer) => {
+            path.push(n, answer)?;
+            Ok(())
+        }
+    }
+}
+
+// The path that gives three tests the answers of three words, or the contrary ones.
+fn path_of(alloc: Global, words: [&str; 3], contrary: bool) -> io::Result<Path>
+    ensures { IfOk result (λ p. AnswersBelow p 3) }
 {
     let mut path = Path::new(alloc);
-    path.push(0, answers[0])?;
-    path.push(1, answers[1])?;
-    path.push(2, answers[2])?;
+    add_answer(&mut path, 0, answer_in(words[0], contrary))?;
+    add_answer(&mut path, 1, answer_in(words[1], contrary))?;
+    add_answer(&mut path, 2, answer_in(words[2], contrary))?;
     Ok(path)
 }
 
@@ -128,13 +168,24 @@ pub(crate) fn case_of(alloc: Global, slot: &Slot, shape: &str, words: [&str; 3])
 {
     let schema = schema_of(alloc, shape)?;
     let tests = tests_of(alloc, slot, words)?;
-    let yes = [
-        words[0].starts_with('+'),
-        words[1].starts_with('+'),
-        words[2].starts_with('+'),
-    ];
-    let path = path_of(alloc, yes)?;
-    let other = path_of(alloc, [!yes[0], !yes[1], !yes[2]])?;
+    let path = path_of(alloc, words, false)?;
+    let other = path_of(alloc, words, true)?;
+    Ok(Case {
+        schema,
+        tests,
+        path,
+        other,
+    })
+}
+
+/// The case of tests on keys, of which `k` has the rule of three words.
+pub(crate) fn key_case_of(alloc: Global, rule: [&str; 3], words: [&str; 3]) -> io::Result<Case>
+    ensures { IfOk result IsCase }
+{
+    let schema = key_schema_of(alloc, rule)?;
+    let tests = key_tests_of(alloc, &schema, words)?;
+    let path = path_of(alloc, words, false)?;
+    let other = path_of(alloc, words, true)?;
     Ok(Case {
         schema,
         tests,

@@ -1,18 +1,25 @@
-//! Prints what slots answer to lines of standard input. A line `ask SLOT SHAPE STATES TEST TEST TEST`
-//! asks for a value; of tests that none answers so it prints their numbers, and whether they are
-//! accepted with their proof, under the other answers, without their last test, and by fixed answers
-//! alone. A line `stated SLOT SHAPE` asks nothing. `SHAPE` is that of actions, or of the ids of `AWS`
-//! principals, or `-`. A test is its answer, `+` or `-`, and a pattern, or of the principal an entry:
-//! `*`, a kind, an account, or `KIND=ID`.
+//! Prints what slots answer to lines of standard input.
+//!
+//! A line `ask SLOT SHAPE STATES TEST TEST TEST` asks for a value; of tests that none answers so it prints
+//! the kind of the proof and their numbers, and whether they are accepted with it, under the other
+//! answers, without their last test, and by fixed answers alone. A line `stated SLOT SHAPE` asks nothing.
+//! `SHAPE` is that of actions, or of the ids of `AWS` principals, or `-`. A test is its answer, `+`, `-` or
+//! `.` for none, and a pattern, or of the principal an entry: `*`, a kind, an account, or `KIND=ID`.
+//!
+//! A line `key KIND FLAGS VALUES STATES TEST TEST TEST` asks for values of the key `k` under the rule of the
+//! three words. A test is its answer and `?`, `=` and a pattern or a truth value, or `#` and some that are
+//! divided by bars. Behind `j` it is on another key. A line `stated-key KIND FLAGS VALUES` asks nothing.
 #![tactic(auto)]
 
 mod asked;
 mod cases;
+mod keys;
 mod schemas;
 
-use asked::answer_to_question;
+use asked::{answer_on_key, answer_to_question, key_slot};
 use cases::slot_named;
-use schemas::schema_of;
+use policy_model::{Value, ValueList};
+use schemas::{key_schema_of, schema_of};
 use slot_theory::{
     SlotValue, accepted_cores_are_impossible, accepts_by_the_core_alone, stated_value,
 };
@@ -28,6 +35,39 @@ fn stated(alloc: Global, slot: &str, shape: &str) -> io::Result<String> {
     match &value {
         SlotValue::Principal(_, id) => Ok(id.to_utf8()?),
         SlotValue::Word(text) => Ok(text.to_utf8()?),
+        SlotValue::Values(values) => written(alloc, values),
+    }
+}
+
+// A value as text. Of numbers, addresses and bytes the kind is enough.
+fn text_of(alloc: Global, value: &Value) -> io::Result<String> {
+    match value {
+        Value::Word(text) => Ok(text.to_utf8()?),
+        Value::Truth(truth) => Ok(format!(in alloc; "{truth}")?),
+        Value::Number(_) => Ok(String::from_str(alloc, "a number")?),
+        Value::Address(_) => Ok(String::from_str(alloc, "an address")?),
+        Value::Bytes(_) => Ok(String::from_str(alloc, "bytes")?),
+    }
+}
+
+// The values of a key, each behind a blank.
+fn written(alloc: Global, values: &ValueList) -> io::Result<String> {
+    let mut text = String::from_str(alloc, "values:")?;
+    for value in values.as_slice() {
+        let own = text_of(alloc, value)?;
+        text.push_str(" ")?;
+        text.push_str(own.as_str())?;
+    }
+    Ok(text)
+}
+
+// The stated values of the key `k`.
+fn stated_key(alloc: Global, rule: [&str; 3]) -> io::Result<String> {
+    let schema = key_schema_of(alloc, rule)?;
+    let slot = key_slot(alloc, &schema)?;
+    match &stated_value(alloc, &schema, &slot)? {
+        SlotValue::Values(values) => written(alloc, values),
+        _ => Err(ErrorKind::InvalidData.into()),
     }
 }
 
@@ -37,6 +77,11 @@ fn answer_to(alloc: Global, line: &str) -> io::Result<String> {
         ["stated", slot, shape] => stated(alloc, slot, shape),
         ["ask", slot, shape, states, first, second, third] => {
             answer_to_question(alloc, slot, shape, states, [first, second, third])
+        }
+        ["stated-key", kind, flags, values] => stated_key(alloc, [kind, flags, values]),
+        ["key", kind, flags, values, states, first, second, third] => {
+            let rule = [*kind, *flags, *values];
+            answer_on_key(alloc, rule, states, [first, second, third])
         }
         _ => Err(ErrorKind::InvalidData.into()),
     }

@@ -12,7 +12,7 @@ use Rattle.policy_model.specs.declared.principal.PrincipalKind.{PrincipalKind}
 use Rattle.policy_model.specs.declared.test.Slot.{Slot}
 use Rattle.policy_model.specs.declared.test.Slot.TheVariants as slot
 use Rattle.policy_model.specs.declared.test.Test.{Test}
-use Rattle.policy_model.specs.declared.test.Test.TheVariants.{Principal, Action, Resource}
+use Rattle.policy_model.specs.declared.test.Test.TheVariants.{Principal, Action, Resource, Present, SomeMeets, SomeMeetsNone}
 use Rattle.slot_theory.specs.declared.outcome.SlotValue.TheVariants as value
 use Rattle.slot_theory.specs.Slots.{IsWordSlot, ValueMeets, fixed_at, slot_of, test_at, AnswersTest}
 use Rattle.slot_theory.specs.Cores.{IsContradicted, open_tests}
@@ -26,23 +26,32 @@ word-meets : (w : List ℕ) (t : Test) (s : Slot) → IsWordSlot s → slot_of t
 word-meets w (Principal entry) s h e = absurd (subst IsWordSlot (sym e) h)
 word-meets w (Action pattern) s h e = refl
 word-meets w (Resource pattern) s h e = refl
+word-meets w (Present key) s h e = absurd (subst IsWordSlot (sym e) h)
+word-meets w (SomeMeets key c) s h e = absurd (subst IsWordSlot (sym e) h)
+word-meets w (SomeMeetsNone key cs) s h e = absurd (subst IsWordSlot (sym e) h)
 
 id-meets : (k : PrincipalKind) (id : List ℕ) (t : Test) → slot_of t ≡ slot.Principal → fixed_at k t ≡ None → ValueMeets (value.Principal k id) t ↔ Matches (own_pattern t) id
 id-meets k id (Principal entry) on e = open-names k id entry e
 id-meets k id (Action pattern) on e = absurd (cc)
 id-meets k id (Resource pattern) on e = absurd (cc)
+id-meets k id (Present key) on e = absurd (cc)
+id-meets k id (SomeMeets key c) on e = absurd (cc)
+id-meets k id (SomeMeetsNone key cs) on e = absurd (cc)
 
 id-fixed : (k : PrincipalKind) (id : List ℕ) (t : Test) (b : Bool) → slot_of t ≡ slot.Principal → fixed_at k t ≡ Some b → AnswersTest (value.Principal k id) t b
 id-fixed k id (Principal entry) b on e = fixed-names k id entry b e
 id-fixed k id (Action pattern) b on e = absurd (cc)
 id-fixed k id (Resource pattern) b on e = absurd (cc)
+id-fixed k id (Present key) b on e = absurd (cc)
+id-fixed k id (SomeMeets key c) b on e = absurd (cc)
+id-fixed k id (SomeMeetsNone key cs) b on e = absurd (cc)
 
 -- ---- answers
 
-abbrev So : Bool → Type 0 → Type 0
+abbrev pub So : Bool → Type 0 → Type 0
 So b A = MatchBool b A (A → ⊥)
 
-so-iff : (b : Bool) (A B : Type 0) → A ↔ B → So b A → So b B
+pub so-iff : (b : Bool) (A B : Type 0) → A ↔ B → So b A → So b B
 so-iff true A B h m = h.0 m
 so-iff false A B h m = λ y. m (h.1 y)
 

@@ -4,10 +4,12 @@ mod Alike
 mod Answering
 mod Contradicted
 mod Impossible
+mod Keyed
 pub mod Laws
 mod Naming
 mod Products
 mod Rising
 mod Sampling
+mod Stating
 mod Wanting
 mod Wording

@@ -1,6 +1,6 @@
 -- What a product for a core says of the slot: its patterns are among the slot's, a text that meets what the core wants is a
 -- value that the schema permits, and a test that this value answers otherwise isn't in the core.
-use Rattle.std.proofs.Common.{◌≡◌, ℕ, zero, suc, ◌+◌, ◌<◌, List, [], ◌∷◌, ◌++◌, length, map, get_or, Bool, true, false, ◌&&◌, is_some, Option, Some, None, unwrap_or, if◌then◌else◌, IsSome, All, Any, Contains, refl, sym, subst, arith}
+use Rattle.std.proofs.Common.{◌≡◌, ℕ, zero, suc, ◌+◌, ◌<◌, List, [], ◌∷◌, ◌++◌, length, map, get_or, Bool, true, false, ◌&&◌, is_some, Option, Some, None, unwrap_or, if◌then◌else◌, IsSome, All, Any, Contains, refl, sym, subst, ◌⊎◌, inl, inr, arith}
 use Rattle.std.specs.Option.{is_none, option_to_list}
 use Rattle.std.proofs.lemmas.List.Elements.{All-cons, All-append, All-map, All-contains, All-filter, filter_passes, Contains-append_left, Contains-append_right, All-contains_itself}
 use Rattle.wildcard_lang.specs.declared.piece.Piece.{Piece}
@@ -19,16 +19,18 @@ use Rattle.policy_model.specs.declared.schema.Shapes.{Shapes}
 use Rattle.policy_model.specs.declared.test.Slot.{Slot}
 use Rattle.policy_model.specs.declared.test.Slot.TheVariants as slot
 use Rattle.policy_model.specs.declared.test.Test.{Test}
-use Rattle.policy_model.specs.declared.test.Test.TheVariants.{Principal, Action, Resource}
+use Rattle.policy_model.specs.declared.test.Test.TheVariants.{Principal, Action, Resource, Present, SomeMeets, SomeMeetsNone}
 use Rattle.policy_model.specs.Requests.{IsWord, shape_of}
 use Rattle.slot_theory.specs.declared.outcome.SlotValue.{SlotValue}
 use Rattle.slot_theory.specs.declared.outcome.SlotValue.TheVariants as value
 use Rattle.slot_theory.specs.declared.question.Question.{Question}
 use Rattle.slot_theory.specs.declared.steps.Attempt.{Attempt}
 use Rattle.slot_theory.specs.declared.steps.Attempt.TheVariants as attempt
-use Rattle.slot_theory.specs.Slots.{HasPattern, IsWordSlot, Permits, answered_patterns, fixed_at, id_shapes, is_on, pattern_of, patterns_at, asked_by_schema, shape_at, slot_of, some_word, test_at}
+use Rattle.set_operators.specs.Wants.{ask_patterns}
+use Rattle.slot_theory.specs.Slots.{HasPattern, IsWordSlot, Permits, answered_patterns, ask_of, test_patterns, fixed_at, id_shapes, is_on, pattern_of, patterns_at, asked_by_schema, shape_at, slot_of, some_word, test_at}
 use Rattle.slot_theory.specs.Wants.{wanted_clauses, wanted_patterns}
-use Rattle.slot_theory.specs.Cores.{IsContradicted, IsCore, open_tests}
+use Rattle.slot_theory.specs.declared.outcome.SlotProof.{SlotProof}
+use Rattle.slot_theory.specs.Cores.{IsContradicted, IsCore, Shows, WordShows, open_tests}
 use Rattle.slot_theory.specs.Steps.{IsAttempt, IsRight, IsTried, IsWrong}
 use Rattle.slot_theory.proofs.Wanting.{met-so, met-word, own_pattern, same-patterns}
 use Rattle.slot_theory.proofs.Wording.{slot-on}
@@ -50,18 +52,21 @@ some-is_some : (o : Option Bool) → IsSome o → is_some o ≡ true
 some-is_some None h = absurd (cc)
 some-is_some (Some b) h = refl
 
--- the test has the pattern
-abbrev HasOwn : Test → Type 0
-HasOwn t = Contains (option_to_list (pattern_of t)) (own_pattern t)
-
 has-own : (o : Option (List Piece)) → IsSome o → Contains (option_to_list o) (unwrap_or o [])
 has-own None h = absurd (cc)
 has-own (Some p) h = (zero, omega arith, refl)
+
+-- the pattern of a test that has one is among the test's
+own-among : (t : Test) → IsSome (pattern_of t) → Contains (test_patterns t) (own_pattern t)
+own-among t h = Contains-append_left (option_to_list (pattern_of t)) (ask_patterns (ask_of t)) (own_pattern t) (has-own (pattern_of t) h)
 
 word-pattern : (s : Slot) (t : Test) → IsWordSlot s → slot_of t ≡ s → IsSome (pattern_of t)
 word-pattern s (Principal entry) h e = absurd (subst IsWordSlot (sym e) h)
 word-pattern s (Action pattern) h e = refl
 word-pattern s (Resource pattern) h e = refl
+word-pattern s (Present key) h e = absurd (subst IsWordSlot (sym e) h)
+word-pattern s (SomeMeets key c) h e = absurd (subst IsWordSlot (sym e) h)
+word-pattern s (SomeMeetsNone key cs) h e = absurd (subst IsWordSlot (sym e) h)
 
 open-pattern : (k : PrincipalKind) (t : Test) → slot_of t ≡ slot.Principal → fixed_at k t ≡ None → IsSome (pattern_of t)
 open-pattern k (Principal entry.All) on e = absurd (cc)
@@ -70,6 +75,9 @@ open-pattern k (Principal (entry.Account account)) on e = refl
 open-pattern k (Principal (entry.Exact kind id)) on e = refl
 open-pattern k (Action pattern) on e = absurd (cc)
 open-pattern k (Resource pattern) on e = absurd (cc)
+open-pattern k (Present key) on e = absurd (cc)
+open-pattern k (SomeMeets key c) on e = absurd (cc)
+open-pattern k (SomeMeetsNone key cs) on e = absurd (cc)
 
 -- each test of a core on words has a pattern, and each of a core on principals that has no fixed answer for a kind
 pub words-have : (tests : List Test) (s : Slot) (core : List ℕ) → IsWordSlot s → All (λ n. slot_of (test_at tests n) ≡ s) core → All (HasPattern tests) core
@@ -80,15 +88,16 @@ open-have tests kind core on k d l =
     let is_free : ℕ → Bool = λ n. is_none (fixed_at kind (test_at tests n)) in
     open-pattern kind (test_at tests (get_or (open_tests tests kind core) k d)) (All-filter is_free (λ n. slot_of (test_at tests n) ≡ slot.Principal) core on k d l) (none-is _ (filter_passes is_free core k d l))
 
-among-answered : (path : Answers) (s : Slot) (tests : List Test) (i k : ℕ) → k < length tests → IsSome (answer_of path (i + k)) → slot_of (test_at tests k) ≡ s → HasOwn (test_at tests k) → Contains (answered_patterns tests path s i) (own_pattern (test_at tests k))
-among-answered path s [] i k l a on has = absurd (omega arith)
-among-answered path s (t ∷ ts) i zero l a on has =
+-- the patterns of an answered test of the slot are among the slot's
+pub among-answered : (path : Answers) (s : Slot) (p : List Piece) (tests : List Test) (i k : ℕ) → k < length tests → IsSome (answer_of path (i + k)) → slot_of (test_at tests k) ≡ s → Contains (test_patterns (test_at tests k)) p → Contains (answered_patterns tests path s i) p
+among-answered path s p [] i k l a on has = absurd (omega arith)
+among-answered path s p (t ∷ ts) i zero l a on has =
     let here : i + 0 ≡ i = omega arith in
     let some : is_some (answer_of path i) ≡ true = some-is_some _ (rw here at a) in
-    among-first (own_pattern t) (is_on s t && is_some (answer_of path i)) (option_to_list (pattern_of t)) (answered_patterns ts path s (i + 1)) (rw (slot-on s t on, some) refl) has
-among-answered path s (t ∷ ts) i (suc k) l a on has =
+    among-first p (is_on s t && is_some (answer_of path i)) (test_patterns t) (answered_patterns ts path s (i + 1)) (rw (slot-on s t on, some) refl) has
+among-answered path s p (t ∷ ts) i (suc k) l a on has =
     let here : i + suc k ≡ i + 1 + k = omega arith in
-    among-more (own_pattern (test_at ts k)) (is_on s t && is_some (answer_of path i)) (option_to_list (pattern_of t)) (answered_patterns ts path s (i + 1)) (among-answered path s ts (i + 1) k (omega arith) (rw here at a) on has)
+    among-more p (is_on s t && is_some (answer_of path i)) (test_patterns t) (answered_patterns ts path s (i + 1)) (among-answered path s p ts (i + 1) k (omega arith) (rw here at a) on has)
 
 -- the tests of these numbers are answered, on the slot, and have patterns
 record AreAsked (tests : List Test) (path : Answers) (s : Slot) (numbers : List ℕ) : Type 0 where
@@ -106,7 +115,7 @@ widths schema tests path s numbers shape states texts asked some shaped wide =
     let tested : All (Contains all) (map (λ n. own_pattern (test_at tests n)) numbers) = All-map (Contains all) (λ n. own_pattern (test_at tests n)) numbers (λ k d l.
     let n = get_or numbers k d in
     let same : 0 + n ≡ n = omega arith in
-    Contains-append_left own rest (own_pattern (test_at tests n)) (among-answered path s tests 0 n (asked.within k d l) (rw same (asked.answered k d l)) (asked.on_slot k d l) (has-own (pattern_of (test_at tests n)) (asked.patterns k d l)))) in
+    Contains-append_left own rest (own_pattern (test_at tests n)) (among-answered path s (own_pattern (test_at tests n)) tests 0 n (asked.within k d l) (rw same (asked.answered k d l)) (asked.on_slot k d l) (own-among (test_at tests n) (asked.patterns k d l)))) in
     let behind : All (Contains all) (some_word ∷ option_to_list shape) =
     All-cons (Contains all) some_word (option_to_list shape) (Contains-append_right own rest some_word some) (λ k d l. Contains-append_right own rest _ (shaped k d l)) in
     let wanted : All (Contains all) (wanted_patterns tests numbers shape) = subst (λ (ps : List (List Piece)). All (Contains all) ps) (sym (same-patterns tests path shape numbers asked.patterns)) (All-append (Contains all) (map (λ n. own_pattern (test_at tests n)) numbers) (some_word ∷ option_to_list shape) tested behind) in
@@ -154,6 +163,19 @@ permits-word schema slot.Principal w h is = absurd h
 permits-word schema slot.Action w h is = is
 permits-word schema slot.Resource w h is = is
 permits-word schema (slot.Key name) w h is = absurd h
+
+pub one-of-words : (s : Slot) → (s ≡ slot.Action) ⊎ (s ≡ slot.Resource) → IsWordSlot s
+one-of-words s h = elim h [
+  | inl e ↦ rw e tt
+  | inr e ↦ rw e tt
+]
+
+-- what shows that no value of a word's slot answers is what shows that no word does
+pub shows-word : (schema : Schema) (tests : List Test) (path : Answers) (core : List ℕ) (s : Slot) (p : SlotProof) → IsWordSlot s → Shows schema tests path core s p ≡ WordShows (shape_at schema s) tests path core p
+shows-word schema tests path core slot.Principal p h = absurd h
+shows-word schema tests path core slot.Action p h = refl
+shows-word schema tests path core slot.Resource p h = refl
+shows-word schema tests path core (slot.Key name) p h = absurd h
 
 -- ---- a product for a core
 

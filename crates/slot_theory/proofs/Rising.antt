@@ -1,12 +1,12 @@
 -- Cores that grow and shrink.
-use Rattle.std.proofs.Common.{◌≡◌, ◌≢◌, ℕ, zero, suc, ◌+◌, ◌<◌, ◌≤◌, List, [], ◌∷◌, length, get_or, take, drop, Bool, true, nat_le, IsSome, All, Contains, refl, sym, ◌∙◌, subst, arith}
+use Rattle.std.proofs.Common.{◌≡◌, ◌≢◌, ℕ, zero, suc, ◌+◌, ◌<◌, ◌≤◌, List, [], ◌∷◌, length, get_or, take, drop, Bool, true, nat_le, IsSome, All, Contains, refl, sym, ap, ◌∙◌, subst, inl, inr, arith}
 use Rattle.std.specs.List.{filter, insert, remove}
-use Rattle.std.proofs.lemmas.Bool.{and_parts, and_from}
+use Rattle.std.proofs.lemmas.Bool.{and_parts, and_from, cases_Bool}
 use Rattle.std.proofs.lemmas.Bool.Decides.{nat_tests}
 use Rattle.std.proofs.lemmas.List.{get_or_default}
 use Rattle.std.proofs.lemmas.List.Edits.{length-insert}
 use Rattle.std.proofs.lemmas.List.Sums.{length-filter, count_by-le-length}
-use Rattle.std.proofs.lemmas.List.Elements.{All-cons, All-head, All-tail, All-append, All-take, All-drop}
+use Rattle.std.proofs.lemmas.List.Elements.{All-cons, All-head, All-tail, All-append, All-filter, All-take, All-drop}
 use Rattle.pattern_automata.specs.Closed.{rises_from}
 use Rattle.formula_tree.specs.Answers.{Answers, answer_of}
 use Rattle.policy_model.specs.declared.test.Slot.{Slot}
@@ -48,6 +48,17 @@ rises-remove (x ∷ xs) zero a r =
 rises-remove (x ∷ xs) (suc i) a r =
     let both = and_parts (nat_le a x) (rises_from (x + 1) xs) r in
     and_from _ _ both.0 (rises-remove xs i (x + 1) both.1)
+
+-- numbers that rise and pass a test rise
+rises-filter : (p : ℕ → Bool) (xs : List ℕ) (a : ℕ) → rises_from a xs ≡ true → rises_from a (filter p xs) ≡ true
+rises-filter p [] a r = refl
+rises-filter p (x ∷ xs) a r =
+    let both = and_parts (nat_le a x) (rises_from (x + 1) xs) r in
+    let rest = rises-filter p xs (x + 1) both.1 in
+    elim (cases_Bool (p x)) [
+      | inl e ↦ rw e (and_from _ _ both.0 rest)
+      | inr e ↦ rw e (rises-lower a (x + 1) (filter p xs) (omega (arith, test-le a x both.0)) rest)
+    ]
 
 -- numbers below a bound that rise are at most as many
 pub few : (xs : List ℕ) (a n : ℕ) → rises_from a xs ≡ true → All (λ m. m < n) xs → a ≤ n → a + length xs ≤ n
@@ -121,6 +132,18 @@ module _ (tests : List Test) (path : Answers) (s : Slot) (core : List ℕ) where
     answered = rw e (All-remove (λ m. IsSome (answer_of path m)) core i is.answered);
     on_slot = rw e (All-remove (λ m. slot_of (test_at tests m) ≡ s) core i is.on_slot);
   }
+
+  -- and so are those of its tests that pass a test, where some do
+  pub core-filter : (p : ℕ → Bool) (few view : List ℕ) → IsCore tests path core s → few ≡ filter p view → view ≡ core → ¬ (few ≡ []) → IsCore tests path few s
+  core-filter p few view is e same some =
+      let own : few ≡ filter p core = e ∙ ap (filter p) same in
+      record {
+        some = some;
+        rises = rw own (rises-filter p core 0 is.rises);
+        within = rw own (All-filter p (λ m. m < length tests) core is.within);
+        answered = rw own (All-filter p (λ m. IsSome (answer_of path m)) core is.answered);
+        on_slot = rw own (All-filter p (λ m. slot_of (test_at tests m) ≡ s) core is.on_slot);
+      }
 
   pub core-count : IsCore tests path core s → length core ≤ length tests
   core-count is = omega (arith, few core 0 (length tests) is.rises is.within (omega arith))

@@ -3,13 +3,20 @@ use Rattle.std.proofs.Common.{◌≡◌, ◌≢◌, ℕ, zero, suc, ◌+◌, ◌
 use Rattle.std.proofs.lemmas.Bool.{both_ways, cases_Bool, cases_lt}
 use Rattle.std.proofs.lemmas.List.{get_or_default}
 use Rattle.std.proofs.lemmas.Bool.Decides.{nat_tests}
+use Rattle.std.specs.Prelude.{◌↔◌, IsTrue, MatchBool, MatchOption, not}
+use Rattle.std.specs.Bool.{beq}
+use Rattle.std.specs.Str.{bytes_eq}
+use Rattle.std.proofs.lemmas.Slice.Eq.{bytes_eq-Decides}
 use Rattle.formula_tree.specs.Answers.{Answers, answer_of, IsDistinct}
 use Rattle.policy_model.specs.declared.test.Slot.{Slot}
 use Rattle.policy_model.specs.declared.test.Slot.TheVariants as slot
 use Rattle.policy_model.specs.declared.test.Test.{Test}
-use Rattle.policy_model.specs.declared.test.Test.TheVariants.{Principal, Action, Resource}
+use Rattle.policy_model.specs.declared.test.Test.TheVariants.{Principal, Action, Resource, Present, SomeMeets, SomeMeetsNone}
+use Rattle.policy_model.specs.declared.schema.KeyRule.{KeyRule}
+use Rattle.policy_model.specs.declared.schema.Schema.{Schema}
+use Rattle.policy_model.specs.Soundness.{TestSuits}
 use Rattle.slot_theory.specs.declared.outcome.SlotValue.{SlotValue}
-use Rattle.slot_theory.specs.Slots.{IsBuiltSlot, AnswersSlot, is_on, slot_of, test_at, AnswersTest}
+use Rattle.slot_theory.specs.Slots.{SlotIsIn, AnswersSlot, ValueMeets, is_on, slot_of, test_at, AnswersTest}
 use Rattle.slot_theory.specs.Possible.{PathInRange}
 use Rattle.slot_theory.specs.Cores.{HasTest, IsAnsweredOn}
 use Rattle.slot_theory.specs.Steps.{IsOtherwise, IsWrong}
@@ -56,16 +63,25 @@ on-within tests path s n range on = let w = some-answer (answer_of path n) on.an
 
 -- ---- the slot of a test
 
+key-slot : (name key : List ℕ) → bytes_eq name key ≡ true → slot.Key key ≡ slot.Key name
+key-slot name key e = ap (λ (k : List ℕ). slot.Key k) (sym ((bytes_eq-Decides name key).0 e))
+
 pub on-slot : (s : Slot) (t : Test) → is_on s t ≡ true → slot_of t ≡ s
 on-slot slot.Principal (Principal entry) e = refl
 on-slot slot.Action (Action pattern) e = refl
 on-slot slot.Resource (Resource pattern) e = refl
+on-slot (slot.Key name) (Present key) e = key-slot name key e
+on-slot (slot.Key name) (SomeMeets key c) e = key-slot name key e
+on-slot (slot.Key name) (SomeMeetsNone key cs) e = key-slot name key e
 on-slot s t e = absurd (cc)
 
 is_on-own : (t : Test) → is_on (slot_of t) t ≡ true
 is_on-own (Principal entry) = refl
 is_on-own (Action pattern) = refl
 is_on-own (Resource pattern) = refl
+is_on-own (Present key) = (bytes_eq-Decides key key).1 refl
+is_on-own (SomeMeets key c) = (bytes_eq-Decides key key).1 refl
+is_on-own (SomeMeetsNone key cs) = (bytes_eq-Decides key key).1 refl
 
 pub slot-on : (s : Slot) (t : Test) → slot_of t ≡ s → is_on s t ≡ true
 slot-on s t e = rw (← e) (is_on-own t)
@@ -73,13 +89,27 @@ slot-on s t e = rw (← e) (is_on-own t)
 not-on : (s : Slot) (t : Test) → is_on s t ≡ false → slot_of t ≢ s
 not-on s t e same = both_ways (is_on s t) e (slot-on s t same)
 
--- each test is on the principal, the action or the resource
-pub built-slot : (t : Test) → IsBuiltSlot (slot_of t)
-built-slot (Principal entry) = tt
-built-slot (Action pattern) = tt
-built-slot (Resource pattern) = tt
+some-rule : (o : Option KeyRule) (P : KeyRule → Type 0) → MatchOption o ⊥ P → IsSome o
+some-rule None P h = absurd h
+some-rule (Some rule) P h = refl
+
+-- the key of a test that suits the schema is one of the schema's
+pub slot-in : (schema : Schema) (t : Test) → TestSuits schema t → SlotIsIn schema (slot_of t)
+slot-in schema (Principal entry) suits = tt
+slot-in schema (Action pattern) suits = tt
+slot-in schema (Resource pattern) suits = tt
+slot-in schema (Present key) suits = some-rule _ _ suits
+slot-in schema (SomeMeets key c) suits = some-rule _ _ suits
+slot-in schema (SomeMeetsNone key cs) suits = some-rule _ _ suits
 
 -- ---- a value that is tried
+
+-- a test on the slot is answered otherwise where the value's answer differs
+pub other-by : (s : Slot) (v : SlotValue) (t : Test) (meets holds : Bool) → is_on s t ≡ true → IsTrue meets ↔ ValueMeets v t → MatchBool (not (beq meets holds)) (IsOtherwise s v t holds) (slot_of t ≡ s → AnswersTest v t holds)
+other-by s v t true true on says = λ same. says.0 refl
+other-by s v t true false on says = (on-slot s t on, λ no. no (says.0 refl))
+other-by s v t false true on says = (on-slot s t on, λ yes. let said : IsTrue false = says.1 yes in absurd (cc))
+other-by s v t false false on says = λ same yes. let said : IsTrue false = says.1 yes in absurd (cc)
 
 pub wrong-at : (tests : List Test) (ps : Answers) (s : Slot) (v : SlotValue) (i : ℕ) (d : ℕ × Bool) → IsDistinct ps → i < length ps → IsOtherwise s v (test_at tests (get_or ps i d).0) (get_or ps i d).1 → IsWrong tests ps s v (get_or ps i d).0
 wrong-at tests ps s v i d h l o =

@@ -1,21 +1,27 @@
 -- Proofs that tests of one slot can't be answered as a path answers them.
-use Rattle.std.specs.Prelude.{◌≡◌, ◌≢◌, ◌<◌, ◌≤◌, ℕ, List, [], length, true, Some, IsSome, IsSomeAnd, All, Any}
+use Rattle.std.specs.Prelude.{◌≡◌, ◌≢◌, ◌<◌, ◌≤◌, ℕ, List, [], length, map, slice_get, true, false, Option, Some}
+use Rattle.std.specs.Prelude.{IsSome, IsSomeAnd, All, Any, MatchOption, unwrap_or}
 use Rattle.std.specs.List.{filter, insert}
 use Rattle.std.specs.Option.{is_none}
+use Rattle.text_table.specs.Table.{item_at}
+use Rattle.wildcard_lang.specs.declared.piece.Piece.{Piece}
 use Rattle.formula_tree.specs.Answers.{Answers, answer_of}
 use Rattle.pattern_automata.specs.Closed.{rises_from}
 use Rattle.policy_model.specs.declared.principal.PrincipalKind.{PrincipalKind}
 use Rattle.policy_model.specs.declared.principal.PrincipalKind.TheVariants.{Aws, Service, Federated, CanonicalUser}
+use Rattle.policy_model.specs.declared.schema.KeyRule.{KeyRule}
 use Rattle.policy_model.specs.declared.schema.Schema.{Schema}
 use Rattle.policy_model.specs.declared.test.Slot.{Slot}
 use Rattle.policy_model.specs.declared.test.Slot.TheVariants as slot
 use Rattle.policy_model.specs.declared.test.Test.{Test}
 use Rattle.policy_model.specs.Requests.{shape_of}
+use Rattle.set_operators.specs.Asks.{Asks}
+use Rattle.set_operators.specs.Shown.{ShowsAbsent, ShowsMember, ShowsPoints, ShowsRequired, ShowsSomeMember, ShowsTogether}
 use Rattle.slot_theory.specs.declared.outcome.KindProof.{KindProof}
 use Rattle.slot_theory.specs.declared.outcome.KindProof.TheVariants.{Never, Closed}
 use Rattle.slot_theory.specs.declared.outcome.SlotProof.{SlotProof}
-use Rattle.slot_theory.specs.declared.outcome.SlotProof.TheVariants.{Word, Kinds}
-use Rattle.slot_theory.specs.Slots.{IsWordSlot, fixed_at, shape_at, slot_of, test_at}
+use Rattle.slot_theory.specs.declared.outcome.SlotProof.TheVariants.{Points, Absent, Required, Word, Kinds, Member, SomeMember}
+use Rattle.slot_theory.specs.Slots.{ask_of, fixed_at, slot_of, test_at}
 use Rattle.slot_theory.specs.Wants.{IsClosedFor}
 
 -- a core: at least one test, the numbers strictly rise, the path answers each, and all are tests of the slot
@@ -58,12 +64,53 @@ KindShows schema tests path core k Never = Any (IsContradicted tests path k) cor
 KindShows schema tests path core k (Closed closed) =
     IsClosedFor tests path (open_tests tests k core) (shape_of schema.shapes k) closed
 
--- the proof shows that no value of the slot answers the core as the path does: a word by a closed set, a principal kind by kind
-abbrev pub Shows : Schema → List Test → Answers → List ℕ → Slot → SlotProof → Type 0
-Shows schema tests path core s (Word closed) = IsWordSlot s × IsClosedFor tests path core (shape_at schema s) closed
-Shows schema tests path core s (Kinds aws service federated canonical_user) =
-    (s ≡ slot.Principal) × KindShows schema tests path core Aws aws × KindShows schema tests path core Service service ×
+-- what the tests of a core ask of a key's values, each with the path's answer, in the order of the core
+abbrev pub asks_of : List Test → Answers → List ℕ → Asks
+asks_of tests path core = map (λ n. (ask_of (test_at tests n), unwrap_or (answer_of path n) false)) core
+
+-- the proof shows that no word of the shape answers the core as the path does: by a closed set
+abbrev pub WordShows : Option (List Piece) → List Test → Answers → List ℕ → SlotProof → Type 0
+WordShows shape tests path core (Word set) = IsClosedFor tests path core shape set
+WordShows shape tests path core Points = ⊥
+WordShows shape tests path core Absent = ⊥
+WordShows shape tests path core Required = ⊥
+WordShows shape tests path core (Kinds aws service federated canonical_user) = ⊥
+WordShows shape tests path core (Member n set) = ⊥
+WordShows shape tests path core (SomeMember set) = ⊥
+
+-- the proof shows that no principal does: kind by kind
+abbrev pub PrincipalShows : Schema → List Test → Answers → List ℕ → SlotProof → Type 0
+PrincipalShows schema tests path core (Kinds aws service federated canonical_user) =
+    KindShows schema tests path core Aws aws × KindShows schema tests path core Service service ×
     KindShows schema tests path core Federated federated × KindShows schema tests path core CanonicalUser canonical_user
+PrincipalShows schema tests path core Points = ⊥
+PrincipalShows schema tests path core Absent = ⊥
+PrincipalShows schema tests path core Required = ⊥
+PrincipalShows schema tests path core (Word set) = ⊥
+PrincipalShows schema tests path core (Member n set) = ⊥
+PrincipalShows schema tests path core (SomeMember set) = ⊥
+
+-- test n of the core, answered yes, is the one whose member the set excludes
+abbrev pub MemberShows : KeyRule → Asks → List ℕ → ℕ → List (List (List ℕ)) → Type 0
+MemberShows rule asks core n set = (k : ℕ) × (slice_get core k ≡ Some n) × ShowsMember rule asks k set
+
+-- the proof shows that no values of a key of the rule do, by what the core asks of them
+abbrev pub KeyShows : KeyRule → Asks → List ℕ → SlotProof → Type 0
+KeyShows rule asks core Points = ShowsPoints rule asks
+KeyShows rule asks core Absent = ShowsAbsent asks
+KeyShows rule asks core Required = ShowsRequired rule asks
+KeyShows rule asks core (Word set) = ShowsTogether rule asks set
+KeyShows rule asks core (Kinds aws service federated canonical_user) = ⊥
+KeyShows rule asks core (Member n set) = MemberShows rule asks core n set
+KeyShows rule asks core (SomeMember set) = ShowsSomeMember rule asks set
+
+-- the proof shows that no value of the slot answers the core as the path does
+abbrev pub Shows : Schema → List Test → Answers → List ℕ → Slot → SlotProof → Type 0
+Shows schema tests path core slot.Principal proof = PrincipalShows schema tests path core proof
+Shows schema tests path core slot.Action proof = WordShows schema.shapes.action tests path core proof
+Shows schema tests path core slot.Resource proof = WordShows schema.shapes.resource tests path core proof
+Shows schema tests path core (slot.Key name) proof =
+    MatchOption (item_at name schema.keys) ⊥ (λ rule. KeyShows rule (asks_of tests path core) core proof)
 
 -- the core is one of the slot, and the proof shows that no value of the slot answers it as the path does
 pub record IsConflict (schema : Schema) (tests : List Test) (path : Answers) (s : Slot) (core : List ℕ) (proof : SlotProof)

@@ -1,22 +1,27 @@
 -- What the definitions say of the question which value a slot has at a path.
-use Rattle.std.specs.Prelude.{◌^◌, ◌<◌, ◌≤◌, ℕ, List, length, Option, All}
+use Rattle.std.specs.Prelude.{◌≡◌, ◌^◌, ◌<◌, ◌≤◌, ℕ, List, length, Option, Some, All}
+use Rattle.text_table.specs.Table.{item_at}
 use Rattle.pattern_automata.specs.declared.outcome.Product.{Product}
 use Rattle.pattern_automata.specs.Answer.{IsProduct}
 use Rattle.policy_model.specs.declared.principal.PrincipalKind.{PrincipalKind}
-use Rattle.policy_model.specs.Soundness.{TestSuits}
+use Rattle.policy_model.specs.declared.schema.KeyRule.{KeyRule}
+use Rattle.policy_model.specs.declared.test.Slot.TheVariants.{Key}
+use Rattle.policy_model.specs.Soundness.{SchemaIsSound, TestSuits}
 use Rattle.wildcard_lang.specs.declared.piece.Piece.{Piece}
 use Rattle.slot_theory.specs.declared.outcome.KindProof.{KindProof}
 use Rattle.slot_theory.specs.declared.outcome.Possible.{Possible}
 use Rattle.slot_theory.specs.declared.outcome.SlotProof.{SlotProof}
 use Rattle.slot_theory.specs.declared.question.Question.{Question}
-use Rattle.slot_theory.specs.Slots.{HasPattern}
+use Rattle.slot_theory.specs.Slots.{HasPattern, shape_at}
 use Rattle.slot_theory.specs.Possible.{PathInRange}
 use Rattle.slot_theory.specs.Wants.{wanted_clauses, wanted_patterns}
-use Rattle.slot_theory.specs.Cores.{IsAnsweredOn, IsConflict, IsCore, KindShows, Shows}
+use Rattle.set_operators.specs.Asks.{Asks}
+use Rattle.slot_theory.specs.Cores.{IsAnsweredOn, IsConflict, IsCore, KeyShows, KindShows, PrincipalShows, Shows, WordShows, asks_of}
 use Rattle.slot_theory.specs.Outcome.{IsSlotOutcome}
 
--- what may be asked: the tests suit the schema and are numbered by 32 bits, and the path answers none but them
+-- what may be asked: the schema is sound, the tests suit it and are numbered by 32 bits, and the path answers none but them
 pub record IsAskable (q : Question) : Type 0 where
+  pub sound : SchemaIsSound q.schema.now
   pub suit : All (TestSuits q.schema.now) q.tests.now
   pub count : length q.tests.now < 2 ^ 32
   pub range : PathInRange q.tests.now q.path.now
@@ -30,6 +35,12 @@ IsCoreOf q core = IsCore q.tests.now q.path.now core q.slot.now
 
 abbrev pub KindShowsOf : Question → List ℕ → PrincipalKind → KindProof → Type 0
 KindShowsOf q core k proof = KindShows q.schema.now q.tests.now q.path.now core k proof
+
+abbrev pub PrincipalShowsOf : Question → List ℕ → SlotProof → Type 0
+PrincipalShowsOf q core proof = PrincipalShows q.schema.now q.tests.now q.path.now core proof
+
+abbrev pub WordShowsOf : Question → List ℕ → SlotProof → Type 0
+WordShowsOf q core proof = WordShows (shape_at q.schema.now q.slot.now) q.tests.now q.path.now core proof
 
 abbrev pub ShowsOf : Question → List ℕ → SlotProof → Type 0
 ShowsOf q core proof = Shows q.schema.now q.tests.now q.path.now core q.slot.now proof
@@ -50,3 +61,16 @@ pub record AreWanted (q : Question) (numbers : List ℕ) : Type 0 where
 abbrev pub IsProductFor : Question → List ℕ → Option (List Piece) → ℕ → Product → Type 0
 IsProductFor q numbers shape states product =
     IsProduct (wanted_patterns q.tests.now numbers shape) (wanted_clauses q.path.now numbers shape 0) states product
+
+-- the question is on the values of a key of this rule
+pub record IsOnKey (q : Question) (rule : KeyRule) : Type 0 where
+  pub key : List ℕ
+  pub slot : q.slot.now ≡ Key key
+  pub there : item_at key q.schema.now.keys ≡ Some rule
+
+-- what the core asks of the key's values
+abbrev pub core_asks : Question → List ℕ → Asks
+core_asks q core = asks_of q.tests.now q.path.now core
+
+abbrev pub KeyShowsOf : Question → KeyRule → List ℕ → SlotProof → Type 0
+KeyShowsOf q rule core proof = KeyShows rule (core_asks q core) core proof

@@ -5,6 +5,7 @@ ghost use Rattle.slot_theory.specs.Slots.{IsWordSlot};
 ghost use Rattle.slot_theory.specs.Question.{IsAskable, IsCoreOf};
 ghost use Rattle.slot_theory.specs.Steps.{IsAttempt, IsKindAttempt};
 
+use crate::keys::attempt_key;
 use crate::kinds::{is_contradicted, open_tests};
 use crate::outcome::{KindProof, SlotProof, SlotValue};
 use crate::question::Question;
@@ -114,6 +115,10 @@ pub fn attempt(
 {
     match question.slot {
         Slot::Principal => attempt_principal(alloc, question, core, states),
-        _ => attempt_word(alloc, question, core, states),
+        Slot::Action | Slot::Resource => attempt_word(alloc, question, core, states),
+        Slot::Key(name) => match question.schema.get(name) {
+            Some(rule) => attempt_key(alloc, question, rule, core, states),
+            None => unreachable!(),
+        },
     }
 }

@@ -1,14 +1,14 @@
 //! The check of cores and their proofs.
 ghost use Rattle.std.specs.Prelude.{◌≡◌, ◌<◌, ◌^◌, ◌↔◌, IfOk, IsTrue, All, length};
 ghost use Rattle.policy_model.specs.declared.test.Slot.TheVariants.{Principal};
-ghost use Rattle.policy_model.specs.Soundness.{TestSuits};
-ghost use Rattle.slot_theory.specs.declared.outcome.SlotProof.TheVariants.{Word};
+ghost use Rattle.policy_model.specs.Soundness.{SchemaIsSound, TestSuits};
 ghost use Rattle.slot_theory.specs.Slots.{IsWordSlot};
 ghost use Rattle.slot_theory.specs.Possible.{PathInRange};
 ghost use Rattle.slot_theory.specs.Cores.{Accepts};
-ghost use Rattle.slot_theory.specs.Question.{IsAskable, IsConflictOf, IsCoreOf, KindShowsOf, ShowsOf};
+ghost use Rattle.slot_theory.specs.Question.{IsAskable, IsConflictOf, IsCoreOf, KindShowsOf, PrincipalShowsOf, ShowsOf, WordShowsOf};
 
 use crate::cores::is_core;
+use crate::keys::key_shows;
 use crate::kinds::{is_contradicted, open_tests};
 use crate::outcome::{Core, KindProof, SlotProof};
 use crate::question::Question;
@@ -21,20 +21,25 @@ use policy_model::PrincipalKind::{self, Aws, CanonicalUser, Federated, Service};
 use policy_model::{Schema, Slot, TestList, shape_of};
 use std::alloc::Global;
 
-/// Whether the set is closed for what the core wants of a word.
+/// Whether the proof shows that no word answers the core as the path does.
 fn word_shows(
     alloc: Global,
     question: &Question<'_>,
     core: &[u32],
-    closed: &Closed,
+    proof: &SlotProof,
 ) -> Result<bool, NoMemory>
     requires askable { IsAskable question.now }
     requires core { IsCoreOf question.now core.now }
     requires slot { IsWordSlot question.now.slot.now }
-    ensures { IfOk result (λ yes. IsTrue yes ↔ ShowsOf question.now core.now (Word closed.now)) }
+    ensures { IfOk result (λ yes. IsTrue yes ↔ WordShowsOf question.now core.now proof.now) }
 {
-    let shape = shape_at(question.schema, question.slot);
-    is_closed_for(alloc, question, core, shape, closed)
+    match proof {
+        SlotProof::Word(closed) => {
+            let shape = shape_at(question.schema, question.slot);
+            is_closed_for(alloc, question, core, shape, closed)
+        }
+        _ => Ok(false),
+    }
 }
 
 /// Whether the proof shows that no principal of the kind answers the core as the path does.
@@ -60,6 +65,29 @@ fn kind_shows(
     }
 }
 
+/// Whether the proof shows that no principal answers the core as the path does.
+fn principal_shows(
+    alloc: Global,
+    question: &Question<'_>,
+    core: &[u32],
+    proof: &SlotProof,
+) -> Result<bool, NoMemory>
+    requires askable { IsAskable question.now }
+    requires core { IsCoreOf question.now core.now }
+    requires slot { question.now.slot.now ≡ Principal }
+    ensures { IfOk result (λ yes. IsTrue yes ↔ PrincipalShowsOf question.now core.now proof.now) }
+{
+    match proof {
+        SlotProof::Kinds(aws, service, federated, canonical) => Ok(
+            kind_shows(alloc, question, core, Aws, aws)?
+                && kind_shows(alloc, question, core, Service, service)?
+                && kind_shows(alloc, question, core, Federated, federated)?
+                && kind_shows(alloc, question, core, CanonicalUser, canonical)?,
+        ),
+        _ => Ok(false),
+    }
+}
+
 /// Whether the proof shows that no value of the slot answers the core as the path does.
 fn shows(
     alloc: Global,
@@ -71,19 +99,13 @@ fn shows(
     requires core { IsCoreOf question.now core.now }
     ensures { IfOk result (λ yes. IsTrue yes ↔ ShowsOf question.now core.now proof.now) }
 {
-    match (question.slot, proof) {
-        (Slot::Action | Slot::Resource, SlotProof::Word(closed)) => {
-            word_shows(alloc, question, core, closed)
-        }
-        (Slot::Principal, SlotProof::Kinds(aws, service, federated, canonical)) => {
-            Ok(
-                kind_shows(alloc, question, core, Aws, aws)?
-                    && kind_shows(alloc, question, core, Service, service)?
-                    && kind_shows(alloc, question, core, Federated, federated)?
-                    && kind_shows(alloc, question, core, CanonicalUser, canonical)?,
-            )
-        }
-        _ => Ok(false),
+    match question.slot {
+        Slot::Principal => principal_shows(alloc, question, core, proof),
+        Slot::Action | Slot::Resource => word_shows(alloc, question, core, proof),
+        Slot::Key(name) => match question.schema.get(name) {
+            Some(rule) => key_shows(alloc, question, rule, core, proof),
+            None => Ok(false),
+        },
     }
 }
 
@@ -111,8 +133,15 @@ fn is_conflict(
 /// shape want of a word. For the principal it shows kind by kind that none answers so: a test with a
 /// fixed answer for the kind that isn't the path's, or a closed set for the tests without one.
 ///
-/// The tests suit the schema and are numbered by 32 bits, and the path's are in range. The only error
-/// is want of memory.
+/// For a key it is one of these. The key is to be absent, and another test of the core is answered
+/// yes; or it is to be absent, and is required. Its values aren't texts, and none answer so, which is
+/// decided anew. A closed set for what all tests and the key's rule want of the one text that the key
+/// needs. Of a key with several values a closed set for the value of one test that is answered yes,
+/// beside the tests that are answered no and the rule; or, where the key is required, for the tests
+/// that are answered no and the rule.
+///
+/// The schema is sound, the tests suit it and are numbered by 32 bits, and the path's are in range. The
+/// only error is want of memory.
 pub fn accepts(
     alloc: Global,
     schema: &Schema,
@@ -121,6 +150,7 @@ pub fn accepts(
     core: &Core,
     proof: &SlotProof,
 ) -> Result<bool, NoMemory>
+    requires sound { SchemaIsSound schema.now }
     requires suit { All (TestSuits schema.now) tests.now }
     requires count { length tests.now < 2 ^ 32 }
     requires range { PathInRange tests.now path.now }

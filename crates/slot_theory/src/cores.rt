@@ -1,5 +1,5 @@
 //! Cores: lists of test numbers that strictly rise.
-ghost use Rattle.std.specs.Prelude.{◌≡◌, ◌<◌, ◌≤◌, ◌↔◌, ℕ, true, IfOk, IsTrue, All, Contains, length, slice_index, remove};
+ghost use Rattle.std.specs.Prelude.{◌≡◌, ◌<◌, ◌≤◌, ◌↔◌, ℕ, true, IfOk, IsTrue, All, Contains, MatchOption, Some, length, slice_get, slice_index, remove};
 ghost use Rattle.pattern_automata.specs.Closed.{rises_from};
 ghost use Rattle.slot_theory.specs.Possible.{PathInRange};
 ghost use Rattle.slot_theory.specs.Cores.{IsAnsweredOn, IsCore, IsWith};
@@ -59,6 +59,18 @@ fn index_of(core: &[u32], n: u32) -> usize
         }
     }
     core.len()
+}
+
+/// The index of the number, or none where it isn't among them.
+pub fn index_in(core: &[u32], n: u32) -> Option<usize>
+    ensures { MatchOption result (Contains core.now n → ⊥) (λ i. slice_get core.now i ≡ Some n) }
+{
+    for (i, m) in core.iter().enumerate() {
+        if *m == n {
+            return Some(i);
+        }
+    }
+    None
 }
 
 /// The core with one more test.

@@ -2,8 +2,8 @@
 ghost use Rattle.std.specs.Prelude.{◌≡◌, IfOk};
 
 use pattern_automata::Closed;
-use plain_lists::{List, NoMemory};
-use policy_model::PrincipalKind;
+use plain_lists::{EqualClone, List, NoMemory};
+use policy_model::{PrincipalKind, ValueList};
 use wildcard_lang::{Text, TextList};
 
 /// A value of a slot.
@@ -13,6 +13,8 @@ pub enum SlotValue {
     Principal(PrincipalKind, Text),
     /// An action or a resource.
     Word(Text),
+    /// The values of a key. The empty list stands for an absent key.
+    Values(ValueList),
 }
 
 impl SlotValue {
@@ -23,6 +25,7 @@ impl SlotValue {
         match self {
             SlotValue::Principal(kind, id) => Ok(SlotValue::Principal(*kind, id.copy()?)),
             SlotValue::Word(text) => Ok(SlotValue::Word(text.copy()?)),
+            SlotValue::Values(values) => Ok(SlotValue::Values(values.copy()?)),
         }
     }
 }
@@ -41,11 +44,24 @@ pub enum KindProof {
 /// Why the tests of a core can't be answered as a path answers them.
 #[derive(Drop)]
 pub enum SlotProof {
-    /// No word does: a closed set of product states for the core's patterns.
+    /// No values of a key do, which aren't texts. The check decides that itself.
+    Points,
+    /// The key is to be absent, and another test of the core is answered yes.
+    Absent,
+    /// The key is to be absent, and it is required.
+    Required,
+    /// No word does, or no text of a key that has at most one value: a closed set of product states
+    /// for the core's patterns.
     Word(Closed),
     /// No principal does: of the kinds `Aws`, `Service`, `Federated` and `CanonicalUser`, in this
     /// order.
     Kinds(KindProof, KindProof, KindProof, KindProof),
+    /// No text of a key with several values can be the member for this test of the core, which is
+    /// answered yes: a closed set for its patterns and those of the tests that are answered no.
+    Member(u32, Closed),
+    /// No text can be a member of a required key with several values: a closed set for the patterns
+    /// of the tests that are answered no.
+    SomeMember(Closed),
 }
 
 /// Test numbers, in strictly rising order.

@@ -1,17 +1,20 @@
 //! The search for a value of a slot. It asks for a value that gives the answers of a few tests, its
 //! core, and tries that on all of them; a test that the value answers otherwise joins the core.
-ghost use Rattle.std.specs.Prelude.{◌≤◌, ◌<◌, ◌^◌, ◌+◌, IfOk, MatchOption, All, length};
+ghost use Rattle.std.specs.Prelude.{◌≡◌, ◌≤◌, ◌<◌, ◌^◌, ◌+◌, IfOk, MatchOption, All, length};
 ghost use Rattle.formula_tree.specs.Answers.{IsDistinct};
 ghost use Rattle.policy_model.specs.Soundness.{SchemaIsSound, TestSuits};
 ghost use Rattle.slot_theory.specs.Possible.{PathInRange};
 ghost use Rattle.slot_theory.specs.Cores.{HasTest, IsAnsweredOn};
+ghost use Rattle.slot_theory.specs.declared.outcome.Possible.TheVariants.{Found};
 ghost use Rattle.slot_theory.specs.Outcome.{IsSlotOutcome};
-ghost use Rattle.slot_theory.specs.Slots.{IsBuiltSlot};
+ghost use Rattle.slot_theory.specs.Unasked.{stated_value};
+ghost use Rattle.slot_theory.specs.Slots.{SlotIsIn};
 ghost use Rattle.slot_theory.specs.Question.{IsAnsweredOf, IsAskable, IsConflictOf, IsOutcomeOf};
+ghost use Rattle.slot_theory.specs.Steps.{is_named, named_tests};
 
 use crate::attempt::attempt;
 use crate::cores::{with_test, without};
-use crate::outcome::{Core, Possible};
+use crate::outcome::{Core, Possible, SlotProof};
 use crate::question::Question;
 use crate::slots::is_on;
 use crate::steps::{Attempt, Kept};
@@ -86,6 +89,59 @@ fn cut(
     Ok(kept)
 }
 
+/// Whether the proof rests on the test, which is answered so.
+fn is_named(proof: &SlotProof, n: u32, holds: bool) -> bool
+    ensures { result ≡ is_named proof.now n holds }
+{
+    match proof {
+        SlotProof::Member(member, _) => n == *member || !holds,
+        SlotProof::SomeMember(_) => !holds,
+        _ => true,
+    }
+}
+
+/// The tests of the core that its proof rests on.
+fn named_tests(
+    alloc: Global,
+    path: &Path,
+    proof: &SlotProof,
+    core: &[u32],
+) -> Result<Core, NoMemory>
+    ensures { IfOk result (λ v. v ≡ named_tests path.now proof.now core.now) }
+{
+    let mut named = Core::new(alloc);
+    for n in core {
+        let holds = path.answer(*n).unwrap_or(false);
+        if is_named(proof, *n, holds) {
+            named.push(*n)?;
+        }
+    }
+    Ok(named)
+}
+
+/// The conflict of the tests alone that its proof rests on. Each test of a key with several values that
+/// is answered yes has a product of its own, so that `cut` would look at many of them again and again.
+fn trimmed(
+    alloc: Global,
+    question: &Question<'_>,
+    states: u32,
+    first: Kept,
+) -> Result<Kept, NoMemory>
+    requires askable { IsAskable question.now }
+    requires some { 1 ≤ states }
+    requires kept { IsConflictOf question.now first.core first.proof }
+    ensures { IfOk result (λ k. IsConflictOf question.now k.core k.proof) }
+{
+    let named = named_tests(alloc, question.path, &first.proof, first.core.as_slice())?;
+    if named.is_empty() || named.len() == first.core.len() {
+        return Ok(first);
+    }
+    match attempt(alloc, question, named.as_slice(), states)? {
+        Attempt::Empty(proof) => Ok(Kept { core: named, proof }),
+        _ => Ok(first),
+    }
+}
+
 /// The search from a core of one test.
 fn search(
     alloc: Global,
@@ -104,7 +160,7 @@ fn search(
     'grow: loop {
         match attempt(alloc, question, core.as_slice(), states)? {
             Attempt::Empty(proof) => {
-                let kept = Kept { core, proof };
+                let kept = trimmed(alloc, question, states, Kept { core, proof })?;
                 let small = cut(alloc, question, states, kept, last)?;
                 return Ok(Possible::Conflict(small.core, small.proof));
             }
@@ -120,12 +176,12 @@ fn search(
 
 /// A value of a slot that answers the slot's tests as the path does; or tests of the slot that no
 /// value answers so, with a proof; or one more text than `states`, no two of which have the same
-/// product state of the patterns that are asked. Where the path answers no test of the slot, it is a
-/// value.
+/// product state of the patterns that are asked. Where the path answers no test of the slot, it is the
+/// stated value.
 ///
-/// The schema is sound, the tests are numbered by 32 bits, the path's are in range, the slot isn't a
-/// key, and `states`, the most product states that are looked at for some of the tests, is at least 1.
-/// The only error is want of memory.
+/// The schema is sound, the tests suit it and are numbered by 32 bits, the path's are in range, a key
+/// that is the slot is one of the schema's, and `states`, the most product states that are looked at for
+/// some of the tests, is at least 1. The only error is want of memory.
 pub fn possible(
     alloc: Global,
     schema: &Schema,
@@ -138,9 +194,11 @@ pub fn possible(
     requires suit { All (TestSuits schema.now) tests.now }
     requires count { length tests.now < 2 ^ 32 }
     requires range { PathInRange tests.now path.now }
-    requires slot { IsBuiltSlot slot.now }
+    requires slot { SlotIsIn schema.now slot.now }
     requires some { 1 ≤ states }
-    ensures { IfOk result (IsSlotOutcome schema.now tests.now path.now slot.now states) }
+    ensures outcome { IfOk result (IsSlotOutcome schema.now tests.now path.now slot.now states) }
+    ensures unasked { IfOk result (λ found. ¬ HasTest tests.now path.now slot.now →
+        found ≡ Found (stated_value schema.now slot.now)) }
 {
     let Some(last) = last_on(tests.as_slice(), path.as_slice(), slot) else {
         return Ok(Possible::Found(stated_value(alloc, schema, slot)?));

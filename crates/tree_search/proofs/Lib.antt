@@ -4,5 +4,4 @@ mod Deciding
 pub mod Laws
 mod Meeting
 mod Nesting
-mod Possible
 mod Searching

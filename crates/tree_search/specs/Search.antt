@@ -5,9 +5,9 @@ use Rattle.formula_tree.specs.Answers.{Answers, answer_of}
 use Rattle.formula_tree.specs.Runs.{NeedsMore, Run, answered}
 use Rattle.formula_tree.specs.Values.{AreBelow, value}
 use Rattle.formula_tree.specs.declared.value.Three.TheVariants.{No}
+use Rattle.text_table.specs.Table.{IsInOrder}
 use Rattle.policy_model.specs.declared.schema.Schema.{Schema}
 use Rattle.policy_model.specs.declared.test.Slot.{Slot}
-use Rattle.policy_model.specs.Requests.{HasValidRequest}
 use Rattle.policy_model.specs.Soundness.{SchemaIsSound, TestSuits}
 use Rattle.policy_compile.specs.declared.outcome.Query.{Query}
 use Rattle.slot_theory.specs.declared.outcome.SlotValue.{SlotValue}
@@ -28,7 +28,7 @@ Values = List (Slot × SlotValue)
 -- what is asked for all through a search of the query
 pub record IsAskedFor (schema : Schema) (query : Query) (states : ℕ) : Type 0 where
   pub sound : SchemaIsSound schema
-  pub request : HasValidRequest schema
+  pub order : IsInOrder schema.keys
   pub suit : All (TestSuits schema) query.tests
   pub count : length query.tests < 2 ^ 32
   pub below : AreBelow (length query.tests) (asked_tree query)

@@ -12,7 +12,7 @@ closes-requires t c =
     let here = split-own c.args.schema.now q path c.args.part.now c.in-Split.test c.in-Split.yes c.in-Split.no c.in-Split.is own in
     let small = sides-smaller c.args.schema.now q path c.args.part.now c.in-Split.test c.in-Split.yes c.in-Split.no c.in-Split.is in
     let e = ap proof_of c.deref.ensures in
-    (rw e (omega (arith, small.0, c.decreases)), (c.requires.suit, (c.requires.count, rw c.in_ok-push-in-Split.ensures.ok (range_more q.tests path c.in-Split.test true c.requires.range here.0))))
+    (rw e (omega (arith, small.0, c.decreases)), (c.requires.sound, (c.requires.suit, (c.requires.count, rw c.in_ok-push-in-Split.ensures.ok (range_more q.tests path c.in-Split.test true c.requires.range here.0)))))
 
 pub push-requires-in-Split : goal.push-requires-in-Split
 push-requires-in-Split t c =
@@ -32,7 +32,7 @@ closes-requires-in-Split t c =
     let small = sides-smaller c.args.schema.now q path c.args.part.now c.in-Split.test c.in-Split.yes c.in-Split.no c.in-Split.is in
     let back = popped path c.in-Split.test true c.closes.new.path c.pop.new.self c.pop.result (c.in_ok-first-in-Split.ensures.path ∙ c.in_ok-push-in-Split.ensures.ok) c.pop.ensures.last c.pop.ensures.some in
     let e = ap proof_of c.deref-in-Split.ensures in
-    (rw e (omega (arith, small.1, c.decreases)), (c.requires.suit, (c.requires.count, rw (c.in_ok-push-in-Split-2.ensures.ok, back) (range_more q.tests path c.in-Split.test false c.requires.range here.0))))
+    (rw e (omega (arith, small.1, c.decreases)), (c.requires.sound, (c.requires.suit, (c.requires.count, rw (c.in_ok-push-in-Split-2.ensures.ok, back) (range_more q.tests path c.in-Split.test false c.requires.range here.0)))))
 
 pub returns-in_ok-second-in-Split-clause-closes : goal.returns-in_ok-second-in-Split-clause-closes
 returns-in_ok-second-in-Split-clause-closes t c =

@@ -17,7 +17,7 @@ walk-requires t c =
     let here = split-own c.args.schema.now q path c.args.part.now c.in-Split.test c.in-Split.yes c.in-Split.no c.in-Split.is own in
     let small = sides-smaller c.args.schema.now q path c.args.part.now c.in-Split.test c.in-Split.yes c.in-Split.no c.in-Split.is in
     let e = ap proof_of c.deref.ensures in
-    (rw e (omega (arith, small.0, c.decreases)), (c.requires.suit, (c.requires.count, (rw c.in_ok-push-in-Split.ensures.ok (range_more q.tests path c.in-Split.test true c.requires.range here.0), rw e (omega (arith, small.0, c.requires.nodes))))))
+    (rw e (omega (arith, small.0, c.decreases)), (c.requires.sound, (c.requires.suit, (c.requires.count, (rw c.in_ok-push-in-Split.ensures.ok (range_more q.tests path c.in-Split.test true c.requires.range here.0), rw e (omega (arith, small.0, c.requires.nodes)))))))
 
 pub push-requires-in-Split : goal.push-requires-in-Split
 push-requires-in-Split t c =
@@ -37,7 +37,7 @@ walk-requires-in-Split t c =
     let small = sides-smaller c.args.schema.now q path c.args.part.now c.in-Split.test c.in-Split.yes c.in-Split.no c.in-Split.is in
     let back = popped path c.in-Split.test true c.walk.new.path c.pop.new.self c.pop.result (c.in_ok-first-in-Split.ensures.path ∙ c.in_ok-push-in-Split.ensures.ok) c.pop.ensures.last c.pop.ensures.some in
     let e = ap proof_of c.deref-in-Split.ensures in
-    (rw e (omega (arith, small.1, c.decreases)), (c.requires.suit, (c.requires.count, (rw (c.in_ok-push-in-Split-2.ensures.ok, back) (range_more q.tests path c.in-Split.test false c.requires.range here.0), rw e (omega (arith, small.1, c.requires.nodes))))))
+    (rw e (omega (arith, small.1, c.decreases)), (c.requires.sound, (c.requires.suit, (c.requires.count, (rw (c.in_ok-push-in-Split-2.ensures.ok, back) (range_more q.tests path c.in-Split.test false c.requires.range here.0), rw e (omega (arith, small.1, c.requires.nodes)))))))
 
 pub returns-in-Failed-clause-walked : goal.returns-in-Failed-clause-walked
 returns-in-Failed-clause-walked t c =

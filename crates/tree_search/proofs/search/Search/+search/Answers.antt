@@ -1,4 +1,4 @@
-use Rattle.std.proofs.Common.{◌≡◌, ◌∙◌, ◌↔◌, IsTrue, ◌<◌, ◌≤◌, ◌-◌, true, false, Some, length, sym, subst, arith, rules}
+use Rattle.std.proofs.Common.{◌≡◌, ◌∙◌, ◌↔◌, [], IsTrue, ◌<◌, ◌≤◌, ◌-◌, true, false, Some, length, sym, subst, arith, rules}
 use Rattle.std.proofs.lemmas.List.{length-set}
 use Rattle.formula_tree.specs.Runs.{answered}
 use Rattle.formula_tree.specs.Trees.{tree_of}
@@ -6,16 +6,17 @@ use Rattle.formula_tree.specs.Values.{AreBelow, pick, value}
 use Rattle.formula_tree.specs.declared.value.Three.TheVariants.{No}
 use Rattle.wildcard_lang.specs.Places.{ShowWider}
 use Rattle.policy_model.specs.declared.test.Slot.{Slot}
+use Rattle.policy_model.specs.declared.test.Test.TheVariants.{Action}
 use Rattle.slot_theory.specs.declared.outcome.SlotValue.{SlotValue}
-use Rattle.slot_theory.specs.Slots.{ValueMeets, patterns_at, test_at}
+use Rattle.slot_theory.specs.Slots.{SlotIsIn, ValueMeets, patterns_at, test_at}
 use Rattle.slot_theory.specs.Cores.{IsConflict}
-use Rattle.slot_theory.proofs.Laws.{own-test}
+use Rattle.slot_theory.proofs.Laws.{own-test, slot-in}
+use Rattle.request_build.proofs.Laws.{joined-possible}
 use Rattle.refute_check.specs.Proofs.{proof_of}
 use Rattle.tree_search.specs.Decisions.{asked_tree}
 use Rattle.tree_search.specs.Search.{IsDecidedFrom, IsRefutedAt}
 use Rattle.tree_search.specs.Values.{IsHeldAt}
 use Rattle.tree_search.proofs.Carrying.{here, longer-asked, longer-kept, longer-range, longer-with, put-back}
-use Rattle.tree_search.proofs.Possible.{values-possible}
 use Rattle.tree_search.proofs.Searching.{after-no, after-yes, needs-one, slot-refuted, split-refuted, value-refuted, wide-here}
 use Rattle.tree_search.proofs.search.Search.+search.Goals as goal
 
@@ -72,16 +73,23 @@ go_on-returns-clause-restored t c =
 pub renew-possible-requires-clause-range : goal.renew-possible-requires-clause-range
 renew-possible-requires-clause-range t c = longer-range c.args.self.now.schema.now c.args.self.now.query.now c.args.state.now.path c.args.state.now.values c.args.test c.args.answer c.requires.ahead
 
+pub renew-possible-requires-clause-slot : goal.renew-possible-requires-clause-slot
+renew-possible-requires-clause-slot t c =
+    let schema = c.args.self.now.schema.now in
+    let query = c.args.self.now.query.now in
+    let own = slot-in schema (test_at query.tests c.args.test) (c.requires.ready.suit c.args.test (Action []) c.requires.ahead.within) in
+    subst (SlotIsIn schema) (sym c.requires.slot) own
+
 pub renew-go_on-requires : goal.renew-go_on-requires
 renew-go_on-requires t c =
-    let with = longer-with c.args.self.now.schema.now c.args.self.now.query.now c.args.state.now.path c.args.state.now.values c.args.test c.args.answer c.requires.ahead c.args.slot c.in-Found.value c.args.index c.requires.slot c.requires.index (rw c.in-Found.is at c.in_ok-value.ensures) in
+    let with = longer-with c.args.self.now.schema.now c.args.self.now.query.now c.args.state.now.path c.args.state.now.values c.args.test c.args.answer c.requires.ahead c.args.slot c.in-Found.value c.args.index c.requires.slot c.requires.index (rw c.in-Found.is at c.in_ok-value.ensures.outcome) in
     (search rules, (c.requires.ready, (c.requires.index, (with, c.requires.may))))
 
 pub renew-returns-in_ok-by_slot-in-Conflict-clause-decided : goal.renew-returns-in_ok-by_slot-in-Conflict-clause-decided
 renew-returns-in_ok-by_slot-in-Conflict-clause-decided t c =
     let schema = c.args.self.now.schema.now in
     let query = c.args.self.now.query.now in
-    let conflict : IsConflict schema query.tests c.args.state.now.path c.args.slot c.in-Conflict.core c.in-Conflict.proof = rw c.in-Conflict.is at c.in_ok-value.ensures in
+    let conflict : IsConflict schema query.tests c.args.state.now.path c.args.slot c.in-Conflict.core c.in-Conflict.proof = rw c.in-Conflict.is at c.in_ok-value.ensures.outcome in
     slot-refuted schema query c.args.state.now.path (c.args.state.now.left - c.args.state.now.left) _ c.in-Conflict.core c.in-Conflict.proof (omega arith) c.in_ok-by_slot-in-Conflict.ensures c.requires.ready.suit (record { slot = c.args.slot; conflict = conflict })
 
 pub renew-returns-in_ok-path-in-TooMany-clause-decided : goal.renew-returns-in_ok-path-in-TooMany-clause-decided
@@ -89,7 +97,7 @@ renew-returns-in_ok-path-in-TooMany-clause-decided t c =
     let schema = c.args.self.now.schema.now in
     let query = c.args.self.now.query.now in
     let path = c.args.state.now.path in
-    let wide : ShowWider (patterns_at schema query.tests path c.args.slot) c.args.self.now.states c.in-TooMany.texts = rw c.in-TooMany.is at c.in_ok-value.ensures in
+    let wide : ShowWider (patterns_at schema query.tests path c.args.slot) c.args.self.now.states c.in-TooMany.texts = rw c.in-TooMany.is at c.in_ok-value.ensures.outcome in
     let asked = longer-asked schema query path c.args.state.now.values c.args.test c.args.answer c.requires.ahead c.args.slot c.requires.slot in
     wide-here schema query path c.args.self.now.states (c.args.state.now.left - c.args.state.now.left) c.in_ok-path-in-TooMany.path c.args.slot c.in-TooMany.texts c.in_ok-path-in-TooMany.ensures c.requires.may asked wide
 
@@ -98,7 +106,7 @@ search-returns-then-state-eq0-clause-decided t c =
     let query = c.args.self.now.query.now in
     let path = c.args.state.now.path in
     let e : pick path (asked_tree query) ≡ Some c.in-Some.test = sym (rw c.deref.ensures at c.in-Some.ensures.value) in
-    let can = values-possible c.args.self.now.schema.now query.tests path c.args.state.now.values c.requires.carries.each c.requires.ready.request.0 c.requires.ready.request.1 in
+    let can = joined-possible c.args.self.now.schema.now query.tests path c.args.state.now.values c.requires.ready.sound c.requires.ready.order c.requires.carries.each in
     λ end n run. let big : 0 < n = needs-one c.args.self.now.schema.now query path c.in-Some.test can e end n run in omega (arith, c.if-state-eq0.true)
 
 pub search-returns-in_default-yes : goal.search-returns-in_default-yes
@@ -109,7 +117,7 @@ search-returns-in_default-yes t c =
     let start = c.args.state.now.left in
     let end = c.side.new.state.left in
     let e : pick path (asked_tree query) ≡ Some c.in-Some.test = sym (rw c.deref.ensures at c.in-Some.ensures.value) in
-    let can = values-possible schema query.tests path c.args.state.now.values c.requires.carries.each c.requires.ready.request.0 c.requires.ready.request.1 in
+    let can = joined-possible schema query.tests path c.args.state.now.values c.requires.ready.sound c.requires.ready.order c.requires.carries.each in
     let fewer : end ≤ start - 1 = c.in_ok-yes.ensures.restored.left in
     record {
       decided = after-yes schema query path c.in-Some.test can e c.args.self.now.states start (start - 1) (start - 1 - end) (start - end) c.in_ok-yes.yes (omega (arith, c.if-state-eq0.false)) (omega (arith, c.if-state-eq0.false)) c.in_default-yes.not-Refuted c.in_ok-yes.ensures.decided;
@@ -126,7 +134,7 @@ search-returns-in_default-no t c =
     let mid = c.side.new.state.left in
     let end = c.side-2.new.state.left in
     let e : pick path (asked_tree query) ≡ Some c.in-Some.test = sym (rw c.deref.ensures at c.in-Some.ensures.value) in
-    let can = values-possible schema query.tests path c.args.state.now.values c.requires.carries.each c.requires.ready.request.0 c.requires.ready.request.1 in
+    let can = joined-possible schema query.tests path c.args.state.now.values c.requires.ready.sound c.requires.ready.order c.requires.carries.each in
     let fewer : mid ≤ start - 1 = c.in_ok-yes.ensures.restored.left in
     let least : end ≤ mid = c.in_ok-no.ensures.restored.left in
     let first : IsRefutedAt schema query (answered path c.in-Some.test true) (start - 1 - mid) (proof_of c.in-Refuted.yes.value) = rw c.in-Refuted.is at c.in_ok-yes.ensures.decided in
@@ -149,7 +157,7 @@ search-returns-clause-decided t c =
     let mid = c.side.new.state.left in
     let end = c.side-2.new.state.left in
     let e : pick path (asked_tree query) ≡ Some c.in-Some.test = sym (rw c.deref.ensures at c.in-Some.ensures.value) in
-    let can = values-possible schema query.tests path c.args.state.now.values c.requires.carries.each c.requires.ready.request.0 c.requires.ready.request.1 in
+    let can = joined-possible schema query.tests path c.args.state.now.values c.requires.ready.sound c.requires.ready.order c.requires.carries.each in
     let fewer : mid ≤ start - 1 = c.in_ok-yes.ensures.restored.left in
     let least : end ≤ mid = c.in_ok-no.ensures.restored.left in
     let first : IsRefutedAt schema query (answered path c.in-Some.test true) (start - 1 - mid) (proof_of c.in-Refuted.yes.value) = rw c.in-Refuted.is at c.in_ok-yes.ensures.decided in
