@@ -1,0 +1,7 @@
+//! Requests as JSON.
+#![tactic(auto)]
+
+mod write;
+
+pub use plain_lists::NoMemory;
+pub use write::write_request;
