@@ -1,19 +1,28 @@
 -- What the arguments of a command line ask for.
-use Rattle.std.specs.Prelude.{ℕ, ◌+◌, ◌-◌, ◌*◌, ◌&&◌, ◌==◌, List, [], ◌∷◌, map, Bool, false, not, nat_le, if◌then◌else◌, Option}
-use Rattle.std.specs.Prelude.{Some, None, option_and_then, option_map, String, codes, string_bytes}
+use Rattle.std.specs.Prelude.{ℕ, ◌+◌, ◌-◌, ◌*◌, ◌&&◌, ◌==◌, List, [], ◌∷◌, map, Bool, true, false, not, nat_le}
+use Rattle.std.specs.Prelude.{if◌then◌else◌, Option, Some, None, option_and_then, option_map, unwrap_or, String, codes}
+use Rattle.std.specs.Prelude.{string_bytes}
 use Rattle.std.specs.Char.{is_ascii_digit}
 use Rattle.std.specs.Str.{bytes_eq}
 use Rattle.tree_search.specs.declared.outcome.Budgets.{Budgets}
+use Rattle.compare_cli.specs.declared.arguments.CompareArguments.{CompareArguments}
 use Rattle.compare_cli.specs.declared.arguments.TheConstants.{MOST_SPLITS, MOST_STATES, DEFAULT_SPLITS, DEFAULT_STATES}
 
--- what is asked: the names of the two files, and the budgets
+-- what is asked: the names of the files, a schema's where one is named, and the budgets
 pub record Asked : Type 0 where
   pub first : List ℕ
   pub second : List ℕ
+  pub schema : Option (List ℕ)
   pub budgets : Budgets
 
-abbrev pub names_in : List ℕ → List ℕ → Budgets → Asked
-names_in first second budgets = record { first = first; second = second; budgets = budgets }
+-- the same, of references to the arguments
+abbrev pub asked_in : CompareArguments → Asked
+asked_in c = record {
+  first = c.first.now;
+  second = c.second.now;
+  schema = option_map (λ name. name.now) c.schema;
+  budgets = c.budgets;
+}
 
 -- a `-` stands first
 abbrev pub begins_dash : List ℕ → Bool
@@ -37,47 +46,60 @@ if_some (Some n) = (if nat_le 1 n then Some n else None)
 abbrev pub number_within : ℕ → List ℕ → Option ℕ
 number_within most argument = if_some (digits_from most 0 argument)
 
-abbrev pub default_budgets : Budgets
-default_budgets = record { splits = DEFAULT_SPLITS; states = DEFAULT_STATES }
+-- the value of an option that stands next, if it does, and the arguments behind it
+abbrev pub taken : List ℕ → List (List ℕ) → Option (List ℕ) × List (List ℕ)
+taken name (option ∷ value ∷ rest) =
+    (if bytes_eq option name then (Some value, rest) else (None, option ∷ value ∷ rest))
+taken name rest = (None, rest)
 
-abbrev pub splits_of : List ℕ → Option Budgets
-splits_of number = option_map (λ n. record default_budgets { splits = n }) (number_within MOST_SPLITS number)
+-- the number that an option gives in its range, or the number without one
+abbrev pub number_or : ℕ → ℕ → Option (List ℕ) → Option ℕ
+number_or most default None = Some default
+number_or most default (Some digits) = number_within most digits
 
-abbrev pub states_of : List ℕ → Option Budgets
-states_of number = option_map (λ n. record default_budgets { states = n }) (number_within MOST_STATES number)
+-- the options, in this order: `--schema FILE`, `--splits N` and `--states N`
+pub record Options : Type 0 where
+  pub schema : Option (List ℕ)
+  pub splits : Option (List ℕ)
+  pub states : Option (List ℕ)
+  pub rest : List (List ℕ)
 
--- one option with its number: `--splits` or `--states`
-abbrev pub one_option : List ℕ → List ℕ → Option Budgets
-one_option option number =
-    (if bytes_eq option (codes "--splits") then splits_of number
-    else (if bytes_eq option (codes "--states") then states_of number else None))
+abbrev pub options_of : List (List ℕ) → Options
+options_of words =
+    let schema = taken (codes "--schema") words in
+    let splits = taken (codes "--splits") schema.1 in
+    let states = taken (codes "--states") splits.1 in
+    record { schema = schema.0; splits = splits.0; states = states.0; rest = states.1 }
 
-abbrev pub both_of : List ℕ → List ℕ → Option Budgets
-both_of splits states =
+abbrev pub budgets_of : Options → Option Budgets
+budgets_of o =
     option_and_then
-    (λ n. option_map (λ m. record { splits = n; states = m }) (number_within MOST_STATES states))
-    (number_within MOST_SPLITS splits)
+    (λ n. option_map (λ m. record { splits = n; states = m }) (number_or MOST_STATES DEFAULT_STATES o.states))
+    (number_or MOST_SPLITS DEFAULT_SPLITS o.splits)
 
--- both options, in this order
-abbrev pub two_options : List ℕ → List ℕ → List ℕ → List ℕ → Option Budgets
-two_options option number next more =
-    (if bytes_eq option (codes "--splits") && bytes_eq next (codes "--states") then both_of number more else None)
+-- no name of a file begins with a `-`
+abbrev pub are_names : List ℕ → List ℕ → Option (List ℕ) → Bool
+are_names first second schema =
+    not (begins_dash first) && not (begins_dash second) && not (unwrap_or (option_map begins_dash schema) false)
 
-abbrev pub budgets_of : List (List ℕ) → Option Budgets
-budgets_of [] = Some default_budgets
-budgets_of (option ∷ number ∷ []) = one_option option number
-budgets_of (option ∷ number ∷ next ∷ more ∷ []) = two_options option number next more
-budgets_of _ = None
+-- no argument is left
+abbrev pub is_all : List (List ℕ) → Bool
+is_all [] = true
+is_all (word ∷ words) = false
 
--- the names of the two files, neither of which begins with a `-`, and the budgets
-abbrev pub compared : List ℕ → List ℕ → List ℕ → List (List ℕ) → Option Asked
-compared command first second options =
-    (if bytes_eq command (codes "compare") && not (begins_dash first) && not (begins_dash second)
-    then option_map (names_in first second) (budgets_of options) else None)
+abbrev pub asked_with : List ℕ → List ℕ → Options → Budgets → Asked
+asked_with first second o budgets = record { first = first; second = second; schema = o.schema; budgets = budgets }
 
--- what `compare FIRST SECOND [--splits N] [--states N]` asks, or none where the arguments aren't of that form
+-- what two names and options ask, behind which nothing stands
+abbrev pub asked_of : List ℕ → List ℕ → Options → Option Asked
+asked_of first second o =
+    (if is_all o.rest && are_names first second o.schema
+    then option_map (asked_with first second o) (budgets_of o) else None)
+
+-- what `compare FIRST SECOND [--schema FILE] [--splits N] [--states N]` asks, or none where the arguments aren't of that form
 abbrev pub asked : List (List ℕ) → Option Asked
-asked (command ∷ first ∷ second ∷ options) = compared command first second options
+asked (command ∷ first ∷ second ∷ options) =
+    (if bytes_eq command (codes "compare") then asked_of first second (options_of options) else None)
 asked _ = None
 
 -- what the arguments of a run ask

@@ -1,5 +1,5 @@
 -- What a comparison of two sets says: the question whether a first set of policies allows a request that a second doesn't.
-use Rattle.std.specs.Prelude.{◌≤◌, ℕ, [], length}
+use Rattle.std.specs.Prelude.{◌≡◌, ◌≤◌, ℕ, [], length}
 use Rattle.formula_tree.specs.Answers.{Answers}
 use Rattle.formula_tree.specs.Runs.{NeedsMore}
 use Rattle.wildcard_lang.specs.Places.{IsWider}
@@ -7,12 +7,12 @@ use Rattle.policy_model.specs.declared.request.Request.{Request}
 use Rattle.policy_model.specs.declared.schema.Schema.{Schema}
 use Rattle.policy_model.specs.declared.set.PolicySet.{PolicySet}
 use Rattle.policy_model.specs.declared.test.Slot.{Slot}
-use Rattle.policy_model.specs.Keys.{no_shapes}
 use Rattle.policy_model.specs.Requests.{IsValid}
 use Rattle.policy_model.specs.Sets.{Allows}
+use Rattle.policy_model.specs.Soundness.{SchemaFits, SchemaIsSound}
 use Rattle.policy_compile.specs.declared.outcome.Query.{Query}
 use Rattle.policy_compile.specs.Numbering.{HasTooMany}
-use Rattle.policy_compile.specs.Plans.{tests_in}
+use Rattle.policy_compile.specs.Plans.{Plan, tests_in}
 use Rattle.policy_compile.specs.Queries.{HasTooManyPieces, IsQuery}
 use Rattle.policy_compile.specs.Sets.{query_plan}
 use Rattle.slot_theory.specs.Possible.{IsPossible}
@@ -21,59 +21,72 @@ use Rattle.tree_search.specs.Decisions.{asked_tree}
 use Rattle.tree_search.specs.Nodes.{IsNode}
 use Rattle.compare_cli.specs.declared.arguments.TheConstants.{MOST_SPLITS}
 
--- the schema of a run: no condition keys and no shapes are read yet
-abbrev pub run_schema : Schema
-run_schema = record { version = 1; keys = []; shapes = no_shapes }
+-- what is compared: two sets, under the schema of their run
+pub record Pair : Type 0 where
+  pub schema : Schema
+  pub first : PolicySet
+  pub second : PolicySet
+
+abbrev pub paired : Schema → PolicySet → PolicySet → Pair
+paired schema first second = record { schema = schema; first = first; second = second }
 
 -- a valid request that the first set allows and the second doesn't
-pub record IsWitness (first second : PolicySet) (r : Request) : Type 0 where
-  pub valid : IsValid run_schema r
-  pub allowed : Allows run_schema first r
-  pub refused : ¬ Allows run_schema second r
+pub record IsWitness (pair : Pair) (r : Request) : Type 0 where
+  pub valid : IsValid pair.schema r
+  pub allowed : Allows pair.schema pair.first r
+  pub refused : ¬ Allows pair.schema pair.second r
 
 -- where the request is valid and the first set allows it, the second does
-abbrev pub IsCovered : PolicySet → PolicySet → Request → Type 0
-IsCovered first second r = IsValid run_schema r → Allows run_schema first r → Allows run_schema second r
+abbrev pub IsCovered : Pair → Request → Type 0
+IsCovered pair r = IsValid pair.schema r → Allows pair.schema pair.first r → Allows pair.schema pair.second r
 
 -- the second set allows each valid request that the first allows: all requests, of texts of any length
-abbrev pub Covers : PolicySet → PolicySet → Type 0
-Covers first second = (r : Request) → IsCovered first second r
+abbrev pub Covers : Pair → Type 0
+Covers pair = (r : Request) → IsCovered pair r
+
+-- the schema can answer for both sets, and there are valid requests under it
+pub record IsFitting (pair : Pair) : Type 0 where
+  pub sound : SchemaIsSound pair.schema
+  pub first : SchemaFits pair.schema pair.first
+  pub second : SchemaFits pair.schema pair.second
 
 -- ---- limits and budgets
 
--- the query 'the first set allows the request and the second doesn't' has at most 1,000 tests, whose patterns have at most 65,536
--- pieces together
-abbrev pub HasQuery : PolicySet → PolicySet → Type 0
-HasQuery first second = (query : Query) × IsQuery (query_plan run_schema first second) query
+-- the plan of the query 'the first set allows the request and the second doesn't'
+abbrev pub plan_of : Pair → Plan
+plan_of pair = query_plan pair.schema pair.first pair.second
+
+-- the query has at most 1,000 tests, whose patterns have at most 65,536 pieces together
+abbrev pub HasQuery : Pair → Type 0
+HasQuery pair = (query : Query) × IsQuery (plan_of pair) query
 
 -- the query has more than 1,000 tests
-abbrev pub TooManyTests : PolicySet → PolicySet → Type 0
-TooManyTests first second = HasTooMany [] (tests_in (query_plan run_schema first second))
+abbrev pub TooManyTests : Pair → Type 0
+TooManyTests pair = HasTooMany [] (tests_in (plan_of pair))
 
 -- it has at most 1,000, and their patterns have more than 65,536 pieces together
-abbrev pub TooManyPieces : PolicySet → PolicySet → Type 0
-TooManyPieces first second = HasTooManyPieces (query_plan run_schema first second)
+abbrev pub TooManyPieces : Pair → Type 0
+TooManyPieces pair = HasTooManyPieces (plan_of pair)
 
 -- the plain run of the query needs more splits
-pub record NeedsSplits (first second : PolicySet) (splits : ℕ) : Type 0 where
+pub record NeedsSplits (pair : Pair) (splits : ℕ) : Type 0 where
   pub query : Query
-  pub is : IsQuery (query_plan run_schema first second) query
-  pub needs : NeedsMore (IsPossible run_schema query.tests) (asked_tree query) [] splits
+  pub is : IsQuery (plan_of pair) query
+  pub needs : NeedsMore (IsPossible pair.schema query.tests) (asked_tree query) [] splits
 
 -- at a node of the plain run the patterns of the slot have more product states
-pub record NeedsStates (first second : PolicySet) (states : ℕ) (s : Slot) : Type 0 where
+pub record NeedsStates (pair : Pair) (states : ℕ) (s : Slot) : Type 0 where
   pub query : Query
-  pub is : IsQuery (query_plan run_schema first second) query
+  pub is : IsQuery (plan_of pair) query
   pub path : Answers
-  pub node : IsNode (IsPossible run_schema query.tests) (asked_tree query) [] path
-  pub wider : IsWider (patterns_at run_schema query.tests path s) states
+  pub node : IsNode (IsPossible pair.schema query.tests) (asked_tree query) [] path
+  pub wider : IsWider (patterns_at pair.schema query.tests path s) states
 
 -- with at most 19 tests the plain run needs no more splits than there may be at most, which are 2 ^ 19 - 1 or more
-abbrev pub FewTestsAreDecided : Query → Type 0
-FewTestsAreDecided query =
-    (first second : PolicySet) → IsQuery (query_plan run_schema first second) query → length query.tests ≤ 19 →
-    ¬ NeedsSplits first second MOST_SPLITS
+abbrev pub FewTestsAreDecided : Schema → Query → Type 0
+FewTestsAreDecided schema query =
+    (pair : Pair) → pair.schema ≡ schema → IsQuery (plan_of pair) query → length query.tests ≤ 19 → ¬ NeedsSplits pair MOST_SPLITS
 
 -- at no node of the plain run a slot's patterns have more product states
-abbrev pub FitsStates : PolicySet → PolicySet → ℕ → Type 0
-FitsStates first second states = (s : Slot) → ¬ NeedsStates first second states s
+abbrev pub FitsStates : Pair → ℕ → Type 0
+FitsStates pair states = (s : Slot) → ¬ NeedsStates pair states s

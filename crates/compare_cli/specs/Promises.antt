@@ -48,7 +48,7 @@ abbrev pub Promises : Option Asked → Reading → Writing → Status → Type 0
 Promises asked r w Holds = Says asked r w answer.NotMore
 -- the second line is the text of a valid request that the first set allows and the second doesn't
 Promises asked r w Fails = (q : Request) × Says asked r w (answer.More q)
--- the line is of the first cause, in the order of files, then of sets, then of the query's limits
+-- the line is of the first cause, in the order of files, then of the schema, the sets and both together, then of the query's limits
 Promises asked r w Refused = (refusal : Refusal) × Says asked r w (answer.Refused refusal)
 -- the line names a budget that is below the need of the plain run
 Promises asked r w Undecided = (shortage : Shortage) × Says asked r w (answer.Undecided shortage)

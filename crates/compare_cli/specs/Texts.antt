@@ -1,35 +1,42 @@
 -- The texts of the answers.
-use Rattle.std.specs.Prelude.{ℕ, List, ◌++◌, codes, decimal}
+use Rattle.std.specs.Prelude.{ℕ, List, ◌++◌, codes, decimal, if◌then◌else◌}
 use Rattle.std.specs.Str.{encode_utf8_all}
-use Rattle.serde_json.specs.Data.{Data, object, no_members, member, string}
+use Rattle.serde_json.specs.Data.{string}
 use Rattle.serde_json.specs.Written.{compact_text}
-use Rattle.policy_model.specs.declared.principal.PrincipalKind.{PrincipalKind}
-use Rattle.policy_model.specs.declared.principal.PrincipalKind.TheVariants.{Aws, Service, Federated, CanonicalUser}
-use Rattle.policy_model.specs.declared.request.Request.{Request}
+use Rattle.policy_model.specs.declared.set.StatementName.{StatementName}
 use Rattle.policy_model.specs.declared.test.Slot.{Slot}
 use Rattle.policy_model.specs.declared.test.Slot.TheVariants as slot
 use Rattle.compare_cli.specs.declared.answer.Role.{Role}
-use Rattle.compare_cli.specs.declared.answer.Role.TheVariants.{First, Second}
+use Rattle.compare_cli.specs.declared.answer.Role.TheVariants.{First, Second, Schema}
 use Rattle.compare_cli.specs.declared.answer.Answer.{Answer}
 use Rattle.compare_cli.specs.declared.answer.Answer.TheVariants.{Usage, ReadFault, Refused, Undecided, NotMore, More}
 use Rattle.compare_cli.specs.declared.answer.Refusal.{Refusal}
-use Rattle.compare_cli.specs.declared.answer.Refusal.TheVariants.{TooLong, NoSet, TooManyTests, TooManyPieces}
+use Rattle.compare_cli.specs.declared.answer.Refusal.TheVariants.{TooLong, NoSchema, NoSet, NoRun, TooManyTests}
+use Rattle.compare_cli.specs.declared.answer.Refusal.TheVariants.{TooManyPieces}
 use Rattle.compare_cli.specs.declared.answer.Shortage.{Shortage}
 use Rattle.compare_cli.specs.declared.answer.Shortage.TheVariants.{Splits, States}
 use Rattle.compare_cli.specs.declared.files.TheConstants.{MOST_BYTES}
+use Rattle.request_json.specs.RequestTexts.{request_text}
+use Rattle.request_schema.specs.declared.infer_fault.InferFault.{InferFault}
+use Rattle.request_schema.specs.declared.schema_fault.SchemaCode.{SchemaCode}
+use Rattle.request_schema.specs.declared.schema_fault.SchemaCode.TheVariants.{S1NotJson, S2Shape, S3UnknownKind, S4KeyTwice}
+use Rattle.request_schema.specs.declared.schema_fault.SchemaCode.TheVariants.{S5UnknownDimension, S6EmptyShape, S7EmptyValues}
+use Rattle.request_schema.specs.declared.schema_fault.SchemaCode.TheVariants.{S8BadValue, S9Limit}
+use Rattle.request_schema.specs.declared.schema_fault.SchemaFault.{SchemaFault}
 use Rattle.policy_json.specs.declared.fault.PolicyFault.{PolicyFault}
 use Rattle.policy_json.specs.declared.fault.PolicyCode.{PolicyCode}
-use Rattle.policy_json.specs.declared.fault.PolicyCode.TheVariants.{P0NotBuilt, P1NotJson, P2SetShape, P3UnknownElement}
+use Rattle.policy_json.specs.declared.fault.PolicyCode.TheVariants.{P1NotJson, P2SetShape, P3UnknownElement}
 use Rattle.policy_json.specs.declared.fault.PolicyCode.TheVariants.{P4WrongShape, P5MissingElement, P6BothElements, P7BadVersion}
 use Rattle.policy_json.specs.declared.fault.PolicyCode.TheVariants.{P8BadEffect, P9PrincipalKind, P10PrincipalWildcard}
-use Rattle.policy_json.specs.declared.fault.PolicyCode.TheVariants.{P11PolicyVariable, P17Limit}
+use Rattle.policy_json.specs.declared.fault.PolicyCode.TheVariants.{P11PolicyVariable, P12UnknownOperator}
+use Rattle.policy_json.specs.declared.fault.PolicyCode.TheVariants.{P13BadValue, P14ArnParts, P17Limit}
 
 abbrev pub role_word : Role → List ℕ
 role_word First = codes "first"
 role_word Second = codes "second"
+role_word Schema = codes "schema"
 
 abbrev pub code_word : PolicyCode → List ℕ
-code_word P0NotBuilt = codes "P0 NotBuilt"
 code_word P1NotJson = codes "P1 NotJson"
 code_word P2SetShape = codes "P2 SetShape"
 code_word P3UnknownElement = codes "P3 UnknownElement"
@@ -41,6 +48,9 @@ code_word P8BadEffect = codes "P8 BadEffect"
 code_word P9PrincipalKind = codes "P9 PrincipalKind"
 code_word P10PrincipalWildcard = codes "P10 PrincipalWildcard"
 code_word P11PolicyVariable = codes "P11 PolicyVariable"
+code_word P12UnknownOperator = codes "P12 UnknownOperator"
+code_word P13BadValue = codes "P13 BadValue"
+code_word P14ArnParts = codes "P14 ArnParts"
 code_word P17Limit = codes "P17 Limit"
 
 -- an element's name as JSON
@@ -48,38 +58,45 @@ abbrev pub element_text : List ℕ → List ℕ
 element_text element = compact_text (string (encode_utf8_all element))
 
 -- the statement of a fault, and its element
-unfoldable pub statement_end : PolicyFault → List ℕ
-statement_end fault = codes ", statement " ++ decimal fault.statement ++ codes ", " ++ element_text fault.element
+unfoldable pub statement_end : StatementName → List ℕ → List ℕ
+statement_end name element = codes ", statement " ++ decimal name.statement ++ codes ", " ++ element_text element
 
 -- the document of a fault, and what is behind it
-unfoldable pub document_end : PolicyFault → List ℕ
-document_end fault = codes ": document " ++ decimal fault.document ++ statement_end fault
+unfoldable pub document_end : StatementName → List ℕ → List ℕ
+document_end name element = codes ": document " ++ decimal name.document ++ statement_end name element
 
--- a fault with its location
+-- the location of a fault of a set
+abbrev pub place_of : PolicyFault → StatementName
+place_of fault = record { document = fault.document; statement = fault.statement }
+
+-- a fault of a set with its location
 abbrev pub fault_text : PolicyFault → List ℕ
-fault_text fault = code_word fault.code ++ document_end fault
+fault_text fault = code_word fault.code ++ document_end (place_of fault) fault.element
 
--- the name of a kind of principals in a policy and in a request
-abbrev pub kind_word : PrincipalKind → List ℕ
-kind_word Aws = codes "AWS"
-kind_word Service = codes "Service"
-kind_word Federated = codes "Federated"
-kind_word CanonicalUser = codes "CanonicalUser"
+-- a condition that the run has no schema for: the set that it stands in, and why
+abbrev pub infer_role : InferFault → Role
+infer_role fault = (if fault.second then Second else First)
 
--- a principal as JSON
-abbrev pub principal_data : Request → Data
-principal_data q = object (member (kind_word q.kind) (string (encode_utf8_all q.id)) no_members)
+abbrev pub infer_word : InferFault → List ℕ
+infer_word fault = (if fault.plural then codes "P16 PluralKey" else codes "P15 KindClash")
 
--- a request without condition keys as JSON
-abbrev pub request_data : Request → Data
-request_data q =
-    let action = string (encode_utf8_all q.action) in
-    let resource = string (encode_utf8_all q.resource) in
-    let end = member (codes "Principal") (principal_data q) (member (codes "Resource") resource no_members) in
-    object (member (codes "Action") action (member (codes "Context") (object no_members) end))
+abbrev pub infer_text : InferFault → List ℕ
+infer_text fault = infer_word fault ++ document_end fault.name fault.key
 
-abbrev pub request_text : Request → List ℕ
-request_text q = compact_text (request_data q)
+abbrev pub schema_word : SchemaCode → List ℕ
+schema_word S1NotJson = codes "S1 NotJson"
+schema_word S2Shape = codes "S2 Shape"
+schema_word S3UnknownKind = codes "S3 UnknownKind"
+schema_word S4KeyTwice = codes "S4 KeyTwice"
+schema_word S5UnknownDimension = codes "S5 UnknownDimension"
+schema_word S6EmptyShape = codes "S6 EmptyShape"
+schema_word S7EmptyValues = codes "S7 EmptyValues"
+schema_word S8BadValue = codes "S8 BadValue"
+schema_word S9Limit = codes "S9 Limit"
+
+-- a fault of a schema file with its element
+abbrev pub schema_text : SchemaFault → List ℕ
+schema_text fault = schema_word fault.code ++ codes ": " ++ element_text fault.element
 
 -- the name of a slot
 abbrev pub slot_word : Slot → List ℕ
@@ -96,6 +113,9 @@ too_long_end = codes ": file longer than " ++ decimal MOST_BYTES ++ codes " byte
 unfoldable pub refusal_text : Refusal → List ℕ
 refusal_text (TooLong role) = codes "refused: " ++ role_word role ++ too_long_end
 refusal_text (NoSet role fault) = codes "refused: " ++ role_word role ++ codes ": " ++ fault_text fault ++ codes "\n"
+refusal_text (NoSchema fault) = codes "refused: schema: " ++ schema_text fault ++ codes "\n"
+refusal_text (NoRun fault) =
+    codes "refused: " ++ role_word (infer_role fault) ++ codes ": " ++ infer_text fault ++ codes "\n"
 refusal_text TooManyTests = codes "refused: query: P17 Limit: document 0, statement 0, \"tests\"\n"
 refusal_text TooManyPieces = codes "refused: query: P17 Limit: document 0, statement 0, \"pieces\"\n"
 

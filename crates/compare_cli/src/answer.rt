@@ -1,12 +1,14 @@
 //! The answers of a run.
 use policy_json::PolicyFault;
 use policy_model::{Request, Slot};
+use request_schema::{InferFault, SchemaFault};
 
-/// Which of the two files.
+/// Which of the files.
 #[derive(Clone, Copy, Debug, PartialEq, Eq)]
 pub enum Role {
     First,
     Second,
+    Schema,
 }
 
 /// Why two files aren't compared.
@@ -14,8 +16,12 @@ pub enum Role {
 pub enum Refusal {
     /// A file has more than 1,048,576 bytes.
     TooLong(Role),
+    /// The schema file stands for no schema: its first fault.
+    NoSchema(SchemaFault),
     /// A file stands for no set of policies: its first fault.
     NoSet(Role, PolicyFault),
+    /// The first condition of the two sets that no schema of the run can answer.
+    NoRun(InferFault),
     /// The query has more than 1,000 different tests.
     TooManyTests,
     /// The patterns of the query's tests have more than 65,536 pieces together.

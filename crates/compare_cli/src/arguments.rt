@@ -1,6 +1,6 @@
 //! What the arguments of a command line ask for.
 ghost use Rattle.std.specs.Prelude.{◌≡◌, ◌≤◌, IfSome, map, option_map, string_bytes};
-ghost use Rattle.compare_cli.specs.Arguments.{asked, begins_dash, budgets_of, default_budgets, digits_from, names_in, number_within};
+ghost use Rattle.compare_cli.specs.Arguments.{are_names, asked, asked_in, asked_of, begins_dash, digits_from, number_or, number_within, options_of, taken};
 
 use tree_search::Budgets;
 
@@ -14,10 +14,20 @@ pub const MOST_STATES: u32 = 100_000;
 
 pub const DEFAULT_STATES: u32 = 20_000;
 
-fn begins_dash(name: &[u8]) -> bool
+/// What `compare` is asked: the names of the files of the two sets, that of a schema where one is
+/// named, and the budgets.
+#[derive(Clone, Copy)]
+pub struct CompareArguments<'a> {
+    pub first: &'a str,
+    pub second: &'a str,
+    pub schema: Option<&'a str>,
+    pub budgets: Budgets,
+}
+
+fn begins_dash(name: &str) -> bool
     ensures { result ≡ begins_dash name.now }
 {
-    match name {
+    match name.as_bytes() {
         [] => false,
         [first, ..] => *first == b'-',
     }
@@ -56,45 +66,28 @@ fn number_within(most: u32, argument: &str) -> Option<u32>
     }
 }
 
-fn default_budgets() -> Budgets
-    ensures { result ≡ default_budgets }
+// The number that an option gives in its range, or the number without one.
+fn number_or(most: u32, default: u32, argument: Option<&str>) -> Option<u32>
+    requires most { most ≤ MOST_SPLITS }
+    requires default { 1 ≤ default }
+    ensures value { result ≡ number_or most default (option_map (λ a. a.now) argument.entry) }
+    ensures some { IfSome result (λ n. 1 ≤ n) }
 {
-    Budgets {
-        splits: DEFAULT_SPLITS,
-        states: DEFAULT_STATES,
+    match argument {
+        Some(argument) => number_within(most, argument),
+        None => Some(default),
     }
 }
 
-// The budgets that the options ask for.
-fn budgets_of(options: &[String]) -> Option<Budgets>
-    ensures value { result ≡ budgets_of (map (λ a. string_bytes a) options.now) }
-    ensures splits { IfSome result (λ b. 1 ≤ b.splits) }
-    ensures states { IfSome result (λ b. 1 ≤ b.states) }
+// The value of an option that stands next, if it does.
+fn value_of<'a>(name: &str, words: &'a [String]) -> Option<&'a str>
+    ensures { option_map (λ a. a.now) result
+        ≡ (taken name.now (map (λ a. string_bytes a) words.now)).0 }
 {
-    match options {
-        [] => Some(default_budgets()),
-        [option, number] => {
-            if option.as_str() == "--splits" {
-                let splits = number_within(MOST_SPLITS, number.as_str())?;
-                Some(Budgets {
-                    splits,
-                    states: DEFAULT_STATES,
-                })
-            } else if option.as_str() == "--states" {
-                let states = number_within(MOST_STATES, number.as_str())?;
-                Some(Budgets {
-                    splits: DEFAULT_SPLITS,
-                    states,
-                })
-            } else {
-                None
-            }
-        }
-        [option, number, next, more] => {
-            if option.as_str() == "--splits" && next.as_str() == "--states" {
-                let splits = number_within(MOST_SPLITS, number.as_str())?;
-                let states = number_within(MOST_STATES, more.as_str())?;
-                Some(Budgets { splits, states })
+    match words {
+        [option, value, ..] => {
+            if option.as_str() == name {
+                Some(value.as_str())
             } else {
                 None
             }
@@ -103,22 +96,72 @@ fn budgets_of(options: &[String]) -> Option<Budgets>
     }
 }
 
-/// The names of the two files that the arguments ask to compare and the budgets, or none where they are
-/// no `compare FIRST SECOND [--splits N] [--states N]`.
-pub fn asked(arguments: &[String]) -> Option<(&str, &str, Budgets)>
-    ensures value { option_map (λ p. names_in p.0.now p.1.now p.2) result
-        ≡ asked (map (λ a. string_bytes a) arguments.now) }
-    ensures splits { IfSome result (λ p. 1 ≤ p.2.splits) }
-    ensures states { IfSome result (λ p. 1 ≤ p.2.states) }
+// The arguments behind an option that stands next, if it does.
+fn behind<'a>(name: &str, words: &'a [String]) -> &'a [String]
+    ensures { map (λ a. string_bytes a) result.now
+        ≡ (taken name.now (map (λ a. string_bytes a) words.now)).1 }
+{
+    match words {
+        [option, _, rest @ ..] => { if option.as_str() == name { rest } else { words } }
+        _ => words,
+    }
+}
+
+// Whether the names are those of files: none begins with a `-`.
+fn are_names(first: &str, second: &str, schema: Option<&str>) -> bool
+    ensures { result ≡ are_names first.now second.now (option_map (λ a. a.now) schema.entry) }
+{
+    let schema_begins = match schema {
+        Some(name) => begins_dash(name),
+        None => false,
+    };
+    !begins_dash(first) && !begins_dash(second) && !schema_begins
+}
+
+// What the words behind the names ask, in this order: `--schema FILE`, `--splits N`, `--states N`.
+fn with_options<'a>(
+    first: &'a str,
+    second: &'a str,
+    options: &'a [String],
+) -> Option<CompareArguments<'a>>
+    ensures value { option_map asked_in result
+        ≡ asked_of first.now second.now (options_of (map (λ a. string_bytes a) options.now)) }
+    ensures splits { IfSome result (λ c. 1 ≤ c.budgets.splits) }
+    ensures states { IfSome result (λ c. 1 ≤ c.budgets.states) }
+{
+    let schema = value_of("--schema", options);
+    let options = behind("--schema", options);
+    let splits = value_of("--splits", options);
+    let options = behind("--splits", options);
+    let states = value_of("--states", options);
+    let [] = behind("--states", options) else {
+        return None;
+    };
+    if !are_names(first, second, schema) {
+        return None;
+    }
+    let splits = number_or(MOST_SPLITS, DEFAULT_SPLITS, splits)?;
+    let states = number_or(MOST_STATES, DEFAULT_STATES, states)?;
+    let budgets = Budgets { splits, states };
+    Some(CompareArguments {
+        first,
+        second,
+        schema,
+        budgets,
+    })
+}
+
+/// What the arguments ask to compare, or none where they are no
+/// `compare FIRST SECOND [--schema FILE] [--splits N] [--states N]`.
+pub fn asked(arguments: &[String]) -> Option<CompareArguments<'_>>
+    ensures value { option_map asked_in result ≡ asked (map (λ a. string_bytes a) arguments.now) }
+    ensures splits { IfSome result (λ c. 1 ≤ c.budgets.splits) }
+    ensures states { IfSome result (λ c. 1 ≤ c.budgets.states) }
 {
     match arguments {
         [command, first, second, options @ ..] => {
-            if command.as_str() == "compare"
-                && !begins_dash(first.as_bytes())
-                && !begins_dash(second.as_bytes())
-            {
-                let budgets = budgets_of(options)?;
-                Some((first.as_str(), second.as_str(), budgets))
+            if command.as_str() == "compare" {
+                with_options(first.as_str(), second.as_str(), options)
             } else {
                 None
             }

@@ -1,7 +1,6 @@
 //! Compares two sets by the search.
 ghost use Rattle.std.specs.Prelude.{◌≡◌, ◌≤◌, IfOk};
-ghost use Rattle.policy_model.specs.Soundness.{IsSound};
-ghost use Rattle.compare_cli.specs.Comparison.{FewTestsAreDecided, run_schema};
+ghost use Rattle.compare_cli.specs.Comparison.{FewTestsAreDecided, IsFitting, paired};
 ghost use Rattle.compare_cli.specs.Decided.{IsComparison, IsQueried, decision_answer};
 
 use crate::answer::{Answer, Refusal, Shortage};
@@ -17,8 +16,7 @@ fn query_of(
     first: &PolicySet,
     second: &PolicySet,
 ) -> Result<Result<Query, Refusal>, AllocError>
-    requires { schema.now ≡ run_schema }
-    ensures { IfOk result (IsQueried first.now second.now) }
+    ensures { IfOk result (IsQueried (paired schema.now first.now second.now)) }
 {
     match query(alloc, schema, first, second) {
         Ok(query) => Ok(Ok(query)),
@@ -43,32 +41,31 @@ fn decision_answer(decided: Decided, budgets: Budgets) -> Answer
     }
 }
 
-/// Whether the first set allows a valid request that the second doesn't, within the budgets.
+/// Whether the first set allows a request, valid under the schema, that the second doesn't, within the
+/// budgets.
 pub fn compare(
     alloc: Global,
+    schema: &Schema,
     first: &PolicySet,
     second: &PolicySet,
     budgets: Budgets,
 ) -> Result<Answer, AllocError>
-    requires first_sound { IsSound first.now }
-    requires second_sound { IsSound second.now }
+    requires fitting { IsFitting (paired schema.now first.now second.now) }
     requires splits { 1 ≤ budgets.splits }
     requires states { 1 ≤ budgets.states }
-    ensures { IfOk result (IsComparison first.now second.now budgets) }
+    ensures { IfOk result (IsComparison (paired schema.now first.now second.now) budgets) }
 {
-    let schema = Schema::new(alloc);
-    let query = match query_of(alloc, &schema, first, second)? {
+    let query = match query_of(alloc, schema, first, second)? {
         Ok(query) => query,
         Err(refusal) => return Ok(Answer::Refused(refusal)),
     };
-    let decided = decide(alloc, &schema, &query, budgets)?;
+    let decided = decide(alloc, schema, &query, budgets)?;
     Ok(decision_answer(decided, budgets))
 }
 
 /// The greatest budget of splits decides each query of at most 19 tests.
-pub fn few_tests_are_decided(alloc: Global, query: &Query)
-    ensures { FewTestsAreDecided query.now }
+pub fn few_tests_are_decided(schema: &Schema, query: &Query)
+    ensures { FewTestsAreDecided schema.now query.now }
 {
-    let schema = Schema::new(alloc);
-    queries_have_runs(&schema, &query.tests);
+    queries_have_runs(schema, &query.tests);
 }

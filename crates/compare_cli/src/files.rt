@@ -6,7 +6,7 @@ ghost use Rattle.compare_cli.specs.Files.{ReadsFile};
 use pol_outside::{Folder, TakeFault};
 use std::alloc::Global;
 
-/// The most bytes that the file of a set has.
+/// The most bytes that the file of a set or of a schema has.
 pub const MOST_BYTES: u64 = 1_048_576;
 
 /// The bytes of a file that has at most so many.

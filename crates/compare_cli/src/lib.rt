@@ -4,6 +4,7 @@
 
 mod answer;
 mod arguments;
+mod contents;
 mod decision;
 mod files;
 mod text;

@@ -1,13 +1,14 @@
 //! The texts of the answers.
 ghost use Rattle.std.specs.Prelude.{◌≡◌, ◌++◌, IfOk, codes, decimal, string_bytes};
-ghost use Rattle.serde_json.specs.View.{view};
-ghost use Rattle.compare_cli.specs.Texts.{answer_text, code_word, document_end, element_text, fault_text, principal_data, refusal_text, request_data, request_text, role_word, shortage_text, slot_word, statement_end, too_long_end};
+ghost use Rattle.compare_cli.specs.Texts.{answer_text, code_word, document_end, element_text, fault_text, infer_role, infer_text, infer_word, place_of, refusal_text, role_word, schema_text, schema_word, shortage_text, slot_word, statement_end, too_long_end};
 
 use crate::answer::{Answer, Refusal, Role, Shortage};
 use crate::files::MOST_BYTES;
 use policy_json::{PolicyCode, PolicyFault};
-use policy_model::{PrincipalKind, Request, Slot};
-use serde_json::{Value, json};
+use policy_model::{Slot, StatementName};
+use request_json::write_request;
+use request_schema::{InferFault, SchemaCode, SchemaFault};
+use serde_json::Value;
 use std::alloc::{AllocError, Global};
 use wildcard_lang::Text;
 
@@ -21,6 +22,7 @@ fn role_word(role: Role) -> &'static str
     match role {
         Role::First => "first",
         Role::Second => "second",
+        Role::Schema => "schema",
     }
 }
 
@@ -28,7 +30,6 @@ fn code_word(code: PolicyCode) -> &'static str
     ensures { result.now ≡ code_word code }
 {
     match code {
-        PolicyCode::P0NotBuilt => "P0 NotBuilt",
         PolicyCode::P1NotJson => "P1 NotJson",
         PolicyCode::P2SetShape => "P2 SetShape",
         PolicyCode::P3UnknownElement => "P3 UnknownElement",
@@ -40,32 +41,48 @@ fn code_word(code: PolicyCode) -> &'static str
         PolicyCode::P9PrincipalKind => "P9 PrincipalKind",
         PolicyCode::P10PrincipalWildcard => "P10 PrincipalWildcard",
         PolicyCode::P11PolicyVariable => "P11 PolicyVariable",
+        PolicyCode::P12UnknownOperator => "P12 UnknownOperator",
+        PolicyCode::P13BadValue => "P13 BadValue",
+        PolicyCode::P14ArnParts => "P14 ArnParts",
         PolicyCode::P17Limit => "P17 Limit",
     }
 }
 
-fn principal(alloc: Global, request: &Request) -> Result<Value, AllocError>
-    ensures { IfOk result (λ v. view v ≡ principal_data request.now) }
+fn schema_word(code: SchemaCode) -> &'static str
+    ensures { result.now ≡ schema_word code }
 {
-    let id = request.id.to_utf8()?;
-    let id = id.as_str();
-    match request.kind {
-        PrincipalKind::Aws => json!(in alloc; {"AWS": id}),
-        PrincipalKind::Service => json!(in alloc; {"Service": id}),
-        PrincipalKind::Federated => json!(in alloc; {"Federated": id}),
-        PrincipalKind::CanonicalUser => json!(in alloc; {"CanonicalUser": id}),
+    match code {
+        SchemaCode::S1NotJson => "S1 NotJson",
+        SchemaCode::S2Shape => "S2 Shape",
+        SchemaCode::S3UnknownKind => "S3 UnknownKind",
+        SchemaCode::S4KeyTwice => "S4 KeyTwice",
+        SchemaCode::S5UnknownDimension => "S5 UnknownDimension",
+        SchemaCode::S6EmptyShape => "S6 EmptyShape",
+        SchemaCode::S7EmptyValues => "S7 EmptyValues",
+        SchemaCode::S8BadValue => "S8 BadValue",
+        SchemaCode::S9Limit => "S9 Limit",
     }
 }
 
-fn request_value(alloc: Global, request: &Request) -> Result<Value, AllocError>
-    ensures { IfOk result (λ v. view v ≡ request_data request.now) }
+// The set that a condition stands in.
+fn infer_role(fault: &InferFault) -> Role
+    ensures { result ≡ infer_role fault.now }
 {
-    let action = request.action.to_utf8()?;
-    let resource = request.resource.to_utf8()?;
-    let action = action.as_str();
-    let resource = resource.as_str();
-    let principal = principal(alloc, request)?;
-    json!(in alloc; {"Action": action, "Context": {}, "Principal": principal, "Resource": resource})
+    if fault.second {
+        Role::Second
+    } else {
+        Role::First
+    }
+}
+
+fn infer_word(fault: &InferFault) -> &'static str
+    ensures { result.now ≡ infer_word fault.now }
+{
+    if fault.plural {
+        "P16 PluralKey"
+    } else {
+        "P15 KindClash"
+    }
 }
 
 // The name of a slot: a key's is its own, with its ASCII letters lowered.
@@ -125,11 +142,11 @@ fn element_end(alloc: Global, element: &Text) -> Result<String, AllocError>
 
 // The statement of a fault, and its element.
 #[tactic(auto, unfolding(crate::specs::Texts::statement_end))]
-fn statement_end(alloc: Global, fault: &PolicyFault) -> Result<String, AllocError>
-    ensures { IfOk result (λ s. string_bytes s ≡ statement_end fault.now) }
+fn statement_end(alloc: Global, name: StatementName, element: &Text) -> Result<String, AllocError>
+    ensures { IfOk result (λ s. string_bytes s ≡ statement_end name element.now) }
 {
-    let end = element_end(alloc, &fault.element)?;
-    let statement = number_text(alloc, fault.statement)?;
+    let end = element_end(alloc, element)?;
+    let statement = number_text(alloc, name.statement)?;
     let statement = statement.as_str();
     let end = end.as_str();
     format!(in alloc; ", statement {statement}{end}")
@@ -137,31 +154,53 @@ fn statement_end(alloc: Global, fault: &PolicyFault) -> Result<String, AllocErro
 
 // The document of a fault, and what is behind it.
 #[tactic(auto, unfolding(crate::specs::Texts::document_end))]
-fn document_end(alloc: Global, fault: &PolicyFault) -> Result<String, AllocError>
-    ensures { IfOk result (λ s. string_bytes s ≡ document_end fault.now) }
+fn document_end(alloc: Global, name: StatementName, element: &Text) -> Result<String, AllocError>
+    ensures { IfOk result (λ s. string_bytes s ≡ document_end name element.now) }
 {
-    let end = statement_end(alloc, fault)?;
-    let document = number_text(alloc, fault.document)?;
+    let end = statement_end(alloc, name, element)?;
+    let document = number_text(alloc, name.document)?;
     let document = document.as_str();
     let end = end.as_str();
     format!(in alloc; ": document {document}{end}")
 }
 
-// A fault with its location.
+fn place_of(fault: &PolicyFault) -> StatementName
+    ensures { result ≡ place_of fault.now }
+{
+    StatementName {
+        document: fault.document,
+        statement: fault.statement,
+    }
+}
+
+// A fault of a set with its location.
 fn fault_text(alloc: Global, fault: &PolicyFault) -> Result<String, AllocError>
     ensures { IfOk result (λ s. string_bytes s ≡ fault_text fault.now) }
 {
     let code = code_word(fault.code);
-    let end = document_end(alloc, fault)?;
+    let end = document_end(alloc, place_of(fault), &fault.element)?;
     let end = end.as_str();
     format!(in alloc; "{code}{end}")
 }
 
-// A request as one line of JSON (RFC 8259), its names in the order of their bytes.
-fn write_request(alloc: Global, request: &Request) -> Result<String, AllocError>
-    ensures { IfOk result (λ s. string_bytes s ≡ request_text request.now) }
+// A condition that the run has no schema for, with its location.
+fn infer_text(alloc: Global, fault: &InferFault) -> Result<String, AllocError>
+    ensures { IfOk result (λ s. string_bytes s ≡ infer_text fault.now) }
 {
-    request_value(alloc, request)?.to_string(alloc)
+    let word = infer_word(fault);
+    let end = document_end(alloc, fault.name, &fault.key)?;
+    let end = end.as_str();
+    format!(in alloc; "{word}{end}")
+}
+
+// A fault of a schema file with its element.
+fn schema_text(alloc: Global, fault: &SchemaFault) -> Result<String, AllocError>
+    ensures { IfOk result (λ s. string_bytes s ≡ schema_text fault.now) }
+{
+    let code = schema_word(fault.code);
+    let element = element_text(alloc, &fault.element)?;
+    let element = element.as_str();
+    format!(in alloc; "{code}: {element}")
 }
 
 // The end of the line on a file that is too long.
@@ -186,6 +225,17 @@ fn refusal_text(alloc: Global, refusal: &Refusal) -> Result<String, AllocError>
         Refusal::NoSet(role, fault) => {
             let role = role_word(*role);
             let fault = fault_text(alloc, fault)?;
+            let fault = fault.as_str();
+            format!(in alloc; "refused: {role}: {fault}\n")
+        }
+        Refusal::NoSchema(fault) => {
+            let fault = schema_text(alloc, fault)?;
+            let fault = fault.as_str();
+            format!(in alloc; "refused: schema: {fault}\n")
+        }
+        Refusal::NoRun(fault) => {
+            let role = role_word(infer_role(fault));
+            let fault = infer_text(alloc, fault)?;
             let fault = fault.as_str();
             format!(in alloc; "refused: {role}: {fault}\n")
         }

@@ -1,21 +1,20 @@
 //! One run, from the arguments to the bytes that are written.
 ghost use Rattle.std.specs.Prelude.{◌≡◌, ◌≤◌, None, IfOk};
 ghost use Rattle.pol_outside.specs.Faults.{Rose};
-ghost use Rattle.compare_cli.specs.Answers.{AnswersFiles, IsAnswer, IsAnswerTo, IsFaultAnswer};
-ghost use Rattle.compare_cli.specs.Arguments.{asked_by, names_in};
+ghost use Rattle.compare_cli.specs.Answers.{IsAnswer, IsAnswerTo, IsFaultAnswer};
+ghost use Rattle.compare_cli.specs.Arguments.{asked_by, asked_in};
 ghost use Rattle.compare_cli.specs.Complete.{IsAccepted, IsDecided};
+ghost use Rattle.compare_cli.specs.Files.{IsShort};
 ghost use Rattle.compare_cli.specs.Promises.{IsUsageOrFault, Promises};
 ghost use Rattle.compare_cli.specs.Statuses.{exit_number, status_of};
 
 use crate::answer::{Answer, Refusal, Role};
-use crate::arguments::asked;
-use crate::decision::compare;
+use crate::arguments::{CompareArguments, asked};
+use crate::contents::files_answer;
 use crate::files::read_file;
 use crate::text::answer_text;
 use pol_outside::{Folder, Sink, TakeFault, put_all};
-use policy_json::{PolicyAnswer, read_set};
 use std::alloc::{AllocError, Global};
-use tree_search::Budgets;
 
 /// How a run ends.
 #[derive(Clone, Copy, Debug, PartialEq, Eq)]
@@ -24,7 +23,7 @@ pub enum Status {
     Holds,
     /// The answer is no: `more permissive`.
     Fails,
-    /// A file was refused.
+    /// A file was refused, or two sets that are past a limit or that no schema can answer.
     Refused,
     /// A budget ran out.
     Undecided,
@@ -57,36 +56,6 @@ pub fn exit_number(status: Status) -> u8
     }
 }
 
-// The answer of two files that were read.
-fn files_answer(
-    alloc: Global,
-    first: &[u8],
-    second: &[u8],
-    budgets: Budgets,
-) -> Result<Answer, AllocError>
-    requires splits { 1 ≤ budgets.splits }
-    requires states { 1 ≤ budgets.states }
-    ensures { IfOk result (AnswersFiles first.now second.now budgets) }
-{
-    let one = match read_set(alloc, first) {
-        Ok(set) => set,
-        Err(PolicyAnswer::Refused(fault)) => return Ok(Answer::Refused(Refusal::NoSet(
-            Role::First,
-            fault,
-        ))),
-        Err(PolicyAnswer::NoMemory) => return Err(AllocError),
-    };
-    let two = match read_set(alloc, second) {
-        Ok(set) => set,
-        Err(PolicyAnswer::Refused(fault)) => return Ok(Answer::Refused(Refusal::NoSet(
-            Role::Second,
-            fault,
-        ))),
-        Err(PolicyAnswer::NoMemory) => return Err(AllocError),
-    };
-    compare(alloc, &one, &two, budgets)
-}
-
 fn fault_answer(role: Role, fault: TakeFault) -> Result<Answer, AllocError>
     ensures { IsFaultAnswer role fault result }
 {
@@ -97,17 +66,19 @@ fn fault_answer(role: Role, fault: TakeFault) -> Result<Answer, AllocError>
     }
 }
 
-// The answer to two names.
-fn answer_to<F: Folder>(
+// The answer to names, of which those of the two sets were read.
+fn answer_read<F: Folder>(
     alloc: Global,
     folder: &mut F,
-    first: &str,
-    second: &str,
-    budgets: Budgets,
+    first: &[u8],
+    second: &[u8],
+    arguments: CompareArguments,
 ) -> Result<Answer, AllocError>
-    requires splits { 1 ≤ budgets.splits }
-    requires states { 1 ≤ budgets.states }
-    ensures given { IfOk result (IsAnswerTo (names_in first.now second.now budgets) (record {
+    requires splits { 1 ≤ arguments.budgets.splits }
+    requires states { 1 ≤ arguments.budgets.states }
+    requires first { IsShort (F.held folder.old) arguments.first.now first.now }
+    requires second { IsShort (F.held folder.old) arguments.second.now second.now }
+    ensures given { IfOk result (IsAnswerTo (asked_in arguments.entry) (record {
       held = F.held folder.old;
       faults_before = F.faults folder.old;
       faults = F.faults folder.new;
@@ -117,15 +88,56 @@ fn answer_to<F: Folder>(
     ensures held { F.held folder.new ≡ F.held folder.old }
     ensures later { F.faults folder.old ≤ F.faults folder.new }
 {
-    let one = match read_file(alloc, folder, first) {
+    let name = match arguments.schema {
+        Some(name) => name,
+        None => return files_answer(alloc, first, second, None, arguments.budgets),
+    };
+    let schema = match read_file(alloc, folder, name) {
+        Ok(bytes) => bytes,
+        Err(fault) => return fault_answer(Role::Schema, fault),
+    };
+    files_answer(
+        alloc,
+        first,
+        second,
+        Some(schema.as_slice()),
+        arguments.budgets,
+    )
+}
+
+// The answer to names.
+fn answer_to<F: Folder>(
+    alloc: Global,
+    folder: &mut F,
+    arguments: CompareArguments,
+) -> Result<Answer, AllocError>
+    requires splits { 1 ≤ arguments.budgets.splits }
+    requires states { 1 ≤ arguments.budgets.states }
+    ensures given { IfOk result (IsAnswerTo (asked_in arguments.entry) (record {
+      held = F.held folder.old;
+      faults_before = F.faults folder.old;
+      faults = F.faults folder.new;
+      last_before = F.last_fault folder.old;
+      last = F.last_fault folder.new;
+    })) }
+    ensures held { F.held folder.new ≡ F.held folder.old }
+    ensures later { F.faults folder.old ≤ F.faults folder.new }
+{
+    let first = match read_file(alloc, folder, arguments.first) {
         Ok(bytes) => bytes,
         Err(fault) => return fault_answer(Role::First, fault),
     };
-    let two = match read_file(alloc, folder, second) {
+    let second = match read_file(alloc, folder, arguments.second) {
         Ok(bytes) => bytes,
         Err(fault) => return fault_answer(Role::Second, fault),
     };
-    files_answer(alloc, one.as_slice(), two.as_slice(), budgets)
+    answer_read(
+        alloc,
+        folder,
+        first.as_slice(),
+        second.as_slice(),
+        arguments,
+    )
 }
 
 fn answer<F: Folder>(
@@ -145,7 +157,7 @@ fn answer<F: Folder>(
     ensures later { F.faults folder.old ≤ F.faults folder.new }
 {
     match asked(arguments) {
-        Some((first, second, budgets)) => answer_to(alloc, folder, first, second, budgets),
+        Some(asked) => answer_to(alloc, folder, asked),
         None => Ok(Answer::Usage),
     }
 }
@@ -172,11 +184,12 @@ fn status_of(answer: &Answer) -> Status
 ///   refusal, a budget, a fault of reading and the usage line come only by their cause, with their line.
 ///   With `ReadFault` the folder's count of faults rose in this call, with `WriteFault` the sink's, and
 ///   with every other answer the name of the folder's last fault is as it was.
-/// - `usage`, `untouched`: where the arguments are no `compare FIRST SECOND [--splits N] [--states N]`
-///   nothing else than `Usage` comes but for want of memory or of room, and the folder is as before.
+/// - `usage`, `untouched`: where the arguments are no
+///   `compare FIRST SECOND [--schema FILE] [--splits N] [--states N]` nothing else than `Usage` comes but
+///   for want of memory or of room, and the folder is as before.
 /// - `held`, `reads`, `writes`: what the folder holds stays as it is, and no count of faults falls.
-/// - `complete`: two accepted files, budgets that aren't below the need of the plain run and no fault
-///   give a comparison, unless memory is wanting.
+/// - `complete`: accepted files whose sets have a schema, budgets that aren't below the need of the plain
+///   run and no fault give a comparison, unless memory is wanting.
 pub fn run<F: Folder, S: Sink>(
     alloc: Global,
     arguments: &[String],

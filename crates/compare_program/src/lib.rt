@@ -3,19 +3,39 @@
 
 use compare_cli::{Status, exit_number, run};
 use pol_outside::{DiskFolder, StdSink};
-use std::process::ExitCode;
+use std::io::Eprint;
+use std::process::{ExitCode, Termination};
 use std::{env, io};
 
 /// The exit number where the runtime refuses the arguments. No status has it.
 const NO_ARGUMENTS: u8 = 9;
 
+/// How a run over the real files ended. Only `program` makes one, so that a `main` that gives one has
+/// run the program.
+#[derive(Drop)]
+pub struct Ended {
+    code: ExitCode,
+}
+
+impl Termination for Ended {
+    fn report<R: Eprint>(self, _rt: &R) -> ExitCode {
+        self.code
+    }
+}
+
+fn end_with(number: u8) -> Ended {
+    Ended {
+        code: ExitCode::from(number),
+    }
+}
+
 /// One run over the real files and standard output, with the arguments after the program's name. It
 /// gives the exit number of its status, or that of a fault of the arguments: then nothing is written.
-pub fn program(rt: HostRuntime) -> ExitCode {
+pub fn program(rt: HostRuntime) -> Ended {
     let arguments = match env::args(&rt) {
         Ok(arguments) => arguments,
         Err(error) => {
-            return ExitCode::from(if error.kind() == io::ErrorKind::OutOfMemory {
+            return end_with(if error.kind() == io::ErrorKind::OutOfMemory {
                 exit_number(Status::NoMemory)
             } else {
                 NO_ARGUMENTS
@@ -23,10 +43,10 @@ pub fn program(rt: HostRuntime) -> ExitCode {
         }
     };
     let Ok(arguments) = arguments.skip(1).collect::<Vec<String>>(rt.alloc()) else {
-        return ExitCode::from(exit_number(Status::NoMemory));
+        return end_with(exit_number(Status::NoMemory));
     };
     let mut folder = DiskFolder::new(&rt);
     let mut sink = StdSink::new(io::writer(&rt));
     let status = run(rt.alloc(), arguments.as_slice(), &mut folder, &mut sink);
-    ExitCode::from(exit_number(status))
+    end_with(exit_number(status))
 }

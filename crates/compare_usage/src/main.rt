@@ -1,9 +1,8 @@
 //! The program: compares sets of IAM policies.
 #![tactic(auto)]
 
-use compare_program::program;
-use std::process::ExitCode;
+use compare_program::{Ended, program};
 
-fn main(rt: HostRuntime) -> ExitCode {
+fn main(rt: HostRuntime) -> Ended {
     program(rt)
 }

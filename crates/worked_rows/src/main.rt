@@ -1,9 +1,9 @@
 //! Runs the comparer over folders and sinks in memory, as the cases of standard input say, and prints
 //! how each run ends and what it wrote.
 //!
-//! A case is the lines up to an empty one: its name, and then lines that begin with a word. `first TEXT`
-//! and `second TEXT` are the files of these names, in which `⟦N|TEXT⟧` stands for N times TEXT; a file
-//! without a line isn't there. `take N` and `put N` make the folder's or the sink's call of that number
+//! A case is the lines up to an empty one: its name, and then lines that begin with a word. `first TEXT`,
+//! `second TEXT` and `schema TEXT` are the files of these names, in which `⟦N|TEXT⟧` stands for N times
+//! TEXT; a file without a line isn't there. `take N` and `put N` make the folder's or the sink's call of that number
 //! fail, `room N` and `most N` are the bytes that the sink has room for and takes at a call. Then
 //! `$ ARGUMENTS` is a run, its arguments one space apart. `set TEXT` compares the text with that of each
 //! line `set` of the case, over a folder and a sink that never fail, and prints the exit numbers.
@@ -61,7 +61,7 @@ fn arguments_of(alloc: Global, text: &str) -> io::Result<Vec<String>> {
 
 fn folder_of(alloc: Global, case: &str) -> io::Result<MemoryFolder> {
     let mut folder = MemoryFolder::new(alloc);
-    for name in ["first", "second"] {
+    for name in ["first", "second", "schema"] {
         hold(alloc, &mut folder, case, name)?;
     }
     folder.fail_at(number_behind(case, "take ", 0)?)?;

@@ -1,0 +1,97 @@
+//! The set of a condition, what evaluation says of it, and what its tree says.
+ghost use Rattle.std.specs.Prelude.{IfOk};
+ghost use Rattle.policy_model.specs.Soundness.{IsSound, SchemaFits};
+
+use crate::asked::KEY;
+use crate::definition::Case;
+use crate::row::part_of;
+use formula_tree::{Path, Three, value3};
+use policy_compile::{Query, QueryFault, set_query};
+use policy_eval::allows;
+use policy_json::{PolicyAnswer, read_set};
+use policy_model::{PolicySet, Request, Schema, test_holds, valid};
+use request_schema::{InferAnswer, infer};
+use std::alloc::{AllocError, Global};
+use std::io;
+use std::io::ErrorKind;
+
+/// The list of the condition's operands, as JSON.
+pub(crate) fn operands_text(alloc: Global, case: &Case) -> Result<String, AllocError> {
+    let mut text = String::from_str(alloc, "[")?;
+    for (i, operand) in case.operands.iter().enumerate() {
+        text.push_str(if i == 0 { "" } else { "," })?;
+        text.push_str(part_of(case.row.operands, *operand))?;
+    }
+    text.push(']')?;
+    Ok(text)
+}
+
+// A file that allows all requests of which the condition holds.
+fn file_of(alloc: Global, case: &Case) -> Result<String, AllocError> {
+    let mut text = String::from_str(alloc, "{\"Version\":\"2012-10-17\",\"Statement\":")?;
+    text.push_str("{\"Effect\":\"Allow\",\"Action\":\"*\",\"Condition\":{\"")?;
+    text.push_str(case.prefix)?;
+    text.push_str(case.row.base)?;
+    text.push_str(case.suffix)?;
+    text.push_str("\":{\"")?;
+    text.push_str(KEY)?;
+    text.push_str("\":")?;
+    text.push_str(operands_text(alloc, case)?.as_str())?;
+    text.push_str("}}}}")?;
+    Ok(text)
+}
+
+/// The set that allows all requests of which the condition holds.
+pub(crate) fn set_of(alloc: Global, case: &Case) -> io::Result<PolicySet>
+    ensures { IfOk result IsSound }
+{
+    match read_set(alloc, file_of(alloc, case)?.as_bytes()) {
+        Ok(set) => Ok(set),
+        Err(PolicyAnswer::Refused(_)) => Err(ErrorKind::InvalidData.into()),
+        Err(PolicyAnswer::NoMemory) => Err(ErrorKind::OutOfMemory.into()),
+    }
+}
+
+/// The schema of a run on the set, where it is the named one.
+pub(crate) fn schema_of(alloc: Global, named: &Schema, set: &PolicySet) -> io::Result<Schema>
+    requires { IsSound set.now }
+    ensures { IfOk result (λ schema. SchemaFits schema set.now) }
+{
+    match infer(alloc, named, set, None) {
+        Ok(schema) => Ok(schema),
+        Err(InferAnswer::Refused(_)) => Err(ErrorKind::InvalidData.into()),
+        Err(InferAnswer::NoMemory) => Err(ErrorKind::OutOfMemory.into()),
+    }
+}
+
+/// The tree of the set.
+pub(crate) fn query_of(alloc: Global, schema: &Schema, set: &PolicySet) -> io::Result<Query> {
+    match set_query(alloc, schema, set) {
+        Ok(query) => Ok(query),
+        Err(QueryFault::NoMemory) => Err(ErrorKind::OutOfMemory.into()),
+        Err(_) => Err(ErrorKind::InvalidData.into()),
+    }
+}
+
+/// Whether evaluation allows the request, which has to be valid.
+pub(crate) fn evaluated(schema: &Schema, set: &PolicySet, request: &Request) -> io::Result<bool>
+    requires { SchemaFits schema.now set.now }
+{
+    if valid(schema, request) {
+        Ok(allows(set, schema, request))
+    } else {
+        Err(ErrorKind::InvalidData.into())
+    }
+}
+
+/// The value of the tree where each test is answered as the request answers it.
+pub(crate) fn compiled(alloc: Global, query: &Query, request: &Request) -> io::Result<Three> {
+    let mut path = Path::new(alloc);
+    for (i, test) in query.tests.as_slice().iter().enumerate() {
+        let number = i.min(u32::MAX as usize) as u32;
+        if path.answer(number).is_none() {
+            path.push(number, test_holds(test, request))?;
+        }
+    }
+    Ok(value3(&query.formula, &path))
+}
