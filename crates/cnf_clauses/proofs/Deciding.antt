@@ -1,21 +1,13 @@
--- Lists of decided variables, and their table.
-use Rattle.std.proofs.Common.{◌≡◌, ◌≢◌, ℕ, ◌<◌, [], ◌∷◌, ◌++◌, length, take, get_or, zero, suc, Bool, false, Option, Some, None, inl, inr, refl, sym, ◌∙◌, arith, nat_eq}
+-- Lists of decided variables: what stands nowhere before its index.
+use Rattle.std.proofs.Common.{◌≡◌, ℕ, ◌<◌, ◌+◌, [], ◌∷◌, ◌++◌, length, take, drop, get_or, zero, suc, Bool, false, Some, None, refl, sym, ap, subst, ◌∙◌, arith, nat_eq, slice_get}
 use Rattle.std.proofs.lemmas.Bool.Decides.{nat_tests}
 use Rattle.std.proofs.lemmas.Grind.{common_steps}
+use Rattle.std.proofs.lemmas.List.{take_more, drop_more, take-append-drop}
+use Rattle.std.proofs.lemmas.Option.{slice_get-get_or}
 use Rattle.formula_tree.specs.Answers.{Answers, answer_of, IsDistinct}
-use Rattle.formula_tree.proofs.Laws.{answer_of-last, answer_of-besides, cases_eq}
-
-other_number : (n k : ℕ) → k ≢ n → nat_eq n k ≡ false
-other_number n k h = grind (arith, nat_tests)
-
--- a table with one more variable
-pub table-more : (old new : ℕ → Option Bool) (order : Answers) (v : ℕ) (b : Bool) → ((n : ℕ) → old n ≡ answer_of order n) → answer_of order v ≡ None → new v ≡ Some b →
-    ((n : ℕ) → nat_eq v n ≡ false → new n ≡ old n) → (n : ℕ) → new n ≡ answer_of (order ++ (v, b) ∷ []) n
-table-more old new order v b same fresh at besides n =
-    elim (cases_eq n v) [
-      | inl e ↦ rw (e, at, answer_of-last order v b fresh) refl
-      | inr ne ↦ besides n (other_number v n ne) ∙ same n ∙ sym (answer_of-besides order v b n ne)
-    ]
+use Rattle.formula_tree.proofs.Laws.{answer_of-rest}
+use Rattle.cnf_clauses.specs.Explains.{IsAnsweredAt}
+use Rattle.cnf_clauses.specs.Literals.{Literal}
 
 -- a test of a path stands nowhere before its index
 later_differs : (ps : Answers) (n k : ℕ) (d : ℕ × Bool) → answer_of ps n ≡ None → k < length ps → nat_eq n (get_or ps k d).0 ≡ false
@@ -30,3 +22,24 @@ fresh_at (p ∷ ps) (suc k) d h l =
     let apart = later_differs ps p.0 k d h.0 (omega arith) in
     let rest = fresh_at ps k d h.1 (omega arith) in
     grind (arith, common_steps)
+
+first-answer : (l : Literal) (rest : Answers) (v : ℕ) → l.0 ≡ v → answer_of (l ∷ rest) v ≡ Some l.1
+first-answer l rest v e = grind (arith, nat_tests)
+
+same_pair : (l : Literal) (v : ℕ) (b : Bool) → l.0 ≡ v → Some l.1 ≡ Some b → Some l ≡ Some (v, b)
+same_pair (n, c) v b e f = cc
+
+-- a place where the variable stands, and stands nowhere before
+pub place-there : (d : Answers) (k v : ℕ) (dflt : Literal) → k < length d → answer_of (take k d) v ≡ None → (get_or d k dflt).0 ≡ v → IsAnsweredAt v k d
+place-there d k v dflt h before here b known =
+    let whole : d ≡ take k d ++ get_or d k dflt ∷ drop (k + 1) d = sym (take-append-drop k d) ∙ ap (λ (x : Answers). take k d ++ x) (drop_more d k dflt h) in
+    let at : answer_of d v ≡ Some (get_or d k dflt).1 =
+    ap (λ (x : Answers). answer_of x v) whole ∙ answer_of-rest (take k d) (get_or d k dflt ∷ drop (k + 1) d) v before ∙ first-answer (get_or d k dflt) (drop (k + 1) d) v here in
+    slice_get-get_or d k dflt h ∙ same_pair (get_or d k dflt) v b here (sym at ∙ known)
+
+single-none : (l : Literal) (v : ℕ) → (l.0 ≡ v → ⊥) → answer_of (l ∷ []) v ≡ None
+single-none l v ne = grind (arith, nat_tests)
+
+pub place-more : (d : Answers) (k v : ℕ) (dflt : Literal) → k < length d → answer_of (take k d) v ≡ None → ((get_or d k dflt).0 ≡ v → ⊥) → answer_of (take (k + 1) d) v ≡ None
+place-more d k v dflt h before apart =
+    ap (λ (x : Answers). answer_of x v) (take_more d k dflt h) ∙ answer_of-rest (take k d) (get_or d k dflt ∷ []) v before ∙ single-none (get_or d k dflt) v apart

@@ -36,7 +36,7 @@ refuted-open d c r (inr (m, n, h, k, x, y, ne)) = undecided-false d m x (r m h)
 pub refuted-unit : (d : Answers) (c : Clause) (l : Literal) → IsRefuted d c → IsUnit d c l → ⊥
 refuted-unit d c l r u = undecided-false d l u.undecided (r l u.stands)
 
-unit-is : (d : Answers) (c : Clause) (l m : Literal) → IsUnit d c l → Contains c m → IsUndecided d m → m ≡ l
+pub unit-is : (d : Answers) (c : Clause) (l m : Literal) → IsUnit d c l → Contains c m → IsUndecided d m → m ≡ l
 unit-is d c l m u h x = elim (u.others m h) [ inl e ↦ e | inr f ↦ absurd (undecided-false d m x f) ]
 
 pub unit-open : (d : Answers) (c : Clause) (l : Literal) → IsUnit d c l → IsOpen d c → ⊥
@@ -120,7 +120,7 @@ alike-open cs p hs d i n h e f a r =
     let here : Alike cs p hs d (n ∷ drop (i + 1) hs) = at_here cs p hs d i n h e a in
     replay-open cs d n (drop (i + 1) hs) f (here.to r)
 
-none-replay : (cs : List Clause) (d : Answers) (hs : List ℕ) → hs ≡ [] → Replays cs d hs → ⊥
+pub none-replay : (cs : List Clause) (d : Answers) (hs : List ℕ) → hs ≡ [] → Replays cs d hs → ⊥
 none-replay cs d hs e (refuted d1 n1 c found r) = absurd (cc)
 none-replay cs d hs e (derives d1 n1 rest c l found u more) = absurd (cc)
 

@@ -1,10 +1,19 @@
+mod Answering
+pub mod Cited
+mod Convex
 mod Deciding
+mod Explains
+mod Extending
 mod Hinting
 mod Indexing
 mod Keeping
+mod LevelSteps
 mod Limits
+mod Marking
+mod Reasons
 mod Scanning
 mod Settling
+mod Tracing
 mod Truths
 mod Tying
 mod Walking

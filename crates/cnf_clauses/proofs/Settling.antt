@@ -153,7 +153,7 @@ refuted-quiet : (d : Answers) (c : Clause) → IsRefuted d c → IsQuiet d d c �
 refuted-quiet d c all (inl (m, h, t)) = true-false d m t (all m h)
 refuted-quiet d c all (inr (m, n, h, k, ne, x, y)) = x (all m h)
 
-false-in : (p d : Answers) (m : Literal) → Contained p d → IsFalseUnder p m → IsFalseUnder d m
+pub false-in : (p d : Answers) (m : Literal) → Contained p d → IsFalseUnder p m → IsFalseUnder d m
 false-in p d m inside f = inside m.0 (not m.1) f
 
 refuted-in : (p d : Answers) (c : Clause) → Contained p d → IsRefuted p c → IsRefuted d c
@@ -179,7 +179,7 @@ single_true d l n b t h =
       | inr e ↦ let bad : None ≡ Some b = (rw e at h) in absurd (cc)
     ]
 
-contained-more : (p d : Answers) (l : Literal) → Contained p d → IsTrueUnder d l → Contained (p ++ l ∷ []) d
+pub contained-more : (p d : Answers) (l : Literal) → Contained p d → IsTrueUnder d l → Contained (p ++ l ∷ []) d
 contained-more p d l inside t n b h =
     elim (cases_option (answer_of p n)) [
       | inl e ↦
@@ -202,7 +202,7 @@ only : {X : Type 0} → (y x : X) → Contains (y ∷ []) x → x ≡ y
 only y x (zero, h, e) = sym e
 only y x (suc k, h, e) = absurd (omega arith)
 
-in_last : {X : Type 0} → (xs : List X) (y x : X) → Contains (xs ++ y ∷ []) x → Contains xs x ⊎ (x ≡ y)
+pub in_last : {X : Type 0} → (xs : List X) (y x : X) → Contains (xs ++ y ∷ []) x → Contains xs x ⊎ (x ≡ y)
 in_last xs y x h = elim (Contains-append_cases xs (y ∷ []) x h) [ inl a ↦ inl a | inr b ↦ inr (only y x b) ]
 
 -- one more clause has been looked at

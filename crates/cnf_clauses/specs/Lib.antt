@@ -1,8 +1,14 @@
+pub mod Explains
+pub mod Following
 pub mod Found
 pub mod Indexes
 pub mod Laws
+pub mod Levels
 pub mod Literals
 pub mod Numbering
 pub mod Propagates
+pub mod Reasons
 pub mod Replays
 pub mod Scan
+pub mod Trails
+pub mod Used

@@ -1,31 +1,26 @@
 //! Variables that are decided one after another, with their values.
-ghost use Rattle.std.specs.Prelude.{◌≡◌, ◌++◌, ◌∷◌, [], ◌<◌, None, length, slice_get, OnOk, OnErr, IfOk, Some};
+ghost use Rattle.std.specs.Prelude.{◌≡◌, ◌++◌, ◌∷◌, [], ◌<◌, None, Some, length, slice_get, take, OnOk, OnErr, IfOk};
 ghost use Rattle.formula_tree.specs.Answers.{answer_of};
+ghost use Rattle.cnf_clauses.specs.Explains.{IsAnsweredAt};
 
 use formula_tree::Path;
 use plain_lists::NoMemory;
 use std::alloc::Global;
-use std::collections::HashMap;
 use std::marker::Model;
 
-// Decided variables in order; none is decided twice. A variable's value is looked up at once.
+// Decided variables in order; none is decided twice. They are kept as the answers of a path are,
+// so that a variable's value is looked up at once.
 #[derive(Drop)]
 pub(crate) struct Decided {
-    order: Vec<(u32, bool)>,
-    values: HashMap<u32, bool>,
+    answers: Path,
 }
 
 impl Model for Decided {
-    ghost use Rattle.std.specs.Prelude.{ℕ, Bool, List, ◌≡◌, nat_eq};
-    ghost use Rattle.std.specs.HashMap.{get};
+    ghost use Rattle.std.specs.Prelude.{ℕ, Bool, List};
 
     ghost Value = { List (ℕ × Bool) };
 
-    ghost use Rattle.formula_tree.specs.Answers.{answer_of};
-
-    ghost view = { λ d. d.order.items };
-
-    ghost invariant = { λ d. (n : ℕ) → get nat_eq d.values n ≡ answer_of d.order.items n };
+    ghost view = { λ d. d.answers };
 }
 
 impl Decided {
@@ -33,8 +28,7 @@ impl Decided {
         ensures { result ≡ [] }
     {
         Decided {
-            order: Vec::new(alloc),
-            values: HashMap::new(alloc),
+            answers: Path::new(alloc),
         }
     }
 
@@ -52,19 +46,35 @@ impl Decided {
     pub(crate) fn len(&self) -> usize
         ensures { result ≡ length self.now }
     {
-        self.order.len()
+        self.answers.len()
     }
 
     pub(crate) fn get(&self, i: usize) -> Option<(u32, bool)>
         ensures { result ≡ slice_get self.now i }
     {
-        self.order.as_slice().get(i).copied()
+        self.answers.get(i)
+    }
+
+    // The literal at an index.
+    pub(crate) fn at(&self, i: usize) -> (u32, bool)
+        requires { i < length self.now }
+        ensures { slice_get self.now i ≡ Some result }
+    {
+        self.answers.as_slice()[i]
+    }
+
+    // Where a variable was decided, or how many were decided where it wasn't.
+    pub(crate) fn place_of(&self, variable: u32) -> usize
+        ensures before { answer_of (take result self.now) variable ≡ None }
+        ensures there { IsAnsweredAt variable result self.now }
+    {
+        first_place(self.answers.as_slice(), variable)
     }
 
     pub(crate) fn value(&self, variable: u32) -> Option<bool>
         ensures { result ≡ answer_of self.now variable }
     {
-        self.values.get(&variable).copied()
+        self.answers.answer(variable)
     }
 
     pub(crate) fn push(&mut self, variable: u32, value: bool) -> Result<(), NoMemory>
@@ -72,13 +82,33 @@ impl Decided {
         ensures ok { OnOk result (self.new ≡ self.old ++ (variable, value) ∷ []) }
         ensures err { OnErr result (self.new ≡ self.old) }
     {
-        self.order.push((variable, value))?;
-        match self.values.insert(variable, value) {
-            Ok(_) => Ok(()),
-            Err(failed) => {
-                self.order.pop();
-                Err(NoMemory::from(failed))
-            }
+        self.answers.push(variable, value)
+    }
+
+    // Takes back what was decided after the first so many.
+    pub(crate) fn cut(&mut self, len: usize)
+        ensures { self.new ≡ take len self.old }
+    {
+        shorten(&mut self.answers, len);
+    }
+}
+
+fn first_place(literals: &[(u32, bool)], variable: u32) -> usize
+    ensures before { answer_of (take result literals.now) variable ≡ None }
+    ensures there { IsAnsweredAt variable result literals.now }
+{
+    'places: for (place, literal) in literals.iter().enumerate() {
+        if literal.0 == variable {
+            return place;
         }
+    }
+    literals.len()
+}
+
+fn shorten(path: &mut Path, len: usize)
+    ensures { path.new ≡ take len path.old }
+{
+    'shorten: while len < path.len() {
+        path.pop();
     }
 }

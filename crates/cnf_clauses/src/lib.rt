@@ -4,6 +4,8 @@
 mod clause;
 mod clauses;
 mod decided;
+mod explaining;
+mod following;
 mod index;
 mod laws;
 mod looking;
@@ -11,10 +13,12 @@ mod making;
 mod numbering;
 mod propagation;
 mod replaying;
+mod trail;
 mod watching;
 
 pub use clauses::{Clauses, Hints};
-pub use laws::replayed_hints_exclude_yes;
+pub use following::{Conflict, Following, Start};
+pub use laws::{replayed_hints_exclude_yes, replays_are_convex};
 pub use numbering::clauses_of;
 pub use plain_lists::NoMemory;
 pub use propagation::conflict;

@@ -1,8 +1,9 @@
 //! Unit propagation from a path. What is decided is followed in order: each clause that holds a
 //! literal that has become false is looked at again, and no other; it is read only where none of its
 //! two watched literals keeps it open.
-ghost use Rattle.std.specs.Prelude.{[], IfOk, IfSome, IfNone};
+ghost use Rattle.std.specs.Prelude.{[], take, IfOk, IfSome, IfNone};
 ghost use Rattle.cnf_clauses.specs.Propagates.{AreQuiet, AreQuietAt, IsOpenAt, Steps, Unless};
+ghost use Rattle.cnf_clauses.specs.Reasons.{Derives, Extends};
 ghost use Rattle.cnf_clauses.specs.Replays.{NoneReplay, Replays};
 
 use crate::clause::{Found, Literal};
@@ -23,6 +24,8 @@ fn settle(
     number: u32,
 ) -> Result<bool, NoMemory>
     ensures steps { IfOk result (Steps clauses.now hints.old decided.old hints.new decided.new) }
+    ensures hints { IfOk result (Derives clauses.now hints.old decided.old hints.new decided.new) }
+    ensures kept { Extends decided.old decided.new }
     ensures settled { IfOk result (Unless (IsOpenAt clauses.now decided.new number)) }
 {
     if watches.keep_open(clauses, decided, number)? {
@@ -43,13 +46,15 @@ fn settle(
 }
 
 // Looks at the clauses without two literals that differ.
-fn settle_short(
+pub(crate) fn settle_short(
     clauses: &Clauses,
     decided: &mut Decided,
     watches: &mut Watches,
     hints: &mut Hints,
 ) -> Result<bool, NoMemory>
     ensures steps { IfOk result (Steps clauses.now hints.old decided.old hints.new decided.new) }
+    ensures hints { IfOk result (Derives clauses.now hints.old decided.old hints.new decided.new) }
+    ensures kept { Extends decided.old decided.new }
     ensures quiet { IfOk result (Unless (AreQuiet clauses.now [] decided.new)) }
 {
     'short: for number in clauses.short() {
@@ -69,6 +74,8 @@ fn follow(
     literal: Literal,
 ) -> Result<bool, NoMemory>
     ensures steps { IfOk result (Steps clauses.now hints.old decided.old hints.new decided.new) }
+    ensures hints { IfOk result (Derives clauses.now hints.old decided.old hints.new decided.new) }
+    ensures kept { Extends decided.old decided.new }
     ensures quiet { IfOk result (Unless (AreQuietAt literal clauses.now decided.old decided.new)) }
 {
     'holding: for number in clauses.holding(literal) {
@@ -79,18 +86,21 @@ fn follow(
     Ok(false)
 }
 
-// Follows what is decided, in order, until nothing is left.
-fn follow_all(
+// Follows what is decided, in order, from an index on, until nothing is left.
+pub(crate) fn follow_all(
     clauses: &Clauses,
     decided: &mut Decided,
     watches: &mut Watches,
     hints: &mut Hints,
+    from: usize,
 ) -> Result<bool, NoMemory>
-    requires { AreQuiet clauses.now [] decided.old }
+    requires { AreQuiet clauses.now (take from decided.old) decided.old }
     ensures steps { IfOk result (Steps clauses.now hints.old decided.old hints.new decided.new) }
+    ensures hints { IfOk result (Derives clauses.now hints.old decided.old hints.new decided.new) }
+    ensures kept { Extends decided.old decided.new }
     ensures quiet { IfOk result (Unless (AreQuiet clauses.now decided.new decided.new)) }
 {
-    'next: for next in 0..usize::MAX {
+    'next: for next in from..usize::MAX {
         let Some((variable, value)) = decided.get(next) else {
             break;
         };
@@ -115,7 +125,7 @@ pub fn conflict(alloc: Global, clauses: &Clauses, path: &Path) -> Result<Option<
     if settle_short(clauses, &mut decided, &mut watches, &mut hints)? {
         return Ok(Some(hints));
     }
-    if follow_all(clauses, &mut decided, &mut watches, &mut hints)? {
+    if follow_all(clauses, &mut decided, &mut watches, &mut hints, 0)? {
         return Ok(Some(hints));
     }
     Ok(None)

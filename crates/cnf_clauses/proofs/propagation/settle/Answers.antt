@@ -1,4 +1,5 @@
 use Rattle.cnf_clauses.proofs.Settling.{settle-refuted, settle-unit, settle-open}
+use Rattle.cnf_clauses.proofs.Reasons.{settle-derives}
 use Rattle.cnf_clauses.proofs.propagation.settle.Goals as goal
 
 pub returns-in_ok-push-in-Refuted-clause-steps : goal.returns-in_ok-push-in-Refuted-clause-steps
@@ -12,3 +13,8 @@ returns-in_ok-push-in-Unit-2-clause-steps c =
 pub returns-in_ok-push-in-Unit-2-clause-settled : goal.returns-in_ok-push-in-Unit-2-clause-settled
 returns-in_ok-push-in-Unit-2-clause-settled c = λ met.
     settle-open c.args.clauses.now c.args.decided.now c.push-in-Unit-2.new.self c.args.number c.in-Unit.variable c.in-Unit.value c.in-Unit.ensures c.in_ok-push-in-Unit-2.ensures.ok
+
+pub returns-in_ok-push-in-Unit-2-clause-hints : goal.returns-in_ok-push-in-Unit-2-clause-hints
+returns-in_ok-push-in-Unit-2-clause-hints c =
+    settle-derives c.args.clauses.now c.args.decided.now c.push-in-Unit-2.new.self c.args.hints.now c.push-in-Unit.new.self c.args.number c.in-Unit.variable c.in-Unit.value
+    c.in-Unit.ensures c.in_ok-push-in-Unit.ensures.ok c.in_ok-push-in-Unit-2.ensures.ok

@@ -1,0 +1,123 @@
+-- What one more answer of the path makes of what was decided.
+use Rattle.std.proofs.Common.{◌≡◌, ℕ, ◌≤◌, List, [], ◌∷◌, ◌++◌, length, take, get_or, arith, ◌<◌, Bool, true, false, not, Option, Some, None, ◌⊎◌, inl, inr, refl, sym, ap, subst, ◌∙◌, slice_get, append-nil}
+use Rattle.std.specs.Prelude.{IfNone, IfSome}
+use Rattle.std.proofs.lemmas.List.{take_all, take_at}
+use Rattle.std.proofs.lemmas.Option.{slice_get_within}
+use Rattle.formula_tree.specs.Answers.{Answers, answer_of, Contained}
+use Rattle.formula_tree.proofs.Laws.{answer_of-more, answer_of-last, cases_eq}
+use Rattle.cnf_clauses.specs.Literals.{Clause, Literal, IsRefuted, IsTrueUnder, IsUnit}
+use Rattle.cnf_clauses.specs.Explains.{Agree, IsAnsweredAt, IsRefutedAt}
+use Rattle.cnf_clauses.specs.Levels.{IsLevel}
+use Rattle.cnf_clauses.specs.Propagates.{AreQuiet}
+use Rattle.cnf_clauses.specs.Reasons.{Extends, HaveReasons, IsReason}
+use Rattle.cnf_clauses.specs.Trails.{HasOthers, IsOpposite}
+use Rattle.cnf_clauses.proofs.Explains.{false-behind, refuted-behind}
+use Rattle.cnf_clauses.proofs.Extending.{extends-answer, take-answer}
+use Rattle.cnf_clauses.proofs.Reasons.{reasons-at, reasons-more}
+use Rattle.cnf_clauses.proofs.Settling.{quiet-grows}
+
+same_some : (a b : Bool) → Some a ≡ Some b → a ≡ b
+same_some a b e = cc
+
+-- all answers are decided, where the last one is
+pub others-all : (path d : Answers) (test : ℕ) (answer : Bool) → HasOthers test path d → answer_of path test ≡ Some answer → answer_of d test ≡ Some answer → Contained path d
+others-all path d test answer others here decided n b h =
+    elim (cases_eq n test) [
+      | inl e ↦
+          let same : Some answer ≡ Some b = sym here ∙ sym (ap (λ (x : ℕ). answer_of path x) e) ∙ h in
+          ap (λ (x : ℕ). answer_of d x) e ∙ decided ∙ same
+      | inr ne ↦ others n b ne h
+    ]
+
+-- ---- an answer that was decided before
+
+pub level-same : (cs : List Clause) (path d : Answers) (r : List (Option ℕ)) (test : ℕ) (answer value : Bool) → HasOthers test path d → answer_of path test ≡ Some answer → answer_of d test ≡ Some value →
+    value ≡ answer → HaveReasons cs path [] d r → AreQuiet cs d d → IsLevel cs path d r
+level-same cs path d r test answer value others here decided same reasons quiet = record {
+  answers = others-all path d test answer others here (decided ∙ ap (λ (x : Bool). Some x) same);
+  explained = reasons;
+  quiet = quiet;
+}
+
+not-same : (a b : Bool) → (a ≡ b → ⊥) → a ≡ not b
+not-same true true ne = absurd (ne refl)
+not-same true false ne = refl
+not-same false true ne = refl
+not-same false false ne = absurd (ne refl)
+
+pub opposite : (path d : Answers) (test : ℕ) (answer value : Bool) → answer_of path test ≡ Some answer → answer_of d test ≡ Some value → (value ≡ answer → ⊥) → IsOpposite test path d
+opposite path d test answer value here decided ne = (answer, here, decided ∙ ap (λ (x : Bool). Some x) (not-same value answer ne))
+
+not-itself : (b : Bool) → b ≡ not b → ⊥
+not-itself true e = absurd (cc)
+not-itself false e = absurd (cc)
+
+twice : (b : Bool) → b ≡ not (not b)
+twice true = refl
+twice false = refl
+
+-- the opposite answer has a clause as its reason
+contradicted-reason : (cs : List Clause) (path before : Answers) (test : ℕ) (b : Bool) (r : Option ℕ) → IsReason cs path before (test, not b) r → answer_of path test ≡ Some b → r ≡ None → ⊥
+contradicted-reason cs path before test b r reason here none =
+    let there : answer_of path test ≡ Some (not b) = subst (λ (x : Option ℕ). IsReason cs path before (test, not b) x) none reason in
+    not-itself b (same_some b (not b) (sym here ∙ there))
+
+pub opposite-clause : (cs : List Clause) (path d : Answers) (r : List (Option ℕ)) (test place : ℕ) (found : Option ℕ) → HaveReasons cs path [] d r → IsOpposite test path d → IsAnsweredAt test place d →
+    found ≡ get_or r place None → found ≡ None → ⊥
+opposite-clause cs path d r test place found reasons (b, here, decided) answered read none =
+    contradicted-reason cs path (take place d) test b (get_or r place None) (reasons-at cs path [] d r place (test, not b) reasons (answered (not b) decided)) here (sym read ∙ none)
+
+pub opposite-within : (path d : Answers) (test place : ℕ) → IsOpposite test path d → IsAnsweredAt test place d → place ≤ length d
+opposite-within path d test place (b, here, decided) answered =
+    let inside : place < length d = slice_get_within d place (test, not b) (answered (not b) decided) in omega arith
+
+-- what was decided before it agrees with the path
+pub opposite-agrees : (path d : Answers) (test place : ℕ) → HasOthers test path d → answer_of (take place d) test ≡ None → Agree path (take place d)
+opposite-agrees path d test place others before v b c p q =
+    elim (cases_eq v test) [
+      | inl e ↦ let bad : None ≡ Some c = sym before ∙ sym (ap (λ (x : ℕ). answer_of (take place d) x) e) ∙ q in absurd (cc)
+      | inr ne ↦ same_some b c (sym (others v b ne p) ∙ take-answer d place v c q)
+    ]
+
+unit-refuted : (path before : Answers) (c : Clause) (test : ℕ) (b : Bool) → Agree path before → answer_of path test ≡ Some b → IsUnit before c (test, not b) → IsRefuted (path ++ before) c
+unit-refuted path before c test b agree here u m k =
+    elim (u.others m k) [
+      | inl e ↦ subst (λ (x : Literal). answer_of (path ++ before) x.0 ≡ Some (not x.1)) (sym e) (answer_of-more path before test (not (not b)) (here ∙ ap (λ (x : Bool). Some x) (twice b)))
+      | inr f ↦ false-behind path before m agree f
+    ]
+
+pub opposite-refuted : (cs : List Clause) (path d : Answers) (r : List (Option ℕ)) (test place : ℕ) (found : Option ℕ) (n : ℕ) → HaveReasons cs path [] d r → HasOthers test path d → IsOpposite test path d →
+    answer_of (take place d) test ≡ None → IsAnsweredAt test place d → found ≡ get_or r place None → found ≡ Some n → IsRefutedAt cs (path ++ take place d) n
+opposite-refuted cs path d r test place found n reasons others (b, here, decided) before answered read some =
+    let reason : IsReason cs path (take place d) (test, not b) (Some n) =
+    subst (λ (x : Option ℕ). IsReason cs path (take place d) (test, not b) x) (sym read ∙ some) (reasons-at cs path [] d r place (test, not b) reasons (answered (not b) decided)) in
+    let (c, there, u) = reason in
+    (c, there, unit-refuted path (take place d) c test b (opposite-agrees path d test place others before) here u)
+
+-- ---- an answer that is followed
+
+pub answer-reasons : (cs : List Clause) (path d d1 : Answers) (r r1 : List (Option ℕ)) (test : ℕ) (answer : Bool) → HaveReasons cs path [] d r → answer_of path test ≡ Some answer →
+    d1 ≡ d ++ (test, answer) ∷ [] → r1 ≡ r ++ None ∷ [] → HaveReasons cs path [] d1 r1
+answer-reasons cs path d d1 r r1 test answer old here e f = rw (e, f) (reasons-more cs path [] d r ((test, answer) ∷ []) (None ∷ []) old (here, tt))
+
+pub answer-quiet : (cs : List Clause) (d d1 : Answers) (from test : ℕ) (answer : Bool) → AreQuiet cs d d → from ≡ length d → d1 ≡ d ++ (test, answer) ∷ [] → AreQuiet cs (take from d1) d1
+answer-quiet cs d d1 from test answer quiet start e =
+    let before : take from d1 ≡ d = ap (λ (x : Answers). take from x) e ∙ take_at d ((test, answer) ∷ []) from (sym start) in
+    rw (before, e) (λ i c there. quiet-grows d d ((test, answer) ∷ []) c (quiet i c there))
+
+pub answer-all : (path d d1 d2 : Answers) (test : ℕ) (answer : Bool) → HasOthers test path d → answer_of path test ≡ Some answer → answer_of d test ≡ None → d1 ≡ d ++ (test, answer) ∷ [] → Extends d1 d2 → Contained path d2
+answer-all path d d1 d2 test answer others here open_there e more =
+    let last : answer_of d1 test ≡ Some answer = ap (λ (x : Answers). answer_of x test) e ∙ answer_of-last d test answer open_there in
+    others-all path d2 test answer (λ n b ne h. extends-answer d1 d2 n b more (ap (λ (x : Answers). answer_of x n) e ∙ answer_of-more d ((test, answer) ∷ []) n b (others n b ne h)))
+    here (extends-answer d1 d2 test answer more last)
+
+pub contained-agrees : (path d : Answers) (n : ℕ) → n ≡ length d → Contained path d → Agree path (take n d)
+contained-agrees path d n e inside v b c p q = same_some b c (sym (inside v b p) ∙ take-answer d n v c q)
+
+pub contained-refuted : (cs : List Clause) (path d : Answers) (n number : ℕ) → n ≡ length d → Contained path d → IsRefutedAt cs d number → IsRefutedAt cs (path ++ take n d) number
+contained-refuted cs path d n number e inside (c, there, all) =
+    let whole : take n d ≡ d = take_all n d (omega arith) in
+    (c, there, refuted-behind path (take n d) c (contained-agrees path d n e inside) (rw whole all))
+
+pub nothing-contained : (p d : Answers) → p ≡ [] → Contained p d
+nothing-contained p d e n b h = let bad : None ≡ Some b = sym (ap (λ (x : Answers). answer_of x n) e) ∙ h in absurd (cc)
