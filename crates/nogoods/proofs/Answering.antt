@@ -39,3 +39,6 @@ contained-all-in items few many n e le all = let P : Answers → Type 0 = λ xs.
 
 pub not_contained-in : (items few many : Answers) (k : ℕ) (d : ℕ × Bool) → items ≡ few → IsDistinct few → k < length items → ¬ (answer_of many (get_or items k d).0 ≡ Some (get_or items k d).1) → ¬ Contained few many
 not_contained-in items few many k d e distinct lt other = let P : Answers → Type 0 = λ xs. k < length xs → ¬ (answer_of many (get_or xs k d).0 ≡ Some (get_or xs k d).1) → ¬ Contained few many in subst P (sym e) (λ within differs. not_contained few many k d distinct within differs) lt other
+
+pub answer_of-at-in : (items few : Answers) (k : ℕ) (d : ℕ × Bool) → items ≡ few → IsDistinct few → k < length items → answer_of few (get_or items k d).0 ≡ Some (get_or items k d).1
+answer_of-at-in items few k d e distinct lt = let P : Answers → Type 0 = λ xs. k < length xs → answer_of few (get_or xs k d).0 ≡ Some (get_or xs k d).1 in subst P (sym e) (λ within. answer_of-at few k d distinct within) lt

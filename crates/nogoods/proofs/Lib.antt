@@ -1,3 +1,6 @@
 mod Answering
 mod Entering
+mod Joining
+mod Learning
+mod Watches
 mod Zipping

@@ -1,4 +1,7 @@
 pub mod Buckets
 pub mod Choices
 pub mod Hits
+pub mod Joining
 pub mod Stored
+pub mod Tracking
+pub mod Turning

@@ -7,6 +7,9 @@ mod lists;
 mod store;
 #[cfg(test)]
 mod tests;
+mod tracking;
+mod watching;
 
 pub use plain_lists::NoMemory;
 pub use store::{Closes, Store};
+pub use tracking::Tracking;

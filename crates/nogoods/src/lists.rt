@@ -169,8 +169,8 @@ fn is_contained(answers: &Path, path: &Path) -> bool
     true
 }
 
-// Whether a path answers the test so.
-fn has_answer(path: &Path, test: u32, answer: bool) -> bool
+/// Whether a path answers the test so.
+pub(crate) fn has_answer(path: &Path, test: u32, answer: bool) -> bool
     ensures { MatchBool result (HasAnswer path.now test answer) (¬ HasAnswer path.now test answer) }
 {
     match path.answer(test) {
