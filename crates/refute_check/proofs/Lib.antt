@@ -1,3 +1,13 @@
+mod Agreeing
 mod Closed
+mod Deciding
+mod Ending
+mod Extending
+mod Failing
+mod Labelling
 pub mod Laws
+mod Meeting
+mod Picking
+mod Ranges
 mod Walking
+pub mod RunLaws

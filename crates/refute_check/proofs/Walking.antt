@@ -1,27 +1,27 @@
 -- A walk through a refutation: what the nodes below say of the node above.
-use Rattle.std.proofs.Common.{◌≡◌, ◌<◌, ◌+◌, ◌↔◌, IsTrue, ℕ, List, [], ◌∷◌, ◌++◌, length, Bool, true, false, Option, Some, None, IsSome, option_to_list, refl, sym, ap, ◌∙◌, subst, inl, inr, arith, rules, Global}
-use Rattle.std.proofs.lemmas.List.{length_push, same_from_push}
-use Rattle.formula_tree.specs.Answers.{Answers, answer_of}
+use Rattle.std.proofs.Common.{◌≡◌, ◌<◌, ◌≤◌, ◌+◌, ◌^◌, ℕ, List, [], ◌++◌, true, false, All, refl, sym, ap, ◌∙◌, subst, arith, rules, append_assoc, Global}
+use Rattle.std.proofs.lemmas.List.Elements.{All-append, All-nil, All-push, All-weaker}
+use Rattle.std.specs.declared.rc.Rc.{Rc}
+use Rattle.formula_tree.specs.Answers.{Answers}
 use Rattle.formula_tree.specs.Runs.{answered}
 use Rattle.formula_tree.specs.Trees.{Tree, tree_of}
-use Rattle.formula_tree.proofs.Laws.{answer_of-besides, cases_eq}
 use Rattle.policy_compile.specs.declared.outcome.Query.{Query}
 use Rattle.policy_model.specs.declared.schema.Schema.{Schema}
-use Rattle.policy_model.specs.declared.test.Test.{Test}
 use Rattle.slot_theory.specs.declared.outcome.SlotProof.{SlotProof}
 use Rattle.slot_theory.specs.Cores.{Accepts}
-use Rattle.slot_theory.specs.Possible.{PathInRange}
-use Rattle.std.specs.declared.rc.Rc.{Rc}
 use Rattle.refute_check.specs.declared.refutation.Refutation.{Refutation, the_lemmas}
-use Rattle.refute_check.specs.declared.refutation.Refutation.TheVariants.{Split, ByValue, BySlot}
+use Rattle.refute_check.specs.declared.refutation.Refutation.TheVariants.{Split, ByValue, BySlot, ByClauses, Label, Reuse}
 use Rattle.refute_check.specs.declared.verdict.Walked.{Walked}
 use Rattle.refute_check.specs.declared.verdict.Walked.TheVariants.{Closed, Failed}
-use Rattle.refute_check.specs.Closing.{Closes, FailsAt, OwnRule, here, in_yes, in_no}
-use Rattle.refute_check.specs.Proofs.{Proof, by_slot, by_value, proof_of, size, split}
-use Rattle.refute_check.specs.Queries.{ClosesQuery, HoldsHere}
-use Rattle.refute_check.specs.Walks.{IsWalked}
+use Rattle.refute_check.specs.Closing.{Before, Closes, FailsAt, IsLabel, OwnRule, after_part, at_first, here, in_label, in_no, in_yes, inside_label}
+use Rattle.refute_check.specs.Labels.{HasNotEnded}
+use Rattle.refute_check.specs.Proofs.{Proof, by_clauses, by_slot, by_value, ended_in, label, labels, proof_of, reuse, size, split}
+use Rattle.refute_check.specs.Queries.{HoldsHere}
+use Rattle.refute_check.specs.Walks.{IsLabelWalked, IsOpenTest, IsWalked, IsWholeWalk, raised}
+use Rattle.refute_check.proofs.Failing.{fails-not-closes, fails-within}
 
--- the tree of a refutation by its form
+-- ---- the tree of a refutation by its form
+
 pub of-split : (n : ℕ) (y z : Rc Refutation Global) (r : Refutation) → r ≡ Split n y z → proof_of r ≡ split n (proof_of y.value) (proof_of z.value)
 of-split n y z r is = ap proof_of is ∙ search (rules, the_lemmas)
 
@@ -31,96 +31,102 @@ of-value r is = ap proof_of is ∙ search (rules, the_lemmas)
 pub of-slot : (core : List ℕ) (proof : SlotProof) (r : Refutation) → r ≡ BySlot core proof → proof_of r ≡ by_slot core proof
 of-slot core proof r is = ap proof_of is ∙ search (rules, the_lemmas)
 
--- one more answer to a test in range
-pub range_more : (tests : List Test) (path : Answers) (n : ℕ) (b : Bool) → PathInRange tests path → n < length tests → PathInRange tests (answered path n b)
-range_more tests path n b before within m c is =
-    elim (cases_eq m n) [
-      | inl same ↦ omega (arith, same)
-      | inr other ↦ before m c (sym (answer_of-besides path n b m other) ∙ is)
-    ]
+pub of-clauses : (hints : List ℕ) (r : Refutation) → r ≡ ByClauses hints → proof_of r ≡ by_clauses hints
+of-clauses hints r is = ap proof_of is ∙ search (rules, the_lemmas)
 
--- the last answer taken away again
-no_end : (path : Answers) (x : ℕ × Bool) → ¬ (0 < length (path ++ x ∷ [])) → ⊥
-no_end path x none = none (omega (arith, length_push path x))
+pub of-label : (n : ℕ) (answers : Answers) (inner : Rc Refutation Global) (r : Refutation) → r ≡ Label n answers inner → proof_of r ≡ label n answers (proof_of inner.value)
+of-label n answers inner r is = ap proof_of is ∙ search (rules, the_lemmas)
 
-pub popped : (path : Answers) (n : ℕ) (b : Bool) (old now : Answers) (last : Option (ℕ × Bool)) → old ≡ answered path n b → old ≡ now ++ option_to_list last → (IsSome last ↔ (0 < length old)) → now ≡ path
-popped path n b old now None is ends some = absurd (no_end path (n, b) (λ big. let x = some.1 (subst (λ (l : Answers). 0 < length l) (sym is) big) in absurd (cc)))
-popped path n b old now (Some x) is ends some = sym (same_from_push path now (n, b) x (sym is ∙ ends)).0
+pub of-reuse : (n : ℕ) (r : Refutation) → r ≡ Reuse n → proof_of r ≡ reuse n
+of-reuse n r is = ap proof_of is ∙ search (rules, the_lemmas)
 
-pub size_above : (p : Proof) → 0 < size p
-size_above (split n y z) = omega arith
-size_above by_value = omega arith
-size_above (by_slot core proof) = omega arith
+-- ---- labels before a node
 
--- what closes keeps its first node's rule
-own-of : (schema : Schema) (tests : List Test) (tree : Tree) (path : Answers) (p : Proof) → Closes schema tests tree p path → OwnRule schema tests tree p path
-own-of schema tests tree path (split n y z) closes = closes.0
-own-of schema tests tree path by_value closes = closes
-own-of schema tests tree path (by_slot core proof) closes = closes
+abbrev made : ℕ → List (ℕ × Answers) → Before
+made begun ended = record { begun = begun; ended = ended }
 
--- what a call says of a part and a path, at their other names
-pub closes-at : (schema : Schema) (q : Query) (r s : Refutation) (path other : Answers) (ok : Bool) → r ≡ s → path ≡ other → IsTrue ok ↔ ClosesQuery schema q r path → IsTrue ok ↔ ClosesQuery schema q s other
-closes-at schema q r s path other ok same alike says =
-    subst (λ (p : Answers). IsTrue ok ↔ ClosesQuery schema q s p) alike (subst (λ (x : Refutation). IsTrue ok ↔ ClosesQuery schema q x path) same says)
+same-before : (begun other : ℕ) (ended more : List (ℕ × Answers)) → begun ≡ other → ended ≡ more → made begun ended ≡ made other more
+same-before begun other ended more numbers labels = ap (λ (n : ℕ). made n ended) numbers ∙ ap (made other) labels
 
-pub walked-at : (schema : Schema) (q : Query) (r s : Refutation) (path other : Answers) (w v : Walked) → r ≡ s → path ≡ other → w ≡ v → IsWalked schema q r path w → IsWalked schema q s other v
-walked-at schema q r s path other w v same alike is says =
-    subst (λ (x : Walked). IsWalked schema q s other x) is (subst (λ (p : Answers). IsWalked schema q s p w) alike (subst (λ (x : Refutation). IsWalked schema q x path w) same says))
-
-module _ (schema : Schema) (q : Query) (path : Answers) (part : Refutation) where
+module _ (schema : Schema) (q : Query) where
   abbrev tree : Tree
   tree = tree_of q.formula.value
 
-  abbrev Rule : Proof → Type 0
-  Rule p = OwnRule schema q.tests tree p path
+  abbrev Walks : Before → Proof → Answers → Before → Walked → Type 0
+  Walks before p path after walked = IsWalked schema q before p path after walked
 
-  pub closes-own : ClosesQuery schema q part path → HoldsHere schema q part path
-  closes-own = own-of schema q.tests tree path (proof_of part)
+  -- what a call says of labels, a path and a walk, at their other names
+  pub walked-at : (before other : Before) (p : Proof) (path route : Answers) (after : Before) (walked same : Walked) → before ≡ other → path ≡ route → walked ≡ same → Walks before p path after walked → Walks other p route after same
+  walked-at before other p path route after walked same labels answers is walks =
+      subst (λ (w : Walked). Walks other p route after w) is (subst (λ (a : Answers). Walks other p a after walked) answers (subst (λ (b : Before). Walks b p path after walked) labels walks))
 
-  pub fails-here : (HoldsHere schema q part path → ⊥) → IsWalked schema q part path (Failed 0)
-  fails-here not = (here not, size_above (proof_of part))
+  -- the own rule fails
+  pub fails-here : (before after : Before) (p : Proof) (path : Answers) → (OwnRule schema q.tests tree before p path → ⊥) → Walks before p path after (Failed 0)
+  fails-here before after p path broken = (0, here broken, refl)
 
-  pub value-closes : part ≡ ByValue → HoldsHere schema q part path → IsWalked schema q part path (Closed 1)
-  value-closes is = subst (λ (p : Proof). Rule p → Closes schema q.tests tree p path × (1 ≡ size p)) (sym (of-value part is)) (λ own. (own, refl))
+  pub slot-rule : (before : Before) (core : List ℕ) (proof : SlotProof) (part : Refutation) (path : Answers) → part ≡ BySlot core proof → HoldsHere schema q before part path ≡ Accepts schema q.tests path core proof
+  slot-rule before core proof part path is = ap (λ (p : Proof). OwnRule schema q.tests tree before p path) (of-slot core proof part is)
 
-  pub slot-rule : (core : List ℕ) (proof : SlotProof) → part ≡ BySlot core proof → HoldsHere schema q part path ≡ Accepts schema q.tests path core proof
-  slot-rule core proof is = ap Rule (of-slot core proof part is)
+  -- ---- the sides of a split
 
-  pub slot-closes : (core : List ℕ) (proof : SlotProof) → part ≡ BySlot core proof → HoldsHere schema q part path → IsWalked schema q part path (Closed 1)
-  slot-closes core proof is = subst (λ (p : Proof). Rule p → Closes schema q.tests tree p path × (1 ≡ size p)) (sym (of-slot core proof part is)) (λ own. (own, refl))
+  module _ (before : Before) (n : ℕ) (y z : Proof) (path : Answers) (own : IsOpenTest q n path) where
+    pub first-fails : (middle after : Before) (node : ℕ) → Walks before y (answered path n true) middle (Failed node) → Walks before (split n y z) path after (raised (Failed node) 0)
+    first-fails middle after node (k, fails, is) = (k + 1, in_yes own fails refl, omega (arith, is))
 
-  module _ (n : ℕ) (yes_side no_side : Rc Refutation Global) (is : part ≡ Split n yes_side no_side) where
-    abbrev y : Proof
-    y = proof_of yes_side.value
+    pub second : (middle after : Before) (nodes : ℕ) (walked : Walked) → Walks before y (answered path n true) middle (Closed nodes) → Walks middle z (answered path n false) after walked → Walks before (split n y z) path after (raised walked nodes)
+    second middle after nodes (Closed more) (closes, count, is) walks =
+        let (closed, rest, end) = subst (λ (b : Before). Walks b z (answered path n false) after (Closed more)) is walks in
+        ((own, closes, closed), omega (arith, count, rest), end ∙ same-before (before.begun + labels y + labels z) (before.begun + (labels y + labels z)) ((before.ended ++ ended_in y) ++ ended_in z) (before.ended ++ (ended_in y ++ ended_in z)) (omega arith) (append_assoc before.ended (ended_in y) (ended_in z)))
+    second middle after nodes (Failed node) (closes, count, is) walks =
+        let (k, fails, place) = subst (λ (b : Before). Walks b z (answered path n false) after (Failed node)) is walks in
+        (k + size y + 1, in_no own closes fails refl, omega (arith, count, place))
 
-    abbrev z : Proof
-    z = proof_of no_side.value
+  -- ---- labels
 
-    form : proof_of part ≡ split n y z
-    form = of-split n yes_side no_side part is
+  pub own-label : (before : Before) (n : ℕ) (answers : Answers) (inner : Rc Refutation Global) (part : Refutation) (path : Answers) → part ≡ Label n answers inner → HoldsHere schema q before part path → IsLabel before n answers path
+  own-label before n answers inner part path is =
+      subst (λ (p : Proof). OwnRule schema q.tests tree before p path → IsLabel before n answers path) (sym (of-label n answers inner part is)) (λ own. own)
 
-    pub split-own : HoldsHere schema q part path → (n < length q.tests) × (answer_of path n ≡ None)
-    split-own = subst (λ (p : Proof). Rule p → (n < length q.tests) × (answer_of path n ≡ None)) (sym form) (λ own. own)
+  -- the labels in a part that closes have the numbers from that of the next on
+  pub ended-above : (before : Before) (p : Proof) (path : Answers) → Closes schema q.tests tree before p path → All (λ (l : ℕ × Answers). before.begun ≤ l.0) (ended_in p)
+  ended-above before (split n y z) path closes =
+      let first = ended-above before y (answered path n true) closes.1 in
+      let later = ended-above (after_part before y) z (answered path n false) closes.2 in
+      All-append (λ (l : ℕ × Answers). before.begun ≤ l.0) (ended_in y) (ended_in z) first
+      (All-weaker (λ (l : ℕ × Answers). before.begun + labels y ≤ l.0) (λ (l : ℕ × Answers). before.begun ≤ l.0) (λ l big. omega (arith, big)) (ended_in z) later)
+  ended-above before (label n answers p) path closes =
+      let inside = ended-above (inside_label before) p answers closes.1 in
+      All-push (λ (l : ℕ × Answers). before.begun ≤ l.0) (ended_in p) (n, answers)
+      (All-weaker (λ (l : ℕ × Answers). before.begun + 1 ≤ l.0) (λ (l : ℕ × Answers). before.begun ≤ l.0) (λ l big. omega (arith, big)) (ended_in p) inside)
+      (omega (arith, closes.0.next))
+  ended-above before by_value path closes = All-nil (λ (l : ℕ × Answers). before.begun ≤ l.0)
+  ended-above before (by_slot core proof) path closes = All-nil (λ (l : ℕ × Answers). before.begun ≤ l.0)
+  ended-above before (by_clauses hints) path closes = All-nil (λ (l : ℕ × Answers). before.begun ≤ l.0)
+  ended-above before (reuse n) path closes = All-nil (λ (l : ℕ × Answers). before.begun ≤ l.0)
 
-    -- each side is smaller
-    pub sides-smaller : (size y < size (proof_of part)) × (size z < size (proof_of part))
-    sides-smaller = subst (λ (p : Proof). (size y < size p) × (size z < size p)) (sym form) (omega (arith, size_above z), omega (arith, size_above y))
+  -- so that of a label has not ended while its node is walked
+  pub not-ended : (before after : Before) (p : Proof) (answers : Answers) (nodes : ℕ) → All (λ (l : ℕ × Answers). l.0 < before.begun) before.ended → Walks (inside_label before) p answers after (Closed nodes) → HasNotEnded after before.begun
+  not-ended before after p answers nodes low (closes, count, is) =
+      let inside = ended-above (inside_label before) p answers closes in
+      let both =
+      All-append (λ (l : ℕ × Answers). l.0 ≡ before.begun → ⊥) before.ended (ended_in p)
+      (All-weaker (λ (l : ℕ × Answers). l.0 < before.begun) (λ (l : ℕ × Answers). l.0 ≡ before.begun → ⊥) (λ l small e. omega (arith, small, e)) before.ended low)
+      (All-weaker (λ (l : ℕ × Answers). before.begun + 1 ≤ l.0) (λ (l : ℕ × Answers). l.0 ≡ before.begun → ⊥) (λ l big e. omega (arith, big, e)) (ended_in p) inside)
+      in
+      subst (λ (b : Before). HasNotEnded b before.begun) (sym is) both
 
-    pub sides-close : ClosesQuery schema q part path → ClosesQuery schema q yes_side.value (answered path n true) × ClosesQuery schema q no_side.value (answered path n false)
-    sides-close = subst (λ (p : Proof). Closes schema q.tests tree p path → Closes schema q.tests tree y (answered path n true) × Closes schema q.tests tree z (answered path n false)) (sym form) (λ closes. (closes.1, closes.2))
+  pub label-fails : (before middle after : Before) (n : ℕ) (answers : Answers) (p : Proof) (node : ℕ) → Walks (inside_label before) p answers middle (Failed node) → IsLabelWalked schema q before n answers p after (raised (Failed node) 0)
+  label-fails before middle after n answers p node (k, fails, is) path own = (k + 1, in_label own fails refl, omega (arith, is))
 
-    pub both-close : HoldsHere schema q part path → ClosesQuery schema q yes_side.value (answered path n true) → ClosesQuery schema q no_side.value (answered path n false) → ClosesQuery schema q part path
-    both-close own first second = subst (λ (p : Proof). Closes schema q.tests tree p path) (sym form) (split-own own, first, second)
+  -- ---- whole refutations
 
-    pub split-closes : (nodes more : ℕ) → HoldsHere schema q part path → IsWalked schema q yes_side.value (answered path n true) (Closed nodes) → IsWalked schema q no_side.value (answered path n false) (Closed more) → IsWalked schema q part path (Closed (nodes + more + 1))
-    split-closes nodes more own (first, count) (second, rest) =
-        (both-close own first second, subst (λ (p : Proof). nodes + more + 1 ≡ size p) (sym form) (omega (arith, count, rest)))
+  pub whole-fails : (p : Proof) (path : Answers) (walked : Walked) (node : ℕ) → size p < 2 ^ 32 → path ≡ [] → walked ≡ Failed node → IsWholeWalk schema q p path walked → FailsAt schema q.tests tree at_first p [] node
+  whole-fails p path walked node small empty is (after, walks) =
+      let (k, fails, place) = walked-at at_first at_first p path [] after walked (Failed node) refl empty is walks in
+      let least = fails-within schema q.tests tree at_first p [] k fails in
+      subst (λ (n : ℕ). FailsAt schema q.tests tree at_first p [] n) (omega (arith, small, least, place)) fails
 
-    -- a node below fails first
-    pub yes-fails : (node : ℕ) → HoldsHere schema q part path → IsWalked schema q yes_side.value (answered path n true) (Failed node) → IsWalked schema q part path (Failed (node + 1))
-    yes-fails node own (fails, small) =
-        subst (λ (p : Proof). FailsAt schema q.tests tree p path (node + 1) × (node + 1 < size p)) (sym form) (in_yes (split-own own) fails refl, omega (arith, small, size_above z))
-
-    pub no-fails : (nodes node : ℕ) → HoldsHere schema q part path → IsWalked schema q yes_side.value (answered path n true) (Closed nodes) → IsWalked schema q no_side.value (answered path n false) (Failed node) → IsWalked schema q part path (Failed (node + nodes + 1))
-    no-fails nodes node own (closes, count) (fails, small) =
-        subst (λ (p : Proof). FailsAt schema q.tests tree p path (node + nodes + 1) × (node + nodes + 1 < size p)) (sym form) (in_no (split-own own) closes fails (omega (arith, count)), omega (arith, small, count))
+  pub fails-whole : (p : Proof) (path other : Answers) (walked : Walked) (node : ℕ) → path ≡ other → walked ≡ Failed node → IsWholeWalk schema q p path walked → Closes schema q.tests tree at_first p other → ⊥
+  fails-whole p path other walked node same is (after, walks) closes =
+      let (k, fails, place) = walked-at at_first at_first p path other after walked (Failed node) refl same is walks in
+      fails-not-closes schema q.tests tree at_first p other k fails closes

@@ -3,4 +3,7 @@ pub mod Closing
 pub mod Queries
 pub mod Laws
 pub mod Verdicts
+pub mod Labels
 pub mod Walks
+pub mod Propagated
+pub mod RunLaws

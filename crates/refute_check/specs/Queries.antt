@@ -4,13 +4,17 @@ use Rattle.formula_tree.specs.Trees.{tree_of}
 use Rattle.policy_compile.specs.declared.outcome.Query.{Query}
 use Rattle.policy_model.specs.declared.schema.Schema.{Schema}
 use Rattle.refute_check.specs.declared.refutation.Refutation.{Refutation}
-use Rattle.refute_check.specs.Closing.{Closes, OwnRule}
+use Rattle.refute_check.specs.Closing.{Before, Closes, OwnRule, at_first}
 use Rattle.refute_check.specs.Proofs.{proof_of}
 
--- the rule of the refutation's first node holds under the path
-abbrev pub HoldsHere : Schema → Query → Refutation → Answers → Type 0
-HoldsHere schema q r path = OwnRule schema q.tests (tree_of q.formula.value) (proof_of r) path
+-- the rule of the refutation's first node holds under the path, after what stands before
+abbrev pub HoldsHere : Schema → Query → Before → Refutation → Answers → Type 0
+HoldsHere schema q before r path = OwnRule schema q.tests (tree_of q.formula.value) before (proof_of r) path
 
--- the refutation closes the query under the path
+-- the refutation closes the query under the path, after what stands before
+abbrev pub ClosesAfter : Schema → Query → Before → Refutation → Answers → Type 0
+ClosesAfter schema q before r path = Closes schema q.tests (tree_of q.formula.value) before (proof_of r) path
+
+-- and with nothing before it
 abbrev pub ClosesQuery : Schema → Query → Refutation → Answers → Type 0
-ClosesQuery schema q r path = Closes schema q.tests (tree_of q.formula.value) (proof_of r) path
+ClosesQuery schema q r path = ClosesAfter schema q at_first r path

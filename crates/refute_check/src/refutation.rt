@@ -1,6 +1,11 @@
 //! Refutations.
+use cnf_clauses::Hints;
+use plain_lists::List;
 use slot_theory::{Core, SlotProof};
 use std::rc::Rc;
+
+/// Answered tests with their answers, as a label names them.
+pub type AnswerList = List<(u32, bool)>;
 
 /// Why no valid request makes a query yes under a path of answered tests.
 #[derive(Drop)]
@@ -17,5 +22,20 @@ pub enum Refutation {
     BySlot {
         core: Core,
         proof: SlotProof,
+    },
+    /// Unit propagation from the path meets a conflict: the hints replay.
+    ByClauses {
+        hints: Hints,
+    },
+    /// A refutation that closes under answers of its own, all of which the path has, and whose tests
+    /// rise. Labels are numbered from 0 in reading order.
+    Label {
+        number: u32,
+        answers: AnswerList,
+        inner: Rc<Refutation>,
+    },
+    /// The refutation of a label that ended before, whose answers the path has.
+    Reuse {
+        number: u32,
     },
 }

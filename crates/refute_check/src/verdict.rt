@@ -1,15 +1,21 @@
 //! The check of refutations.
 ghost use Rattle.std.specs.Prelude.{◌≡◌, ◌<◌, ◌^◌, ◌↔◌, All, IfOk, IsTrue, OnOk, length};
+ghost use Rattle.formula_tree.specs.Runs.{answered};
+ghost use Rattle.formula_tree.specs.Trees.{tree_of};
 ghost use Rattle.policy_model.specs.Soundness.{SchemaIsSound, TestSuits};
 ghost use Rattle.slot_theory.specs.Possible.{PathInRange};
-ghost use Rattle.refute_check.specs.Proofs.{proof_of, size};
+ghost use Rattle.refute_check.specs.Closing.{Rise};
+ghost use Rattle.refute_check.specs.Laws.{TreeInRange};
+ghost use Rattle.refute_check.specs.Proofs.{proof_of, size, split};
 ghost use Rattle.refute_check.specs.Queries.{ClosesQuery, HoldsHere};
 ghost use Rattle.refute_check.specs.Verdicts.{IsVerdict};
-ghost use Rattle.refute_check.specs.Walks.{IsWalked};
+ghost use Rattle.refute_check.specs.Walks.{IsCheckable, IsLabelWalked, IsOpenTest, IsWalked, IsWholeWalk, raised};
 
-use crate::refutation::Refutation;
+use crate::labels::{Labels, path_of};
+use crate::refutation::{AnswerList, Refutation};
+use cnf_clauses::{Clauses, clauses_of, replay};
 use formula_tree::{Path, Three, value3};
-use plain_lists::NoMemory;
+use plain_lists::{List, NoMemory};
 use policy_compile::Query;
 use policy_model::Schema;
 use slot_theory::accepts;
@@ -24,7 +30,8 @@ pub enum Verdict {
     Fails { node: u32 },
 }
 
-/// What a walk through a part of a refutation answers.
+/// What a walk through a part of a refutation answers. Numbers beyond the greatest are said to be the
+/// greatest.
 #[derive(Clone, Copy, Debug, PartialEq, Eq)]
 enum Walked {
     /// The part closes, and has so many nodes.
@@ -33,113 +40,199 @@ enum Walked {
     Failed(u32),
 }
 
-// Whether the node's own rule holds under the path, what is below it aside.
-fn holds_here(
+/// What a check is of.
+#[derive(Drop)]
+struct Checking<'a> {
     alloc: Global,
-    schema: &Schema,
-    query: &Query,
-    node: &Refutation,
-    path: &Path,
-) -> Result<bool, NoMemory>
-    requires sound { SchemaIsSound schema.now }
-    requires suit { All (TestSuits schema.now) query.now.tests }
-    requires count { length query.now.tests < 2 ^ 32 }
-    requires range { PathInRange query.now.tests path.now }
-    ensures { IfOk result (λ yes. IsTrue yes ↔ HoldsHere schema.now query.now node.now path.now) }
-{
-    match node {
-        Refutation::ByValue => Ok(value3(&query.formula, path) == Three::No),
-        Refutation::BySlot { core, proof } => {
-            accepts(alloc, schema, &query.tests, path, core, proof)
-        }
-        Refutation::Split { test, .. } => {
-            Ok((*test as usize) < query.tests.len() && path.answer(*test).is_none())
-        }
-    }
+    schema: &'a Schema,
+    query: &'a Query,
+    /// The clauses of the query's formula, made once.
+    clauses: Clauses,
 }
 
-// Whether the part closes the query under the path. The path is as before.
-fn closes(
-    alloc: Global,
-    schema: &Schema,
-    query: &Query,
-    part: &Refutation,
-    path: &mut Path,
-) -> Result<bool, NoMemory>
-    requires sound { SchemaIsSound schema.now }
-    requires suit { All (TestSuits schema.now) query.now.tests }
-    requires count { length query.now.tests < 2 ^ 32 }
-    requires range { PathInRange query.now.tests path.old }
-    ensures closes { IfOk result (λ yes.
-        IsTrue yes ↔ ClosesQuery schema.now query.now part.now path.old) }
-    ensures path { OnOk result (path.new ≡ path.old) }
-{
-    if !holds_here(alloc, schema, query, part, path)? {
-        return Ok(false);
-    }
-    match part {
-        Refutation::ByValue => Ok(true),
-        Refutation::BySlot { .. } => Ok(true),
-        Refutation::Split { test, yes, no } => {
-            path.push(*test, true)?;
-            let first = closes(alloc, schema, query, yes, path)?;
-            path.pop();
-            if !first {
-                return Ok(false);
+impl<'a> Checking<'a> {
+    /// Whether the node's own rule holds under the path, what is below it aside.
+    fn holds_here(&self, node: &Refutation, path: &Path, labels: &Labels) -> Result<bool, NoMemory>
+        requires ready { IsCheckable self.now }
+        requires range { PathInRange self.now.query.now.tests path.now }
+        ensures { IfOk result (λ yes. IsTrue yes ↔
+            HoldsHere self.now.schema.now self.now.query.now labels.now node.now path.now) }
+    {
+        let tests = &self.query.tests;
+        match node {
+            Refutation::ByValue => Ok(value3(&self.query.formula, path) == Three::No),
+            Refutation::BySlot { core, proof } => {
+                accepts(self.alloc, self.schema, tests, path, core, proof)
             }
-            path.push(*test, false)?;
-            let second = closes(alloc, schema, query, no, path)?;
-            path.pop();
-            Ok(second)
+            Refutation::ByClauses { hints } => replay(self.alloc, &self.clauses, path, hints),
+            Refutation::Split { test, .. } => {
+                Ok((*test as usize) < tests.len() && path.answer(*test).is_none())
+            }
+            Refutation::Label {
+                number,
+                answers,
+                ..
+            } => Ok(labels.may_begin(*number, answers, path)),
+            Refutation::Reuse { number } => Ok(labels.may_reuse(*number, path)),
+        }
+    }
+
+    /// The part under the path, which is as before. Where the part closes, its labels stand before
+    /// what follows it.
+    #[cycle(walk)]
+    fn walk(
+        &self,
+        part: &Refutation,
+        path: &mut Path,
+        labels: &mut Labels,
+    ) -> Result<Walked, NoMemory>
+        requires ready { IsCheckable self.now }
+        requires range { PathInRange self.now.query.now.tests path.old }
+        ensures walked { IfOk result (IsWalked self.now.schema.now self.now.query.now
+            labels.old (proof_of part.now) path.old labels.new) }
+        ensures path { OnOk result (path.new ≡ path.old) }
+    {
+        if !self.holds_here(part, path, labels)? {
+            return Ok(Walked::Failed(0));
+        }
+        match part {
+            Refutation::Split { test, yes, no } => self.walk_sides(*test, yes, no, path, labels),
+            Refutation::Label {
+                number,
+                answers,
+                inner,
+            } => self.walk_label(*number, answers, inner, labels),
+            Refutation::ByValue => Ok(Walked::Closed(1)),
+            Refutation::BySlot { .. } => Ok(Walked::Closed(1)),
+            Refutation::ByClauses { .. } => Ok(Walked::Closed(1)),
+            Refutation::Reuse { .. } => Ok(Walked::Closed(1)),
+        }
+    }
+
+    /// The split on a test that the path leaves open.
+    #[cycle(walk)]
+    fn walk_sides(
+        &self,
+        test: u32,
+        yes: &Refutation,
+        no: &Refutation,
+        path: &mut Path,
+        labels: &mut Labels,
+    ) -> Result<Walked, NoMemory>
+        requires ready { IsCheckable self.now }
+        requires range { PathInRange self.now.query.now.tests path.old }
+        requires open { IsOpenTest self.now.query.now test path.old }
+        ensures walked { IfOk result (IsWalked self.now.schema.now self.now.query.now
+            labels.old (split test (proof_of yes.now) (proof_of no.now)) path.old labels.new) }
+        ensures path { OnOk result (path.new ≡ path.old) }
+    {
+        let first = self.walk_side(test, true, yes, path, labels)?;
+        match first {
+            Walked::Failed(_) => Ok(raised(first, 0)),
+            Walked::Closed(nodes) => {
+                let second = self.walk_side(test, false, no, path, labels)?;
+                Ok(raised(second, nodes))
+            }
+        }
+    }
+
+    /// The side of a split for one answer.
+    #[cycle(walk)]
+    fn walk_side(
+        &self,
+        test: u32,
+        answer: bool,
+        side: &Refutation,
+        path: &mut Path,
+        labels: &mut Labels,
+    ) -> Result<Walked, NoMemory>
+        requires ready { IsCheckable self.now }
+        requires range { PathInRange self.now.query.now.tests path.old }
+        requires open { IsOpenTest self.now.query.now test path.old }
+        ensures walked { IfOk result (IsWalked self.now.schema.now self.now.query.now
+            labels.old (proof_of side.now) (answered path.old test answer) labels.new) }
+        ensures path { OnOk result (path.new ≡ path.old) }
+    {
+        path.push(test, answer)?;
+        let walked = self.walk(side, path, labels)?;
+        path.pop();
+        Ok(walked)
+    }
+
+    /// The label that is next, and whose tests rise.
+    #[cycle(walk)]
+    fn walk_label(
+        &self,
+        number: u32,
+        answers: &AnswerList,
+        inner: &Refutation,
+        labels: &mut Labels,
+    ) -> Result<Walked, NoMemory>
+        requires ready { IsCheckable self.now }
+        requires range { PathInRange self.now.query.now.tests answers.now }
+        requires next { number ≡ labels.old.begun }
+        requires rise { Rise answers.now }
+        ensures { IfOk result (IsLabelWalked self.now.schema.now self.now.query.now
+            labels.old number answers.now (proof_of inner.now) labels.new) }
+    {
+        labels.begin()?;
+        let mut own = path_of(self.alloc, answers.as_slice())?;
+        let walked = self.walk(inner, &mut own, labels)?;
+        match walked {
+            Walked::Failed(_) => Ok(raised(walked, 0)),
+            Walked::Closed(_) => {
+                labels.end(number, copy(self.alloc, answers)?)?;
+                Ok(raised(walked, 0))
+            }
         }
     }
 }
 
-// The part under the path. The path is as before.
-fn walk(
+// What the walk of a part says of the node above it, which has so many nodes before the part.
+fn raised(walked: Walked, before: u32) -> Walked
+    ensures { result ≡ raised walked before }
+{
+    match walked {
+        Walked::Closed(nodes) => Walked::Closed(nodes.saturating_add(before).saturating_add(1)),
+        Walked::Failed(node) => Walked::Failed(node.saturating_add(before).saturating_add(1)),
+    }
+}
+
+fn copy(alloc: Global, answers: &AnswerList) -> Result<AnswerList, NoMemory>
+    ensures { IfOk result (λ list. list ≡ answers.now) }
+{
+    Ok(List::from_vec(Vec::from_slice(alloc, answers.as_slice())?))
+}
+
+// The walk through a whole refutation. The path is as before.
+fn walk_whole(
     alloc: Global,
     schema: &Schema,
     query: &Query,
-    part: &Refutation,
+    refutation: &Refutation,
     path: &mut Path,
 ) -> Result<Walked, NoMemory>
     requires sound { SchemaIsSound schema.now }
     requires suit { All (TestSuits schema.now) query.now.tests }
     requires count { length query.now.tests < 2 ^ 32 }
     requires range { PathInRange query.now.tests path.old }
-    requires nodes { size (proof_of part.now) < 2 ^ 32 }
-    ensures walked { IfOk result (IsWalked schema.now query.now part.now path.old) }
-    ensures path { OnOk result (path.new ≡ path.old) }
+    ensures { IfOk result (IsWholeWalk schema.now query.now (proof_of refutation.now) path.old) }
 {
-    if !holds_here(alloc, schema, query, part, path)? {
-        return Ok(Walked::Failed(0));
-    }
-    match part {
-        Refutation::ByValue => Ok(Walked::Closed(1)),
-        Refutation::BySlot { .. } => Ok(Walked::Closed(1)),
-        Refutation::Split { test, yes, no } => {
-            path.push(*test, true)?;
-            let first = walk(alloc, schema, query, yes, path)?;
-            path.pop();
-            let nodes = match first {
-                Walked::Closed(nodes) => nodes,
-                Walked::Failed(node) => return Ok(Walked::Failed(node + 1)),
-            };
-            path.push(*test, false)?;
-            let second = walk(alloc, schema, query, no, path)?;
-            path.pop();
-            match second {
-                Walked::Closed(more) => Ok(Walked::Closed(nodes + more + 1)),
-                Walked::Failed(node) => Ok(Walked::Failed(node + nodes + 1)),
-            }
-        }
-    }
+    let clauses = clauses_of(alloc, &query.formula, query.tests.len() as u32)?;
+    let checking = Checking {
+        alloc,
+        schema,
+        query,
+        clauses,
+    };
+    let mut labels = Labels::new(alloc);
+    checking.walk(refutation, path, &mut labels)
 }
 
 /// Whether the refutation closes the query under the path.
 ///
-/// The schema is sound, the tests suit it and are numbered by 32 bits, and the path answers none but them. The only
-/// error is want of memory.
+/// The schema is sound, the tests suit it and are numbered by 32 bits, and formula and path are over these
+/// tests. The only error is want of memory.
 pub fn closes_under(
     alloc: Global,
     schema: &Schema,
@@ -150,19 +243,23 @@ pub fn closes_under(
     requires sound { SchemaIsSound schema.now }
     requires suit { All (TestSuits schema.now) query.now.tests }
     requires count { length query.now.tests < 2 ^ 32 }
+    requires below { TreeInRange query.now.tests (tree_of query.now.formula.value) }
     requires range { PathInRange query.now.tests path.now }
     ensures { IfOk result (λ yes.
         IsTrue yes ↔ ClosesQuery schema.now query.now refutation.now path.now) }
 {
     let mut own = path.copy()?;
-    closes(alloc, schema, query, refutation, &mut own)
+    match walk_whole(alloc, schema, query, refutation, &mut own)? {
+        Walked::Closed(_) => Ok(true),
+        Walked::Failed(_) => Ok(false),
+    }
 }
 
 /// Whether the refutation closes the query under the empty path: `Closes` exactly where it does, and
 /// otherwise the first node in reading order whose own rule fails.
 ///
 /// The schema is sound, the tests suit it and are numbered by 32 bits, and so are the refutation's nodes, a shared
-/// one as often as it stands. The only error is want of memory.
+/// one as often as it stands; the formula is over these tests. The only error is want of memory.
 pub fn check(
     alloc: Global,
     schema: &Schema,
@@ -172,11 +269,12 @@ pub fn check(
     requires sound { SchemaIsSound schema.now }
     requires suit { All (TestSuits schema.now) query.now.tests }
     requires count { length query.now.tests < 2 ^ 32 }
+    requires below { TreeInRange query.now.tests (tree_of query.now.formula.value) }
     requires nodes { size (proof_of refutation.now) < 2 ^ 32 }
     ensures { IfOk result (IsVerdict schema.now query.now refutation.now) }
 {
     let mut path = Path::new(alloc);
-    match walk(alloc, schema, query, refutation, &mut path)? {
+    match walk_whole(alloc, schema, query, refutation, &mut path)? {
         Walked::Closed(_) => Ok(Verdict::Closes),
         Walked::Failed(node) => Ok(Verdict::Fails { node }),
     }
