@@ -1,7 +1,6 @@
-mod Below
 mod Carrying
-mod Deciding
 pub mod Laws
-mod Meeting
-mod Nesting
+mod Following
 mod Searching
+mod Splitting
+mod Starting

@@ -14,8 +14,9 @@ use Rattle.slot_theory.specs.Possible.{IsPossible}
 use Rattle.slot_theory.specs.Cores.{HasTest}
 use Rattle.slot_theory.specs.Slots.{patterns_at}
 use Rattle.refute_check.specs.Proofs.{Proof, depth, proof_of, splits}
-use Rattle.refute_check.specs.Closing.{Closes}
+use Rattle.refute_check.specs.Closing.{Before, Closes, at_first}
 use Rattle.refute_check.specs.Laws.{MakesYes}
+use Rattle.refute_check.specs.Propagated.{PropagatedNeedsMore}
 use Rattle.tree_search.specs.declared.outcome.Budgets.{Budgets}
 use Rattle.tree_search.specs.declared.outcome.Decided.{Decided}
 use Rattle.tree_search.specs.declared.outcome.Decided.TheVariants.{Refuted, Met, OutOfSplits, OutOfStates}
@@ -29,7 +30,7 @@ asked_tree query = tree_of query.formula.value
 -- the refutation closes the query; it has at most so many splits, a shared one counted at each place, and they nest at most as
 -- deep as there are tests
 pub record IsRefutation (schema : Schema) (query : Query) (most : ℕ) (proof : Proof) : Type 0 where
-  pub closes : Closes schema query.tests (asked_tree query) proof []
+  pub closes : Closes schema query.tests (asked_tree query) at_first proof []
   pub few : splits proof ≤ most
   pub nests : depth proof ≤ length query.tests
 
@@ -38,25 +39,30 @@ pub record MeetsQuery (schema : Schema) (query : Query) (q : Request) : Type 0 w
   pub valid : IsValid schema q
   pub meets : MakesYes query.tests (asked_tree query) q
 
--- no more splits than so many lead from the first path to the second
-pub record IsNear (schema : Schema) (query : Query) (most : ℕ) (path node : Answers) : Type 0 where
+-- no more splits than so many lead from the first path to the second, after what stands before
+pub record IsNear (schema : Schema) (query : Query) (before : Before) (most : ℕ) (path node : Answers) : Type 0 where
   pub count : ℕ
-  pub lead : LeadTo schema query.tests (asked_tree query) count path node
+  pub lead : LeadTo schema query.tests (asked_tree query) before count path node
   pub few : count ≤ most
 
 -- the kept path is a node of the plain run from the path, to which no more splits than so many lead, and at which the query
 -- isn't no; it answers a test of the slot, and the kept texts show the patterns of the slot there wider than the states
-pub record IsWide (schema : Schema) (query : Query) (most states : ℕ) (path : Answers) (w : Wide) : Type 0 where
+pub record IsWide (schema : Schema) (query : Query) (before : Before) (most states : ℕ) (path : Answers) (w : Wide) : Type 0 where
   pub node : IsNode (IsPossible schema query.tests) (asked_tree query) path w.path
-  pub near : IsNear schema query most path w.path
+  pub near : IsNear schema query before most path w.path
   pub not_no : value w.path (asked_tree query) ≢ No
   pub asked : HasTest query.tests w.path w.slot
   pub texts : ShowWider (patterns_at schema query.tests w.path w.slot) states w.texts
 
--- what is decided of a query: a refutation within the budget of splits; a request; that the plain run needs more splits than
--- there may be; or that a slot needs more states at a node of the plain run
+-- the plain run from the path needs more splits than so many, and so does the propagated run
+pub record NeedMore (schema : Schema) (query : Query) (path : Answers) (most : ℕ) : Type 0 where
+  pub plain : NeedsMore (IsPossible schema query.tests) (asked_tree query) path most
+  pub propagated : PropagatedNeedsMore schema query.tests (asked_tree query) path most
+
+-- what is decided of a query: a refutation within the budget of splits; a request; that both runs need more splits than there
+-- may be; or that a slot needs more states at a node of the plain run
 abbrev pub IsDecision : Schema → Query → Budgets → Decided → Type 0
 IsDecision schema query budgets (Refuted r) = IsRefutation schema query budgets.splits (proof_of r.value)
 IsDecision schema query budgets (Met q) = MeetsQuery schema query q
-IsDecision schema query budgets OutOfSplits = NeedsMore (IsPossible schema query.tests) (asked_tree query) [] budgets.splits
-IsDecision schema query budgets (OutOfStates w) = IsWide schema query budgets.splits budgets.states [] w
+IsDecision schema query budgets OutOfSplits = NeedMore schema query [] budgets.splits
+IsDecision schema query budgets (OutOfStates w) = IsWide schema query at_first budgets.splits budgets.states [] w

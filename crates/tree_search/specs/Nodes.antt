@@ -6,7 +6,7 @@ use Rattle.formula_tree.specs.Trees.{Tree}
 use Rattle.formula_tree.specs.Values.{pick}
 use Rattle.policy_model.specs.declared.schema.Schema.{Schema}
 use Rattle.policy_model.specs.declared.test.Test.{Test}
-use Rattle.refute_check.specs.Closing.{Closes}
+use Rattle.refute_check.specs.Closing.{Before, Closes, after_part}
 use Rattle.refute_check.specs.Proofs.{Proof, splits}
 
 -- no run from the path ends with a request
@@ -23,12 +23,13 @@ pub data IsNode (possible : Answers → Type 0) (tree : Tree) : Answers → Answ
       EndsWithNone possible tree (answered path n true) → IsNode possible tree (answered path n false) node →
       IsNode possible tree path node
 
--- so many splits lead from the first path to the second: those on the way, and of each yes side that is passed those of a
--- refutation that closes it
-pub data LeadTo (schema : Schema) (tests : List Test) (tree : Tree) : ℕ → Answers → Answers → Type 0 where
-  nowhere : (path : Answers) → LeadTo schema tests tree 0 path path
-  to_yes : (path node : Answers) (n k all : ℕ) → LeadTo schema tests tree k (answered path n true) node → all ≡ k + 1 →
-      LeadTo schema tests tree all path node
-  to_no : (path node : Answers) (n k all : ℕ) (passed : Proof) → Closes schema tests tree passed (answered path n true) →
-      LeadTo schema tests tree k (answered path n false) node → all ≡ splits passed + k + 1 →
-      LeadTo schema tests tree all path node
+-- So many splits lead from the first path to the second, after what stands before: those on the way, and of each yes side that is
+-- passed those of a refutation that closes it. What is passed stands before what follows.
+pub data LeadTo (schema : Schema) (tests : List Test) (tree : Tree) : Before → ℕ → Answers → Answers → Type 0 where
+  nowhere : (before : Before) (path : Answers) → LeadTo schema tests tree before 0 path path
+  to_yes : (before : Before) (path node : Answers) (n k all : ℕ) →
+      LeadTo schema tests tree before k (answered path n true) node → all ≡ k + 1 → LeadTo schema tests tree before all path node
+  to_no : (before : Before) (path node : Answers) (n k all : ℕ) (passed : Proof) →
+      Closes schema tests tree before passed (answered path n true) →
+      LeadTo schema tests tree (after_part before passed) k (answered path n false) node → all ≡ splits passed + k + 1 →
+      LeadTo schema tests tree before all path node

@@ -8,8 +8,5 @@ mod search;
 mod values;
 
 pub use outcome::{Budgets, Decided, Wide};
-pub use runs::{PossiblePaths, queries_have_runs};
+pub use runs::queries_have_runs;
 pub use search::decide;
-
-#[cfg(test)]
-mod tests;

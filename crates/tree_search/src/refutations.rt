@@ -1,7 +1,8 @@
 //! The refutations that a search makes, shared by counted references.
 ghost use Rattle.std.specs.Prelude.{◌≡◌, IfOk};
-ghost use Rattle.refute_check.specs.Proofs.{by_slot, by_value, proof_of as plain, split};
+ghost use Rattle.refute_check.specs.Proofs.{by_clauses, by_slot, by_value, proof_of as plain, split};
 
+use cnf_clauses::Hints;
 use plain_lists::NoMemory;
 use refute_check::Refutation;
 use slot_theory::{Core, SlotProof};
@@ -25,6 +26,13 @@ pub fn by_value(alloc: Global) -> Result<Rc<Refutation>, NoMemory>
     ensures { IfOk result (λ r. plain r.value ≡ by_value) }
 {
     Ok(Rc::new(alloc, Refutation::ByValue)?)
+}
+
+/// The refutation by clauses.
+pub fn by_clauses(alloc: Global, hints: Hints) -> Result<Rc<Refutation>, NoMemory>
+    ensures { IfOk result (λ r. plain r.value ≡ by_clauses hints) }
+{
+    Ok(Rc::new(alloc, Refutation::ByClauses { hints })?)
 }
 
 /// The refutation by a core of a slot.

@@ -1,7 +1,7 @@
 use Rattle.std.proofs.Common.{Result, Ok, Err, IfOk}
 use Rattle.policy_model.specs.declared.request.Request.{Request}
 use Rattle.tree_search.specs.Decisions.{asked_tree}
-use Rattle.tree_search.proofs.Meeting.{makes-yes}
+use Rattle.refute_check.proofs.RunLaws.{makes-yes}
 use Rattle.tree_search.proofs.search.Search.met.Goals as goal
 
 from-both : {E : Type 0} (r : Result Request E) (P Q S : Request → Type 0) → ((q : Request) → P q → Q q → S q) → IfOk r P → IfOk r Q → IfOk r S

@@ -1,8 +1,8 @@
 use Rattle.std.proofs.Common.{◌-◌, [], IfOk, arith}
 use Rattle.std.proofs.lemmas.Result.{IfOk-weaker}
 use Rattle.tree_search.specs.Search.{IsDecidedFrom}
-use Rattle.tree_search.proofs.Nesting.{decision-from}
-use Rattle.tree_search.proofs.search.decide.Goals as goal
+use Rattle.tree_search.proofs.Starting.{decision-from}
+use Rattle.tree_search.proofs.search.begin.Goals as goal
 
 pub returns : goal.returns
 returns c =
