@@ -1,0 +1,9 @@
+use Rattle.std.proofs.Common.{sym, ap, ◌∙◌, Option}
+use Rattle.proof_text.specs.Around.{node_here}
+use Rattle.proof_text.specs.Faults.{fault_of_line}
+use Rattle.proof_text.specs.Lines.{Line, value_line}
+use Rattle.proof_text.proofs.Endings.{alone-none}
+use Rattle.proof_text.proofs.lines.value_line.Goals as goal
+
+pub returns-then-is_some : goal.returns-then-is_some
+returns-then-is_some c = ap (λ (o : Option Line). fault_of_line c.args.limits c.args.around.begun (node_here c.args.around) o) (alone-none value_line c.args.behind (sym c.is_some.ensures ∙ c.if-is_some.true))

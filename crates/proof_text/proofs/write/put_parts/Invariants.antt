@@ -1,0 +1,10 @@
+use Rattle.std.proofs.Common.{◌≡◌, ◌++◌, ◌∷◌, flat_map, string_bytes, take}
+use Rattle.proof_text.specs.Laws.{AreListsSmall}
+use Rattle.proof_text.specs.Lines.{places_part}
+use Rattle.proof_text.proofs.write.put_parts.Given as goal
+
+abbrev pub invariant-loop-places : goal.invariant-loop-places
+invariant-loop-places l = record {
+  text : string_bytes l.text ≡ string_bytes l.fn.text ++ flat_map (λ places. 32 ∷ places_part places) (take l.places-index l.lists);
+  small : AreListsSmall (take l.places-index l.lists);
+}

@@ -1,0 +1,9 @@
+pub mod Lines
+pub mod Spelling
+pub mod LineForms
+pub mod Faults
+pub mod Reads
+pub mod Laws
+pub mod Steps
+pub mod Around
+pub mod SlotLines

@@ -1,0 +1,23 @@
+//! Certificates: refutations of queries as texts that anyone can check.
+#![tactic(auto)]
+
+mod answers;
+mod fault;
+mod laws;
+mod limits;
+mod lines;
+mod nodes;
+mod numbers;
+mod parts;
+mod place;
+mod read;
+mod slots;
+mod states;
+mod write;
+
+pub use fault::{ProofAnswer, ProofCode, ProofFault};
+pub use laws::{closing_proofs_have_no_fault, one_proof_for_each_text};
+pub use limits::{MOST_NESTING, MOST_NUMBER, MOST_PROOF_BYTES};
+pub use plain_lists::NoMemory;
+pub use read::{LineList, ReadProof, read_proof};
+pub use write::write_proof;

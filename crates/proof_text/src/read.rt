@@ -1,0 +1,60 @@
+//! Reads certificates.
+ghost use Rattle.std.specs.Prelude.{◌≤◌, IfOk, length};
+ghost use Rattle.proof_text.specs.Reads.{HasFewNodes, IsProofRead};
+
+use crate::fault::ProofAnswer;
+use crate::limits::{Limits, MOST_PROOF_BYTES};
+use crate::lines::version_line;
+use crate::nodes::{Trail, read_node, shared};
+use crate::place::{answer_at, first_place, line_at, require_end};
+use plain_lists::List;
+use refute_check::Refutation;
+use std::alloc::Global;
+use std::rc::Rc;
+
+/// Numbers of lines.
+pub type LineList = List<u32>;
+
+/// A certificate that was read.
+#[derive(Drop)]
+pub struct ReadProof {
+    /// The refutation that it is the text of.
+    pub refutation: Rc<Refutation>,
+    /// The line of each node in reading order, counted from the file's first, from 1.
+    pub lines: LineList,
+}
+
+/// The refutation whose certificate the file is, for a query with so many tests, in the format of this
+/// number. The answer line of a comparison may stand before it. `Refused` with the first line that isn't
+/// as it must be, exactly where there is one: C1 where it isn't of a form that may stand there, is missing
+/// or stands behind the end; C2 where it names another format; C3 where a test's number isn't less than
+/// the number of tests; C4 where a number is above 4,294,967,295 or a split or label stands below 2,000
+/// others. `NoMemory` only where there is no memory.
+pub fn read_proof(
+    alloc: Global,
+    tests: u32,
+    version: u32,
+    bytes: &[u8],
+) -> Result<ReadProof, ProofAnswer>
+    requires { length bytes.now ≤ MOST_PROOF_BYTES }
+    ensures read { IsProofRead (record { tests = tests; version = version }) bytes.now result }
+    ensures nodes { IfOk result (HasFewNodes bytes.now) }
+{
+    let limits = Limits { tests, version };
+    let start = first_place(bytes);
+    let (line, behind) = line_at(start)?;
+    if let Err(answer) = version_line(limits, line) {
+        return Err(answer_at(start.number, answer));
+    }
+    let mut trail = Trail {
+        inside: Vec::new(alloc),
+        lines: LineList::new(alloc),
+    };
+    let value = shared(alloc, Refutation::ByValue)?;
+    let (refutation, end) = read_node(alloc, limits, 0, behind, &value, &mut trail)?;
+    require_end(end)?;
+    Ok(ReadProof {
+        refutation,
+        lines: trail.lines,
+    })
+}

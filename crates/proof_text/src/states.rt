@@ -1,0 +1,193 @@
+//! Product states: lines of lists of places.
+ghost use Rattle.std.specs.Prelude.{◌≡◌, ◌≤◌, ◌∷◌, [], IfOk, length, map, option_map, replicate};
+ghost use Rattle.std.specs.Option.{option_copied};
+ghost use Rattle.pattern_automata.specs.Closed.{all_rise};
+ghost use Rattle.proof_text.specs.LineForms.{a_closed_set, a_kind_proof, a_slot_proof, a_state, line_said, lists_of_places, places_in, with_number};
+ghost use Rattle.proof_text.specs.Lines.{closed_line, places_line};
+ghost use Rattle.proof_text.specs.Spelling.{closed_lines};
+ghost use Rattle.proof_text.specs.Steps.{HasLineRoom, IsLineRead, ArePartsRead, IsSmallRead, are_lists_small, are_small, parts_left};
+
+use crate::fault::{LineAnswer, ProofAnswer, ProofCode};
+use crate::limits::Limits;
+use crate::numbers::{numbers_in, one_number, rises};
+use crate::parts::{content_of, cut};
+use crate::place::{Place, answer_at, line_at};
+use pattern_automata::{Closed, PlaceList, PlaceLists};
+use std::alloc::Global;
+
+// The places of one pattern, or none where a number is too large.
+fn places_in(alloc: Global, part: &[u8]) -> Result<Option<PlaceList>, LineAnswer>
+    ensures { IsSmallRead are_small (places_in part.now) result }
+{
+    if part == b"-".as_slice() {
+        return Ok(Some(PlaceList::new(alloc)));
+    }
+    numbers_in(alloc, Some(part), b',')
+}
+
+/// The places of each pattern, or none where a number is too large.
+pub(crate) fn lists_in(
+    alloc: Global,
+    behind: Option<&[u8]>,
+) -> Result<Option<PlaceLists>, LineAnswer>
+    ensures { IsSmallRead are_lists_small
+        (lists_of_places (parts_left 32 (option_copied behind.entry))) result }
+{
+    let mut lists = PlaceLists::new(alloc);
+    let mut large = false;
+    let mut rest = behind;
+    while let Some(text) = rest {
+        let (part, more) = cut(text, b' ');
+        match places_in(alloc, part)? {
+            Some(places) => lists.push(places)?,
+            None => large = true,
+        }
+        rest = more;
+    }
+    if large {
+        return Ok(None);
+    }
+    Ok(Some(lists))
+}
+
+/// Whether the places of each pattern strictly rise.
+pub(crate) fn all_rise(lists: &PlaceLists) -> bool
+    ensures { result ≡ all_rise lists.now }
+{
+    for places in lists.as_slice() {
+        if !rises(places.as_slice()) {
+            return false;
+        }
+    }
+    true
+}
+
+// The places behind the word of a product state's line.
+fn places_line(
+    alloc: Global,
+    limits: Limits,
+    begun: u32,
+    behind: Option<&[u8]>,
+) -> Result<PlaceLists, LineAnswer>
+    ensures { IsLineRead places_line limits begun a_state
+        (option_map places_line (lists_of_places (parts_left 32 (option_copied behind.entry)))) result }
+{
+    let Some(lists) = lists_in(alloc, behind)? else {
+        return Err(LineAnswer::Fails(ProofCode::C4Limit));
+    };
+    if !all_rise(&lists) {
+        return Err(LineAnswer::Fails(ProofCode::C1Syntax));
+    }
+    Ok(lists)
+}
+
+// What the line says, where a product state must stand.
+fn state_line(
+    alloc: Global,
+    limits: Limits,
+    begun: u32,
+    line: &[u8],
+) -> Result<PlaceLists, LineAnswer>
+    ensures { IsLineRead places_line limits begun a_state (line_said a_state line.now) result }
+{
+    let Some(text) = content_of(line) else {
+        return Err(LineAnswer::Fails(ProofCode::C1Syntax));
+    };
+    let (word, behind) = cut(text, b' ');
+    if word == b"places".as_slice() {
+        return places_line(alloc, limits, begun, behind);
+    }
+    Err(LineAnswer::Fails(ProofCode::C1Syntax))
+}
+
+// A product state.
+fn read_state<'a>(
+    alloc: Global,
+    limits: Limits,
+    place: Place<'a>,
+) -> Result<(PlaceLists, Place<'a>), ProofAnswer>
+    requires { HasLineRoom place }
+    ensures { ArePartsRead
+        (λ lists. places_line lists ∷ []) limits (a_state ∷ []) place.entry result }
+{
+    let (line, behind) = line_at(place)?;
+    match state_line(alloc, limits, place.begun, line) {
+        Ok(lists) => Ok((lists, behind)),
+        Err(answer) => Err(answer_at(place.number, answer)),
+    }
+}
+
+/// So many product states.
+pub(crate) fn read_states<'a>(
+    alloc: Global,
+    limits: Limits,
+    count: u32,
+    place: Place<'a>,
+) -> Result<(Closed, Place<'a>), ProofAnswer>
+    requires { HasLineRoom place }
+    ensures states { ArePartsRead
+        (map places_line) limits (replicate count a_state) place.entry result }
+    ensures count { IfOk result (λ r. length r.0 ≡ count) }
+{
+    let mut set = Closed::new(alloc);
+    let mut at = place;
+    for done in 0..count {
+        let (state, behind) = read_state(alloc, limits, at)?;
+        set.push(state)?;
+        at = behind;
+    }
+    Ok((set, at))
+}
+
+/// How many product states a closed set has, by what stands behind the word `closed`.
+pub(crate) fn closed_count(
+    limits: Limits,
+    begun: u32,
+    behind: Option<&[u8]>,
+) -> Result<u32, LineAnswer>
+    ensures set { IsLineRead closed_line limits begun a_closed_set
+        (with_number closed_line (parts_left 32 (option_copied behind.entry))) result }
+    ensures slot { IsLineRead closed_line limits begun a_slot_proof
+        (with_number closed_line (parts_left 32 (option_copied behind.entry))) result }
+    ensures kind { IsLineRead closed_line limits begun a_kind_proof
+        (with_number closed_line (parts_left 32 (option_copied behind.entry))) result }
+{
+    let Some(count) = one_number(behind)? else {
+        return Err(LineAnswer::Fails(ProofCode::C4Limit));
+    };
+    if count == 0 {
+        return Err(LineAnswer::Fails(ProofCode::C1Syntax));
+    }
+    Ok(count)
+}
+
+// What the line says, where a closed set must stand.
+fn set_line(limits: Limits, begun: u32, line: &[u8]) -> Result<u32, LineAnswer>
+    ensures { IsLineRead closed_line limits begun a_closed_set
+        (line_said a_closed_set line.now) result }
+{
+    let Some(text) = content_of(line) else {
+        return Err(LineAnswer::Fails(ProofCode::C1Syntax));
+    };
+    let (word, behind) = cut(text, b' ');
+    if word == b"closed".as_slice() {
+        return closed_count(limits, begun, behind);
+    }
+    Err(LineAnswer::Fails(ProofCode::C1Syntax))
+}
+
+/// A closed set.
+pub(crate) fn read_closed<'a>(
+    alloc: Global,
+    limits: Limits,
+    place: Place<'a>,
+) -> Result<(Closed, Place<'a>), ProofAnswer>
+    requires { HasLineRoom place }
+    ensures { ArePartsRead closed_lines limits (a_closed_set ∷ []) place.entry result }
+{
+    let (line, behind) = line_at(place)?;
+    match set_line(limits, place.begun, line) {
+        Ok(count) => read_states(alloc, limits, count, behind),
+        Err(answer) => Err(answer_at(place.number, answer)),
+    }
+}
