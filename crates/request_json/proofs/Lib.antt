@@ -1,2 +1,15 @@
+mod Apart
 mod Contexts
+mod Entries
 mod Flat
+mod KeysRead
+mod Listed
+mod Permitting
+mod Shaped
+mod Steps
+mod Swapping
+mod WrittenBytes
+mod WrittenKeys
+mod WrittenRequests
+mod WrittenTexts
+mod WrittenValues

@@ -1,0 +1,82 @@
+-- The keys of a request file, read one by one, and the keys that a request must have.
+use Rattle.std.proofs.Common.{◌≡◌, ◌≢◌, ℕ, List, [], ◌∷◌, ◌++◌, All, Option, Some, None, refl, ap, sym, subst, ◌∙◌}
+use Rattle.std.specs.Prelude.{MatchOption}
+use Rattle.std.proofs.lemmas.List.Elements.{All-nil}
+use Rattle.serde_json.specs.Data.{Data}
+use Rattle.text_table.specs.Table.{Entries, item_at, with_item}
+use Rattle.json_shapes.specs.Checks.{first_fault}
+use Rattle.json_shapes.proofs.Laws.{first_fault-rest}
+use Rattle.policy_model.specs.declared.schema.KeyRule.{KeyRule}
+use Rattle.policy_model.specs.declared.value.Value.{Value}
+use Rattle.policy_model.specs.Requests.{EntryIsValid, PermitsValues}
+use Rattle.request_schema.specs.BuiltIn.{folded_name}
+use Rattle.request_json.specs.RequestKeys.{checks_by_rule, context_checks, context_from, rule_at, with_key, with_values}
+use Rattle.request_json.proofs.Apart.{FileKey}
+use Rattle.request_json.proofs.Entries.{All-with_item}
+
+abbrev pub Keys : Type 0
+Keys = Entries (List Value)
+
+-- the keys so far are passed, and the context has what they stand for
+pub record ContextSoFar (keys : Entries KeyRule) (all rest : List FileKey) (context : Keys) : Type 0 where
+  pub faults : first_fault (context_checks keys all) ≡ first_fault (context_checks keys rest)
+  pub values : context_from keys [] all ≡ context_from keys context rest
+  pub valid : All (EntryIsValid keys) context
+
+-- before the first key
+pub starts : (keys : Entries KeyRule) (all : List FileKey) (context : Keys) → context ≡ [] → ContextSoFar keys all all context
+starts keys all context none = record {
+  faults = refl;
+  values = ap (λ (c : Keys). context_from keys c all) (sym none);
+  valid = subst (All (EntryIsValid keys)) (sym none) (All-nil (EntryIsValid keys));
+}
+
+module _ (keys : Entries KeyRule) (all rest next : List FileKey) (key : FileKey) (context : Keys) (so_far : ContextSoFar keys all rest context) (is : rest ≡ key ∷ next) where
+  -- the next key has these checks
+  pub next-faults : first_fault (context_checks keys all) ≡ first_fault (checks_by_rule (rule_at keys key.0) key ++ context_checks keys next)
+  next-faults = so_far.faults ∙ ap (λ (ks : List FileKey). first_fault (context_checks keys ks)) is
+
+  -- and is read
+  pub reads-key : (new : Keys) → first_fault (checks_by_rule (rule_at keys key.0) key) ≡ None → new ≡ with_key (rule_at keys key.0) context key → (All (EntryIsValid keys) context → All (EntryIsValid keys) new) → ContextSoFar keys all next new
+  reads-key new passed new_is valid = record {
+    faults = next-faults ∙ first_fault-rest (checks_by_rule (rule_at keys key.0) key) (context_checks keys next) passed;
+    values = so_far.values ∙ ap (λ (ks : List FileKey). context_from keys context ks) is ∙ ap (λ (c : Keys). context_from keys c next) (sym new_is);
+    valid = valid so_far.valid;
+  }
+
+-- all keys are read
+pub all-read : (keys : Entries KeyRule) (all rest : List FileKey) (context : Keys) → ContextSoFar keys all rest context → rest ≡ [] → (first_fault (context_checks keys all) ≡ None) × (context ≡ context_from keys [] all)
+all-read keys all rest context so_far none = (
+  so_far.faults ∙ ap (λ (ks : List FileKey). first_fault (context_checks keys ks)) none,
+  sym (so_far.values ∙ ap (λ (ks : List FileKey). context_from keys context ks) none),
+)
+
+-- ---- one key
+
+-- the schema lacks the key
+pub left-out : (keys : Entries KeyRule) (key own : List ℕ) (d : Data) (context : Keys) → key ≡ folded_name own → item_at key keys ≡ None → (first_fault (checks_by_rule (rule_at keys own) (own, d)) ≡ None) × (context ≡ with_key (rule_at keys own) context (own, d))
+left-out keys key own d context named none =
+    let lacks : rule_at keys own ≡ None = ap (λ (k : List ℕ). item_at k keys) (sym named) ∙ none in
+    (ap (λ (r : Option KeyRule). first_fault (checks_by_rule r (own, d))) lacks, sym (ap (λ (r : Option KeyRule). with_key r context (own, d)) lacks))
+
+-- the schema has it
+pub has-rule : (keys : Entries KeyRule) (key own : List ℕ) (rule : KeyRule) → key ≡ folded_name own → item_at key keys ≡ Some rule → rule_at keys own ≡ Some rule
+has-rule keys key own rule named has = ap (λ (k : List ℕ). item_at k keys) (sym named) ∙ has
+
+put-values : (entries : Keys) (name : List ℕ) (vs : List Value) → vs ≢ [] → with_values entries name vs ≡ with_item entries name vs
+put-values entries name [] some = absurd (some refl)
+put-values entries name (v ∷ vs) some = refl
+
+-- its values are put in where there are some
+pub puts-values : (context new : Keys) (key name : List ℕ) (vs read : List Value) → key ≡ folded_name name → vs ≡ read → vs ≢ [] → new ≡ with_item context key vs → new ≡ with_values context (folded_name name) read
+puts-values context new key name vs read named same some is =
+    is ∙ ap (λ (k : List ℕ). with_item context k vs) named ∙ sym (put-values context (folded_name name) vs some) ∙ ap (with_values context (folded_name name)) same
+
+pub puts-none : (context : Keys) (name : List ℕ) (vs read : List Value) → vs ≡ read → vs ≡ [] → context ≡ with_values context name read
+puts-none context name vs read same none = sym (ap (with_values context name) (sym same ∙ none))
+
+-- the entry that is put in is valid
+pub valid-with : (keys : Entries KeyRule) (context new : Keys) (key : List ℕ) (vs : List Value) (rule : KeyRule) → item_at key keys ≡ Some rule → PermitsValues rule vs → new ≡ with_item context key vs → All (EntryIsValid keys) context → All (EntryIsValid keys) new
+valid-with keys context new key vs rule has permits is all =
+    let here : EntryIsValid keys (key, vs) = subst (λ (o : Option KeyRule). MatchOption o ⊥ (λ own. PermitsValues own vs)) (sym has) permits in
+    subst (All (EntryIsValid keys)) (sym is) (All-with_item (EntryIsValid keys) context key vs all here)

@@ -1,0 +1,53 @@
+//! Reads request files.
+ghost use Rattle.std.specs.Prelude.{IfOk};
+ghost use Rattle.serde_json.specs.View.{view};
+ghost use Rattle.policy_model.specs.Requests.{IsValid};
+ghost use Rattle.request_json.specs.RequestChecks.{IsPieceRead};
+ghost use Rattle.request_json.specs.RequestFiles.{IsRequestFrom, request_checks, request_of, whole_checks};
+
+use crate::fault::{RequestAnswer, RequestCode, refusal, require};
+use crate::keys::{read_keys, require_keys};
+use crate::shape::is_request;
+use crate::words::{check_words, request_with};
+use json_shapes::read_json;
+use policy_model::{Request, Schema};
+use serde_json::Value;
+use std::alloc::Global;
+
+// What is checked of a file whatever the schema.
+fn check_shape(alloc: Global, file: &Value) -> Result<(), RequestAnswer>
+    ensures { IsPieceRead (whole_checks (view file.now)) tt result }
+{
+    let shape = is_request(alloc, file)?;
+    require(alloc, shape, RequestCode::Q2Shape, "")
+}
+
+// The request of a file that is JSON.
+fn read_file(alloc: Global, schema: &Schema, file: &Value) -> Result<Request, RequestAnswer>
+    ensures read { IsPieceRead (request_checks schema.now (view file.now))
+        (request_of schema.now (view file.now)) result }
+    ensures valid { IfOk result (IsValid schema.now) }
+{
+    check_shape(alloc, file)?;
+    let context = read_keys(alloc, &schema.keys, file)?;
+    require_keys(&schema.keys, &context)?;
+    let request = request_with(alloc, file, context)?;
+    check_words(alloc, &schema.shapes, &request)?;
+    Ok(request)
+}
+
+/// The request that a file stands for under a schema. A key that the schema lacks is left out, and a
+/// key without values is as one that is missing. The request is valid.
+///
+/// `Refused` with the file's first fault exactly where it has one: first come those of the file as a
+/// whole, then key by key in the order of their names as written, then required keys that are
+/// missing, then the principal, the action and the resource. `NoMemory` only where there is no memory.
+pub fn read_request(alloc: Global, schema: &Schema, bytes: &[u8]) -> Result<Request, RequestAnswer>
+    ensures value { IsRequestFrom schema.now bytes.now result }
+    ensures valid { IfOk result (IsValid schema.now) }
+{
+    let Some(file) = read_json(alloc, bytes)? else {
+        return Err(refusal(alloc, RequestCode::Q1NotJson, ""));
+    };
+    read_file(alloc, schema, &file)
+}
