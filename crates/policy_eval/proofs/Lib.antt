@@ -1,3 +1,4 @@
 mod Firsts
 mod Unique
+mod Telling
 mod Tested

@@ -51,7 +51,7 @@ one-silent schema r guards g h first second =
     (sym first.is ∙ second.is) first.none_before second.none_before first.silent second.silent in
     first.number ∙ ap (λ k. k + 1) split.0 ∙ sym second.number
 
-none-silent : (schema : Schema) (r : Request) (guards : List (List Document)) (g : ℕ) → All (SomeDecides schema true r) guards → IsFirstSilent schema r guards g → ⊥
+pub none-silent : (schema : Schema) (r : Request) (guards : List (List Document)) (g : ℕ) → All (SomeDecides schema true r) guards → IsFirstSilent schema r guards g → ⊥
 none-silent schema r guards g all first =
     first.silent (at-middle (SomeDecides schema true r) first.before first.guard first.after (subst (λ (gs : List (List Document)). All (SomeDecides schema true r) gs) first.is all))
 

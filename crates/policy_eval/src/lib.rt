@@ -9,7 +9,7 @@ mod outcome;
 
 pub use eval::allows;
 pub use first::decider;
-pub use laws::deciders_are_equal;
+pub use laws::{deciders_are_equal, deciders_tell_what_is_allowed};
 pub use outcome::Decider;
 
 #[cfg(test)]
