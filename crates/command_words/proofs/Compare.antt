@@ -1,0 +1,50 @@
+-- The numbers of `compare` are in their ranges.
+use Rattle.std.proofs.Common.{◌≡◌, ℕ, zero, suc, true, false, arith, refl, codes, List, [], ◌∷◌}
+use Rattle.std.specs.Prelude.{⊤, pos}
+use Rattle.std.specs.List.{All, list_all}
+use Rattle.clap.specs.Words.{IsParsedFrom, app_of, found_of}
+use Rattle.clap.specs.Walk.{Rule}
+use Rattle.clap.specs.declared.builder.command.Command.{Command}
+use Rattle.clap.specs.declared.builder.value_parser.ValueParser.{ValueParser}
+use Rattle.clap.specs.declared.builder.value_parser.ValueParser.TheVariants.{Signed}
+use Rattle.clap.specs.declared.parser.matches.ArgMatches.{ArgMatches}
+use Rattle.command_words.proofs.Numbers.{HasParser, has_number}
+use Rattle.command_words.specs.Forms.{compare_form}
+use Rattle.command_words.specs.Parsing.{HasNumberUpTo}
+use Rattle.command_words.specs.declared.limits.TheConstants.{MOST_SPLITS, MOST_STATES}
+
+abbrev EachHasParser : List ℕ → ValueParser → List Rule → Type 0
+EachHasParser id q [] = ⊤
+EachHasParser id q (r ∷ rs) = HasParser id q r × EachHasParser id q rs
+
+all_have : (id : List ℕ) (q : ValueParser) (rs : List Rule) → EachHasParser id q rs → All (HasParser id q) rs
+all_have id q [] each k d lt = absurd (omega arith)
+all_have id q (r ∷ rs) each zero d lt = each.0
+all_have id q (r ∷ rs) each (suc k) d lt = all_have id q rs each.1 k d (omega arith)
+
+other : {P : Type 0} → false ≡ true → P
+other e = cc
+
+compare_is_plain : compare_form.top.is_plain ≡ true
+unfolding compare_form
+compare_is_plain = refl
+
+compare_has_simple_rules : list_all (λ r. r.is_simple) compare_form.top.rules ≡ true
+unfolding compare_form
+compare_has_simple_rules = refl
+
+splits_have_parser : EachHasParser (codes "splits") (Signed (pos 1) (pos MOST_SPLITS)) compare_form.top.rules
+unfolding compare_form
+splits_have_parser = (other, (other, (other, (λ e. (refl, refl), (other, (other, tt))))))
+
+states_have_parser : EachHasParser (codes "states") (Signed (pos 1) (pos MOST_STATES)) compare_form.top.rules
+unfolding compare_form
+states_have_parser = (other, (other, (other, (other, (λ e. (refl, refl), (other, tt))))))
+
+pub has_splits : (c : Command) (m : ArgMatches) → IsParsedFrom c m → app_of c ≡ compare_form → HasNumberUpTo (found_of m) (codes "splits") MOST_SPLITS
+has_splits c m p is = has_number c m compare_form (codes "splits") MOST_SPLITS p is compare_is_plain compare_has_simple_rules
+    (λ e. cc) (λ e. cc) (λ e. cc) (all_have _ _ _ splits_have_parser)
+
+pub has_states : (c : Command) (m : ArgMatches) → IsParsedFrom c m → app_of c ≡ compare_form → HasNumberUpTo (found_of m) (codes "states") MOST_STATES
+has_states c m p is = has_number c m compare_form (codes "states") MOST_STATES p is compare_is_plain compare_has_simple_rules
+    (λ e. cc) (λ e. cc) (λ e. cc) (all_have _ _ _ states_have_parser)

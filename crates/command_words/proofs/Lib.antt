@@ -1,0 +1,6 @@
+mod Asking
+mod Compare
+mod Numbers
+mod Parses
+mod Readings
+mod Simple

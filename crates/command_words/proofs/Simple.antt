@@ -1,0 +1,34 @@
+-- The commands are simple, and none of their arguments has a rule on another.
+use Rattle.std.proofs.Common.{◌≡◌, ◌&&◌, Bool, true, false, refl, sym, subst}
+use Rattle.clap.specs.Words.{App, is_simple, is_simple_and_free}
+use Rattle.clap.specs.Faults.{is_free_app}
+use Rattle.clap.specs.Simple.{built}
+use Rattle.command_words.specs.Forms.{check_form, compare_form, eval_form}
+
+compare_is_simple : is_simple_and_free compare_form ≡ true
+unfolding compare_form
+compare_is_simple = refl
+
+check_is_simple : is_simple_and_free check_form ≡ true
+unfolding check_form
+check_is_simple = refl
+
+eval_is_simple : is_simple_and_free eval_form ≡ true
+unfolding eval_form
+eval_is_simple = refl
+
+pub simple_if_compare : (a : App) → a ≡ compare_form → is_simple_and_free a ≡ true
+simple_if_compare a e = subst (λ (x : App). is_simple_and_free x ≡ true) (sym e) compare_is_simple
+
+pub simple_if_check : (a : App) → a ≡ check_form → is_simple_and_free a ≡ true
+simple_if_check a e = subst (λ (x : App). is_simple_and_free x ≡ true) (sym e) check_is_simple
+
+pub simple_if_eval : (a : App) → a ≡ eval_form → is_simple_and_free a ≡ true
+simple_if_eval a e = subst (λ (x : App). is_simple_and_free x ≡ true) (sym e) eval_is_simple
+
+first_of_both : (a b : Bool) → (a && b) ≡ true → a ≡ true
+first_of_both true b e = refl
+first_of_both false b e = e
+
+pub simple_if_free : (a : App) → is_simple_and_free a ≡ true → is_simple a ≡ true
+simple_if_free a free = first_of_both (is_simple a) (is_free_app (built a)) free

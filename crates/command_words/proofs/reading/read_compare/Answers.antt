@@ -1,0 +1,28 @@
+use Rattle.std.proofs.Common.{subst}
+use Rattle.std.specs.Prelude.{IfSome}
+use Rattle.clap.specs.Words.{IsParsedFrom, app_of}
+use Rattle.command_words.proofs.Asking.{asked_none}
+use Rattle.command_words.proofs.Compare.{has_splits, has_states}
+use Rattle.command_words.proofs.Simple.{simple_if_compare}
+use Rattle.command_words.specs.Asked.{compare_command, texts_in}
+use Rattle.command_words.specs.Parsing.{Parses}
+use Rattle.command_words.proofs.reading.read_compare.Goals as goal
+
+pub parsed-requires : goal.parsed-requires
+parsed-requires c = simple_if_compare _ c.in_ok-compare_form.ensures
+
+pub comparison_in-requires-clause-splits : goal.comparison_in-requires-clause-splits
+comparison_in-requires-clause-splits c =
+    let form = c.in_ok-compare_form.field-0 in
+    has_splits form c.in-Some.matches (subst (λ o. IfSome o (IsParsedFrom form)) c.in-Some.is c.in_ok-matches.ensures.from) c.in_ok-compare_form.ensures
+
+pub comparison_in-requires-clause-states : goal.comparison_in-requires-clause-states
+comparison_in-requires-clause-states c =
+    let form = c.in_ok-compare_form.field-0 in
+    has_states form c.in-Some.matches (subst (λ o. IfSome o (IsParsedFrom form)) c.in-Some.is c.in_ok-matches.ensures.from) c.in_ok-compare_form.ensures
+
+pub returns-in-None-clause-value : goal.returns-in-None-clause-value
+returns-in-None-clause-value c =
+    let form = app_of c.in_ok-compare_form.field-0 in
+    let words = texts_in c.args.words.now in
+    asked_none compare_command form words c.in_ok-compare_form.ensures (subst (Parses form words) c.in-None.is c.in_ok-matches.ensures.value)

@@ -1,0 +1,47 @@
+-- The form of each command's words, as a simple command of `clap`.
+use Rattle.std.specs.Prelude.{◌∷◌, ℕ, List, [], fold, Some, pos, true, codes}
+use Rattle.clap.specs.Words.{App, Rule, Text, new_app, new_rule, with_rule}
+use Rattle.clap.specs.declared.builder.action.ArgAction.TheVariants.{Set, SetTrue}
+use Rattle.clap.specs.declared.builder.value_parser.ValueParser.TheVariants.{Signed}
+use Rattle.command_words.specs.declared.limits.TheConstants.{MOST_SPLITS, MOST_STATES}
+
+-- a name that has to stand, by its position
+abbrev pub name_rule : Text → Rule
+name_rule id = record (new_rule id) { required = true; action = Some Set }
+
+-- `--ID FILE`
+abbrev pub file_rule : Text → Rule
+file_rule id = record (new_rule id) { long = Some id; action = Some Set }
+
+-- `--ID N`, a number from 1 to `most`
+abbrev pub number_rule : Text → ℕ → Rule
+number_rule id most = record (new_rule id) {
+  long = Some id;
+  action = Some Set;
+  parser = Some (Signed (pos 1) (pos most));
+}
+
+-- `--ID`
+abbrev pub flag_rule : Text → Rule
+flag_rule id = record (new_rule id) { long = Some id; action = Some SetTrue }
+
+-- the command with these arguments
+abbrev pub form_of : Text → List Rule → App
+form_of name rules = fold with_rule (new_app name) rules
+
+-- `compare FIRST SECOND [--schema FILE] [--splits N] [--states N] [--proof]`
+unfoldable pub compare_form : App
+compare_form = form_of (codes "compare") (name_rule (codes "first")
+    ∷ name_rule (codes "second") ∷ file_rule (codes "schema")
+    ∷ number_rule (codes "splits") MOST_SPLITS ∷ number_rule (codes "states") MOST_STATES
+    ∷ flag_rule (codes "proof") ∷ [])
+
+-- `check FIRST SECOND PROOF [--schema FILE]`
+unfoldable pub check_form : App
+check_form = form_of (codes "check") (name_rule (codes "first") ∷ name_rule (codes "second")
+    ∷ name_rule (codes "proof") ∷ file_rule (codes "schema") ∷ [])
+
+-- `eval SET REQUEST [--schema FILE]`
+unfoldable pub eval_form : App
+eval_form = form_of (codes "eval") (name_rule (codes "set") ∷ name_rule (codes "request")
+    ∷ file_rule (codes "schema") ∷ [])

@@ -1,0 +1,43 @@
+//! The commands, with their names and numbers.
+
+/// The names of the files of two sets, and that of a schema where one is named.
+#[derive(Drop)]
+pub struct FileNames {
+    pub first: String,
+    pub second: String,
+    pub schema: Option<String>,
+}
+
+/// What `compare` is asked: the names, the splits and the product states that the search may need, and
+/// whether a certificate is wanted.
+#[derive(Drop)]
+pub struct CompareWords {
+    pub names: FileNames,
+    pub splits: u32,
+    pub states: u32,
+    pub certified: bool,
+}
+
+/// What `check` is asked: the names, and that of the certificate.
+#[derive(Drop)]
+pub struct CheckWords {
+    pub names: FileNames,
+    pub proof: String,
+}
+
+/// What `eval` is asked: the names of the files of a set and of a request, and that of a schema where
+/// one is named.
+#[derive(Drop)]
+pub struct EvalWords {
+    pub set: String,
+    pub request: String,
+    pub schema: Option<String>,
+}
+
+/// One of the commands.
+#[derive(Drop)]
+pub enum Command {
+    Compare(CompareWords),
+    Check(CheckWords),
+    Eval(EvalWords),
+}

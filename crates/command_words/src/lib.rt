@@ -1,0 +1,14 @@
+//! What the words of a command line ask for. The first word picks the command by its exact text, and
+//! one simple `clap` command for each reads the rest.
+#![tactic(auto)]
+
+mod asked;
+mod forms;
+mod limits;
+mod parsing;
+mod reading;
+
+pub use asked::{CheckWords, Command, CompareWords, EvalWords, FileNames};
+pub use limits::{DEFAULT_SPLITS, DEFAULT_STATES, MOST_SPLITS, MOST_STATES};
+pub use plain_lists::NoMemory;
+pub use reading::read_words;

@@ -1,0 +1,107 @@
+//! Prints what each line of standard input asks, or `usage`. A line is a JSON list of the words after the
+//! program's name, in which `⟦N|TEXT⟧` stands for N times TEXT.
+#![tactic(auto)]
+
+use command_words::{CheckWords, Command, CompareWords, EvalWords, read_words};
+use line_expansion::expand;
+use serde_json::Value;
+use std::alloc::{AllocError, Global};
+use std::io;
+use std::io::{BufRead, BufReader, ErrorKind, Write};
+
+/// The words of a line.
+fn words_of(alloc: Global, line: &str) -> io::Result<Vec<String>> {
+    let Ok(Value::Array(items)) = Value::from_str(alloc, line) else {
+        return Err(ErrorKind::InvalidData.into());
+    };
+    let mut words = Vec::new(alloc);
+    for item in items.as_slice() {
+        let Some(word) = item.as_str() else {
+            return Err(ErrorKind::InvalidData.into());
+        };
+        words.push(String::from_str(alloc, word)?)?;
+    }
+    Ok(words)
+}
+
+/// Adds a name as JSON, behind a space.
+fn push_name(alloc: Global, out: &mut String, name: &str) -> Result<(), AllocError> {
+    let name = Value::String(String::from_str(alloc, name)?);
+    let quoted = name.to_string(alloc)?;
+    out.push(' ')?;
+    out.push_str(quoted.as_str())
+}
+
+fn push_schema(alloc: Global, out: &mut String, schema: Option<&str>) -> Result<(), AllocError> {
+    let Some(name) = schema else {
+        return Ok(());
+    };
+    out.push_str(" schema")?;
+    push_name(alloc, out, name)
+}
+
+fn push_numbers(alloc: Global, out: &mut String, asked: &CompareWords) -> Result<(), AllocError> {
+    let splits = asked.splits;
+    let states = asked.states;
+    let numbers = format!(in alloc; " splits {splits} states {states}")?;
+    out.push_str(numbers.as_str())?;
+    if asked.certified {
+        out.push_str(" proof")?;
+    }
+    Ok(())
+}
+
+fn push_comparison(
+    alloc: Global,
+    out: &mut String,
+    asked: &CompareWords,
+) -> Result<(), AllocError> {
+    out.push_str("compare")?;
+    push_name(alloc, out, asked.names.first.as_str())?;
+    push_name(alloc, out, asked.names.second.as_str())?;
+    push_schema(alloc, out, asked.names.schema.as_deref())?;
+    push_numbers(alloc, out, asked)
+}
+
+fn push_check(alloc: Global, out: &mut String, asked: &CheckWords) -> Result<(), AllocError> {
+    out.push_str("check")?;
+    push_name(alloc, out, asked.names.first.as_str())?;
+    push_name(alloc, out, asked.names.second.as_str())?;
+    push_name(alloc, out, asked.proof.as_str())?;
+    push_schema(alloc, out, asked.names.schema.as_deref())
+}
+
+fn push_evaluation(alloc: Global, out: &mut String, asked: &EvalWords) -> Result<(), AllocError> {
+    out.push_str("eval")?;
+    push_name(alloc, out, asked.set.as_str())?;
+    push_name(alloc, out, asked.request.as_str())?;
+    push_schema(alloc, out, asked.schema.as_deref())
+}
+
+fn push_answer(alloc: Global, out: &mut String, words: &[String]) -> Result<(), AllocError> {
+    match read_words(alloc, words)? {
+        Some(Command::Compare(asked)) => push_comparison(alloc, out, &asked)?,
+        Some(Command::Check(asked)) => push_check(alloc, out, &asked)?,
+        Some(Command::Eval(asked)) => push_evaluation(alloc, out, &asked)?,
+        None => out.push_str("usage")?,
+    }
+    out.push('\n')
+}
+
+fn answer(alloc: Global, line: &str) -> io::Result<String> {
+    let words = words_of(alloc, line)?;
+    let mut out = String::new(alloc);
+    push_answer(alloc, &mut out, words.as_slice())?;
+    Ok(out)
+}
+
+fn main(rt: HostRuntime) -> io::Result<()> {
+    let alloc = rt.alloc();
+    let mut out = io::writer(&rt);
+    for line in BufReader::new(alloc, rt.reader())?.lines(alloc) {
+        let expanded = expand(alloc, line?.as_str())?;
+        let answer = answer(alloc, expanded.as_str())?;
+        out.write_all(answer.as_bytes())?;
+    }
+    Ok(())
+}
