@@ -1,5 +1,6 @@
--- What the search decides of a query says what the sets allow.
-use Rattle.std.proofs.Common.{◌≡◌, ◌^◌, ◌≤◌, ℕ, Bool, List, [], ◌∷◌, ◌++◌, length, All, refl, inl, inr, subst, sym, arith}
+-- What the search decides of a query, and what a certificate shows of it, says what the sets allow.
+use Rattle.std.proofs.Common.{◌≡◌, ◌^◌, ◌≤◌, ℕ, Bool, List, [], ◌∷◌, ◌++◌, length, All, Some, slice_get, refl, ap, inl, inr, subst, sym, arith, Err}
+use Rattle.std.specs.Prelude.{string_bytes}
 use Rattle.std.proofs.Math.Pow.{pow_mono}
 use Rattle.std.proofs.lemmas.Bool.{cases_Bool}
 use Rattle.std.proofs.lemmas.List.Elements.{All-nil}
@@ -18,19 +19,31 @@ use Rattle.policy_compile.specs.Plans.{tests_in}
 use Rattle.policy_compile.specs.Queries.{IsQuery}
 use Rattle.policy_compile.proofs.Laws.{All-collects, below-numbered, holds-numbered, query-covers, query-holds, suit-query}
 use Rattle.slot_theory.specs.Possible.{IsPossible}
-use Rattle.refute_check.specs.Closing.{Closes}
-use Rattle.refute_check.specs.Laws.{MakesYes}
+use Rattle.refute_check.specs.Laws.{ClosedQueriesAreNo, MakesYes}
 use Rattle.refute_check.specs.Proofs.{Proof, proof_of}
-use Rattle.refute_check.proofs.Laws.{queries_are_no}
+use Rattle.proof_text.specs.Faults.{proof_fault}
+use Rattle.proof_text.specs.declared.fault.ProofAnswer.{ProofAnswer}
+use Rattle.proof_text.specs.declared.fault.ProofAnswer.TheVariants as proof_answer
+use Rattle.proof_text.specs.declared.fault.ProofFault.{ProofFault}
+use Rattle.proof_text.specs.Laws.{ClosingProofsHaveNoFault, HoldsSmallNumbers, limits_of}
+use Rattle.proof_text.specs.Lines.{verdict_line}
+use Rattle.proof_text.specs.Reads.{IsReadFrom, IsProofRead}
+use Rattle.proof_text.specs.Spelling.{spell}
+use Rattle.proof_text.specs.declared.limits.TheConstants.{MOST_NUMBER}
+use Rattle.proof_text.specs.declared.read.ReadProof.{ReadProof}
 use Rattle.tree_search.specs.declared.outcome.Budgets.{Budgets}
 use Rattle.tree_search.specs.declared.outcome.Decided.{Decided}
 use Rattle.tree_search.specs.declared.outcome.Decided.TheVariants as decided
-use Rattle.tree_search.specs.Decisions.{IsDecision, asked_tree}
+use Rattle.tree_search.specs.Decisions.{IsDecision, IsRefutation, asked_tree}
 use Rattle.tree_search.proofs.Laws.{makes-yes}
 use Rattle.formula_tree.specs.Trees as tree
-use Rattle.compare_cli.specs.declared.arguments.TheConstants.{MOST_SPLITS}
-use Rattle.compare_cli.specs.Comparison.{Covers, FewTestsAreDecided, IsFitting, IsWitness, Pair, plan_of}
-use Rattle.compare_cli.specs.Decided.{IsComparison, decision_answer}
+use Rattle.command_words.specs.declared.limits.TheConstants.{MOST_SPLITS}
+use Rattle.compare_cli.specs.declared.answer.Answer.{Answer}
+use Rattle.compare_cli.specs.declared.answer.Answer.TheVariants as answer
+use Rattle.compare_cli.specs.declared.pair.Pair.{Pair}
+use Rattle.compare_cli.specs.Certified.{Certifies, ClosesAll, ClosesBy, FailsAtLine}
+use Rattle.compare_cli.specs.Comparison.{Covers, FewTestsAreDecided, IsFitting, IsWitness, plan_of}
+use Rattle.compare_cli.specs.Decided.{IsChecked, IsComparison, IsDecisionAnswer, IsRefutedAnswer, IsVerdictAnswer}
 
 pub query_tests : (pair : Pair) (q : Query) → IsFitting pair → IsQuery (plan_of pair) q → All (TestSuits pair.schema) q.tests
 query_tests pair q fitting is = All-collects (TestSuits pair.schema) [] (tests_in (plan_of pair)) q.tests is.tests (All-nil (TestSuits pair.schema)) (suit-query pair.schema pair.first pair.second fitting.first fitting.second)
@@ -41,14 +54,14 @@ query_below pair q is = below-numbered q.tests (plan_of pair) (asked_tree q) is.
 asks : (pair : Pair) (q : Query) (r : Request) (answers : ℕ → Bool) → IsFitting pair → IsQuery (plan_of pair) q → IsValid pair.schema r → AnswersAs answers r q.tests → AsksPair pair.schema pair.first pair.second r answers (asked_tree q)
 asks pair q r answers fitting is valid say = record { first_fits = fitting.first; second_fits = fitting.second; valid = valid; tests = q.tests; say = say; numbered = is.tree }
 
--- a query that is refuted: the second set allows each valid request that the first allows
-pub covers_if_refuted : (pair : Pair) (q : Query) (p : Proof) → IsFitting pair → IsQuery (plan_of pair) q → Closes pair.schema q.tests (asked_tree q) p [] → Covers pair
-covers_if_refuted pair q p fitting is closes r valid allowed =
+-- a query that a refutation closes: the second set allows each valid request that the first allows
+pub covers_if_closed : ClosedQueriesAreNo → (pair : Pair) (q : Query) (p : Proof) → IsFitting pair → IsQuery (plan_of pair) q → ClosesAll pair.schema q p → Covers pair
+covers_if_closed law pair q p fitting is closes r valid allowed =
     let some_yes : MakesYes q.tests tree.yes r = makes-yes q.tests tree.yes [] r (λ n b e. absurd (cc)) (λ n b t e at. absurd (cc)) refl in
     let total : ℕ → Bool = some_yes.0 in
     let say : AnswersAs total r q.tests = some_yes.1 in
     elim (cases_Bool (holds total (asked_tree q))) [
-      | inl e ↦ absurd (queries_are_no pair.schema q.tests (asked_tree q) p closes r valid (total, say, e))
+      | inl e ↦ absurd (law pair.schema q.tests (asked_tree q) p (query_below pair q is) closes r valid (total, say, e))
       | inr e ↦ query-covers pair.schema pair.first pair.second r (asked_tree q) total (asks pair q r total fitting is valid say) e allowed
     ]
 
@@ -59,11 +72,47 @@ witness_if_met pair q r fitting is valid (total, answers, met) =
     let both = (query-holds pair.schema r pair.first pair.second fitting.first fitting.second valid).0 (whole_says.0 met) in
     record { valid = valid; allowed = both.0; refused = both.1 }
 
-pub comparison_if_decided : (pair : Pair) (q : Query) (budgets : Budgets) (d : Decided) → IsFitting pair → IsQuery (plan_of pair) q → IsDecision pair.schema q budgets d → IsComparison pair budgets (decision_answer budgets d)
-comparison_if_decided pair q budgets (decided.Refuted r) fitting is h = ((q, is), covers_if_refuted pair q (proof_of r.value) fitting is h.closes)
-comparison_if_decided pair q budgets (decided.Met r) fitting is h = ((q, is), witness_if_met pair q r fitting is h.valid h.meets)
-comparison_if_decided pair q budgets decided.OutOfSplits fitting is h = (refl, record { query = q; is = is; needs = h })
-comparison_if_decided pair q budgets (decided.OutOfStates w) fitting is h = (refl, record { query = q; is = is; path = w.path; node = h.node; wider = (w.texts, h.texts) })
+-- the certificate of a refutation that closes the query is read again
+certifies : ClosingProofsHaveNoFault → (pair : Pair) (q : Query) (budgets : Budgets) (p : Proof) (text : List ℕ) → IsQuery (plan_of pair) q → pair.schema.version ≤ MOST_NUMBER → IsRefutation pair.schema q budgets.splits p → text ≡ spell pair.schema.version p → HoldsSmallNumbers p → Certifies pair.schema q text
+certifies law pair q budgets p text is version h spelled small = record {
+  proof = p;
+  spelled = spelled;
+  closes = h.closes;
+  readable = λ short.
+      let nests = h.nests in
+      let few = is.few in
+      law pair.schema q.tests (asked_tree q) pair.schema.version p (verdict_line ++ text) h.closes (omega arith) small (omega arith) version
+      (inr (ap (λ (t : List ℕ). verdict_line ++ t) spelled)) short;
+}
+
+refuted_if_closed : ClosedQueriesAreNo → ClosingProofsHaveNoFault → (pair : Pair) (q : Query) (certified : Bool) (budgets : Budgets) (p : Proof) → IsFitting pair → IsQuery (plan_of pair) q → IsRefutation pair.schema q budgets.splits p → (a : Answer) → IsRefutedAnswer certified pair.schema.version p a → IsComparison certified budgets pair a
+refuted_if_closed law read pair q certified budgets p fitting is h answer.NotMore v = (v, (q, is), covers_if_closed law pair q p fitting is h.closes)
+refuted_if_closed law read pair q certified budgets p fitting is h (answer.Proved text) (asked, spelled, small, version) =
+    (asked, record { query = q; is = is; holds = certifies read pair q budgets p (string_bytes text) is version h spelled small }, covers_if_closed law pair q p fitting is h.closes)
+refuted_if_closed law read pair q certified budgets p fitting is h _ v = absurd v
+
+pub comparison_if_decided : ClosedQueriesAreNo → ClosingProofsHaveNoFault → (pair : Pair) (q : Query) (certified : Bool) (budgets : Budgets) (d : Decided) → IsFitting pair → IsQuery (plan_of pair) q → IsDecision pair.schema q budgets d → (a : Answer) → IsDecisionAnswer certified pair.schema.version budgets d a → IsComparison certified budgets pair a
+comparison_if_decided law read pair q certified budgets (decided.Refuted r) fitting is h a v = refuted_if_closed law read pair q certified budgets (proof_of r.value) fitting is h a v
+comparison_if_decided law read pair q certified budgets (decided.Met r) fitting is h a v = subst (λ (x : Answer). IsComparison certified budgets pair x) (sym v) ((q, is), witness_if_met pair q r fitting is h.valid h.meets)
+comparison_if_decided law read pair q certified budgets decided.OutOfSplits fitting is h a v = subst (λ (x : Answer). IsComparison certified budgets pair x) (sym v) (refl, record { query = q; is = is; plain = h.plain; propagated = h.propagated })
+comparison_if_decided law read pair q certified budgets (decided.OutOfStates w) fitting is h a v = subst (λ (x : Answer). IsComparison certified budgets pair x) (sym v) (refl, record { query = q; is = is; path = w.path; node = h.node; wider = (w.texts, h.texts) })
+
+-- what a certificate that was read says of the sets
+pub checked_if_read : ClosedQueriesAreNo → (pair : Pair) (q : Query) (bytes : List ℕ) (read : ReadProof) → IsFitting pair → IsQuery (plan_of pair) q → IsReadFrom (limits_of q.tests pair.schema.version) bytes read → (a : Answer) → IsVerdictAnswer pair.schema q read a → IsChecked bytes pair a
+checked_if_read law pair q bytes read fitting is from answer.Accepted v =
+    let by : ClosesBy pair.schema q bytes = record { faultless = from.faultless; proof = proof_of read.refutation.value; spelled = from.spelled; closes = v } in
+    (record { query = q; is = is; holds = by }, covers_if_closed law pair q (proof_of read.refutation.value) fitting is v)
+checked_if_read law pair q bytes read fitting is from (answer.NotClosing line) (node, fails, here) =
+    let at : FailsAtLine pair.schema q bytes line = record {
+      faultless = from.faultless;
+      proof = proof_of read.refutation.value;
+      spelled = from.spelled;
+      node = node;
+      fails = fails;
+      line_is = subst (λ (ls : List ℕ). slice_get ls node ≡ Some line) from.lines here;
+    } in
+    record { query = q; is = is; holds = at }
+checked_if_read law pair q bytes read fitting is from _ v = absurd v
 
 -- a plan has one list of tests
 one_list : (had read got other : List Test) → Collects had read got → Collects had read other → got ≡ other
@@ -82,4 +131,10 @@ few_tests_fit schema q fit pair under is few needs =
     let below = below-numbered needs.query.tests (plan_of pair) (asked_tree needs.query) needs.is.tree in
     let few_too : length needs.query.tests ≤ 19 = subst (λ (ts : List Test). length ts ≤ 19) (sym same) few in
     let answers : 2 ^ length needs.query.tests ≤ 2 ^ 19 = pow_mono few_too in
-    fit_too (asked_tree needs.query) (length needs.query.tests) MOST_SPLITS below (omega arith) needs.needs
+    fit_too (asked_tree needs.query) (length needs.query.tests) MOST_SPLITS below (omega arith) needs.plain
+
+-- the first fault of a certificate that isn't read is what is answered
+pub bad-proof : (pair : Pair) (q : Query) (bytes : List ℕ) (tests : ℕ) (unread : ProofAnswer) (fault : ProofFault) → IsQuery (plan_of pair) q → IsProofRead (record { tests = tests; version = pair.schema.version }) bytes (Err unread) → unread ≡ proof_answer.Refused fault → tests ≡ length q.tests → IsChecked bytes pair (answer.BadProof fault)
+bad-proof pair q bytes tests unread fault is read refused count =
+    let told : IsProofRead (record { tests = tests; version = pair.schema.version }) bytes (Err (proof_answer.Refused fault)) = subst (λ (a : ProofAnswer). IsProofRead (record { tests = tests; version = pair.schema.version }) bytes (Err a)) refused read in
+    record { query = q; is = is; holds = subst (λ (n : ℕ). proof_fault (record { tests = n; version = pair.schema.version }) bytes ≡ Some fault) count told }

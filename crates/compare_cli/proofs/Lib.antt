@@ -1,3 +1,4 @@
 mod Answering
 mod Comparing
 mod Completeness
+mod Evaluating

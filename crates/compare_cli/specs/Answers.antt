@@ -1,6 +1,7 @@
 -- Which answer may be given, by what the arguments ask and what the folder holds.
-use Rattle.std.specs.Prelude.{◌≡◌, ℕ, List, Option, Some, None, MatchOption, Result, Ok, Err, ⊤, alloc_error}
+use Rattle.std.specs.Prelude.{◌≡◌, ◌⊎◌, ℕ, List, Option, Some, None, MatchOption, Result, Ok, Err, ⊤, alloc_error, if◌then◌else◌}
 use Rattle.std.specs.declared.alloc.AllocError.{AllocError}
+use Rattle.command_words.specs.Asked.{Asked, Comparing, Evaluating, Names, a_check, a_comparison, an_evaluation}
 use Rattle.pol_outside.specs.Faults.{Rose}
 use Rattle.pol_outside.specs.Folder.{Files}
 use Rattle.pol_outside.specs.declared.folder.TakeFault.{TakeFault}
@@ -8,22 +9,23 @@ use Rattle.pol_outside.specs.declared.folder.TakeFault.TheVariants.{Failed, TooL
 use Rattle.policy_model.specs.declared.schema.Schema.{Schema}
 use Rattle.policy_model.specs.declared.set.PolicySet.{PolicySet}
 use Rattle.policy_json.specs.Sets.{set_from}
-use Rattle.request_schema.specs.BuiltIn.{built_in_schema}
 use Rattle.request_schema.specs.RunSchemas.{FirstInferFault, infer_fault, schema_of_run}
-use Rattle.request_schema.specs.SchemaFiles.{schema_from}
-use Rattle.request_schema.specs.declared.schema_fault.SchemaAnswer.{SchemaAnswer}
-use Rattle.request_schema.specs.declared.schema_fault.SchemaAnswer.TheVariants.{Refused as no_schema, NoMemory as no_room}
+use Rattle.request_schema.specs.declared.infer_fault.InferFault.{InferFault}
 use Rattle.tree_search.specs.declared.outcome.Budgets.{Budgets}
 use Rattle.compare_cli.specs.declared.answer.Role.{Role}
 use Rattle.compare_cli.specs.declared.answer.Role.TheVariants.{First, Second}
-use Rattle.compare_cli.specs.declared.answer.Role.TheVariants.{Schema as schema_file}
+use Rattle.compare_cli.specs.declared.answer.Role.TheVariants.{Set as set_file, Schema as schema_file, Request as request_file}
+use Rattle.compare_cli.specs.declared.answer.Role.TheVariants.{Proof as proof_file}
+use Rattle.compare_cli.specs.declared.answer.Refusal.{Refusal}
 use Rattle.compare_cli.specs.declared.answer.Refusal.TheVariants.{TooLong, NoSchema, NoSet, NoRun}
 use Rattle.compare_cli.specs.declared.answer.Answer.{Answer}
 use Rattle.compare_cli.specs.declared.answer.Answer.TheVariants.{Usage, ReadFault, Refused}
-use Rattle.compare_cli.specs.Arguments.{Asked}
-use Rattle.compare_cli.specs.Comparison.{Pair, paired}
-use Rattle.compare_cli.specs.Decided.{IsComparison}
+use Rattle.compare_cli.specs.declared.pair.Pair.{Pair}
+use Rattle.compare_cli.specs.Comparison.{paired}
+use Rattle.compare_cli.specs.Decided.{IsChecked, IsComparison}
+use Rattle.compare_cli.specs.Evaluated.{Evaluates, EvaluationContents}
 use Rattle.compare_cli.specs.Files.{IsShort, IsShortIfNamed, IsLong}
+use Rattle.compare_cli.specs.Standing.{HasSchema, HasSet, NamesSchema, SchemaFails, StandsFor}
 
 -- the folder of a run: what it holds, and how many faults it had and the name of the last, before the run and now
 pub record Reading : Type 0 where
@@ -33,11 +35,25 @@ pub record Reading : Type 0 where
   pub last_before : Option (List ℕ)
   pub last : Option (List ℕ)
 
--- the name of a role's file, where one is named
+-- the name of a role's file, where the command has that role and one is named
 abbrev pub file_of : Asked → Role → Option (List ℕ)
-file_of asked First = Some asked.first
-file_of asked Second = Some asked.second
-file_of asked schema_file = asked.schema
+file_of (a_comparison c) First = Some c.names.first
+file_of (a_comparison c) Second = Some c.names.second
+file_of (a_comparison c) schema_file = c.names.schema
+file_of (a_check c) First = Some c.names.first
+file_of (a_check c) Second = Some c.names.second
+file_of (a_check c) proof_file = Some c.proof
+file_of (a_check c) schema_file = c.names.schema
+file_of (an_evaluation e) set_file = Some e.set
+file_of (an_evaluation e) request_file = Some e.request
+file_of (an_evaluation e) schema_file = e.schema
+file_of _ _ = None
+
+-- the budgets of a comparison
+abbrev pub budgets_of : Comparing → Budgets
+budgets_of c = record { splits = c.splits; states = c.states }
+
+-- ---- two sets
 
 -- the bytes of the files: of the two sets, and of the schema where one is named
 pub record Contents : Type 0 where
@@ -47,21 +63,6 @@ pub record Contents : Type 0 where
 
 abbrev pub contents : List ℕ → List ℕ → Option (List ℕ) → Contents
 contents first second schema = record { first = first; second = second; schema = schema }
-
--- the file stands for this set
-abbrev pub StandsFor : List ℕ → PolicySet → Type 0
-StandsFor bytes set = set_from bytes ≡ Ok set
-
--- the schema file stands for this schema; without one it is that of the built-in keys
-abbrev pub NamesSchema : Option (List ℕ) → Schema → Type 0
-NamesSchema None schema = schema ≡ built_in_schema
-NamesSchema (Some bytes) schema = schema_from bytes ≡ Ok schema
-
--- what a reader of a schema file answers, or of the built-in keys where no file is named, besides want of memory
-abbrev pub IsNamed : Option (List ℕ) → Result Schema SchemaAnswer → Type 0
-IsNamed file (Ok schema) = NamesSchema file schema
-IsNamed file (Err (no_schema fault)) = MatchOption file ⊥ (λ bytes. schema_from bytes ≡ Err fault)
-IsNamed file (Err no_room) = ⊤
 
 -- the files stand for a schema and for two sets, of which this holds
 pub record OfFiles (c : Contents) (P : Schema → PolicySet → PolicySet → Type 0) : Type 0 where
@@ -86,42 +87,85 @@ pub record OfRun (named : Schema) (one two : PolicySet) (P : Pair → Type 0) : 
 abbrev pub OfPair : Contents → (Pair → Type 0) → Type 0
 OfPair c P = OfFiles c (λ named one two. OfRun named one two P)
 
--- what two sets under named keys may be answered: the first condition that the run has no schema for, or else what a comparison
--- of the pair may be
-abbrev pub AnswersSets : Budgets → Answer → Schema → PolicySet → PolicySet → Type 0
-AnswersSets budgets (Refused (NoRun fault)) named one two = FirstInferFault named one (Some two) fault
-AnswersSets budgets answer named one two = OfRun named one two (λ pair. IsComparison pair budgets answer)
+-- the set that a condition stands in
+abbrev pub infer_role : InferFault → Role
+infer_role fault = (if fault.second then Second else First)
 
--- what files that were read may be answered: the first that stands for nothing, with its first fault, in the order schema, first
--- set, second set; then what their sets may be
-abbrev pub AnswersFiles : Contents → Budgets → Answer → Type 0
-AnswersFiles c budgets (Refused (NoSchema fault)) = MatchOption c.schema ⊥ (λ bytes. schema_from bytes ≡ Err fault)
-AnswersFiles c budgets (Refused (NoSet First fault)) =
-    ((named : Schema) × NamesSchema c.schema named) × (set_from c.first ≡ Err fault)
-AnswersFiles c budgets (Refused (NoSet Second fault)) =
-    ((named : Schema) × NamesSchema c.schema named) × ((set : PolicySet) × StandsFor c.first set)
-    × (set_from c.second ≡ Err fault)
-AnswersFiles c budgets answer = OfFiles c (AnswersSets budgets answer)
+-- why files stand for no pair: the first that stands for nothing, with its first fault, in the order schema, first set, second set;
+-- then the first condition of the two sets that the run has no schema for
+abbrev pub IsNoPair : Contents → Refusal → Type 0
+IsNoPair c (NoSchema fault) = SchemaFails c.schema fault
+IsNoPair c (NoSet First fault) = HasSchema c.schema × (set_from c.first ≡ Err fault)
+IsNoPair c (NoSet Second fault) = HasSchema c.schema × HasSet c.first × (set_from c.second ≡ Err fault)
+IsNoPair c (NoRun role fault) =
+    OfFiles c (λ named one two. (role ≡ infer_role fault) × FirstInferFault named one (Some two) fault)
+IsNoPair c _ = ⊥
+
+-- two sets under the schema of their run, or the first condition that it can't answer
+abbrev pub IsRunRead : Schema → PolicySet → PolicySet → Result Pair Refusal → Type 0
+IsRunRead named one two (Ok pair) = OfRun named one two (λ p. p ≡ pair)
+IsRunRead named one two (Err (NoRun role fault)) = (role ≡ infer_role fault) × FirstInferFault named one (Some two) fault
+IsRunRead named one two (Err _) = ⊥
+
+-- the pair that files stand for, or why they stand for none
+abbrev pub IsPairRead : Contents → Result Pair Refusal → Type 0
+IsPairRead c (Ok pair) = OfPair c (λ p. p ≡ pair)
+IsPairRead c (Err refusal) = IsNoPair c refusal
+
+-- what two sets and a schema that were read may be answered, by what is said of the pair that they stand for
+abbrev pub AnswersFiles : (Pair → Answer → Type 0) → Contents → Answer → Type 0
+AnswersFiles says c (Refused refusal) = IsNoPair c refusal ⊎ OfPair c (λ pair. says pair (Refused refusal))
+AnswersFiles says c answer = OfPair c (λ pair. says pair answer)
+
+-- what they may be answered to a comparison, and to a check of a certificate
+abbrev pub AnswersComparison : Comparing → Contents → Answer → Type 0
+AnswersComparison asked c answer = AnswersFiles (IsComparison asked.certified (budgets_of asked)) c answer
+
+abbrev pub AnswersCheck : List ℕ → Contents → Answer → Type 0
+AnswersCheck proof c answer = AnswersFiles (IsChecked proof) c answer
 
 -- ---- the files of a run
 
 -- the file was read within its limit
-abbrev pub IsAtHand : Option Files → List ℕ → Type 0
-IsAtHand held name = (bytes : List ℕ) × IsShort held name bytes
+abbrev pub IsAtHand : Option Files → Role → List ℕ → Type 0
+IsAtHand held role name = (bytes : List ℕ) × IsShort held role name bytes
 
--- all files were read within their limits, and of their bytes this holds
-pub record AllRead (held : Option Files) (asked : Asked) (P : Contents → Type 0) : Type 0 where
+-- all files of two sets and of a schema were read within their limits, and of their bytes this holds
+pub record AllRead (held : Option Files) (names : Names) (P : Contents → Type 0) : Type 0 where
   pub contents : Contents
-  pub first_short : IsShort held asked.first contents.first
-  pub second_short : IsShort held asked.second contents.second
-  pub schema_short : IsShortIfNamed held asked.schema contents.schema
+  pub first_short : IsShort held First names.first contents.first
+  pub second_short : IsShort held Second names.second contents.second
+  pub schema_short : IsShortIfNamed held schema_file names.schema contents.schema
   pub holds : P contents
 
--- the files are read in order, the first set, the second, the schema: each is reached where those before it were read
+-- the certificate was read within its limit, and of its bytes this holds
+pub record ProofIsRead (held : Option Files) (name : List ℕ) (P : List ℕ → Type 0) : Type 0 where
+  pub bytes : List ℕ
+  pub short : IsShort held proof_file name bytes
+  pub holds : P bytes
+
+-- all files of an evaluation were read within their limits, and of their bytes this holds
+pub record EvaluationIsRead (held : Option Files) (e : Evaluating) (P : EvaluationContents → Type 0) : Type 0 where
+  pub contents : EvaluationContents
+  pub set_short : IsShort held set_file e.set contents.set
+  pub request_short : IsShort held request_file e.request contents.request
+  pub schema_short : IsShortIfNamed held schema_file e.schema contents.schema
+  pub holds : P contents
+
+-- the files are read in the order of the command's line, and the schema last: each is reached where those before it were read
 abbrev pub IsReached : Option Files → Asked → Role → Type 0
-IsReached held asked First = ⊤
-IsReached held asked Second = IsAtHand held asked.first
-IsReached held asked schema_file = IsAtHand held asked.first × IsAtHand held asked.second
+IsReached held (a_comparison c) First = ⊤
+IsReached held (a_comparison c) Second = IsAtHand held First c.names.first
+IsReached held (a_comparison c) schema_file = IsAtHand held First c.names.first × IsAtHand held Second c.names.second
+IsReached held (a_check c) First = ⊤
+IsReached held (a_check c) Second = IsAtHand held First c.names.first
+IsReached held (a_check c) proof_file = IsAtHand held First c.names.first × IsAtHand held Second c.names.second
+IsReached held (a_check c) schema_file =
+    IsAtHand held First c.names.first × IsAtHand held Second c.names.second × IsAtHand held proof_file c.proof
+IsReached held (an_evaluation e) set_file = ⊤
+IsReached held (an_evaluation e) request_file = IsAtHand held set_file e.set
+IsReached held (an_evaluation e) schema_file = IsAtHand held set_file e.set × IsAtHand held request_file e.request
+IsReached _ _ _ = ⊥
 
 -- the role's file is named, and of its name this holds
 abbrev pub OfNamed : Asked → Role → (List ℕ → Type 0) → Type 0
@@ -133,12 +177,19 @@ TellsFault asked r (ReadFault role) =
     Rose r.faults_before r.faults × OfNamed asked role (λ name. r.last ≡ Some name)
 TellsFault asked r _ = r.last ≡ r.last_before
 
+-- what the files of a command may be answered, once they were read
+abbrev pub IsAnsweredFrom : Option Files → Asked → Answer → Type 0
+IsAnsweredFrom held (a_comparison c) answer = AllRead held c.names (λ f. AnswersComparison c f answer)
+IsAnsweredFrom held (a_check c) answer =
+    AllRead held c.names (λ f. ProofIsRead held c.proof (λ bytes. AnswersCheck bytes f answer))
+IsAnsweredFrom held (an_evaluation e) answer = EvaluationIsRead held e (λ f. Evaluates f answer)
+
 -- why names are answered so
 abbrev pub IsCause : Asked → Option Files → Answer → Type 0
 IsCause asked held Usage = ⊥
 IsCause asked held (ReadFault role) = IsReached held asked role
-IsCause asked held (Refused (TooLong role)) = IsReached held asked role × OfNamed asked role (IsLong held)
-IsCause asked held answer = AllRead held asked (λ c. AnswersFiles c asked.budgets answer)
+IsCause asked held (Refused (TooLong role)) = IsReached held asked role × OfNamed asked role (IsLong held role)
+IsCause asked held answer = IsAnsweredFrom held asked answer
 
 -- what names may be answered
 pub record IsAnswerTo (asked : Asked) (r : Reading) (answer : Answer) : Type 0 where

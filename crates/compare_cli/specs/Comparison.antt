@@ -16,17 +16,14 @@ use Rattle.policy_compile.specs.Plans.{Plan, tests_in}
 use Rattle.policy_compile.specs.Queries.{HasTooManyPieces, IsQuery}
 use Rattle.policy_compile.specs.Sets.{query_plan}
 use Rattle.slot_theory.specs.Possible.{IsPossible}
+use Rattle.refute_check.specs.Propagated.{PropagatedNeedsMore}
 use Rattle.slot_theory.specs.Slots.{patterns_at}
 use Rattle.tree_search.specs.Decisions.{asked_tree}
 use Rattle.tree_search.specs.Nodes.{IsNode}
-use Rattle.compare_cli.specs.declared.arguments.TheConstants.{MOST_SPLITS}
+use Rattle.command_words.specs.declared.limits.TheConstants.{MOST_SPLITS}
+use Rattle.compare_cli.specs.declared.pair.Pair.{Pair}
 
--- what is compared: two sets, under the schema of their run
-pub record Pair : Type 0 where
-  pub schema : Schema
-  pub first : PolicySet
-  pub second : PolicySet
-
+-- two sets, under the schema of their run
 abbrev pub paired : Schema → PolicySet → PolicySet → Pair
 paired schema first second = record { schema = schema; first = first; second = second }
 
@@ -69,10 +66,17 @@ abbrev pub TooManyPieces : Pair → Type 0
 TooManyPieces pair = HasTooManyPieces (plan_of pair)
 
 -- the plain run of the query needs more splits
+pub record NeedsPlainSplits (pair : Pair) (splits : ℕ) : Type 0 where
+  pub query : Query
+  pub is : IsQuery (plan_of pair) query
+  pub plain : NeedsMore (IsPossible pair.schema query.tests) (asked_tree query) [] splits
+
+-- and so does the run that a conflict of unit propagation ends too
 pub record NeedsSplits (pair : Pair) (splits : ℕ) : Type 0 where
   pub query : Query
   pub is : IsQuery (plan_of pair) query
-  pub needs : NeedsMore (IsPossible pair.schema query.tests) (asked_tree query) [] splits
+  pub plain : NeedsMore (IsPossible pair.schema query.tests) (asked_tree query) [] splits
+  pub propagated : PropagatedNeedsMore pair.schema query.tests (asked_tree query) [] splits
 
 -- at a node of the plain run the patterns of the slot have more product states
 pub record NeedsStates (pair : Pair) (states : ℕ) (s : Slot) : Type 0 where
@@ -85,8 +89,15 @@ pub record NeedsStates (pair : Pair) (states : ℕ) (s : Slot) : Type 0 where
 -- with at most 19 tests the plain run needs no more splits than there may be at most, which are 2 ^ 19 - 1 or more
 abbrev pub FewTestsAreDecided : Schema → Query → Type 0
 FewTestsAreDecided schema query =
-    (pair : Pair) → pair.schema ≡ schema → IsQuery (plan_of pair) query → length query.tests ≤ 19 → ¬ NeedsSplits pair MOST_SPLITS
+    (pair : Pair) → pair.schema ≡ schema → IsQuery (plan_of pair) query → length query.tests ≤ 19 →
+    ¬ NeedsPlainSplits pair MOST_SPLITS
 
 -- at no node of the plain run a slot's patterns have more product states
 abbrev pub FitsStates : Pair → ℕ → Type 0
 FitsStates pair states = (s : Slot) → ¬ NeedsStates pair states s
+
+-- of the query of the pair this holds
+pub record OfQuery (pair : Pair) (P : Query → Type 0) : Type 0 where
+  pub query : Query
+  pub is : IsQuery (plan_of pair) query
+  pub holds : P query

@@ -1,7 +1,13 @@
--- What a comparison of two sets may answer.
-use Rattle.std.specs.Prelude.{◌≡◌, Result, Ok, Err}
+-- What a comparison of two sets may answer, and a check of a certificate.
+use Rattle.std.specs.Prelude.{◌≡◌, ◌≤◌, ℕ, List, slice_get, Bool, true, false, Some, Result, Ok, Err, string_bytes}
 use Rattle.policy_compile.specs.declared.outcome.Query.{Query}
 use Rattle.policy_compile.specs.Queries.{IsQuery}
+use Rattle.policy_model.specs.declared.schema.Schema.{Schema}
+use Rattle.proof_text.specs.Laws.{HoldsSmallNumbers}
+use Rattle.proof_text.specs.Spelling.{spell}
+use Rattle.proof_text.specs.declared.limits.TheConstants.{MOST_NUMBER}
+use Rattle.proof_text.specs.declared.read.ReadProof.{ReadProof}
+use Rattle.refute_check.specs.Proofs.{Proof, proof_of}
 use Rattle.tree_search.specs.declared.outcome.Budgets.{Budgets}
 use Rattle.tree_search.specs.declared.outcome.Decided.{Decided}
 use Rattle.tree_search.specs.declared.outcome.Decided.TheVariants as decided
@@ -10,20 +16,12 @@ use Rattle.compare_cli.specs.declared.answer.Refusal.TheVariants.{TooManyTests a
 use Rattle.compare_cli.specs.declared.answer.Refusal.TheVariants.{TooManyPieces as too_many_pieces}
 use Rattle.compare_cli.specs.declared.answer.Shortage.TheVariants.{Splits, States}
 use Rattle.compare_cli.specs.declared.answer.Answer.{Answer}
-use Rattle.compare_cli.specs.declared.answer.Answer.TheVariants.{Refused, Undecided, NotMore, More}
-use Rattle.compare_cli.specs.Comparison.{Covers, HasQuery, IsWitness, NeedsSplits, NeedsStates, Pair, TooManyPieces}
+use Rattle.compare_cli.specs.declared.answer.Answer.TheVariants.{Refused, Undecided, NotMore, Proved, More}
+use Rattle.compare_cli.specs.declared.answer.Answer.TheVariants.{Accepted, NotClosing, BadProof}
+use Rattle.compare_cli.specs.declared.pair.Pair.{Pair}
+use Rattle.compare_cli.specs.Certified.{Certifies, ClosesAll, ClosesBy, FailsAll, FailsAtLine, HasProofFault}
+use Rattle.compare_cli.specs.Comparison.{Covers, HasQuery, IsWitness, NeedsSplits, NeedsStates, OfQuery, TooManyPieces}
 use Rattle.compare_cli.specs.Comparison.{TooManyTests, plan_of}
-
--- a limit that the query is past, a budget that is too small, or a comparison, which comes only where the query is within its
--- limits
-abbrev pub IsComparison : Pair → Budgets → Answer → Type 0
-IsComparison pair budgets (Refused too_many_tests) = TooManyTests pair
-IsComparison pair budgets (Refused too_many_pieces) = TooManyPieces pair
-IsComparison pair budgets (Undecided (Splits n)) = (n ≡ budgets.splits) × NeedsSplits pair n
-IsComparison pair budgets (Undecided (States n s)) = (n ≡ budgets.states) × NeedsStates pair n s
-IsComparison pair budgets NotMore = HasQuery pair × Covers pair
-IsComparison pair budgets (More q) = HasQuery pair × IsWitness pair q
-IsComparison pair budgets _ = ⊥
 
 -- a limit that the query is past
 abbrev pub IsPastLimit : Pair → Refusal → Type 0
@@ -31,14 +29,49 @@ IsPastLimit pair too_many_tests = TooManyTests pair
 IsPastLimit pair too_many_pieces = TooManyPieces pair
 IsPastLimit pair _ = ⊥
 
+-- a limit that the query is past, a budget that is too small, or a comparison, which comes only where the query is within its
+-- limits, with a certificate where one is asked for
+abbrev pub IsComparison : Bool → Budgets → Pair → Answer → Type 0
+IsComparison certified budgets pair (Refused refusal) = IsPastLimit pair refusal
+IsComparison certified budgets pair (Undecided (Splits n)) = (n ≡ budgets.splits) × NeedsSplits pair n
+IsComparison certified budgets pair (Undecided (States n s)) = (n ≡ budgets.states) × NeedsStates pair n s
+IsComparison certified budgets pair NotMore = (certified ≡ false) × HasQuery pair × Covers pair
+IsComparison certified budgets pair (Proved text) =
+    (certified ≡ true) × OfQuery pair (λ q. Certifies pair.schema q (string_bytes text)) × Covers pair
+IsComparison certified budgets pair (More q) = HasQuery pair × IsWitness pair q
+IsComparison certified budgets pair _ = ⊥
+
+-- a limit that the query is past, the certificate's first fault, or the line of its first node that fails; or that it closes the
+-- query, and then the second set allows each valid request that the first allows, whoever wrote it
+abbrev pub IsChecked : List ℕ → Pair → Answer → Type 0
+IsChecked bytes pair (Refused refusal) = IsPastLimit pair refusal
+IsChecked bytes pair (BadProof fault) = OfQuery pair (λ q. HasProofFault pair.schema q bytes fault)
+IsChecked bytes pair (NotClosing line) = OfQuery pair (λ q. FailsAtLine pair.schema q bytes line)
+IsChecked bytes pair Accepted = OfQuery pair (λ q. ClosesBy pair.schema q bytes) × Covers pair
+IsChecked bytes pair _ = ⊥
+
 -- the query of the two sets, or a limit that it is past
 abbrev pub IsQueried : Pair → Result Query Refusal → Type 0
 IsQueried pair (Ok q) = IsQuery (plan_of pair) q
 IsQueried pair (Err refusal) = IsPastLimit pair refusal
 
+-- the answer to a refutation, with its certificate where one is asked for
+abbrev pub IsRefutedAnswer : Bool → ℕ → Proof → Answer → Type 0
+IsRefutedAnswer certified version proof NotMore = certified ≡ false
+IsRefutedAnswer certified version proof (Proved text) =
+    (certified ≡ true) × (string_bytes text ≡ spell version proof) × HoldsSmallNumbers proof × (version ≤ MOST_NUMBER)
+IsRefutedAnswer certified version proof _ = ⊥
+
 -- the answer to what a search decided
-abbrev pub decision_answer : Budgets → Decided → Answer
-decision_answer budgets (decided.Refuted r) = NotMore
-decision_answer budgets (decided.Met q) = More q
-decision_answer budgets decided.OutOfSplits = Undecided (Splits budgets.splits)
-decision_answer budgets (decided.OutOfStates w) = Undecided (States budgets.states w.slot)
+abbrev pub IsDecisionAnswer : Bool → ℕ → Budgets → Decided → Answer → Type 0
+IsDecisionAnswer certified version budgets (decided.Refuted r) answer = IsRefutedAnswer certified version (proof_of r.value) answer
+IsDecisionAnswer certified version budgets (decided.Met q) answer = answer ≡ More q
+IsDecisionAnswer certified version budgets decided.OutOfSplits answer = answer ≡ Undecided (Splits budgets.splits)
+IsDecisionAnswer certified version budgets (decided.OutOfStates w) answer = answer ≡ Undecided (States budgets.states w.slot)
+
+-- the answer to a certificate that was read
+abbrev pub IsVerdictAnswer : Schema → Query → ReadProof → Answer → Type 0
+IsVerdictAnswer schema q read Accepted = ClosesAll schema q (proof_of read.refutation.value)
+IsVerdictAnswer schema q read (NotClosing line) =
+    (node : ℕ) × FailsAll schema q (proof_of read.refutation.value) node × (slice_get read.lines node ≡ Some line)
+IsVerdictAnswer schema q read _ = ⊥

@@ -1,9 +1,11 @@
 pub mod Answers
-pub mod Arguments
+pub mod Certified
 pub mod Comparison
 pub mod Complete
 pub mod Decided
+pub mod Evaluated
 pub mod Files
 pub mod Promises
+pub mod Standing
 pub mod Statuses
 pub mod Texts

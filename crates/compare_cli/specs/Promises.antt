@@ -1,8 +1,8 @@
 -- What a run promises, by the status that it ends with.
 use Rattle.std.specs.Prelude.{◌≡◌, ℕ, List, take, Option, ⊤}
+use Rattle.command_words.specs.Asked.{Asked}
 use Rattle.pol_outside.specs.Faults.{Rose}
 use Rattle.pol_outside.specs.Sink.{Appends}
-use Rattle.policy_model.specs.declared.request.Request.{Request}
 use Rattle.compare_cli.specs.declared.answer.Role.{Role}
 use Rattle.compare_cli.specs.declared.answer.Refusal.{Refusal}
 use Rattle.compare_cli.specs.declared.answer.Shortage.{Shortage}
@@ -12,7 +12,7 @@ use Rattle.compare_cli.specs.declared.top.Status.{Status}
 use Rattle.compare_cli.specs.declared.top.Status.TheVariants.{Holds, Fails, Refused, Undecided, Usage, ReadFault, WriteFault}
 use Rattle.compare_cli.specs.declared.top.Status.TheVariants.{NoMemory, BadProof}
 use Rattle.compare_cli.specs.Answers.{IsAnswer, Reading}
-use Rattle.compare_cli.specs.Arguments.{Asked}
+use Rattle.compare_cli.specs.Statuses.{status_of}
 use Rattle.compare_cli.specs.Texts.{answer_text}
 
 -- the sink of a run: how many faults it had and, where it tells that, what was written, before the run and now
@@ -42,13 +42,23 @@ IsUsageOrFault WriteFault = ⊤
 IsUsageOrFault NoMemory = ⊤
 IsUsageOrFault _ = ⊥
 
+-- an answer of this status that may be given, and its whole text was written
+pub record SaysWith (asked : Option Asked) (r : Reading) (w : Writing) (status : Status) : Type 0 where
+  pub answer : Answer
+  pub of_status : status_of answer ≡ status
+  pub says : Says asked r w answer
+
 -- what a run promises by each status
 abbrev pub Promises : Option Asked → Reading → Writing → Status → Type 0
--- the second set allows each valid request that the first allows: all requests, of texts of any length
-Promises asked r w Holds = Says asked r w answer.NotMore
--- the second line is the text of a valid request that the first set allows and the second doesn't
-Promises asked r w Fails = (q : Request) × Says asked r w (answer.More q)
--- the line is of the first cause, in the order of files, then of the schema, the sets and both together, then of the query's limits
+-- of a comparison: the second set allows each valid request that the first allows, all requests, of texts of any length, and where a
+-- certificate was asked for, what was written is one; of a check: the certificate closes the query, and so the same; of an
+-- evaluation: the set allows the request, and the line names the statement that decides
+Promises asked r w Holds = SaysWith asked r w Holds
+-- of a comparison: the second line is the text of a valid request that the first set allows and the second doesn't; of an
+-- evaluation: the set doesn't allow the request, and the line names what decides
+Promises asked r w Fails = SaysWith asked r w Fails
+-- the line is of the first cause, in the order of files, then of the schema, the sets and both together, then of the request or of
+-- the query's limits
 Promises asked r w Refused = (refusal : Refusal) × Says asked r w (answer.Refused refusal)
 -- the line names a budget that is below the need of the plain run
 Promises asked r w Undecided = (shortage : Shortage) × Says asked r w (answer.Undecided shortage)
@@ -60,4 +70,5 @@ Promises asked r w ReadFault = (role : Role) × Says asked r w (answer.ReadFault
 Promises asked r w WriteFault = Breaks asked r w
 -- nothing was written
 Promises asked r w NoMemory = w.now ≡ w.before
-Promises asked r w BadProof = ⊥
+-- the certificate's first fault, or the line of its first node that fails
+Promises asked r w BadProof = SaysWith asked r w BadProof

@@ -13,7 +13,13 @@ status_of (answer.ReadFault role) = ReadFault
 status_of (answer.Refused refusal) = Refused
 status_of (answer.Undecided shortage) = Undecided
 status_of answer.NotMore = Holds
+status_of (answer.Proved text) = Holds
 status_of (answer.More q) = Fails
+status_of answer.Accepted = Holds
+status_of (answer.NotClosing line) = BadProof
+status_of (answer.BadProof fault) = BadProof
+status_of (answer.Allowed name) = Holds
+status_of (answer.Denied denial) = Fails
 
 -- the program's exit number
 abbrev pub exit_number : Status → ℕ

@@ -1,5 +1,5 @@
 -- The texts of the answers.
-use Rattle.std.specs.Prelude.{ℕ, List, ◌++◌, codes, decimal, if◌then◌else◌}
+use Rattle.std.specs.Prelude.{ℕ, List, ◌++◌, codes, decimal, if◌then◌else◌, string_bytes}
 use Rattle.std.specs.Str.{encode_utf8_all}
 use Rattle.serde_json.specs.Data.{string}
 use Rattle.serde_json.specs.Written.{compact_text}
@@ -7,16 +7,25 @@ use Rattle.policy_model.specs.declared.set.StatementName.{StatementName}
 use Rattle.policy_model.specs.declared.test.Slot.{Slot}
 use Rattle.policy_model.specs.declared.test.Slot.TheVariants as slot
 use Rattle.compare_cli.specs.declared.answer.Role.{Role}
-use Rattle.compare_cli.specs.declared.answer.Role.TheVariants.{First, Second, Schema}
+use Rattle.compare_cli.specs.declared.answer.Role.TheVariants.{First, Second, Set, Schema, Request, Proof}
 use Rattle.compare_cli.specs.declared.answer.Answer.{Answer}
-use Rattle.compare_cli.specs.declared.answer.Answer.TheVariants.{Usage, ReadFault, Refused, Undecided, NotMore, More}
+use Rattle.compare_cli.specs.declared.answer.Answer.TheVariants.{Usage, ReadFault, Refused, Undecided, NotMore, Proved, More}
+use Rattle.compare_cli.specs.declared.answer.Answer.TheVariants.{Accepted, NotClosing, BadProof, Allowed, Denied}
+use Rattle.compare_cli.specs.declared.answer.Denial.{Denial}
+use Rattle.compare_cli.specs.declared.answer.Denial.TheVariants.{ByStatement, NoStatement, NoGrant, NoGuard}
 use Rattle.compare_cli.specs.declared.answer.Refusal.{Refusal}
 use Rattle.compare_cli.specs.declared.answer.Refusal.TheVariants.{TooLong, NoSchema, NoSet, NoRun, TooManyTests}
-use Rattle.compare_cli.specs.declared.answer.Refusal.TheVariants.{TooManyPieces}
+use Rattle.compare_cli.specs.declared.answer.Refusal.TheVariants.{TooManyPieces, NoRequest}
 use Rattle.compare_cli.specs.declared.answer.Shortage.{Shortage}
 use Rattle.compare_cli.specs.declared.answer.Shortage.TheVariants.{Splits, States}
-use Rattle.compare_cli.specs.declared.files.TheConstants.{MOST_BYTES}
+use Rattle.compare_cli.specs.Files.{limit_of}
+use Rattle.proof_text.specs.declared.fault.ProofCode.{ProofCode}
+use Rattle.proof_text.specs.declared.fault.ProofCode.TheVariants.{C1Syntax, C2Version, C3TestNumber, C4Limit}
+use Rattle.proof_text.specs.declared.fault.ProofFault.{ProofFault}
 use Rattle.request_json.specs.RequestTexts.{request_text}
+use Rattle.request_json.specs.declared.fault.RequestCode.{RequestCode}
+use Rattle.request_json.specs.declared.fault.RequestCode.TheVariants.{Q1NotJson, Q2Shape, Q3BadValue, Q4NotValid}
+use Rattle.request_json.specs.declared.fault.RequestFault.{RequestFault}
 use Rattle.request_schema.specs.declared.infer_fault.InferFault.{InferFault}
 use Rattle.request_schema.specs.declared.schema_fault.SchemaCode.{SchemaCode}
 use Rattle.request_schema.specs.declared.schema_fault.SchemaCode.TheVariants.{S1NotJson, S2Shape, S3UnknownKind, S4KeyTwice}
@@ -34,7 +43,10 @@ use Rattle.policy_json.specs.declared.fault.PolicyCode.TheVariants.{P13BadValue,
 abbrev pub role_word : Role → List ℕ
 role_word First = codes "first"
 role_word Second = codes "second"
+role_word Set = codes "set"
 role_word Schema = codes "schema"
+role_word Request = codes "request"
+role_word Proof = codes "proof"
 
 abbrev pub code_word : PolicyCode → List ℕ
 code_word P1NotJson = codes "P1 NotJson"
@@ -73,10 +85,7 @@ place_of fault = record { document = fault.document; statement = fault.statement
 abbrev pub fault_text : PolicyFault → List ℕ
 fault_text fault = code_word fault.code ++ document_end (place_of fault) fault.element
 
--- a condition that the run has no schema for: the set that it stands in, and why
-abbrev pub infer_role : InferFault → Role
-infer_role fault = (if fault.second then Second else First)
-
+-- a condition that the run has no schema for: why, and its location
 abbrev pub infer_word : InferFault → List ℕ
 infer_word fault = (if fault.plural then codes "P16 PluralKey" else codes "P15 KindClash")
 
@@ -105,17 +114,27 @@ slot_word slot.Action = codes "action"
 slot_word slot.Resource = codes "resource"
 slot_word (slot.Key name) = codes "key " ++ encode_utf8_all name
 
+abbrev pub request_word : RequestCode → List ℕ
+request_word Q1NotJson = codes "Q1 NotJson"
+request_word Q2Shape = codes "Q2 Shape"
+request_word Q3BadValue = codes "Q3 BadValue"
+request_word Q4NotValid = codes "Q4 NotValid"
+
+-- a fault of a request file with its element
+abbrev pub request_fault_text : RequestFault → List ℕ
+request_fault_text fault = request_word fault.code ++ codes ": " ++ element_text fault.element
+
 -- the end of the line on a file that is too long
-unfoldable pub too_long_end : List ℕ
-too_long_end = codes ": file longer than " ++ decimal MOST_BYTES ++ codes " bytes\n"
+unfoldable pub too_long_end : Role → List ℕ
+too_long_end role = codes ": file longer than " ++ decimal (limit_of role) ++ codes " bytes\n"
 
 -- the line of a refusal
 unfoldable pub refusal_text : Refusal → List ℕ
-refusal_text (TooLong role) = codes "refused: " ++ role_word role ++ too_long_end
+refusal_text (TooLong role) = codes "refused: " ++ role_word role ++ too_long_end role
 refusal_text (NoSet role fault) = codes "refused: " ++ role_word role ++ codes ": " ++ fault_text fault ++ codes "\n"
 refusal_text (NoSchema fault) = codes "refused: schema: " ++ schema_text fault ++ codes "\n"
-refusal_text (NoRun fault) =
-    codes "refused: " ++ role_word (infer_role fault) ++ codes ": " ++ infer_text fault ++ codes "\n"
+refusal_text (NoRun role fault) = codes "refused: " ++ role_word role ++ codes ": " ++ infer_text fault ++ codes "\n"
+refusal_text (NoRequest fault) = codes "refused: request: " ++ request_fault_text fault ++ codes "\n"
 refusal_text TooManyTests = codes "refused: query: P17 Limit: document 0, statement 0, \"tests\"\n"
 refusal_text TooManyPieces = codes "refused: query: P17 Limit: document 0, statement 0, \"pieces\"\n"
 
@@ -123,6 +142,30 @@ refusal_text TooManyPieces = codes "refused: query: P17 Limit: document 0, state
 unfoldable pub shortage_text : Shortage → List ℕ
 shortage_text (Splits n) = codes "undecided: splits " ++ decimal n ++ codes "\n"
 shortage_text (States n s) = codes "undecided: states " ++ decimal n ++ codes " at " ++ slot_word s ++ codes "\n"
+
+abbrev pub proof_word : ProofCode → List ℕ
+proof_word C1Syntax = codes "C1"
+proof_word C2Version = codes "C2"
+proof_word C3TestNumber = codes "C3"
+proof_word C4Limit = codes "C4"
+
+-- the line of a fault of a certificate
+unfoldable pub proof_fault_text : ProofFault → List ℕ
+proof_fault_text fault = codes "bad proof: " ++ proof_word fault.code ++ codes " line " ++ decimal fault.line ++ codes "\n"
+
+-- the end of a line that names a statement, by its document and its number in it
+unfoldable pub number_end : ℕ → List ℕ
+number_end number = codes ", statement " ++ decimal number ++ codes "\n"
+
+unfoldable pub statement_line : StatementName → List ℕ
+statement_line name = codes "document " ++ decimal name.document ++ number_end name.statement
+
+-- the line on a request that isn't allowed
+unfoldable pub denial_text : Denial → List ℕ
+denial_text (ByStatement name) = codes "denied: " ++ statement_line name
+denial_text NoStatement = codes "denied: no statement applies\n"
+denial_text NoGrant = codes "denied: no grant applies\n"
+denial_text (NoGuard g) = codes "denied: guard " ++ decimal g ++ codes " allows nothing\n"
 
 -- the whole text of an answer
 unfoldable pub answer_text : Answer → List ℕ
@@ -132,4 +175,10 @@ answer_text (ReadFault role) = codes "read fault: " ++ role_word role ++ codes "
 answer_text (Refused refusal) = refusal_text refusal
 answer_text (Undecided shortage) = shortage_text shortage
 answer_text NotMore = codes "not more permissive\n"
+answer_text (Proved text) = codes "not more permissive\n" ++ string_bytes text
 answer_text (More q) = codes "more permissive\n" ++ request_text q ++ codes "\n"
+answer_text Accepted = codes "accepted\n"
+answer_text (NotClosing line) = codes "not closing: line " ++ decimal line ++ codes "\n"
+answer_text (BadProof fault) = proof_fault_text fault
+answer_text (Allowed name) = codes "allowed: " ++ statement_line name
+answer_text (Denied denial) = denial_text denial

@@ -1,6 +1,8 @@
 //! The answers of a run.
 use policy_json::PolicyFault;
-use policy_model::{Request, Slot};
+use policy_model::{Request, Slot, StatementName};
+use proof_text::ProofFault;
+use request_json::RequestFault;
 use request_schema::{InferFault, SchemaFault};
 
 /// Which of the files.
@@ -8,20 +10,26 @@ use request_schema::{InferFault, SchemaFault};
 pub enum Role {
     First,
     Second,
+    Set,
     Schema,
+    Request,
+    Proof,
 }
 
-/// Why two files aren't compared.
+/// Why files aren't answered.
 #[derive(Drop)]
 pub enum Refusal {
-    /// A file has more than 1,048,576 bytes.
+    /// A file has more bytes than one of its role may have: 67,108,864 a certificate, 1,048,576 any
+    /// other.
     TooLong(Role),
     /// The schema file stands for no schema: its first fault.
     NoSchema(SchemaFault),
     /// A file stands for no set of policies: its first fault.
     NoSet(Role, PolicyFault),
-    /// The first condition of the two sets that no schema of the run can answer.
-    NoRun(InferFault),
+    /// The first condition that no schema of the run can answer, and the role of its set.
+    NoRun(Role, InferFault),
+    /// The file stands for no request: its first fault.
+    NoRequest(RequestFault),
     /// The query has more than 1,000 different tests.
     TooManyTests,
     /// The patterns of the query's tests have more than 65,536 pieces together.
@@ -37,6 +45,19 @@ pub enum Shortage {
     States(u32, Slot),
 }
 
+/// Why a set doesn't allow a request.
+#[derive(Clone, Copy, Debug, PartialEq, Eq)]
+pub enum Denial {
+    /// The first Deny statement that applies.
+    ByStatement(StatementName),
+    /// No Allow statement applies, in a set without guards.
+    NoStatement,
+    /// No Allow statement of the grants applies, in a set with guards.
+    NoGrant,
+    /// The guard of this number, counted from 1, is the first without an Allow statement that applies.
+    NoGuard(u32),
+}
+
 /// What a run answers.
 #[derive(Drop)]
 pub enum Answer {
@@ -44,12 +65,25 @@ pub enum Answer {
     Usage,
     /// A file couldn't be read.
     ReadFault(Role),
-    /// The files aren't compared.
+    /// The files aren't answered.
     Refused(Refusal),
     /// The search would need more than it may take.
     Undecided(Shortage),
     /// The second set allows every valid request that the first allows.
     NotMore,
+    /// The same, with the text of a certificate of it.
+    Proved(String),
     /// A valid request that the first set allows and the second doesn't.
     More(Request),
+    /// The certificate closes the query, so the second set allows every valid request that the first
+    /// allows.
+    Accepted,
+    /// The line of the certificate's first node that fails.
+    NotClosing(u32),
+    /// The certificate's first fault.
+    BadProof(ProofFault),
+    /// The set allows the request: the first Allow statement of the grants that applies.
+    Allowed(StatementName),
+    /// The set doesn't allow the request.
+    Denied(Denial),
 }

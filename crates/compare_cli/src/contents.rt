@@ -1,18 +1,24 @@
-//! The answer of files that were read.
-ghost use Rattle.std.specs.Prelude.{◌≤◌, IfOk, option_map};
+//! The pair of sets that files stand for, and what it is answered.
+ghost use Rattle.std.specs.Prelude.{◌≡◌, ◌≤◌, IfOk, length, option_map};
+ghost use Rattle.command_words.specs.Asked.{comparing_in};
 ghost use Rattle.policy_model.specs.Soundness.{IsSound, SchemaIsSound};
-ghost use Rattle.compare_cli.specs.Answers.{AnswersFiles, AnswersSets, IsNamed, contents};
+ghost use Rattle.proof_text.specs.declared.limits.TheConstants.{MOST_PROOF_BYTES};
+ghost use Rattle.compare_cli.specs.Answers.{AnswersCheck, AnswersComparison, IsPairRead, IsRunRead, contents, infer_role};
+ghost use Rattle.compare_cli.specs.Comparison.{IsFitting};
+ghost use Rattle.compare_cli.specs.Standing.{IsNamed};
 
 use crate::answer::{Answer, Refusal, Role};
-use crate::decision::compare;
+use crate::decision::{check_proof, compare};
+use crate::pair::Pair;
+use command_words::CompareWords;
 use policy_json::{PolicyAnswer, read_set};
 use policy_model::{PolicySet, Schema};
-use request_schema::{InferAnswer, SchemaAnswer, built_in, infer, read_schema};
+use request_schema::{InferAnswer, InferFault, SchemaAnswer, built_in, infer, read_schema};
 use std::alloc::{AllocError, Global};
 use tree_search::Budgets;
 
-// The schema of the file, or that of the built-in keys where none is named.
-fn named_schema(alloc: Global, file: Option<&[u8]>) -> Result<Schema, SchemaAnswer>
+/// The schema of the file, or that of the built-in keys where none is named.
+pub fn named_schema(alloc: Global, file: Option<&[u8]>) -> Result<Schema, SchemaAnswer>
     ensures value { IsNamed (option_map (λ f. f.now) file.entry) result }
     ensures sound { IfOk result SchemaIsSound }
 {
@@ -22,62 +28,111 @@ fn named_schema(alloc: Global, file: Option<&[u8]>) -> Result<Schema, SchemaAnsw
     }
 }
 
-// The answer of two sets under named keys.
-fn sets_answer(
-    alloc: Global,
-    named: &Schema,
-    first: &PolicySet,
-    second: &PolicySet,
-    budgets: Budgets,
-) -> Result<Answer, AllocError>
-    requires sound { SchemaIsSound named.now }
-    requires first_sound { IsSound first.now }
-    requires second_sound { IsSound second.now }
-    requires splits { 1 ≤ budgets.splits }
-    requires states { 1 ≤ budgets.states }
-    ensures { IfOk result (λ a. AnswersSets budgets a named.now first.now second.now) }
+// The set that a condition stands in.
+fn infer_role(fault: &InferFault) -> Role
+    ensures { result ≡ infer_role fault.now }
 {
-    let schema = match infer(alloc, named, first, Some(second)) {
-        Ok(schema) => schema,
-        Err(InferAnswer::Refused(fault)) => return Ok(Answer::Refused(Refusal::NoRun(fault))),
-        Err(InferAnswer::NoMemory) => return Err(AllocError),
-    };
-    compare(alloc, &schema, first, second, budgets)
+    if fault.second {
+        Role::Second
+    } else {
+        Role::First
+    }
 }
 
-/// The answer of files that were read: those of two sets, and that of a schema where one is named.
-pub fn files_answer(
+// Two sets under the schema of their run, or the first condition that it can't answer.
+fn run_pair(
+    alloc: Global,
+    named: &Schema,
+    first: PolicySet,
+    second: PolicySet,
+) -> Result<Result<Pair, Refusal>, AllocError>
+    requires sound { SchemaIsSound named.now }
+    requires first_sound { IsSound first }
+    requires second_sound { IsSound second }
+    ensures read { IfOk result (IsRunRead named.now first second) }
+    ensures fitting { IfOk result (λ r. IfOk r IsFitting) }
+{
+    match infer(alloc, named, &first, Some(&second)) {
+        Ok(schema) => Ok(Ok(Pair {
+            schema,
+            first,
+            second,
+        })),
+        Err(InferAnswer::Refused(fault)) => Ok(Err(Refusal::NoRun(infer_role(&fault), fault))),
+        Err(InferAnswer::NoMemory) => Err(AllocError),
+    }
+}
+
+/// The pair that files stand for, those of two sets and that of a schema where one is named, or why
+/// they stand for none.
+pub fn read_pair(
     alloc: Global,
     first: &[u8],
     second: &[u8],
     schema: Option<&[u8]>,
-    budgets: Budgets,
-) -> Result<Answer, AllocError>
-    requires splits { 1 ≤ budgets.splits }
-    requires states { 1 ≤ budgets.states }
-    ensures { IfOk result (AnswersFiles
-        (contents first.now second.now (option_map (λ f. f.now) schema.entry)) budgets) }
+) -> Result<Result<Pair, Refusal>, AllocError>
+    ensures read { IfOk result (IsPairRead
+        (contents first.now second.now (option_map (λ f. f.now) schema.entry))) }
+    ensures fitting { IfOk result (λ r. IfOk r IsFitting) }
 {
     let named = match named_schema(alloc, schema) {
         Ok(named) => named,
-        Err(SchemaAnswer::Refused(fault)) => return Ok(Answer::Refused(Refusal::NoSchema(fault))),
+        Err(SchemaAnswer::Refused(fault)) => return Ok(Err(Refusal::NoSchema(fault))),
         Err(SchemaAnswer::NoMemory) => return Err(AllocError),
     };
     let one = match read_set(alloc, first) {
         Ok(set) => set,
-        Err(PolicyAnswer::Refused(fault)) => return Ok(Answer::Refused(Refusal::NoSet(
-            Role::First,
-            fault,
-        ))),
+        Err(PolicyAnswer::Refused(fault)) => return Ok(Err(Refusal::NoSet(Role::First, fault))),
         Err(PolicyAnswer::NoMemory) => return Err(AllocError),
     };
     let two = match read_set(alloc, second) {
         Ok(set) => set,
-        Err(PolicyAnswer::Refused(fault)) => return Ok(Answer::Refused(Refusal::NoSet(
-            Role::Second,
-            fault,
-        ))),
+        Err(PolicyAnswer::Refused(fault)) => return Ok(Err(Refusal::NoSet(Role::Second, fault))),
         Err(PolicyAnswer::NoMemory) => return Err(AllocError),
     };
-    sets_answer(alloc, &named, &one, &two, budgets)
+    run_pair(alloc, &named, one, two)
+}
+
+/// The answer of files that were read, those of two sets and that of a schema where one is named, to a
+/// comparison.
+pub fn comparison_of(
+    alloc: Global,
+    first: &[u8],
+    second: &[u8],
+    schema: Option<&[u8]>,
+    words: &CompareWords,
+) -> Result<Answer, AllocError>
+    requires splits { 1 ≤ words.now.splits }
+    requires states { 1 ≤ words.now.states }
+    ensures { IfOk result (AnswersComparison (comparing_in words.now)
+        (contents first.now second.now (option_map (λ f. f.now) schema.entry))) }
+{
+    let pair = match read_pair(alloc, first, second, schema)? {
+        Ok(pair) => pair,
+        Err(refusal) => return Ok(Answer::Refused(refusal)),
+    };
+    let budgets = Budgets {
+        splits: words.splits,
+        states: words.states,
+    };
+    compare(alloc, &pair, budgets, words.certified)
+}
+
+/// The same, to a check of a certificate.
+pub fn check_of(
+    alloc: Global,
+    first: &[u8],
+    second: &[u8],
+    schema: Option<&[u8]>,
+    proof: &[u8],
+) -> Result<Answer, AllocError>
+    requires { length proof.now ≤ MOST_PROOF_BYTES }
+    ensures { IfOk result (AnswersCheck proof.now
+        (contents first.now second.now (option_map (λ f. f.now) schema.entry))) }
+{
+    let pair = match read_pair(alloc, first, second, schema)? {
+        Ok(pair) => pair,
+        Err(refusal) => return Ok(Answer::Refused(refusal)),
+    };
+    check_proof(alloc, &pair, proof)
 }

@@ -1,24 +1,27 @@
-//! Compares two sets by the search.
-ghost use Rattle.std.specs.Prelude.{◌≡◌, ◌≤◌, IfOk};
-ghost use Rattle.compare_cli.specs.Comparison.{FewTestsAreDecided, IsFitting, paired};
-ghost use Rattle.compare_cli.specs.Decided.{IsComparison, IsQueried, decision_answer};
+//! Compares two sets by the search, and checks certificates of it.
+ghost use Rattle.std.specs.Prelude.{◌≡◌, ◌<◌, ◌≤◌, ◌^◌, All, IfOk, length};
+ghost use Rattle.formula_tree.specs.Trees.{tree_of};
+ghost use Rattle.policy_model.specs.Soundness.{SchemaIsSound, TestSuits};
+ghost use Rattle.proof_text.specs.declared.limits.TheConstants.{MOST_PROOF_BYTES};
+ghost use Rattle.refute_check.specs.Laws.{TreeInRange};
+ghost use Rattle.refute_check.specs.Proofs.{proof_of, size};
+ghost use Rattle.compare_cli.specs.Comparison.{FewTestsAreDecided, IsFitting};
+ghost use Rattle.compare_cli.specs.Decided.{IsChecked, IsComparison, IsDecisionAnswer, IsQueried, IsRefutedAnswer, IsVerdictAnswer};
 
 use crate::answer::{Answer, Refusal, Shortage};
+use crate::pair::Pair;
 use policy_compile::{Query, QueryFault, query};
-use policy_model::{PolicySet, Schema};
+use policy_model::Schema;
+use proof_text::{ProofAnswer, ReadProof, closing_proofs_have_no_fault, read_proof, write_proof};
+use refute_check::{Refutation, Verdict, check, closed_queries_are_no};
 use std::alloc::{AllocError, Global};
 use tree_search::{Budgets, Decided, decide, queries_have_runs};
 
 // The query of the pair, or the limit that it is past.
-fn query_of(
-    alloc: Global,
-    schema: &Schema,
-    first: &PolicySet,
-    second: &PolicySet,
-) -> Result<Result<Query, Refusal>, AllocError>
-    ensures { IfOk result (IsQueried (paired schema.now first.now second.now)) }
+fn query_of(alloc: Global, pair: &Pair) -> Result<Result<Query, Refusal>, AllocError>
+    ensures { IfOk result (IsQueried pair.now) }
 {
-    match query(alloc, schema, first, second) {
+    match query(alloc, &pair.schema, &pair.first, &pair.second) {
         Ok(query) => Ok(Ok(query)),
         Err(QueryFault::TooManyTests) => Ok(Err(Refusal::TooManyTests)),
         Err(QueryFault::TooManyPieces) => Ok(Err(Refusal::TooManyPieces)),
@@ -26,41 +29,105 @@ fn query_of(
     }
 }
 
+// The answer to a refutation: its certificate, where one is asked for.
+fn refuted_answer(
+    alloc: Global,
+    refutation: &Refutation,
+    version: u32,
+    certified: bool,
+) -> Result<Answer, AllocError>
+    ensures { IfOk result (IsRefutedAnswer certified version (proof_of refutation.now)) }
+{
+    if certified {
+        Ok(Answer::Proved(write_proof(alloc, refutation, version)?))
+    } else {
+        Ok(Answer::NotMore)
+    }
+}
+
 // The answer to what the search decided.
-fn decision_answer(decided: Decided, budgets: Budgets) -> Answer
-    ensures { result ≡ decision_answer budgets decided }
+fn decision_answer(
+    alloc: Global,
+    decided: Decided,
+    version: u32,
+    budgets: Budgets,
+    certified: bool,
+) -> Result<Answer, AllocError>
+    ensures { IfOk result (IsDecisionAnswer certified version budgets decided) }
 {
     match decided {
-        Decided::Refuted(_) => Answer::NotMore,
-        Decided::Met(request) => Answer::More(request),
-        Decided::OutOfSplits => Answer::Undecided(Shortage::Splits(budgets.splits)),
-        Decided::OutOfStates(wide) => Answer::Undecided(Shortage::States(
+        Decided::Refuted(refutation) => refuted_answer(alloc, &refutation, version, certified),
+        Decided::Met(request) => Ok(Answer::More(request)),
+        Decided::OutOfSplits => Ok(Answer::Undecided(Shortage::Splits(budgets.splits))),
+        Decided::OutOfStates(wide) => Ok(Answer::Undecided(Shortage::States(
             budgets.states,
             wide.slot,
-        )),
+        ))),
     }
 }
 
 /// Whether the first set allows a request, valid under the schema, that the second doesn't, within the
-/// budgets.
+/// budgets; with a certificate that it allows none, where one is asked for.
 pub fn compare(
     alloc: Global,
-    schema: &Schema,
-    first: &PolicySet,
-    second: &PolicySet,
+    pair: &Pair,
     budgets: Budgets,
+    certified: bool,
 ) -> Result<Answer, AllocError>
-    requires fitting { IsFitting (paired schema.now first.now second.now) }
+    requires fitting { IsFitting pair.now }
     requires splits { 1 ≤ budgets.splits }
     requires states { 1 ≤ budgets.states }
-    ensures { IfOk result (IsComparison (paired schema.now first.now second.now) budgets) }
+    ensures { IfOk result (IsComparison certified budgets pair.now) }
 {
-    let query = match query_of(alloc, schema, first, second)? {
+    let query = match query_of(alloc, pair)? {
         Ok(query) => query,
         Err(refusal) => return Ok(Answer::Refused(refusal)),
     };
-    let decided = decide(alloc, schema, &query, budgets)?;
-    Ok(decision_answer(decided, budgets))
+    let decided = decide(alloc, &pair.schema, &query, budgets)?;
+    closed_queries_are_no();
+    closing_proofs_have_no_fault();
+    decision_answer(alloc, decided, pair.schema.version, budgets, certified)
+}
+
+// The answer to a certificate that was read: whether it closes the query, or the line of its first node
+// that doesn't.
+fn verdict_answer(
+    alloc: Global,
+    schema: &Schema,
+    query: &Query,
+    read: &ReadProof,
+) -> Result<Answer, AllocError>
+    requires sound { SchemaIsSound schema.now }
+    requires suit { All (TestSuits schema.now) query.now.tests }
+    requires count { length query.now.tests < 2 ^ 32 }
+    requires below { TreeInRange query.now.tests (tree_of query.now.formula.value) }
+    requires lines { length read.now.lines ≡ size (proof_of read.now.refutation.value) }
+    requires few { size (proof_of read.now.refutation.value) < 2 ^ 32 }
+    ensures { IfOk result (IsVerdictAnswer schema.now query.now read.now) }
+{
+    match check(alloc, schema, query, &read.refutation)? {
+        Verdict::Closes => Ok(Answer::Accepted),
+        Verdict::Fails { node } => Ok(Answer::NotClosing(read.lines.as_slice()[node as usize])),
+    }
+}
+
+/// Whether the certificate is one that the first set allows no request, valid under the schema, that the
+/// second doesn't.
+pub fn check_proof(alloc: Global, pair: &Pair, proof: &[u8]) -> Result<Answer, AllocError>
+    requires fitting { IsFitting pair.now }
+    requires short { length proof.now ≤ MOST_PROOF_BYTES }
+    ensures { IfOk result (IsChecked proof.now pair.now) }
+{
+    let query = match query_of(alloc, pair)? {
+        Ok(query) => query,
+        Err(limit) => return Ok(Answer::Refused(limit)),
+    };
+    closed_queries_are_no();
+    match read_proof(alloc, query.tests.len() as u32, pair.schema.version, proof) {
+        Ok(read) => verdict_answer(alloc, &pair.schema, &query, &read),
+        Err(ProofAnswer::Refused(fault)) => Ok(Answer::BadProof(fault)),
+        Err(ProofAnswer::NoMemory) => Err(AllocError),
+    }
 }
 
 /// The greatest budget of splits decides each query of at most 19 tests.

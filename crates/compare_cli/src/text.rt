@@ -1,12 +1,13 @@
 //! The texts of the answers.
 ghost use Rattle.std.specs.Prelude.{◌≡◌, ◌++◌, IfOk, codes, decimal, string_bytes};
-ghost use Rattle.compare_cli.specs.Texts.{answer_text, code_word, document_end, element_text, fault_text, infer_role, infer_text, infer_word, place_of, refusal_text, role_word, schema_text, schema_word, shortage_text, slot_word, statement_end, too_long_end};
+ghost use Rattle.compare_cli.specs.Texts.{answer_text, code_word, denial_text, document_end, element_text, fault_text, infer_text, infer_word, number_end, place_of, proof_fault_text, proof_word, refusal_text, request_fault_text, request_word, role_word, schema_text, schema_word, shortage_text, slot_word, statement_end, statement_line, too_long_end};
 
-use crate::answer::{Answer, Refusal, Role, Shortage};
-use crate::files::MOST_BYTES;
+use crate::answer::{Answer, Denial, Refusal, Role, Shortage};
+use crate::files::limit_of;
 use policy_json::{PolicyCode, PolicyFault};
 use policy_model::{Slot, StatementName};
-use request_json::write_request;
+use proof_text::{ProofCode, ProofFault};
+use request_json::{RequestCode, RequestFault, write_request};
 use request_schema::{InferFault, SchemaCode, SchemaFault};
 use serde_json::Value;
 use std::alloc::{AllocError, Global};
@@ -22,7 +23,10 @@ fn role_word(role: Role) -> &'static str
     match role {
         Role::First => "first",
         Role::Second => "second",
+        Role::Set => "set",
         Role::Schema => "schema",
+        Role::Request => "request",
+        Role::Proof => "proof",
     }
 }
 
@@ -64,14 +68,25 @@ fn schema_word(code: SchemaCode) -> &'static str
     }
 }
 
-// The set that a condition stands in.
-fn infer_role(fault: &InferFault) -> Role
-    ensures { result ≡ infer_role fault.now }
+fn request_word(code: RequestCode) -> &'static str
+    ensures { result.now ≡ request_word code }
 {
-    if fault.second {
-        Role::Second
-    } else {
-        Role::First
+    match code {
+        RequestCode::Q1NotJson => "Q1 NotJson",
+        RequestCode::Q2Shape => "Q2 Shape",
+        RequestCode::Q3BadValue => "Q3 BadValue",
+        RequestCode::Q4NotValid => "Q4 NotValid",
+    }
+}
+
+fn proof_word(code: ProofCode) -> &'static str
+    ensures { result.now ≡ proof_word code }
+{
+    match code {
+        ProofCode::C1Syntax => "C1",
+        ProofCode::C2Version => "C2",
+        ProofCode::C3TestNumber => "C3",
+        ProofCode::C4Limit => "C4",
     }
 }
 
@@ -203,12 +218,23 @@ fn schema_text(alloc: Global, fault: &SchemaFault) -> Result<String, AllocError>
     format!(in alloc; "{code}: {element}")
 }
 
+// A fault of a request file with its element.
+fn request_fault_text(alloc: Global, fault: &RequestFault) -> Result<String, AllocError>
+    ensures { IfOk result (λ s. string_bytes s ≡ request_fault_text fault.now) }
+{
+    let code = request_word(fault.code);
+    let element = element_text(alloc, &fault.element)?;
+    let element = element.as_str();
+    format!(in alloc; "{code}: {element}")
+}
+
 // The end of the line on a file that is too long.
 #[tactic(auto, unfolding(crate::specs::Texts::too_long_end))]
-fn too_long_end(alloc: Global) -> Result<String, AllocError>
-    ensures { IfOk result (λ s. string_bytes s ≡ too_long_end) }
+fn too_long_end(alloc: Global, role: Role) -> Result<String, AllocError>
+    ensures { IfOk result (λ s. string_bytes s ≡ too_long_end role) }
 {
-    format!(in alloc; ": file longer than {MOST_BYTES} bytes\n")
+    let limit = limit_of(role);
+    format!(in alloc; ": file longer than {limit} bytes\n")
 }
 
 #[tactic(auto, unfolding(crate::specs::Texts::refusal_text))]
@@ -217,9 +243,9 @@ fn refusal_text(alloc: Global, refusal: &Refusal) -> Result<String, AllocError>
 {
     match refusal {
         Refusal::TooLong(role) => {
-            let role = role_word(*role);
-            let end = too_long_end(alloc)?;
+            let end = too_long_end(alloc, *role)?;
             let end = end.as_str();
+            let role = role_word(*role);
             format!(in alloc; "refused: {role}{end}")
         }
         Refusal::NoSet(role, fault) => {
@@ -233,8 +259,13 @@ fn refusal_text(alloc: Global, refusal: &Refusal) -> Result<String, AllocError>
             let fault = fault.as_str();
             format!(in alloc; "refused: schema: {fault}\n")
         }
-        Refusal::NoRun(fault) => {
-            let role = role_word(infer_role(fault));
+        Refusal::NoRequest(fault) => {
+            let fault = request_fault_text(alloc, fault)?;
+            let fault = fault.as_str();
+            format!(in alloc; "refused: request: {fault}\n")
+        }
+        Refusal::NoRun(role, fault) => {
+            let role = role_word(*role);
             let fault = infer_text(alloc, fault)?;
             let fault = fault.as_str();
             format!(in alloc; "refused: {role}: {fault}\n")
@@ -260,7 +291,56 @@ fn shortage_text(alloc: Global, shortage: &Shortage) -> Result<String, AllocErro
     }
 }
 
-/// The text of an answer: one line, and for `More` the request on a second one.
+// The line of a fault of a certificate.
+#[tactic(auto, unfolding(crate::specs::Texts::proof_fault_text))]
+fn proof_fault_text(alloc: Global, fault: ProofFault) -> Result<String, AllocError>
+    ensures { IfOk result (λ s. string_bytes s ≡ proof_fault_text fault) }
+{
+    let code = proof_word(fault.code);
+    let line = number_text(alloc, fault.line)?;
+    let line = line.as_str();
+    format!(in alloc; "bad proof: {code} line {line}\n")
+}
+
+// The number of a statement, at the end of a line that names it.
+#[tactic(auto, unfolding(crate::specs::Texts::number_end))]
+fn number_end(alloc: Global, number: u32) -> Result<String, AllocError>
+    ensures { IfOk result (λ s. string_bytes s ≡ number_end number) }
+{
+    format!(in alloc; ", statement {number}\n")
+}
+
+// The end of a line that names a statement.
+#[tactic(auto, unfolding(crate::specs::Texts::statement_line))]
+fn statement_line(alloc: Global, name: StatementName) -> Result<String, AllocError>
+    ensures { IfOk result (λ s. string_bytes s ≡ statement_line name) }
+{
+    let end = number_end(alloc, name.statement)?;
+    let document = number_text(alloc, name.document)?;
+    let document = document.as_str();
+    let end = end.as_str();
+    format!(in alloc; "document {document}{end}")
+}
+
+// The line on a request that isn't allowed.
+#[tactic(auto, unfolding(crate::specs::Texts::denial_text))]
+fn denial_text(alloc: Global, denial: Denial) -> Result<String, AllocError>
+    ensures { IfOk result (λ s. string_bytes s ≡ denial_text denial) }
+{
+    match denial {
+        Denial::ByStatement(name) => {
+            let line = statement_line(alloc, name)?;
+            let line = line.as_str();
+            format!(in alloc; "denied: {line}")
+        }
+        Denial::NoStatement => String::from_str(alloc, "denied: no statement applies\n"),
+        Denial::NoGrant => String::from_str(alloc, "denied: no grant applies\n"),
+        Denial::NoGuard(guard) => format!(in alloc; "denied: guard {guard} allows nothing\n"),
+    }
+}
+
+/// The text of an answer: one line, for `More` the request on a second one, and for `Proved` the
+/// certificate behind the line.
 #[tactic(auto, unfolding(crate::specs::Texts::answer_text))]
 pub fn answer_text(alloc: Global, answer: &Answer) -> Result<String, AllocError>
     ensures { IfOk result (λ s. string_bytes s ≡ answer_text answer.now) }
@@ -278,5 +358,18 @@ pub fn answer_text(alloc: Global, answer: &Answer) -> Result<String, AllocError>
             let request = write_request(alloc, request)?;
             format!(in alloc; "more permissive\n{request}\n")
         }
+        Answer::Proved(proof) => {
+            let proof = proof.as_str();
+            format!(in alloc; "not more permissive\n{proof}")
+        }
+        Answer::Accepted => String::from_str(alloc, "accepted\n"),
+        Answer::NotClosing(line) => format!(in alloc; "not closing: line {line}\n"),
+        Answer::BadProof(fault) => proof_fault_text(alloc, *fault),
+        Answer::Allowed(name) => {
+            let line = statement_line(alloc, *name)?;
+            let line = line.as_str();
+            format!(in alloc; "allowed: {line}")
+        }
+        Answer::Denied(denial) => denial_text(alloc, *denial),
     }
 }

@@ -1,29 +1,27 @@
 //! One run, from the arguments to the bytes that are written.
 ghost use Rattle.std.specs.Prelude.{◌≡◌, ◌≤◌, None, IfOk};
 ghost use Rattle.pol_outside.specs.Faults.{Rose};
-ghost use Rattle.compare_cli.specs.Answers.{IsAnswer, IsAnswerTo, IsFaultAnswer};
-ghost use Rattle.compare_cli.specs.Arguments.{asked_by, asked_in};
+ghost use Rattle.command_words.specs.Asked.{asked_by};
+ghost use Rattle.compare_cli.specs.Answers.{IsAnswer};
 ghost use Rattle.compare_cli.specs.Complete.{IsAccepted, IsDecided};
-ghost use Rattle.compare_cli.specs.Files.{IsShort};
 ghost use Rattle.compare_cli.specs.Promises.{IsUsageOrFault, Promises};
 ghost use Rattle.compare_cli.specs.Statuses.{exit_number, status_of};
 
-use crate::answer::{Answer, Refusal, Role};
-use crate::arguments::{CompareArguments, asked};
-use crate::contents::files_answer;
-use crate::files::read_file;
+use crate::answer::Answer;
+use crate::commands::answer_to;
 use crate::text::answer_text;
-use pol_outside::{Folder, Sink, TakeFault, put_all};
+use command_words::read_words;
+use pol_outside::{Folder, Sink, put_all};
 use std::alloc::{AllocError, Global};
 
 /// How a run ends.
 #[derive(Clone, Copy, Debug, PartialEq, Eq)]
 pub enum Status {
-    /// The answer is yes: `not more permissive`.
+    /// The answer is yes: `not more permissive`, `accepted` or `allowed`.
     Holds,
-    /// The answer is no: `more permissive`.
+    /// The answer is no: `more permissive` or `denied`.
     Fails,
-    /// A file was refused, or two sets that are past a limit or that no schema can answer.
+    /// A file was refused, or sets that are past a limit or that no schema can answer.
     Refused,
     /// A budget ran out.
     Undecided,
@@ -56,90 +54,6 @@ pub fn exit_number(status: Status) -> u8
     }
 }
 
-fn fault_answer(role: Role, fault: TakeFault) -> Result<Answer, AllocError>
-    ensures { IsFaultAnswer role fault result }
-{
-    match fault {
-        TakeFault::Failed => Ok(Answer::ReadFault(role)),
-        TakeFault::TooLong => Ok(Answer::Refused(Refusal::TooLong(role))),
-        TakeFault::NoMemory => Err(AllocError),
-    }
-}
-
-// The answer to names, of which those of the two sets were read.
-fn answer_read<F: Folder>(
-    alloc: Global,
-    folder: &mut F,
-    first: &[u8],
-    second: &[u8],
-    arguments: CompareArguments,
-) -> Result<Answer, AllocError>
-    requires splits { 1 ≤ arguments.budgets.splits }
-    requires states { 1 ≤ arguments.budgets.states }
-    requires first { IsShort (F.held folder.old) arguments.first.now first.now }
-    requires second { IsShort (F.held folder.old) arguments.second.now second.now }
-    ensures given { IfOk result (IsAnswerTo (asked_in arguments.entry) (record {
-      held = F.held folder.old;
-      faults_before = F.faults folder.old;
-      faults = F.faults folder.new;
-      last_before = F.last_fault folder.old;
-      last = F.last_fault folder.new;
-    })) }
-    ensures held { F.held folder.new ≡ F.held folder.old }
-    ensures later { F.faults folder.old ≤ F.faults folder.new }
-{
-    let name = match arguments.schema {
-        Some(name) => name,
-        None => return files_answer(alloc, first, second, None, arguments.budgets),
-    };
-    let schema = match read_file(alloc, folder, name) {
-        Ok(bytes) => bytes,
-        Err(fault) => return fault_answer(Role::Schema, fault),
-    };
-    files_answer(
-        alloc,
-        first,
-        second,
-        Some(schema.as_slice()),
-        arguments.budgets,
-    )
-}
-
-// The answer to names.
-fn answer_to<F: Folder>(
-    alloc: Global,
-    folder: &mut F,
-    arguments: CompareArguments,
-) -> Result<Answer, AllocError>
-    requires splits { 1 ≤ arguments.budgets.splits }
-    requires states { 1 ≤ arguments.budgets.states }
-    ensures given { IfOk result (IsAnswerTo (asked_in arguments.entry) (record {
-      held = F.held folder.old;
-      faults_before = F.faults folder.old;
-      faults = F.faults folder.new;
-      last_before = F.last_fault folder.old;
-      last = F.last_fault folder.new;
-    })) }
-    ensures held { F.held folder.new ≡ F.held folder.old }
-    ensures later { F.faults folder.old ≤ F.faults folder.new }
-{
-    let first = match read_file(alloc, folder, arguments.first) {
-        Ok(bytes) => bytes,
-        Err(fault) => return fault_answer(Role::First, fault),
-    };
-    let second = match read_file(alloc, folder, arguments.second) {
-        Ok(bytes) => bytes,
-        Err(fault) => return fault_answer(Role::Second, fault),
-    };
-    answer_read(
-        alloc,
-        folder,
-        first.as_slice(),
-        second.as_slice(),
-        arguments,
-    )
-}
-
 fn answer<F: Folder>(
     alloc: Global,
     arguments: &[String],
@@ -156,8 +70,8 @@ fn answer<F: Folder>(
     ensures held { F.held folder.new ≡ F.held folder.old }
     ensures later { F.faults folder.old ≤ F.faults folder.new }
 {
-    match asked(arguments) {
-        Some(asked) => answer_to(alloc, folder, asked),
+    match read_words(alloc, arguments)? {
+        Some(command) => answer_to(alloc, folder, &command),
         None => Ok(Answer::Usage),
     }
 }
@@ -171,7 +85,13 @@ fn status_of(answer: &Answer) -> Status
         Answer::Refused(_) => Status::Refused,
         Answer::Undecided(_) => Status::Undecided,
         Answer::NotMore => Status::Holds,
+        Answer::Proved(_) => Status::Holds,
         Answer::More(_) => Status::Fails,
+        Answer::Accepted => Status::Holds,
+        Answer::NotClosing(_) => Status::BadProof,
+        Answer::BadProof(_) => Status::BadProof,
+        Answer::Allowed(_) => Status::Holds,
+        Answer::Denied(_) => Status::Fails,
     }
 }
 
@@ -179,17 +99,19 @@ fn status_of(answer: &Answer) -> Status
 /// after the program's name.
 ///
 /// - `promises`: what each status says, of what the arguments ask, the bytes that the folder holds and
-///   the bytes that were written. With `Holds` the second set allows each valid request that the first
-///   allows, with `Fails` a valid request was written that the first allows and the second doesn't. A
-///   refusal, a budget, a fault of reading and the usage line come only by their cause, with their line.
-///   With `ReadFault` the folder's count of faults rose in this call, with `WriteFault` the sink's, and
-///   with every other answer the name of the folder's last fault is as it was.
-/// - `usage`, `untouched`: where the arguments are no
-///   `compare FIRST SECOND [--schema FILE] [--splits N] [--states N]` nothing else than `Usage` comes but
-///   for want of memory or of room, and the folder is as before.
+///   the bytes that were written. With `Holds` and `compare` or `check` the second set allows each valid
+///   request that the first allows; what `compare` printed with `--proof` is a certificate that `check`
+///   accepts, up to 67,108,864 bytes; with `eval` the set allows the request. With `Fails` a valid request
+///   was written that the first set allows and the second doesn't, or `eval`'s set doesn't allow the
+///   request. With `BadProof` the line is that of the certificate's first fault, or of its first node that
+///   fails. A refusal, a budget, a fault of reading and the usage line come only by their cause, with their
+///   line. With `ReadFault` the folder's count of faults rose in this call, with `WriteFault` the sink's,
+///   and with every other answer the name of the folder's last fault is as it was.
+/// - `usage`, `untouched`: where the arguments ask for nothing, nothing else than `Usage` comes but for
+///   want of memory or of room, and the folder is as before.
 /// - `held`, `reads`, `writes`: what the folder holds stays as it is, and no count of faults falls.
 /// - `complete`: accepted files whose sets have a schema, budgets that aren't below the need of the plain
-///   run and no fault give a comparison, unless memory is wanting.
+///   run and no fault give an answer of the command, unless memory is wanting.
 pub fn run<F: Folder, S: Sink>(
     alloc: Global,
     arguments: &[String],
@@ -219,7 +141,7 @@ pub fn run<F: Folder, S: Sink>(
     ensures complete { IsAccepted (F.held folder.old) (asked_by arguments.now)
         → ¬ Rose (F.faults folder.old) (F.faults folder.new)
         → ¬ Rose (S.faults out.old) (S.faults out.new)
-        → IsDecided result }
+        → IsDecided (asked_by arguments.now) result }
 {
     let Ok(answer) = answer(alloc, arguments, folder) else {
         return Status::NoMemory;

@@ -1,0 +1,157 @@
+//! What each command answers. Its files are read in the order of its line, the schema last.
+ghost use Rattle.std.specs.Prelude.{◌≡◌, ◌≤◌, IfOk};
+ghost use Rattle.command_words.specs.Asked.{IsInRange, a_check, a_comparison, an_evaluation, asked_in, checking_in, comparing_in, evaluating_in};
+ghost use Rattle.compare_cli.specs.Answers.{IsAnswerTo, IsFaultAnswer};
+
+use crate::answer::{Answer, Refusal, Role};
+use crate::contents::{check_of, comparison_of};
+use crate::evaluation::evaluate;
+use crate::files::{bytes_of, read_file, read_if_named};
+use command_words::{CheckWords, Command, CompareWords, EvalWords};
+use pol_outside::{Folder, TakeFault};
+use std::alloc::{AllocError, Global};
+
+fn fault_answer(role: Role, fault: TakeFault) -> Result<Answer, AllocError>
+    ensures { IsFaultAnswer role fault result }
+{
+    match fault {
+        TakeFault::Failed => Ok(Answer::ReadFault(role)),
+        TakeFault::TooLong => Ok(Answer::Refused(Refusal::TooLong(role))),
+        TakeFault::NoMemory => Err(AllocError),
+    }
+}
+
+// The answer to a comparison.
+fn comparison<F: Folder>(
+    alloc: Global,
+    folder: &mut F,
+    words: &CompareWords,
+) -> Result<Answer, AllocError>
+    requires splits { 1 ≤ words.now.splits }
+    requires states { 1 ≤ words.now.states }
+    ensures given { IfOk result (IsAnswerTo (a_comparison (comparing_in words.now)) (record {
+      held = F.held folder.old;
+      faults_before = F.faults folder.old;
+      faults = F.faults folder.new;
+      last_before = F.last_fault folder.old;
+      last = F.last_fault folder.new;
+    })) }
+    ensures held { F.held folder.new ≡ F.held folder.old }
+    ensures later { F.faults folder.old ≤ F.faults folder.new }
+{
+    let first = match read_file(alloc, folder, Role::First, words.names.first.as_str()) {
+        Ok(bytes) => bytes,
+        Err(fault) => return fault_answer(Role::First, fault),
+    };
+    let second = match read_file(alloc, folder, Role::Second, words.names.second.as_str()) {
+        Ok(bytes) => bytes,
+        Err(fault) => return fault_answer(Role::Second, fault),
+    };
+    let schema = match read_if_named(alloc, folder, Role::Schema, &words.names.schema) {
+        Ok(bytes) => bytes,
+        Err(fault) => return fault_answer(Role::Schema, fault),
+    };
+    comparison_of(
+        alloc,
+        first.as_slice(),
+        second.as_slice(),
+        bytes_of(&schema),
+        words,
+    )
+}
+
+// The answer to a check of a certificate.
+fn proof_check<F: Folder>(
+    alloc: Global,
+    folder: &mut F,
+    words: &CheckWords,
+) -> Result<Answer, AllocError>
+    ensures given { IfOk result (IsAnswerTo (a_check (checking_in words.now)) (record {
+      held = F.held folder.old;
+      faults_before = F.faults folder.old;
+      faults = F.faults folder.new;
+      last_before = F.last_fault folder.old;
+      last = F.last_fault folder.new;
+    })) }
+    ensures held { F.held folder.new ≡ F.held folder.old }
+    ensures later { F.faults folder.old ≤ F.faults folder.new }
+{
+    let first = match read_file(alloc, folder, Role::First, words.names.first.as_str()) {
+        Ok(bytes) => bytes,
+        Err(fault) => return fault_answer(Role::First, fault),
+    };
+    let second = match read_file(alloc, folder, Role::Second, words.names.second.as_str()) {
+        Ok(bytes) => bytes,
+        Err(fault) => return fault_answer(Role::Second, fault),
+    };
+    let proof = match read_file(alloc, folder, Role::Proof, words.proof.as_str()) {
+        Ok(bytes) => bytes,
+        Err(fault) => return fault_answer(Role::Proof, fault),
+    };
+    let schema = match read_if_named(alloc, folder, Role::Schema, &words.names.schema) {
+        Ok(bytes) => bytes,
+        Err(fault) => return fault_answer(Role::Schema, fault),
+    };
+    check_of(
+        alloc,
+        first.as_slice(),
+        second.as_slice(),
+        bytes_of(&schema),
+        proof.as_slice(),
+    )
+}
+
+// The answer to an evaluation of a request.
+fn evaluation<F: Folder>(
+    alloc: Global,
+    folder: &mut F,
+    words: &EvalWords,
+) -> Result<Answer, AllocError>
+    ensures given { IfOk result (IsAnswerTo (an_evaluation (evaluating_in words.now)) (record {
+      held = F.held folder.old;
+      faults_before = F.faults folder.old;
+      faults = F.faults folder.new;
+      last_before = F.last_fault folder.old;
+      last = F.last_fault folder.new;
+    })) }
+    ensures held { F.held folder.new ≡ F.held folder.old }
+    ensures later { F.faults folder.old ≤ F.faults folder.new }
+{
+    let set = match read_file(alloc, folder, Role::Set, words.set.as_str()) {
+        Ok(bytes) => bytes,
+        Err(fault) => return fault_answer(Role::Set, fault),
+    };
+    let request = match read_file(alloc, folder, Role::Request, words.request.as_str()) {
+        Ok(bytes) => bytes,
+        Err(fault) => return fault_answer(Role::Request, fault),
+    };
+    let schema = match read_if_named(alloc, folder, Role::Schema, &words.schema) {
+        Ok(bytes) => bytes,
+        Err(fault) => return fault_answer(Role::Schema, fault),
+    };
+    evaluate(alloc, set.as_slice(), request.as_slice(), bytes_of(&schema))
+}
+
+/// The answer to a command.
+pub fn answer_to<F: Folder>(
+    alloc: Global,
+    folder: &mut F,
+    command: &Command,
+) -> Result<Answer, AllocError>
+    requires { IsInRange command.now }
+    ensures given { IfOk result (IsAnswerTo (asked_in command.now) (record {
+      held = F.held folder.old;
+      faults_before = F.faults folder.old;
+      faults = F.faults folder.new;
+      last_before = F.last_fault folder.old;
+      last = F.last_fault folder.new;
+    })) }
+    ensures held { F.held folder.new ≡ F.held folder.old }
+    ensures later { F.faults folder.old ≤ F.faults folder.new }
+{
+    match command {
+        Command::Compare(words) => comparison(alloc, folder, words),
+        Command::Check(words) => proof_check(alloc, folder, words),
+        Command::Eval(words) => evaluation(alloc, folder, words),
+    }
+}
