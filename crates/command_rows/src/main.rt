@@ -1,9 +1,8 @@
-//! Runs `check`, `eval` and `compare --proof` over files in memory, one run for each line of standard
-//! input, and prints its exit number and what it wrote.
+//! Runs `check` and `eval` over files in memory, one run for each line of standard input, and prints its
+//! exit number and what it wrote.
 //!
-//! A line is a command and its files, a tab before each: `check FIRST SECOND PROOF`, `eval SET REQUEST`
-//! or `compare FIRST SECOND`, and behind them a schema's file or none. In a certificate `/` stands for a
-//! line feed. What `compare` wrote is then checked as a certificate of the same files.
+//! A line is a command and its files, a tab before each: `check FIRST SECOND PROOF` or `eval SET REQUEST`,
+//! and behind them a schema's file or none. In a certificate `/` stands for a line feed.
 #![tactic(auto)]
 
 use compare_cli::{exit_number, run};
@@ -46,24 +45,24 @@ fn hold(alloc: Global, folder: &mut MemoryFolder, name: &str, text: &str) -> io:
     Ok(())
 }
 
-/// Puts the files of a line into the folder, and a schema's where one stands behind them. Whether one
-/// does.
-fn hold_files(
+/// Puts the first file of a line into the folder. The files behind it.
+fn hold_next<'a>(
     alloc: Global,
     folder: &mut MemoryFolder,
-    names: &str,
-    files: &str,
-) -> io::Result<bool> {
-    let mut rest = files;
-    for name in names.split(' ').skip(1) {
-        let (text, behind) = rest.split_once('\t').unwrap_or((rest, ""));
-        hold(alloc, folder, name, text)?;
-        rest = behind;
-    }
-    if rest.is_empty() {
+    name: &str,
+    files: &'a str,
+) -> io::Result<&'a str> {
+    let (text, behind) = files.split_once('\t').unwrap_or((files, ""));
+    hold(alloc, folder, name, text)?;
+    Ok(behind)
+}
+
+/// Puts a schema's file into the folder, unless it is empty. Whether it did.
+fn hold_schema(alloc: Global, folder: &mut MemoryFolder, schema: &str) -> io::Result<bool> {
+    if schema.is_empty() {
         return Ok(false);
     }
-    hold(alloc, folder, "schema", rest)?;
+    hold(alloc, folder, "schema", schema)?;
     Ok(true)
 }
 
@@ -80,34 +79,43 @@ fn print_run(
     out.write_all(sink.written())
 }
 
-/// Prints a run over the files of a line, whose names stand behind the command.
-fn print_row(alloc: Global, out: &mut impl Write, words: &str, files: &str) -> io::Result<()> {
-    let mut folder = MemoryFolder::new(alloc);
-    let schema = hold_files(alloc, &mut folder, words, files)?;
+/// Prints the run of the words over a folder.
+fn print_asked(
+    alloc: Global,
+    out: &mut impl Write,
+    folder: &mut MemoryFolder,
+    words: &str,
+    schema: bool,
+) -> io::Result<()> {
     let arguments = arguments_of(alloc, words, schema)?;
     let mut sink = MemorySink::new(alloc, ROOM, ROOM)?;
-    print_run(out, &mut folder, &mut sink, alloc, arguments.as_slice())
+    print_run(out, folder, &mut sink, alloc, arguments.as_slice())
 }
 
-/// Prints a comparison of the files of a line, and then the check of what it wrote.
-fn print_proved(alloc: Global, out: &mut impl Write, files: &str) -> io::Result<()> {
+/// Prints the check of a certificate, of which the files of a line are.
+fn print_check(alloc: Global, out: &mut impl Write, files: &str) -> io::Result<()> {
     let mut folder = MemoryFolder::new(alloc);
-    let schema = hold_files(alloc, &mut folder, "compare first second", files)?;
-    let arguments = arguments_of(alloc, "compare first second --proof", schema)?;
-    let mut sink = MemorySink::new(alloc, ROOM, ROOM)?;
-    print_run(out, &mut folder, &mut sink, alloc, arguments.as_slice())?;
-    folder.hold("proof", sink.written())?;
-    let arguments = arguments_of(alloc, "check first second proof", schema)?;
-    let mut sink = MemorySink::new(alloc, ROOM, ROOM)?;
-    print_run(out, &mut folder, &mut sink, alloc, arguments.as_slice())
+    let files = hold_next(alloc, &mut folder, "first", files)?;
+    let files = hold_next(alloc, &mut folder, "second", files)?;
+    let files = hold_next(alloc, &mut folder, "proof", files)?;
+    let schema = hold_schema(alloc, &mut folder, files)?;
+    print_asked(alloc, out, &mut folder, "check first second proof", schema)
+}
+
+/// Prints the evaluation of a request, of which the files of a line are.
+fn print_evaluation(alloc: Global, out: &mut impl Write, files: &str) -> io::Result<()> {
+    let mut folder = MemoryFolder::new(alloc);
+    let files = hold_next(alloc, &mut folder, "set", files)?;
+    let files = hold_next(alloc, &mut folder, "request", files)?;
+    let schema = hold_schema(alloc, &mut folder, files)?;
+    print_asked(alloc, out, &mut folder, "eval set request", schema)
 }
 
 fn print_line(alloc: Global, out: &mut impl Write, line: &str) -> io::Result<()> {
     let (command, files) = line.split_once('\t').unwrap_or((line, ""));
     match command {
-        "check" => print_row(alloc, out, "check first second proof", files),
-        "eval" => print_row(alloc, out, "eval set request", files),
-        "compare" => print_proved(alloc, out, files),
+        "check" => print_check(alloc, out, files),
+        "eval" => print_evaluation(alloc, out, files),
         _ => Err(ErrorKind::InvalidData.into()),
     }
 }
