@@ -1,6 +1,6 @@
 -- The lemmas on paths, values and runs that crates above cite.
 use Rattle.std.proofs.Common.{◌≡◌, ◌≢◌, ℕ, ◌<◌, suc, [], ◌∷◌, ◌++◌, Bool, true, false, Some, None, ◌⊎◌}
-use Rattle.formula_tree.specs.Answers.{Answers, answer_of, Completes}
+use Rattle.formula_tree.specs.Answers.{Answers, answer_of, Completes, Contained}
 use Rattle.formula_tree.specs.Runs.{answered, Run, unanswered}
 use Rattle.formula_tree.specs.Trees.{Tree}
 use Rattle.formula_tree.specs.Values.{holds, pick, value}
@@ -57,3 +57,23 @@ unanswered-more = runs.unanswered-more
 -- the empty path leaves every test open
 pub unanswered-start : (t : ℕ) → unanswered [] t ≡ t
 unanswered-start = runs.unanswered-start
+
+-- a longer path keeps the value yes
+pub keeps-yes : (few many : Answers) (t : Tree) → Contained few many → value few t ≡ Yes → value many t ≡ Yes
+keeps-yes = values.keeps-yes
+
+-- and the value no
+pub keeps-no : (few many : Answers) (t : Tree) → Contained few many → value few t ≡ No → value many t ≡ No
+keeps-no = values.keeps-no
+
+-- a path is contained in itself with one more answer
+pub contained-answered : (path : Answers) (n : ℕ) (b : Bool) → Contained path (answered path n b)
+contained-answered = runs.contained-answered
+
+-- a path that gains an answer that the longer one has stays contained in it
+pub contained-by : (few many : Answers) (n : ℕ) (b : Bool) → Contained few many → answer_of few n ≡ None → answer_of many n ≡ Some b → Contained (answered few n b) many
+contained-by = runs.contained-by
+
+-- and so does a path where both gain the same answer
+pub contained-both : (few many : Answers) (n : ℕ) (b : Bool) → Contained few many → answer_of few n ≡ None → answer_of many n ≡ None → Contained (answered few n b) (answered many n b)
+contained-both = runs.contained-both

@@ -15,7 +15,7 @@ use Rattle.policy_compile.specs.declared.builder.Builder.{Builder}
 use Rattle.policy_compile.specs.declared.nodes.Node.{Node}
 use Rattle.policy_compile.specs.declared.nodes.Node.TheVariants as node
 use Rattle.policy_compile.specs.contracts.nodes.NodePartialEq.TheImpl as nodes
-use Rattle.policy_compile.specs.Building.{Extends, Built, HasNode, HasNumber}
+use Rattle.policy_compile.specs.Building.{IsBeginningOf, Built, HasNode, HasNumber}
 use Rattle.policy_compile.specs.Nodes.{AreEarlier, children, node_ask}
 use Rattle.policy_compile.specs.Numbering.{Collects, HasTooMany, nothing, again, anew}
 use Rattle.policy_compile.specs.Plans.{ask}
@@ -73,7 +73,7 @@ module _ {T : Type 0} (eq : T → T → Bool) (decides : (x y : T) → Decides (
 -- ---- nodes
 
 -- what an insert leaves: the nodes that were had, and this one
-pub node-put : (xs ys : List Node) (n had : Node) (i : ℕ) → ys ≡ insert_key nodes.eq-value.it xs n → slice_get ys i ≡ Some had → nodes.eq-value.it n had ≡ true → Extends xs ys × (slice_get ys i ≡ Some n)
+pub node-put : (xs ys : List Node) (n had : Node) (i : ℕ) → ys ≡ insert_key nodes.eq-value.it xs n → slice_get ys i ≡ Some had → nodes.eq-value.it n had ≡ true → IsBeginningOf xs ys × (slice_get ys i ≡ Some n)
 node-put xs ys n had i is at same = elim (put nodes.eq-value.it nodes-Decides xs ys n had i is at same) [
   | inl old ↦ (record { rest = []; is = old.0 ∙ sym (append-nil xs) }, subst (λ (zs : List Node). slice_get zs i ≡ Some n) (sym old.0) old.1)
   | inr new ↦ (
@@ -114,7 +114,7 @@ test-put xs ys t had n is at same = test-read xs ys t n (put test.eq-value.it te
 pub asked : (old mid new : Builder) (t : Test) (n i : ℕ) → HasNumber old mid t n → HasNode mid new (node.Test n) i → Built old new (ask t) i
 asked old mid new t n i test_had node_had = record {
   collects = subst (λ (xs : List Test). Collects old.tests.keys (t ∷ []) xs) (sym node_had.tests) test_had.collects;
-  grows = subst (λ (xs : List Node). Extends xs new.nodes.keys) test_had.nodes node_had.grows;
+  grows = subst (λ (xs : List Node). IsBeginningOf xs new.nodes.keys) test_had.nodes node_had.grows;
   node = node_ask node_had.at (subst (λ (xs : List Test). slice_get xs n ≡ Some t) (sym node_had.tests) test_had.at);
 }
 

@@ -4,7 +4,7 @@ use Rattle.std.specs.Prelude.{slice_get}
 use Rattle.std.proofs.lemmas.List.{append_assoc, append-nil}
 use Rattle.policy_model.specs.declared.test.Test.{Test}
 use Rattle.policy_compile.specs.Plans.{Plan, of_plans, tests_in, tests_in_each}
-use Rattle.policy_compile.specs.Building.{Extends}
+use Rattle.policy_compile.specs.Building.{IsBeginningOf}
 use Rattle.policy_compile.specs.Numbering.{Collects, nothing, again, anew, HasTooMany}
 
 -- tests that are read in two parts
@@ -14,11 +14,11 @@ Collects-append a (t ∷ xs) b ys c (again had first) second = again had (Collec
 Collects-append a (t ∷ xs) b ys c (anew not_had first) second = anew not_had (Collects-append (a ++ t ∷ []) xs b ys c first second)
 
 -- the tests that are had stay at the front
-pub Collects-begins : (a xs b : List Test) → Collects a xs b → Extends a b
+pub Collects-begins : (a xs b : List Test) → Collects a xs b → IsBeginningOf a b
 Collects-begins a [] b nothing = record { rest = []; is = sym (append-nil a) }
 Collects-begins a (t ∷ xs) b (again had first) = Collects-begins a xs b first
 Collects-begins a (t ∷ xs) b (anew not_had first) =
-    let longer : Extends (a ++ t ∷ []) b = Collects-begins (a ++ t ∷ []) xs b first in
+    let longer : IsBeginningOf (a ++ t ∷ []) b = Collects-begins (a ++ t ∷ []) xs b first in
     record { rest = t ∷ longer.rest; is = longer.is ∙ append_assoc a (t ∷ []) longer.rest }
 
 -- an item keeps its index where a list grows at its end

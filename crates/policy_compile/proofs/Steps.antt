@@ -22,15 +22,15 @@ use Rattle.policy_compile.specs.Nodes.{IsNode, AreNodes, node_yes, node_ask, nod
 use Rattle.policy_compile.specs.Numbering.{Collects, nothing}
 use Rattle.std.specs.Prelude.{Result, Ok, Err}
 use Rattle.std.specs.Result.{IsErrAnd}
-use Rattle.policy_compile.specs.Building.{Added, Extends, Built, Fails, HasNode, IsAdded, IsBuilt}
+use Rattle.policy_compile.specs.Building.{Added, IsBeginningOf, Built, Fails, HasNode, IsAdded, IsBuilt}
 use Rattle.policy_compile.proofs.Collecting.{Collects-append, Collects-begins, HasTooMany-behind, HasTooMany-more, slice_get-longer, tests_in_each-append}
 
 -- ---- lists that grow
 
-begins-same : {T : Type 0} (a : List T) → Extends a a
+begins-same : {T : Type 0} (a : List T) → IsBeginningOf a a
 begins-same a = record { rest = []; is = sym (append-nil a) }
 
-begins-then : {T : Type 0} (a b c : List T) → Extends a b → Extends b c → Extends a c
+begins-then : {T : Type 0} (a b c : List T) → IsBeginningOf a b → IsBeginningOf b c → IsBeginningOf a c
 begins-then a b c one two = record { rest = one.rest ++ two.rest; is = two.is ∙ ap (λ xs. xs ++ two.rest) one.is ∙ append_assoc a one.rest two.rest }
 
 -- a node stays the plan
@@ -48,11 +48,11 @@ mutual
   nodes-longer a b m n none (i ∷ is) h = elim h [ ]
   nodes-longer a b m n (more p ps) [] h = elim h [ ]
 
-node-along : (a b : List Test) (m n : List Node) (p : Plan) (i : ℕ) → Extends a b → Extends m n → IsNode a m p i → IsNode b n p i
+node-along : (a b : List Test) (m n : List Node) (p : Plan) (i : ℕ) → IsBeginningOf a b → IsBeginningOf m n → IsNode a m p i → IsNode b n p i
 node-along a b m n p i tests nodes h =
     subst (λ (xs : List Test). IsNode xs n p i) (sym tests.is) (subst (λ (ys : List Node). IsNode (a ++ tests.rest) ys p i) (sym nodes.is) (node-longer a tests.rest m nodes.rest p i h))
 
-nodes-along : (a b : List Test) (m n : List Node) (ps : Plans) (is : List ℕ) → Extends a b → Extends m n → AreNodes a m ps is → AreNodes b n ps is
+nodes-along : (a b : List Test) (m n : List Node) (ps : Plans) (is : List ℕ) → IsBeginningOf a b → IsBeginningOf m n → AreNodes a m ps is → AreNodes b n ps is
 nodes-along a b m n ps is tests nodes h =
     subst (λ (xs : List Test). AreNodes xs n ps is) (sym tests.is) (subst (λ (ys : List Node). AreNodes (a ++ tests.rest) ys ps is) (sym nodes.is) (nodes-longer a tests.rest m nodes.rest ps is h))
 

@@ -12,7 +12,7 @@ use Rattle.policy_compile.specs.Plans.{Plan, of_plans, tests_in, tests_in_each}
 use Rattle.policy_compile.specs.Sets.{some_or_none}
 
 -- the second list is the first one and more
-pub record Extends {T : Type 0} (a b : List T) : Type 0 where
+pub record IsBeginningOf {T : Type 0} (a b : List T) : Type 0 where
   pub rest : List T
   pub is : b ≡ a ++ rest
 
@@ -25,19 +25,19 @@ pub record HasNumber (old new : Builder) (t : Test) (n : ℕ) : Type 0 where
 -- the new builder has the tests of the old one, its nodes and more, and this node
 pub record HasNode (old new : Builder) (n : Node) (i : ℕ) : Type 0 where
   pub tests : new.tests.keys ≡ old.tests.keys
-  pub grows : Extends old.nodes.keys new.nodes.keys
+  pub grows : IsBeginningOf old.nodes.keys new.nodes.keys
   pub at : slice_get new.nodes.keys i ≡ Some n
 
 -- from the old builder to the new one a plan was made the node of this index
 pub record Built (old new : Builder) (p : Plan) (i : ℕ) : Type 0 where
   pub collects : Collects old.tests.keys (tests_in p) new.tests.keys
-  pub grows : Extends old.nodes.keys new.nodes.keys
+  pub grows : IsBeginningOf old.nodes.keys new.nodes.keys
   pub node : IsNode new.tests.keys new.nodes.keys p i
 
 -- from the old builder to the new one the nodes of these plans were added to indices
 pub record Added (old new : Builder) (ps : List Plan) (before after : List ℕ) : Type 0 where
   pub collects : Collects old.tests.keys (tests_in_each (of_plans ps)) new.tests.keys
-  pub grows : Extends old.nodes.keys new.nodes.keys
+  pub grows : IsBeginningOf old.nodes.keys new.nodes.keys
   pub more : List ℕ
   pub is : after ≡ before ++ more
   pub nodes : AreNodes new.tests.keys new.nodes.keys (of_plans ps) more

@@ -102,8 +102,8 @@ AreGuardsRead before guards =
     IsReadOf (documents_checks (before.documents + 1) before.statements (flat_map values_in guards))
     (map (λ g. map document_of (values_in g)) guards)
 
-abbrev pub ArePartsRead : List Data → List Data → Result PolicySet PolicyAnswer → Type 0
-ArePartsRead grants guards = IsReadOf (documents_checks 1 0 (grants ++ flat_map values_in guards)) (set_with grants guards)
+abbrev pub AreSetPartsRead : List Data → List Data → Result PolicySet PolicyAnswer → Type 0
+AreSetPartsRead grants guards = IsReadOf (documents_checks 1 0 (grants ++ flat_map values_in guards)) (set_with grants guards)
 
 -- what a reader of a file's value answers
 abbrev pub IsValueRead : Data → Result PolicySet PolicyAnswer → Type 0

@@ -7,7 +7,7 @@ ghost use Rattle.policy_model.specs.Soundness.{DocumentIsSound, IsSound};
 ghost use Rattle.policy_json.specs.Checks.{IsReadOf};
 ghost use Rattle.json_shapes.specs.Json.{json_of, values_in, views, list_under};
 ghost use Rattle.json_shapes.specs.Shapes.{is_list};
-ghost use Rattle.policy_json.specs.Sets.{AreDocumentsRead, AreGuardsRead, ArePartsRead, CountsDocuments, CountsGuards, CountsStatements, IsSetOf, IsValueRead, guarded_checks, guards_in, is_guarded, list_checks};
+ghost use Rattle.policy_json.specs.Sets.{AreDocumentsRead, AreGuardsRead, AreSetPartsRead, CountsDocuments, CountsGuards, CountsStatements, IsSetOf, IsValueRead, guarded_checks, guards_in, is_guarded, list_checks};
 
 use crate::counts::Counts;
 use crate::document::read_document;
@@ -127,7 +127,7 @@ fn read_guards(
 // Reads the documents of the grants, and then those of the guards.
 fn read_parts(alloc: Global, grants: &[Value], guards: &[Value]) -> Result<PolicySet, PolicyAnswer>
     requires { length guards.now ≤ 16 }
-    ensures read { ArePartsRead (views grants.now) (views guards.now) result }
+    ensures read { AreSetPartsRead (views grants.now) (views guards.now) result }
     ensures sound { IfOk result IsSound }
 {
     let mut counts = Counts {

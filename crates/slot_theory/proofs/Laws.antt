@@ -21,11 +21,12 @@ use Rattle.text_table.specs.Table.{Entries, item_at}
 use Rattle.slot_theory.specs.declared.outcome.SlotProof.{SlotProof}
 use Rattle.slot_theory.specs.Cores.{Accepts}
 use Rattle.slot_theory.specs.Entries.{is_kind}
-use Rattle.slot_theory.specs.Acceptance.{AcceptedCoresAreImpossible}
+use Rattle.slot_theory.specs.Acceptance.{AcceptedCoresAreImpossible, AcceptsByTheCoreAlone}
 use Rattle.slot_theory.specs.Possible.{AnswersCore, AnswersPath, IsPossible}
 use Rattle.slot_theory.specs.declared.outcome.SlotValue.TheVariants.{Values}
 use Rattle.slot_theory.specs.Slots.{SlotIsIn, ValueMeets, is_on, slot_of, test_at}
 use Rattle.slot_theory.specs.Unasked.{sample, stated_key, stated_values, stated_word}
+use Rattle.slot_theory.proofs.Alike as alikes
 use Rattle.slot_theory.proofs.Impossible as impossibles
 use Rattle.slot_theory.proofs.Naming as names
 use Rattle.slot_theory.proofs.Sampling as samples
@@ -103,3 +104,7 @@ path-core = impossibles.path-core
 -- no valid request answers a path under which a core is accepted
 pub impossible : (schema : Schema) (tests : List Test) (path : Answers) (core : List ℕ) (proof : SlotProof) → All (TestSuits schema) tests → Accepts schema tests path core proof → IsPossible schema tests path → ⊥
 impossible = impossibles.impossible
+
+-- a core that is accepted under one path is accepted under each that answers its tests alike
+pub accepts_alike : AcceptsByTheCoreAlone
+accepts_alike = alikes.accepts_alike
