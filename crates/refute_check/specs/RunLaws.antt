@@ -41,3 +41,8 @@ abbrev pub PropagatedRunsAreShorter : Type 0
 PropagatedRunsAreShorter = (schema : Schema) (tests : List Test) (tree : Tree) (path : Answers) (first second : Bool) (n m : ℕ) →
     TreeInRange tests tree → PathInRange tests path → PropagatedRun schema tests tree path first n →
     Run (IsPossible schema tests) tree path second m → (first ≡ second) × (n ≤ m)
+
+-- it isn't so that there is no propagated run from the path
+abbrev pub PropagatedRunsExist : Type 0
+PropagatedRunsExist = (schema : Schema) (tests : List Test) (tree : Tree) (path : Answers) → TreeInRange tests tree →
+    ¬ ((end : Bool) (n : ℕ) → ¬ PropagatedRun schema tests tree path end n)

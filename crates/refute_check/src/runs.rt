@@ -2,7 +2,7 @@
 //! whose contract states it.
 ghost use Rattle.formula_tree.specs.Runs.{CanGoOn, IsHarderAlong};
 ghost use Rattle.slot_theory.specs.Possible.{IsPossible};
-ghost use Rattle.refute_check.specs.RunLaws.{PlainRunsEndWhereMet, PropagatedRunsAgree, PropagatedRunsAreShorter, PropagatedRunsEndWhereMet};
+ghost use Rattle.refute_check.specs.RunLaws.{PlainRunsEndWhereMet, PropagatedRunsAgree, PropagatedRunsAreShorter, PropagatedRunsEndWhereMet, PropagatedRunsExist};
 
 use formula_tree::Possible;
 use policy_model::{Schema, TestList};
@@ -45,4 +45,10 @@ pub fn propagated_runs_are_determined()
 /// The propagated run ends as the plain one does, and splits at most as often.
 pub fn propagated_runs_are_shorter()
     ensures { PropagatedRunsAreShorter }
+{}
+
+/// There is a propagated run from each path. It is said twice denied, since neither which paths can be
+/// answered nor which of them meet a conflict is decided.
+pub fn paths_have_propagated_runs()
+    ensures { PropagatedRunsExist }
 {}
