@@ -2,7 +2,7 @@
 use Rattle.std.proofs.Common.{◌≡◌, ℕ, ◌+◌, ◌<◌, ◌≤◌, List, [], ◌∷◌, ◌++◌, length, map, flat_map, drop, codes, append-nil, None, refl, sym, ap, ◌∙◌, arith, subst, inl, inr, eq-eqb}
 use Rattle.std.specs.List.{join_with_byte}
 use Rattle.std.proofs.lemmas.List.{length-append}
-use Rattle.std.proofs.lemmas.List.Elements.{All-nil, All-cons, All-weaker}
+use Rattle.std.proofs.lemmas.List.Elements.{All-nil, All-cons, All-head, All-tail, All-weaker}
 use Rattle.policy_model.specs.declared.test.Test.{Test}
 use Rattle.slot_theory.specs.Possible.{PathInRange}
 use Rattle.refute_check.specs.Closing.{at_first}
@@ -10,7 +10,7 @@ use Rattle.refute_check.specs.Proofs.{Proof}
 use Rattle.proof_text.specs.declared.limits.Limits.{Limits}
 use Rattle.proof_text.specs.declared.limits.TheConstants.{MOST_NUMBER, MOST_PROOF_BYTES}
 use Rattle.proof_text.specs.Faults.{proof_fault, skipped}
-use Rattle.proof_text.specs.Laws.{ClosingProofsHaveNoFault, HasSmallNumbers, limits_of}
+use Rattle.proof_text.specs.Laws.{ClosingProofsAreSmall, ClosingProofsHaveNoFault, HasSmallNumbers, limits_of}
 use Rattle.proof_text.specs.LineForms.{a_node, a_version, lines_of}
 use Rattle.proof_text.specs.Lines.{Line, certificate_line, line_parts, line_text, verdict_line}
 use Rattle.proof_text.specs.Spelling.{IsCertificateOf, node_lines, proof_lines, spell}
@@ -61,14 +61,20 @@ spelled-short version p bytes (inr is) few =
     let sizes : length bytes ≡ length verdict_line + length (spell version p) = ap length is ∙ length-append verdict_line (spell version p) in
     omega arith
 
-pub closing_proofs_have_no_fault : ClosingProofsHaveNoFault
-closing_proofs_have_no_fault schema tests tree version proof bytes closes nests small tests_few version_small certificate few =
-    let limits = limits_of tests version in
+pub closing_proofs_are_small : ClosingProofsAreSmall
+closing_proofs_are_small schema tests tree version proof bytes closes small tests_few version_small certificate few =
     let size : length (spell version proof) ≤ MOST_PROOF_BYTES = spelled-short version proof bytes certificate few in
     let lines_few : length (node_lines proof) ≤ MOST_NUMBER = omega (arith, spelled-few (proof_lines version proof)) in
     let nodes : AllSmall (node_lines proof) = node-small schema tests tree at_first proof [] tests_few closes (empty-range tests) small lines_few in
     let first : HasSmallNumbers (certificate_line version) = All-cons (λ m. m ≤ MOST_NUMBER) version [] version_small (All-nil (λ m. m ≤ MOST_NUMBER)) in
-    let all : AllSmall (proof_lines version proof) = All-cons HasSmallNumbers (certificate_line version) (node_lines proof) first nodes in
+    All-cons HasSmallNumbers (certificate_line version) (node_lines proof) first nodes
+
+pub closing_proofs_have_no_fault : ClosingProofsHaveNoFault
+closing_proofs_have_no_fault schema tests tree version proof bytes closes nests small tests_few version_small certificate few =
+    let limits = limits_of tests version in
+    let all : AllSmall (proof_lines version proof) = closing_proofs_are_small schema tests tree version proof bytes closes small tests_few version_small certificate few in
+    let first : HasSmallNumbers (certificate_line version) = All-head HasSmallNumbers (certificate_line version) (node_lines proof) all in
+    let nodes : AllSmall (node_lines proof) = All-tail HasSmallNumbers (certificate_line version) (node_lines proof) all in
     let node : Pass limits (a_node 0 [] ∷ []) 0 (before_lines (node_lines proof) []) =
     node-passes schema tests tree version at_first proof [] 0 [] [] [] closes (empty-range tests) first-stands (omega arith) nodes (λ n. refl) in
     let pass = whole-passes tests version proof first (subst (Pass limits (a_node 0 [] ∷ []) 0) (append-nil (map line_text (node_lines proof))) node) in

@@ -1,15 +1,14 @@
 -- A text is the certificate of one refutation at most.
-use Rattle.std.proofs.Common.{◌≡◌, ℕ, ◌≤◌, List, [], ◌∷◌, ◌++◌, length, map, drop, codes, append-nil, eqb, get_or, Some, None, Option, option_map, refl, sym, ap, ◌∙◌, arith, inl, inr, if◌then◌else◌}
+use Rattle.std.proofs.Common.{◌≡◌, ℕ, List, [], ◌∷◌, ◌++◌, length, map, drop, codes, append-nil, eqb, get_or, Some, None, Option, option_map, refl, sym, ap, ◌∙◌, arith, inl, inr, if◌then◌else◌}
 use Rattle.std.specs.Prelude.{bytes_eq}
 use Rattle.std.specs.List.{join_with_byte, slice_split}
 use Rattle.std.proofs.lemmas.List.{append_assoc}
-use Rattle.std.proofs.lemmas.List.Elements.{All-head, All-tail, All-cons, All-nil}
+use Rattle.std.proofs.lemmas.List.Elements.{All-head, All-tail}
 use Rattle.slot_theory.specs.declared.outcome.KindProof.{KindProof}
 use Rattle.slot_theory.specs.declared.outcome.KindProof.TheVariants.{Never, Closed}
 use Rattle.slot_theory.specs.declared.outcome.SlotProof.{SlotProof}
 use Rattle.slot_theory.specs.declared.outcome.SlotProof.TheVariants.{Points, Absent, Required, Word, Kinds, Member, SomeMember}
 use Rattle.refute_check.specs.Proofs.{Proof, by_clauses, by_slot, by_value, label, reuse, split}
-use Rattle.proof_text.specs.declared.limits.TheConstants.{MOST_NUMBER}
 use Rattle.proof_text.specs.Laws.{HasSmallNumbers, IsSmall, OneProofForEachText}
 use Rattle.proof_text.specs.LineForms.{content_of, label_said, lines_of, lists_of_places, numbers_of, said_alone, with_number}
 use Rattle.proof_text.specs.Lines.{Line, certificate_line, split_line, value_line, slot_line, clauses_line, label_line, reuse_line}
@@ -175,13 +174,10 @@ same-node p q a b same = absurd (cc)
 
 -- ---- one refutation for each text
 
-same-spelling : (version : ℕ) (p q : Proof) → version ≤ MOST_NUMBER → IsSmall p → IsSmall q → spell version p ≡ spell version q → p ≡ q
-same-spelling version p q small first second same =
-    let front : HasSmallNumbers (certificate_line version) = All-cons (λ m. m ≤ MOST_NUMBER) version [] small (All-nil (λ m. m ≤ MOST_NUMBER)) in
-    let lines_p : AllSmall (proof_lines version p) = All-cons HasSmallNumbers (certificate_line version) (node_lines p) front first in
-    let lines_q : AllSmall (proof_lines version q) = All-cons HasSmallNumbers (certificate_line version) (node_lines q) front second in
-    let texts = sym (spelled-lines (proof_lines version p) lines_p) ∙ ap lines_of same ∙ spelled-lines (proof_lines version q) lines_q in
-    let lines = same-lines (proof_lines version p) (proof_lines version q) lines_p lines_q texts in
+same-spelling : (version : ℕ) (p q : Proof) → IsSmall version p → IsSmall version q → spell version p ≡ spell version q → p ≡ q
+same-spelling version p q first second same =
+    let texts = sym (spelled-lines (proof_lines version p) first) ∙ ap lines_of same ∙ spelled-lines (proof_lines version q) second in
+    let lines = same-lines (proof_lines version p) (proof_lines version q) first second texts in
     let nodes = cons-rest (certificate_line version) (certificate_line version) (node_lines p) (node_lines q) lines in
     (same-node p q [] [] (append-nil (node_lines p) ∙ nodes ∙ sym (append-nil (node_lines q)))).0
 
@@ -190,7 +186,7 @@ other-start : (version : ℕ) (p : Proof) (bytes : List ℕ) → spell version p
 other-start version p bytes same = let first = ap (λ t. get_or t 0 0) same in absurd (omega (arith, first))
 
 pub one_proof_for_each_text : OneProofForEachText
-one_proof_for_each_text version bytes p q small first second (inl is) (inl other) = same-spelling version p q small first second (sym is ∙ other)
-one_proof_for_each_text version bytes p q small first second (inl is) (inr other) = absurd (other-start version p (spell version q) (sym is ∙ other))
-one_proof_for_each_text version bytes p q small first second (inr is) (inl other) = absurd (other-start version q (spell version p) (sym other ∙ is))
-one_proof_for_each_text version bytes p q small first second (inr is) (inr other) = same-spelling version p q small first second (ap (drop (length verdict_line)) (sym is ∙ other))
+one_proof_for_each_text version bytes p q first second (inl is) (inl other) = same-spelling version p q first second (sym is ∙ other)
+one_proof_for_each_text version bytes p q first second (inl is) (inr other) = absurd (other-start version p (spell version q) (sym is ∙ other))
+one_proof_for_each_text version bytes p q first second (inr is) (inl other) = absurd (other-start version q (spell version p) (sym other ∙ is))
+one_proof_for_each_text version bytes p q first second (inr is) (inr other) = same-spelling version p q first second (ap (drop (length verdict_line)) (sym is ∙ other))

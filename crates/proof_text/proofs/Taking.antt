@@ -1,14 +1,17 @@
 -- Lines that the parts of a certificate take, and first faults of what follows.
-use Rattle.std.proofs.Common.{◌≡◌, ℕ, zero, suc, ◌+◌, ◌-◌, ◌<◌, Bool, true, false, List, [], ◌∷◌, ◌++◌, length, map, replicate, Option, Some, None, Result, Ok, Err, IfOk, option_map, append_assoc, refl, sym, ap, ◌∙◌, subst, arith, if◌then◌else◌}
+use Rattle.std.proofs.Common.{◌≡◌, ℕ, zero, suc, ◌+◌, ◌-◌, ◌<◌, ◌≤◌, Bool, true, false, List, [], ◌∷◌, ◌++◌, length, map, replicate, Option, Some, None, Result, Ok, Err, IfOk, option_map, append_assoc, refl, sym, ap, ◌∙◌, subst, arith, if◌then◌else◌}
+use Rattle.std.proofs.lemmas.Bool.{and_parts, leb-true}
 use Rattle.std.proofs.lemmas.List.{length-append, length-map, map-append, replicate_more}
+use Rattle.std.proofs.lemmas.List.Elements.{All-append, All-cons, All-nil}
 use Rattle.std.specs.Option.{option_or}
 use Rattle.proof_text.specs.Faults.{called, calls_for, fault_from, fault_of_line, labels_begun, labels_said, numbers_in, proof_fault_at}
+use Rattle.proof_text.specs.Laws.{AreSmall, HasSmallNumbers}
 use Rattle.slot_theory.specs.declared.outcome.SlotProof.{SlotProof}
 use Rattle.proof_text.specs.LineForms.{Expected, a_kind_proof, a_slot_proof, a_state, line_said, lines_of}
 use Rattle.proof_text.specs.Lines.{Line, closed_line, kinds_line, line_text, places_line}
 use Rattle.proof_text.specs.SlotLines.{behind_kinds}
 use Rattle.proof_text.specs.Spelling.{closed_lines, slot_lines}
-use Rattle.proof_text.specs.Steps.{FailsFrom, HasLineRoom, IsBehind, IsLineAt, IsLineRead, ArePartsRead, TakesLines, answer_here, are_small, labels_in}
+use Rattle.proof_text.specs.Steps.{FailsFrom, HasLineRoom, IsBehind, IsLineAt, IsLineRead, ArePartsRead, TakesLines, answer_here, are_small, is_small, labels_in}
 use Rattle.proof_text.specs.declared.fault.LineAnswer.{LineAnswer}
 use Rattle.proof_text.specs.declared.fault.LineAnswer.TheVariants.{Fails, NoMemory as NoLineMemory}
 use Rattle.proof_text.specs.declared.fault.ProofAnswer.{ProofAnswer}
@@ -17,6 +20,7 @@ use Rattle.proof_text.specs.declared.fault.ProofCode.{ProofCode}
 use Rattle.proof_text.specs.declared.fault.ProofCode.TheVariants.{C1Syntax, C4Limit}
 use Rattle.proof_text.specs.declared.fault.ProofFault.{ProofFault}
 use Rattle.proof_text.specs.declared.limits.Limits.{Limits}
+use Rattle.proof_text.specs.declared.limits.TheConstants.{MOST_NUMBER}
 use Rattle.proof_text.specs.declared.place.Place.{Place}
 use Rattle.proof_text.proofs.Texts.{spelled}
 
@@ -39,6 +43,12 @@ passed-size : (small : Bool) (rest : Option ProofCode) → (if small then rest e
 passed-size true rest e = refl
 passed-size false rest e = cc
 
+numbers-small : (ns : List ℕ) → are_small ns ≡ true → AreSmall ns
+numbers-small [] e = All-nil (λ n. n ≤ MOST_NUMBER)
+numbers-small (n ∷ ns) e =
+    let both = and_parts (is_small n) (are_small ns) e in
+    All-cons (λ m. m ≤ MOST_NUMBER) n ns (leb-true n MOST_NUMBER both.0) (numbers-small ns both.1)
+
 -- ---- lines that are taken
 
 at-numbers : (limits : Limits) (more : List Expected) (n m begun after : ℕ) (rest : List (List ℕ)) → n ≡ m → begun ≡ after → fault_from limits more n begun rest ≡ fault_from limits more m after rest
@@ -50,6 +60,7 @@ leads-none limits at room = record {
   count = omega arith;
   begun = omega arith;
   taken = λ more n rest. at-numbers limits more n (n + 0) at.begun (at.begun + 0) rest (omega arith) (omega arith);
+  small = All-nil HasSmallNumbers;
   room = room;
 }
 
@@ -57,7 +68,8 @@ leads-none limits at room = record {
 pub leads-line : (limits : Limits) (e : Expected) (from to end : Place) (line : List ℕ) (l : Line) (ls : List Line) → IsBehind line (labels_begun l) from to → line_said e line ≡ Some l → fault_of_line limits from.begun e (Some l) ≡ None →
     TakesLines limits (calls_for e l) to ls end → TakesLines limits (e ∷ []) from (l ∷ ls) end
 leads-line limits e from to end line l ls behind is passes takes =
-    let text : line ≡ line_text l = spelled e line l is (passed-size (are_small (numbers_in l)) _ passes) in
+    let size : are_small (numbers_in l) ≡ true = passed-size (are_small (numbers_in l)) _ passes in
+    let text : line ≡ line_text l = spelled e line l is size in
     record {
       cut = behind.cut ∙ ap (λ t. t ∷ lines_of to.bytes.now) text ∙ ap (λ r. line_text l ∷ r) takes.cut;
       count = omega (arith, takes.count, behind.number);
@@ -68,6 +80,7 @@ leads-line limits e from to end line l ls behind is passes takes =
           ap (λ k. fault_from limits (calls_for e l ++ more) (n + 1) k (map line_text ls ++ rest)) (sym behind.begun) ∙
           takes.taken more (n + 1) rest ∙
           at-numbers limits more (n + 1 + length (map line_text ls)) (n + suc (length (map line_text ls))) (to.begun + labels_in ls) (from.begun + (labels_begun l + labels_in ls)) rest (omega arith) (omega (arith, behind.begun));
+      small = All-cons HasSmallNumbers l ls (numbers-small (numbers_in l) size) takes.small;
       room = takes.room;
     }
 
@@ -99,6 +112,7 @@ leads-both limits es fs a b c ls ms front back =
           ap (λ k. fault_from limits (fs ++ more) (n + length (map line_text ls)) k (map line_text ms ++ rest)) (sym front.begun) ∙
           back.taken more (n + length (map line_text ls)) rest ∙
           at-numbers limits more (n + length (map line_text ls) + length (map line_text ms)) (n + length (map line_text (ls ++ ms))) (b.begun + labels_in ms) (a.begun + labels_in (ls ++ ms)) rest (omega (arith, lengths)) (omega (arith, front.begun, labels));
+      small = All-append HasSmallNumbers ls ms front.small back.small;
       room = back.room;
     }
 

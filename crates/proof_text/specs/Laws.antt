@@ -13,7 +13,7 @@ use Rattle.proof_text.specs.declared.limits.Limits.{Limits}
 use Rattle.proof_text.specs.declared.limits.TheConstants.{MOST_NESTING, MOST_NUMBER, MOST_PROOF_BYTES}
 use Rattle.proof_text.specs.Faults.{numbers_in, proof_fault}
 use Rattle.proof_text.specs.Lines.{Line}
-use Rattle.proof_text.specs.Spelling.{IsCertificateOf, node_lines}
+use Rattle.proof_text.specs.Spelling.{IsCertificateOf, proof_lines}
 
 -- no number is above the greatest that a certificate may have
 abbrev pub AreSmall : List ℕ → Type 0
@@ -68,12 +68,19 @@ ClosingProofsHaveNoFault =
     length tests ≤ MOST_NUMBER → version ≤ MOST_NUMBER →
     IsCertificateOf version bytes proof → length bytes ≤ MOST_PROOF_BYTES → proof_fault (limits_of tests version) bytes ≡ None
 
--- no number of any line of the refutation is above the greatest
-abbrev pub IsSmall : Proof → Type 0
-IsSmall p = All HasSmallNumbers (node_lines p)
+-- no number of any line of the certificate is above the greatest
+abbrev pub IsSmall : ℕ → Proof → Type 0
+IsSmall version p = All HasSmallNumbers (proof_lines version p)
+
+-- nor is any of the text of a refutation that closes a query and that the program can hold
+abbrev pub ClosingProofsAreSmall : Type 0
+ClosingProofsAreSmall =
+    (schema : Schema) (tests : List Test) (tree : Tree) (version : ℕ) (proof : Proof) (bytes : List ℕ) →
+    Closes schema tests tree at_first proof [] → HoldsSmallNumbers proof → length tests ≤ MOST_NUMBER → version ≤ MOST_NUMBER →
+    IsCertificateOf version bytes proof → length bytes ≤ MOST_PROOF_BYTES → IsSmall version proof
 
 -- a text is the certificate of one refutation at most
 abbrev pub OneProofForEachText : Type 0
 OneProofForEachText =
-    (version : ℕ) (bytes : List ℕ) (p q : Proof) → version ≤ MOST_NUMBER → IsSmall p → IsSmall q →
+    (version : ℕ) (bytes : List ℕ) (p q : Proof) → IsSmall version p → IsSmall version q →
     IsCertificateOf version bytes p → IsCertificateOf version bytes q → p ≡ q

@@ -6,13 +6,16 @@ use Rattle.proof_text.specs.declared.fault.ProofAnswer.TheVariants.{Refused, NoM
 use Rattle.proof_text.specs.declared.limits.Limits.{Limits}
 use Rattle.proof_text.specs.declared.read.ReadProof.{ReadProof}
 use Rattle.proof_text.specs.Faults.{proof_fault, skipped}
+use Rattle.proof_text.specs.Laws.{IsSmall}
 use Rattle.proof_text.specs.LineForms.{lines_of}
 use Rattle.proof_text.specs.Spelling.{IsCertificateOf, starts}
 
--- the file has no fault, it is the certificate of the refutation, and these are the lines of the refutation's nodes
+-- the file has no fault, it is the certificate of the refutation, whose numbers are small, and these are the lines of the
+-- refutation's nodes
 pub record IsReadFrom (limits : Limits) (bytes : List ℕ) (read : ReadProof) : Type 0 where
   pub faultless : proof_fault limits bytes ≡ None
   pub spelled : IsCertificateOf limits.version bytes (proof_of read.refutation.value)
+  pub small : IsSmall limits.version (proof_of read.refutation.value)
   pub lines : read.lines ≡ starts (skipped (lines_of bytes) + 2) (proof_of read.refutation.value)
 
 -- the refutation of a file, or its first fault, besides want of memory

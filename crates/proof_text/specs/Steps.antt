@@ -1,10 +1,11 @@
 -- What the readers of parts of a certificate answer.
-use Rattle.std.specs.Prelude.{◌≡◌, ◌≢◌, ◌⊎◌, ◌≤◌, ℕ, ◌+◌, ◌==◌, List, [], ◌∷◌, ◌++◌, drop, map, length, Bool, true, false, nat_le}
+use Rattle.std.specs.Prelude.{◌≡◌, ◌≢◌, ◌⊎◌, ◌≤◌, All, ℕ, ◌+◌, ◌==◌, List, [], ◌∷◌, ◌++◌, drop, map, length, Bool, true, false, nat_le}
 use Rattle.std.specs.Prelude.{◌&&◌, Option, Some, None, Result, Ok, Err, if◌then◌else◌}
 use Rattle.std.specs.Borrow.{Bor}
 use Rattle.std.specs.List.{list_all, slice_split}
 use Rattle.formula_tree.specs.Answers.{Answers}
 use Rattle.proof_text.specs.Faults.{fault_from, fault_of_line, labels_begun, proof_fault_at, skipped}
+use Rattle.proof_text.specs.Laws.{HasSmallNumbers}
 use Rattle.proof_text.specs.LineForms.{Expected, answers_of, lines_of, number_said}
 use Rattle.proof_text.specs.Lines.{Line, line_text, verdict_line}
 use Rattle.proof_text.specs.declared.fault.LineAnswer.{LineAnswer}
@@ -84,12 +85,13 @@ AreLinesTaken limits es begun more_begun taken =
     (more : List Expected) (n : ℕ) (rest : List (List ℕ)) →
     fault_from limits (es ++ more) n begun (taken ++ rest) ≡ fault_from limits more (n + length taken) (begun + more_begun) rest
 
--- from one place to a later one these lines were taken, which the parts ask for
+-- from one place to a later one these lines were taken, which the parts ask for, and whose numbers are small
 pub record TakesLines (limits : Limits) (es : List Expected) (from : Place) (lines : List Line) (to : Place) : Type 0 where
   pub cut : lines_of from.bytes.now ≡ map line_text lines ++ lines_of to.bytes.now
   pub count : to.number ≡ from.number + length lines
   pub begun : to.begun ≡ from.begun + labels_in lines
   pub taken : AreLinesTaken limits es from.begun (labels_in lines) (map line_text lines)
+  pub small : All HasSmallNumbers lines
   pub room : HasLineRoom to
 
 -- the first fault of the lines from a place on, where these parts must stand, whatever must stand behind

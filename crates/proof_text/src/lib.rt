@@ -16,7 +16,7 @@ mod states;
 mod write;
 
 pub use fault::{ProofAnswer, ProofCode, ProofFault};
-pub use laws::{closing_proofs_have_no_fault, one_proof_for_each_text};
+pub use laws::{closing_proofs_are_small, closing_proofs_have_no_fault, one_proof_for_each_text};
 pub use limits::{MOST_NESTING, MOST_NUMBER, MOST_PROOF_BYTES};
 pub use plain_lists::NoMemory;
 pub use read::{LineList, ReadProof, read_proof};

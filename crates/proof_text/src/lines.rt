@@ -102,7 +102,8 @@ fn clauses_line(
     behind: Option<&[u8]>,
 ) -> Result<NodeLine, LineAnswer>
     ensures { IsLineRead node_line_value limits around.entry.begun (node_here around.entry)
-        (option_map clauses_line (some_numbers (parts_left 32 (option_copied behind.entry)))) result }
+        (option_map clauses_line
+        (some_numbers (parts_left 32 (option_copied behind.entry)))) result }
 {
     let Some(hints) = some_numbers(alloc, behind)? else {
         return Err(LineAnswer::Fails(ProofCode::C4Limit));

@@ -70,7 +70,8 @@ fn places_line(
     behind: Option<&[u8]>,
 ) -> Result<PlaceLists, LineAnswer>
     ensures { IsLineRead places_line limits begun a_state
-        (option_map places_line (lists_of_places (parts_left 32 (option_copied behind.entry)))) result }
+        (option_map places_line
+        (lists_of_places (parts_left 32 (option_copied behind.entry)))) result }
 {
     let Some(lists) = lists_in(alloc, behind)? else {
         return Err(LineAnswer::Fails(ProofCode::C4Limit));

@@ -55,8 +55,8 @@ fn put_numbers(text: &mut String, between: &str, numbers: &[u32]) -> Result<(), 
 
 // A line of a word and numbers.
 fn put_with_numbers(text: &mut String, word: &str, numbers: &[u32]) -> Result<(), NoMemory>
-    ensures text { OnOk result (string_bytes text.new ≡
-        string_bytes text.old ++ (join_with_byte 32 (word.now ∷ map decimal numbers.now) ++ 10 ∷ [])) }
+    ensures text { OnOk result (string_bytes text.new ≡ string_bytes text.old ++
+        (join_with_byte 32 (word.now ∷ map decimal numbers.now) ++ 10 ∷ [])) }
     ensures small { OnOk result (AreSmall numbers.now) }
 {
     text.push_str(word)?;
@@ -67,7 +67,8 @@ fn put_with_numbers(text: &mut String, word: &str, numbers: &[u32]) -> Result<()
 
 // The places of one pattern.
 fn put_places(text: &mut String, places: &[u32]) -> Result<(), NoMemory>
-    ensures text { OnOk result (string_bytes text.new ≡ string_bytes text.old ++ places_part places.now) }
+    ensures text { OnOk result
+        (string_bytes text.new ≡ string_bytes text.old ++ places_part places.now) }
     ensures small { OnOk result (AreSmall places.now) }
 {
     let Some((first, others)) = places.split_first() else {

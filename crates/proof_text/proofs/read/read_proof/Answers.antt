@@ -41,6 +41,7 @@ returns-clause-read c =
     record {
       faultless = whole-none limits c.args.bytes.now c.first_place-start.result c.in_ok-refutation.end (proof_lines limits.version p) c.first_place-start.ensures takes c.in_ok-require_end.ensures;
       spelled = whole-spelled limits limits.version c.args.bytes.now c.first_place-start.result c.in_ok-refutation.end p c.first_place-start.ensures takes c.in_ok-require_end.ensures;
+      small = takes.small;
       lines = node-starts limits c.args.bytes.now c.first_place-start.result c.in_ok-line.behind c.in_ok-line.line.now c.new-2.result c.read_node.new.trail.lines p c.first_place-start.ensures c.in_ok-line.ensures c.new-2.ensures c.in_ok-refutation.ensures.lines;
     }
 
