@@ -1,0 +1,5 @@
+use Rattle.policy_difference.proofs.Equal.{same-pattern}
+use Rattle.policy_difference.proofs.same.PatternSame.same.Goals as goal
+
+pub returns : goal.returns
+returns c = λ yes. same-pattern c.args.self.now c.args.other.now (rw c.eq.ensures at yes)

@@ -1,0 +1,9 @@
+//! What shared statements mean for a comparison.
+ghost use Rattle.policy_difference.specs.Differences.{SharedStatementsAddNothing};
+
+/// What a first set allows and a second doesn't is what is left of the first without statements that both share
+/// allows and the second doesn't, under each schema; and a schema that answers for the first answers for what is
+/// left.
+pub fn shared_statements_add_nothing()
+    ensures { SharedStatementsAddNothing }
+{}
