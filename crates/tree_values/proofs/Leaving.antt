@@ -1,0 +1,417 @@
+-- Answers that are left out, tried and given back.
+use Rattle.std.proofs.Common.{◌≡◌, ◌≢◌, ℕ, ◌<◌, ◌≤◌, ◌+◌, ◌-◌, ◌==◌, List, [], ◌∷◌, ◌++◌, length, take, drop, get_or, zero, suc, Bool, true, false, Option, Some, None, is_some, slice_get, ◌⊎◌, inl, inr, refl, sym, ap, subst, ◌∙◌, arith, if◌then◌else◌}
+use Rattle.std.proofs.Common.{Result, Ok, Err, append-nil}
+use Rattle.std.specs.Prelude.{IfOk, OnOk}
+use Rattle.std.specs.List.{All}
+use Rattle.std.proofs.lemmas.List.{drop_all, drop_more, ext_get_or, take_all, take_more}
+use Rattle.std.proofs.lemmas.Option.{get_or_from_slice_get, slice_get-get_or}
+use Rattle.formula_tree.specs.Answers.{Answers, Contained, IsDistinct, answer_of}
+use Rattle.formula_tree.specs.Trees.{Tree, tree_of}
+use Rattle.formula_tree.specs.declared.formula.Formula.{Formula}
+use Rattle.formula_tree.proofs.Laws.{answer_of-besides, cases_eq}
+use Rattle.tree_values.specs.Cuts.{IsLeastCut}
+use Rattle.tree_values.specs.Leaving.{AreKeptFor, IsGivenBack, IsKeptFor, IsLeftOut, IsNoGiven, still_answered, with_answer, without_answer}
+use Rattle.tree_values.specs.Models.{Answered, IsAnsweredBy, IsSet, answer_at, answer_in, answered_tree}
+use Rattle.tree_values.specs.Omitting.{omitted}
+use Rattle.tree_values.specs.declared.cut.Sides.{Sides}
+use Rattle.tree_values.proofs.Lists.{number-other, number-same}
+use Rattle.tree_values.specs.Seen.{tree_seen}
+use Rattle.tree_values.specs.declared.seen.Seen.{Seen}
+use Rattle.tree_values.proofs.Staying.{given-alike, given-from, given-more, given-on, tree-alike, with-other, with-same, without-fewer, without-other, without-same}
+
+-- ---- what is kept, as a whole
+
+pub cases-answer : (o : Option Bool) → (o ≡ None) ⊎ ((b : Bool) × (o ≡ Some b))
+cases-answer None = inl refl
+cases-answer (Some b) = inr (b, refl)
+
+record-alike : (old new : Answered) → new.formula ≡ old.formula → new.table ≡ old.table → new ≡ old
+record-alike old new formula table = λ i. record { formula = formula i; table = table i }
+
+pub same-answered : (old new : Answered) → new.formula ≡ old.formula → length new.table ≡ length old.table → ((n : ℕ) → answer_in new n ≡ answer_in old n) → new ≡ old
+same-answered old new formula long same =
+    let table : new.table ≡ old.table = ext_get_or None new.table old.table long (λ i lt. same i) in
+    record-alike old new formula table
+
+pub none-some : (b : Bool) → ◌≡◌ {A = Option Bool} None (Some b) → ⊥
+none-some b e = cc
+
+pub same-answer : (a b : Bool) → ◌≡◌ {A = Option Bool} (Some a) (Some b) → a ≡ b
+same-answer a b e = cc
+
+none-of : (o : Option Bool) → ((b : Bool) → o ≡ Some b → ⊥) → o ≡ None
+none-of None h = refl
+none-of (Some b) h = absurd (h b refl)
+
+-- an answer and its taking back leave what was there
+pub set-back : (old mid new : Answered) (test : ℕ) (b : Bool) → answer_in old test ≡ None → IsSet old mid test (Some b) → IsSet mid new test None → new ≡ old
+set-back old mid new test b free there gone =
+    same-answered old new (gone.formula ∙ there.formula) (gone.tests ∙ there.tests) (λ n.
+    elim (cases_eq n test) [
+      | inl e ↦ ap (answer_in new) e ∙ gone.at ∙ sym free ∙ ap (answer_in old) (sym e)
+      | inr ne ↦ gone.others n ne ∙ there.others n ne
+    ])
+
+-- what is answered so is answered as the function with one more answer
+pub set-with : (old mid : Answered) (test : ℕ) (b : Bool) → IsSet old mid test (Some b) → (n : ℕ) → answer_in mid n ≡ with_answer (answer_at old.table) test b n
+set-with old mid test b there n =
+    elim (cases_eq n test) [
+      | inl e ↦ ap (answer_in mid) e ∙ there.at ∙ sym (with-same (answer_at old.table) test b n e)
+      | inr ne ↦ there.others n ne ∙ sym (with-other (answer_at old.table) test b n ne)
+    ]
+
+set-without : (old mid : Answered) (test : ℕ) → IsSet old mid test None → (n : ℕ) → answer_in mid n ≡ without_answer (answer_at old.table) test n
+set-without old mid test gone n =
+    elim (cases_eq n test) [
+      | inl e ↦ ap (answer_in mid) e ∙ gone.at ∙ sym (without-same (answer_at old.table) test n e)
+      | inr ne ↦ gone.others n ne ∙ sym (without-other (answer_at old.table) test n ne)
+    ]
+
+-- ---- trying one
+
+pub out-none : (a : Answered) (needed : Answers) (test : ℕ) (sides : Sides) → IsNoGiven (answered_tree a) (answer_at a.table) test sides → IsLeftOut a a needed test sides
+out-none a needed test sides given = record { formula = refl; tests = refl; fewer = λ n b is. is; needed_stay = λ n b need is. is; still = given }
+
+pub out-then : (old mid new : Answered) (needed : Answers) (test : ℕ) (sides : Sides) → IsLeftOut old mid needed test sides → IsLeftOut mid new needed test sides → IsLeftOut old new needed test sides
+out-then old mid new needed test sides a b = record {
+  formula = b.formula ∙ a.formula;
+  tests = b.tests ∙ a.tests;
+  fewer = λ n c is. a.fewer n c (b.fewer n c is);
+  needed_stay = λ n c need is. b.needed_stay n c need (a.needed_stay n c need is);
+  still = subst (λ (f : Formula). IsNoGiven (tree_of f) (answer_at new.table) test sides) a.formula b.still;
+}
+
+-- where nothing was answered there is nothing to keep
+pub kept-none : (a : Answered) (needed : Answers) (test : ℕ) (sides : Sides) (n : ℕ) → None ≡ answer_in a n → IsKeptFor a needed test sides n
+kept-none a needed test sides n free b is = absurd (none-some b (free ∙ is))
+
+pub kept-needed : (a : Answered) (needed : Answers) (test : ℕ) (sides : Sides) (n : ℕ) → is_some (answer_of needed n) ≡ true → IsKeptFor a needed test sides n
+kept-needed a needed test sides n need b is = inl need
+
+not-needed : (needed : Answers) (n : ℕ) (b : Bool) → is_some (answer_of needed n) ≡ false → answer_of needed n ≡ Some b → ⊥
+not-needed needed n b free is = let bad : is_some (Some b) ≡ false = rw is at free in cc
+
+module _ (old mid : Answered) (needed : Answers) (test : ℕ) (sides : Sides) (tried : ℕ) (answer : Bool) (there : answer_in old tried ≡ Some answer) (unneeded : (b : Bool) → answer_of needed tried ≡ Some b → ⊥) (gone : IsSet old mid tried None) where
+  -- without the answer it is still no
+  pub out-gone : IsNoGiven (answered_tree mid) (answer_at mid.table) test sides → IsLeftOut old mid needed test sides
+  out-gone given = record {
+    formula = gone.formula;
+    tests = gone.tests;
+    fewer = λ n b is.
+        elim (cases_eq n tried) [
+          | inl e ↦ absurd (none-some b (sym gone.at ∙ ap (answer_in mid) (sym e) ∙ is))
+          | inr ne ↦ sym (gone.others n ne) ∙ is
+        ];
+    needed_stay = λ n b need is.
+        elim (cases_eq n tried) [
+          | inl e ↦ absurd (unneeded b (ap (answer_of needed) (sym e) ∙ need))
+          | inr ne ↦ gone.others n ne ∙ is
+        ];
+    still = subst (λ (f : Formula). IsNoGiven (tree_of f) (answer_at mid.table) test sides) gone.formula given;
+  }
+
+  pub kept-gone : IsKeptFor mid needed test sides tried
+  kept-gone b is = absurd (none-some b (sym gone.at ∙ is))
+
+  module _ (new : Answered) (back : IsSet mid new tried (Some answer)) where
+    as-before : (n : ℕ) → answer_in new n ≡ answer_in old n
+    as-before n =
+        elim (cases_eq n tried) [
+          | inl e ↦ ap (answer_in new) e ∙ back.at ∙ sym there ∙ ap (answer_in old) (sym e)
+          | inr ne ↦ back.others n ne ∙ gone.others n ne
+        ]
+
+    -- and where it isn't, the answer is given again
+    pub out-back : IsNoGiven (answered_tree old) (answer_at old.table) test sides → IsLeftOut old new needed test sides
+    out-back given = record {
+      formula = back.formula ∙ gone.formula;
+      tests = back.tests ∙ gone.tests;
+      fewer = λ n b is. sym (as-before n) ∙ is;
+      needed_stay = λ n b need is. as-before n ∙ is;
+      still = given-alike (answered_tree old) (answer_at old.table) (answer_at new.table) test sides (λ n. sym (as-before n)) given;
+    }
+
+    without-mid : (n : ℕ) → without_answer (answer_at new.table) tried n ≡ answer_in mid n
+    without-mid n =
+        elim (cases_eq n tried) [
+          | inl e ↦ without-same (answer_at new.table) tried n e ∙ sym gone.at ∙ ap (answer_in mid) (sym e)
+          | inr ne ↦ without-other (answer_at new.table) tried n ne ∙ back.others n ne
+        ]
+
+    pub kept-back : ¬ IsNoGiven (answered_tree mid) (answer_at mid.table) test sides → IsKeptFor new needed test sides tried
+    kept-back not b is =
+        inr (λ given.
+        not
+        (given-alike (answered_tree mid) (without_answer (answer_at new.table) tried) (answer_at mid.table) test sides without-mid
+        (subst (λ (f : Formula). IsNoGiven (tree_of f) (without_answer (answer_at new.table) tried) test sides) back.formula given)))
+
+-- ---- trying all
+
+pub kept-next : (mid new : Answered) (needed rest : Answers) (test : ℕ) (sides : Sides) (p : ℕ × Bool) → IsLeftOut mid new needed test sides → AreKeptFor mid needed test sides rest → IsKeptFor new needed test sides p.0 →
+    AreKeptFor new needed test sides (p ∷ rest)
+kept-next mid new needed rest test sides p out before own n c is b there =
+    elim (cases_eq n p.0) [
+      | inl e ↦ subst (λ (k : ℕ). IsKeptFor new needed test sides k) (sym e) own b there
+      | inr ne ↦
+          let later : answer_of rest n ≡ Some c = rw (number-other p.0 n (λ e. ne (sym e))) at is in
+          elim (before n c later b (out.fewer n b there)) [
+            | inl need ↦ inl need
+            | inr not ↦
+                inr (λ given.
+                not
+                (given-more (answered_tree mid) (without_answer (answer_at new.table) n) (without_answer (answer_at mid.table) n) test sides (without-fewer (answer_at new.table) (answer_at mid.table) n out.fewer)
+                (subst (λ (f : Formula). IsNoGiven (tree_of f) (without_answer (answer_at new.table) n) test sides) out.formula given)))
+          ]
+    ]
+
+pub kept-start : (a : Answered) (needed path : Answers) (test : ℕ) (sides : Sides) (k : ℕ) → length path ≤ k → AreKeptFor a needed test sides (drop k path)
+kept-start a needed path test sides k past = subst (λ (ps : Answers). AreKeptFor a needed test sides ps) (sym (drop_all k path past)) (λ n c is. absurd (none-some c is))
+
+pub kept-step : (mid new : Answered) (needed path : Answers) (test : ℕ) (sides : Sides) (k : ℕ) (p : ℕ × Bool) → slice_get path k ≡ Some p → k < length path → IsLeftOut mid new needed test sides →
+    AreKeptFor mid needed test sides (drop (k + 1) path) → IsKeptFor new needed test sides p.0 → AreKeptFor new needed test sides (drop k path)
+kept-step mid new needed path test sides k p at lt out before own =
+    subst (λ (ps : Answers). AreKeptFor new needed test sides ps) (sym (drop_more path k p lt ∙ ap (λ (q : ℕ × Bool). q ∷ drop (k + 1) path) (get_or_from_slice_get path k p p at)))
+    (kept-next mid new needed (drop (k + 1) path) test sides p out before own)
+
+pub kept-before : (mid new : Answered) (needed path items : Answers) (test : ℕ) (sides : Sides) (left : ℕ) → items ≡ path → 0 < left → left ≤ length path → IsLeftOut mid new needed test sides →
+    AreKeptFor mid needed test sides (drop left path) → IsKeptFor new needed test sides (get_or items (left - 1) (0, false)).0 → AreKeptFor new needed test sides (drop (left - 1) path)
+kept-before mid new needed path items test sides left e more within out before own =
+    let lt : left - 1 < length path = omega arith in
+    let next : left ≡ left - 1 + 1 = omega arith in
+    kept-step mid new needed path test sides (left - 1) (get_or path (left - 1) (0, false)) (slice_get-get_or path (left - 1) (0, false) lt) lt out
+    (subst (λ (k : ℕ). AreKeptFor mid needed test sides (drop k path)) next before)
+    (subst (λ (ps : Answers). IsKeptFor new needed test sides (get_or ps (left - 1) (0, false)).0) e own)
+
+-- the split's own test stays unanswered
+pub stays-free : (old new : Answered) (needed : Answers) (test : ℕ) (sides : Sides) → IsLeftOut old new needed test sides → answer_in old test ≡ None → answer_in new test ≡ None
+stays-free old new needed test sides out free = none-of (answer_in new test) (λ b is. none-some b (sym free ∙ out.fewer test b is))
+
+pub past : (table : List (Option Bool)) (n : ℕ) (b : Bool) → answer_at table n ≡ Some b → n < length table
+past [] n b h = absurd (cc)
+past (x ∷ xs) zero b h = omega arith
+past (x ∷ xs) (suc n) b h = omega (arith, past xs n b h)
+
+-- ---- the answers that are left
+
+still-none : (table : List (Option Bool)) (path : Answers) (n : ℕ) → answer_at table n ≡ None → answer_of (still_answered table path) n ≡ None
+still-none table [] n free = refl
+still-none table (p ∷ path) n free =
+    elim (cases-answer (answer_at table p.0)) [
+      | inl e ↦ rw e (still-none table path n free)
+      | inr (b, e) ↦
+          let other : p.0 ≢ n = λ same. none-some b (sym free ∙ ap (answer_at table) (sym same) ∙ e) in
+          rw (e, number-other p.0 n other) (still-none table path n free)
+    ]
+
+still-is : (table : List (Option Bool)) (path : Answers) (n : ℕ) (b : Bool) → answer_at table n ≡ Some b → answer_of path n ≡ Some b → answer_of (still_answered table path) n ≡ Some b
+still-is table [] n b there is = absurd (none-some b is)
+still-is table (p ∷ path) n b there is =
+    elim (cases_eq p.0 n) [
+      | inl e ↦
+          let here : answer_at table p.0 ≡ Some b = ap (answer_at table) e ∙ there in
+          let own : (p.0 == n) ≡ true = subst (λ (k : ℕ). (p.0 == k) ≡ true) e (number-same p.0) in
+          let own_answer : ◌≡◌ {A = Option Bool} (Some p.1) (Some b) = rw own at is in
+          rw (here, own) own_answer
+      | inr ne ↦
+          let later : answer_of path n ≡ Some b = rw (number-other p.0 n ne) at is in
+          elim (cases-answer (answer_at table p.0)) [
+            | inl e ↦ rw e (still-is table path n b there later)
+            | inr (c, e) ↦ rw (e, number-other p.0 n ne) (still-is table path n b there later)
+          ]
+    ]
+
+-- a table with no other answers than the path's
+pub still-same : (table : List (Option Bool)) (path : Answers) → ((n : ℕ) (b : Bool) → answer_at table n ≡ Some b → answer_of path n ≡ Some b) → (n : ℕ) → answer_at table n ≡ answer_of (still_answered table path) n
+still-same table path within n =
+    elim (cases-answer (answer_at table n)) [
+      | inl e ↦ e ∙ sym (still-none table path n e)
+      | inr (b, e) ↦ e ∙ sym (still-is table path n b e (within n b e))
+    ]
+
+pub left-some : {X E : Type 0} (r : Result X E) (table : List (Option Bool)) (old new : Answers) (test : ℕ) (answer b : Bool) → answer_at table test ≡ Some b → OnOk r (new ≡ old ++ (test, answer) ∷ []) →
+    OnOk r (new ≡ old ++ still_answered table ((test, answer) ∷ []))
+left-some (Ok x) table old new test answer b there is = rw there is
+left-some (Err e) table old new test answer b there is = tt
+
+pub left-none : (table : List (Option Bool)) (old : Answers) (test : ℕ) (answer : Bool) → answer_at table test ≡ None → old ≡ old ++ still_answered table ((test, answer) ∷ [])
+left-none table old test answer free = rw free (sym (append-nil old))
+
+pub still-append : (table : List (Option Bool)) (ps qs : Answers) → still_answered table (ps ++ qs) ≡ still_answered table ps ++ still_answered table qs
+still-append table [] qs = refl
+still-append table (p ∷ ps) qs =
+    elim (cases-answer (answer_at table p.0)) [
+      | inl e ↦ rw e (still-append table ps qs)
+      | inr (c, e) ↦ rw e (ap (λ (xs : Answers). p ∷ xs) (still-append table ps qs))
+    ]
+
+-- one item more
+pub still-next : (table : List (Option Bool)) (ps : Answers) (k : ℕ) (left new : Answers) (p : ℕ × Bool) → k < length ps → get_or ps k (0, false) ≡ p → left ≡ still_answered table (take k ps) → new ≡ left ++ still_answered table (p ∷ []) →
+    new ≡ still_answered table (take (k + 1) ps)
+still-next table ps k left new p lt at was is =
+    is ∙ ap (λ (xs : Answers). xs ++ still_answered table (p ∷ [])) was ∙ sym (still-append table (take k ps) (p ∷ [])) ∙
+    ap (still_answered table) (sym (take_more ps k (0, false) lt ∙ ap (λ (q : ℕ × Bool). take k ps ++ q ∷ []) at))
+
+still-free : (table : List (Option Bool)) (ps : Answers) (n : ℕ) → answer_of ps n ≡ None → answer_of (still_answered table ps) n ≡ None
+still-free table [] n free = refl
+still-free table (p ∷ ps) n free =
+    elim (cases_eq p.0 n) [
+      | inl e ↦
+          let own : (p.0 == n) ≡ true = subst (λ (k : ℕ). (p.0 == k) ≡ true) e (number-same p.0) in
+          let bad : ◌≡◌ {A = Option Bool} (Some p.1) None = rw own at free in
+          absurd (none-some p.1 (sym bad))
+      | inr ne ↦
+          let later : answer_of ps n ≡ None = rw (number-other p.0 n ne) at free in
+          elim (cases-answer (answer_at table p.0)) [
+            | inl e ↦ rw e (still-free table ps n later)
+            | inr (c, e) ↦ rw (e, number-other p.0 n ne) (still-free table ps n later)
+          ]
+    ]
+
+-- an item of a path is an answer of it
+pub item-answered : (ps : Answers) (k : ℕ) (p : ℕ × Bool) → slice_get ps k ≡ Some p → (b : Bool) × (answer_of ps p.0 ≡ Some b)
+item-answered [] k p at = absurd (cc)
+item-answered (q ∷ ps) zero p at =
+    let same : q ≡ p = cc in
+    (q.1, subst (λ (r : ℕ × Bool). answer_of (q ∷ ps) r.0 ≡ Some q.1) same (rw (number-same q.0) refl))
+item-answered (q ∷ ps) (suc k) p at =
+    let (b, is) = item-answered ps k p at in
+    elim (cases_eq q.0 p.0) [
+      | inl e ↦ (q.1, rw (subst (λ (m : ℕ). (q.0 == m) ≡ true) e (number-same q.0)) refl)
+      | inr ne ↦ (b, rw (number-other q.0 p.0 ne) is)
+    ]
+
+-- and no item before it answers its test
+item-first : (ps : Answers) (k : ℕ) (p : ℕ × Bool) → IsDistinct ps → slice_get ps k ≡ Some p → answer_of (take k ps) p.0 ≡ None
+item-first [] k p distinct at = absurd (cc)
+item-first (q ∷ ps) zero p distinct at = refl
+item-first (q ∷ ps) (suc k) p distinct at =
+    let (b, is) = item-answered ps k p at in
+    let other : q.0 ≢ p.0 = λ e. none-some b (sym distinct.0 ∙ ap (answer_of ps) e ∙ is) in
+    rw (number-other q.0 p.0 other) (item-first ps k p distinct.1 at)
+
+-- the cut that was made
+pub cut-ok : {E : Type 0} (r : Result Answers E) (tree : Tree) (path needed : Answers) (test : ℕ) (sides : Sides) (answers : Answers) → IsLeastCut tree path needed test sides answers → IfOk r (λ a. a ≡ answers) →
+    IfOk r (IsLeastCut tree path needed test sides)
+cut-ok (Ok a) tree path needed test sides answers cut is = subst (IsLeastCut tree path needed test sides) (sym is) cut
+cut-ok (Err e) tree path needed test sides answers cut is = tt
+
+-- the same of a formula's truth under an answer
+pub seen-with : (old mid : Answered) (test : ℕ) (b : Bool) (s : Seen) → IsSet old mid test (Some b) → s ≡ tree_seen (answer_at mid.table) (answered_tree mid) → s ≡ tree_seen (with_answer (answer_at old.table) test b) (answered_tree old)
+seen-with old mid test b s there is =
+    is ∙ tree-alike (answer_at mid.table) (with_answer (answer_at old.table) test b) (set-with old mid test b there) (answered_tree mid) ∙
+    ap (λ (f : Formula). tree_seen (with_answer (answer_at old.table) test b) (tree_of f)) there.formula
+
+pub still-push : (table : List (Option Bool)) (ps : Answers) (k : ℕ) (p : ℕ × Bool) → IsDistinct ps → slice_get ps k ≡ Some p → answer_of (still_answered table (take k ps)) p.0 ≡ None
+still-push table ps k p distinct at = still-free table (take k ps) p.0 (item-first ps k p distinct at)
+
+-- ---- given back
+
+pub back-next : (path : Answers) (mid new : Answered) (ps : Answers) (p : ℕ × Bool) → IsSet mid new p.0 (answer_of path p.0) → ((n : ℕ) (b : Bool) → answer_of ps n ≡ Some b → answer_in mid n ≡ answer_of path n) →
+    (n : ℕ) (b : Bool) → answer_of (ps ++ p ∷ []) n ≡ Some b → answer_in new n ≡ answer_of path n
+back-next path mid new ps p set before n b is =
+    elim (cases_eq n p.0) [
+      | inl e ↦ ap (answer_in new) e ∙ set.at ∙ ap (answer_of path) (sym e)
+      | inr ne ↦ set.others n ne ∙ before n b (sym (answer_of-besides ps p.0 p.1 n ne) ∙ is)
+    ]
+
+pub given-all : (path items : Answers) (k : ℕ) (now : Answered) → items ≡ path → length items ≤ k → ((n : ℕ) (b : Bool) → answer_of (take k items) n ≡ Some b → answer_in now n ≡ answer_of path n) →
+    (n : ℕ) (b : Bool) → answer_of path n ≡ Some b → answer_in now n ≡ Some b
+given-all path items k now e past back n b is = back n b (subst (λ (ps : Answers). answer_of ps n ≡ Some b) (sym (take_all k items past ∙ e)) is) ∙ is
+
+pub back-others : (path : Answers) (old mid new : Answered) (test : ℕ) → IsSet mid new test (answer_of path test) → ((n : ℕ) → answer_of path n ≡ None → answer_in old n ≡ None → answer_in mid n ≡ None) →
+    (n : ℕ) → answer_of path n ≡ None → answer_in old n ≡ None → answer_in new n ≡ None
+back-others path old mid new test set before n free none =
+    elim (cases_eq n test) [
+      | inl e ↦ ap (answer_in new) e ∙ set.at ∙ ap (answer_of path) (sym e) ∙ free
+      | inr ne ↦ set.others n ne ∙ before n free none
+    ]
+
+-- ---- the cut as a whole
+
+omitted-none : (ps : Answers) (n : ℕ) → answer_of (omitted ps n) n ≡ None
+omitted-none [] n = refl
+omitted-none (p ∷ ps) n =
+    elim (cases_eq p.0 n) [
+      | inl e ↦ rw (subst (λ (k : ℕ). (p.0 == k) ≡ true) e (number-same p.0)) (omitted-none ps n)
+      | inr ne ↦ rw (number-other p.0 n ne, number-other p.0 n ne) (omitted-none ps n)
+    ]
+
+omitted-other : (ps : Answers) (n k : ℕ) → k ≢ n → answer_of (omitted ps n) k ≡ answer_of ps k
+omitted-other [] n k ne = refl
+omitted-other (p ∷ ps) n k ne =
+    elim (cases_eq p.0 n) [
+      | inl e ↦
+          let gone : (p.0 == n) ≡ true = subst (λ (m : ℕ). (p.0 == m) ≡ true) e (number-same p.0) in
+          let other : (p.0 == k) ≡ false = number-other p.0 k (λ same. ne (sym same ∙ e)) in
+          rw (gone, other) (omitted-other ps n k ne)
+      | inr stays ↦
+          rw (number-other p.0 n stays) (ap (λ (o : Option Bool). if p.0 == k then Some p.1 else o) (omitted-other ps n k ne))
+    ]
+
+without-omitted : (f : ℕ → Option Bool) (ps : Answers) (n : ℕ) → ((k : ℕ) → f k ≡ answer_of ps k) → (k : ℕ) → without_answer f n k ≡ answer_of (omitted ps n) k
+without-omitted f ps n same k =
+    elim (cases_eq k n) [
+      | inl e ↦ without-same f n k e ∙ sym (omitted-none ps n) ∙ ap (answer_of (omitted ps n)) (sym e)
+      | inr ne ↦ without-other f n k ne ∙ same k ∙ sym (omitted-other ps n k ne)
+    ]
+
+some-of : (o : Option Bool) → is_some o ≡ true → (b : Bool) × (o ≡ Some b)
+some-of None e = absurd (cc)
+some-of (Some b) e = (b, refl)
+
+module _ (old now : Answered) (path needed : Answers) (test : ℕ) (sides : Sides) (start : IsAnsweredBy old path) (there : Contained needed path) (free : answer_of path test ≡ None) (out : IsLeftOut old now needed test sides) (tried : AreKeptFor now needed test sides path) where
+  within : (n : ℕ) (b : Bool) → answer_in now n ≡ Some b → answer_of path n ≡ Some b
+  within n b is = sym (start n) ∙ out.fewer n b is
+
+  same : (n : ℕ) → answer_in now n ≡ answer_of (still_answered now.table path) n
+  same = still-same now.table path within
+
+  left-free : answer_of (still_answered now.table path) test ≡ None
+  left-free = sym (same test) ∙ none-of (answer_in now test) (λ b is. none-some b (sym free ∙ within test b is))
+
+  -- leaving one more out doesn't answer the test
+  lost : (n : ℕ) (c : Bool) → answer_of (omitted (still_answered now.table path) n) test ≡ Some c → ⊥
+  lost n c given =
+      elim (cases_eq test n) [
+        | inl e ↦ none-some c (sym (omitted-none (still_answered now.table path) n) ∙ ap (answer_of (omitted (still_answered now.table path) n)) (sym e) ∙ given)
+        | inr ne ↦ none-some c (sym left-free ∙ sym (omitted-other (still_answered now.table path) n test ne) ∙ given)
+      ]
+
+  pub is-cut : IsLeastCut (answered_tree old) path needed test sides (still_answered now.table path)
+  is-cut = record {
+    needed_there = λ n b is. sym (same n) ∙ out.needed_stay n b is (start n ∙ there n b is);
+    there = λ n b is. within n b (same n ∙ is);
+    still = given-on (answered_tree old) (answer_at now.table) (still_answered now.table path) test sides same left-free out.still;
+    least = λ n b is.
+        let here : answer_in now n ≡ Some b = same n ∙ is in
+        elim (tried n b (within n b here) b here) [
+          | inl need ↦
+              let (c, given) = some-of (answer_of needed n) need in
+              let also : answer_in now n ≡ Some c = out.needed_stay n c given (start n ∙ there n c given) in
+              let equal : c ≡ b = same-answer c b (sym also ∙ here) in
+              inl (given ∙ ap (λ (x : Bool). Some x) equal)
+          | inr not ↦
+              let fewer = without-omitted (answer_at now.table) (still_answered now.table path) n same in
+              let open_test : answer_of (omitted (still_answered now.table path) n) test ≡ None = none-of (answer_of (omitted (still_answered now.table path) n) test) (λ c given. lost n c given) in
+              inr (λ on.
+              not
+              (subst (λ (f : Formula). IsNoGiven (tree_of f) (without_answer (answer_at now.table) n) test sides) (sym out.formula)
+              (given-from (answered_tree old) (without_answer (answer_at now.table) n) (omitted (still_answered now.table path) n) test sides fewer open_test on)))
+        ];
+  }
+
+  -- and the answers of the path given again are what was there
+  pub is-restored : (new : Answered) → IsGivenBack now new path → new ≡ old
+  is-restored new back = same-answered old new (back.formula ∙ out.formula) (back.tests ∙ out.tests) (λ n.
+      elim (cases-answer (answer_of path n)) [
+        | inl e ↦
+            let none : answer_in now n ≡ None = none-of (answer_in now n) (λ b is. none-some b (sym e ∙ within n b is)) in
+            back.others n e none ∙ sym e ∙ sym (start n)
+        | inr (b, e) ↦ back.back n b e ∙ sym e ∙ sym (start n)
+      ])
+
+  -- each of them has room
+  pub path-room : All (λ p. p.0 < length now.table) path
+  path-room k d lt =
+      let (b, is) = item-answered path k (get_or path k d) (slice_get-get_or path k d lt) in
+      omega (arith, past old.table (get_or path k d).0 b (start (get_or path k d).0 ∙ is), out.tests)

@@ -1,0 +1,10 @@
+mod Agreeing
+mod Answering
+mod Entering
+mod Joining
+mod Leaving
+pub mod Laws
+mod Lists
+mod Seeing
+mod Staying
+mod Walking

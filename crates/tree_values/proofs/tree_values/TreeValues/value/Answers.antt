@@ -1,0 +1,8 @@
+use Rattle.std.proofs.Common.{◌∙◌, ap}
+use Rattle.tree_values.specs.Models.{answer_at, answered_tree}
+use Rattle.tree_values.specs.Seen.{value_seen}
+use Rattle.tree_values.proofs.Seeing.{value-is}
+use Rattle.tree_values.proofs.tree_values.TreeValues.value.Goals as goal
+
+pub returns : goal.returns
+returns c = λ path same. c.value_seen.ensures ∙ ap value_seen c.seen.ensures ∙ value-is path (answer_at c.args.self.now.table) same (answered_tree c.args.self.now)
