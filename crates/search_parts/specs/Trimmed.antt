@@ -1,0 +1,75 @@
+-- Trimmed refutations: each split is learned under answers none of which can be left out, no split's yes side would do without the
+-- split, and no split stands where a label could be reused. It looks at a finished refutation, and knows nothing of how it was found.
+use Rattle.std.specs.Prelude.{◌≡◌, ◌≤◌, ◌⊎◌, ℕ, ◌+◌, List, [], All, Bool, true, false, Some}
+use Rattle.formula_tree.specs.Answers.{Answers, Contained, answer_of}
+use Rattle.tree_values.specs.Omitting.{omitted}
+use Rattle.formula_tree.specs.Runs.{answered}
+use Rattle.formula_tree.specs.Trees.{Tree}
+use Rattle.policy_model.specs.declared.schema.Schema.{Schema}
+use Rattle.policy_model.specs.declared.test.Test.{Test}
+use Rattle.refute_check.specs.Closing.{Before, Closes, after_part, at_first, inside_label}
+use Rattle.refute_check.specs.Proofs.{Proof, by_clauses, by_slot, by_value, label, reuse, split}
+use Rattle.search_parts.specs.declared.learning.TheConstants.{MOST_LEARNED}
+
+-- how many of its splits aren't the node of a label, and how many are
+abbrev mutual
+  pub bare : Proof → ℕ
+  bare (split n y z) = bare y + bare z + 1
+  bare by_value = 0
+  bare (by_slot core proof) = 0
+  bare (by_clauses hints) = 0
+  bare (label n answers p) = bare_in_label p
+  bare (reuse n) = 0
+
+  pub bare_in_label : Proof → ℕ
+  bare_in_label (split n y z) = bare y + bare z
+  bare_in_label by_value = 0
+  bare_in_label (by_slot core proof) = 0
+  bare_in_label (by_clauses hints) = 0
+  bare_in_label (label n answers p) = bare_in_label p
+  bare_in_label (reuse n) = 0
+
+abbrev pub one_if_split : Proof → ℕ
+one_if_split (split n y z) = 1
+one_if_split by_value = 0
+one_if_split (by_slot core proof) = 0
+one_if_split (by_clauses hints) = 0
+one_if_split (label n answers p) = 0
+one_if_split (reuse n) = 0
+
+abbrev pub learned : Proof → ℕ
+learned (split n y z) = learned y + learned z
+learned by_value = 0
+learned (by_slot core proof) = 0
+learned (by_clauses hints) = 0
+learned (label n answers p) = one_if_split p + learned p
+learned (reuse n) = 0
+
+-- each split is the node of a label, or as many are as may be
+abbrev pub AreLearned : Proof → Type 0
+AreLearned r = (bare r ≡ 0) ⊎ (MOST_LEARNED ≤ learned r)
+
+-- no label that has ended has all its answers in the path
+abbrev pub NoneCouldBeReused : Before → Answers → Type 0
+NoneCouldBeReused before path = All (λ l. ¬ Contained l.1 path) before.ended
+
+-- the part doesn't close where the list lacks one of its answers
+abbrev pub NoneCanBeLeftOut : (Answers → Type 0) → Answers → Type 0
+NoneCanBeLeftOut closes answers = (n : ℕ) (b : Bool) → answer_of answers n ≡ Some b → ¬ closes (omitted answers n)
+
+-- each node's own conditions, under the path under which the rules of closing look at it
+abbrev pub IsTrimmedAt : Schema → List Test → Tree → Before → Proof → Answers → Type 0
+IsTrimmedAt schema tests tree before (split n y z) path =
+    (¬ Closes schema tests tree before y path) × NoneCouldBeReused before path ×
+    IsTrimmedAt schema tests tree before y (answered path n true) ×
+    IsTrimmedAt schema tests tree (after_part before y) z (answered path n false)
+IsTrimmedAt schema tests tree before (label n answers p) path =
+    NoneCanBeLeftOut (Closes schema tests tree (inside_label before) p) answers × IsTrimmedAt schema tests tree (inside_label before) p answers
+IsTrimmedAt schema tests tree before by_value path = Unit {0}
+IsTrimmedAt schema tests tree before (by_slot core proof) path = Unit {0}
+IsTrimmedAt schema tests tree before (by_clauses hints) path = Unit {0}
+IsTrimmedAt schema tests tree before (reuse n) path = Unit {0}
+
+pub record IsTrimmed (schema : Schema) (tests : List Test) (tree : Tree) (r : Proof) : Type 0 where
+  pub learned : AreLearned r
+  pub each : IsTrimmedAt schema tests tree at_first r []

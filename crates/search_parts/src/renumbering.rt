@@ -1,0 +1,91 @@
+//! Labels numbered by their lines.
+ghost use Rattle.std.specs.Prelude.{◌≡◌, ◌++◌, ◌+◌, ◌<◌, ◌^◌, [], IfOk, OnOk, slice_index_or};
+ghost use Rattle.refute_check.specs.Proofs.{labels, proof_of};
+ghost use Rattle.search_parts.specs.Making.{part_proof};
+ghost use Rattle.search_parts.specs.Renaming.{line_names, renamed};
+
+use crate::part::Part;
+use plain_lists::{List, NoMemory};
+use refute_check::{AnswerList, Refutation};
+use std::alloc::Global;
+use std::rc::Rc;
+
+/// The part with its labels numbered by their lines, where so many labels begin before it. A label's
+/// number was its place in the order in which labels end: `names` has the new numbers of those that end
+/// before the part, and then also of its own. Parts without splits and labels are shared.
+///
+/// Labels are numbered by 32 bits. The only error is want of memory.
+pub fn renumbered(
+    alloc: Global,
+    part: &Rc<Refutation>,
+    names: &mut Vec<u32>,
+    begun: u32,
+) -> Result<(Rc<Refutation>, u32), NoMemory>
+    requires { begun + labels (proof_of part.now.value) < 2 ^ 32 }
+    ensures part { IfOk result (λ r.
+        proof_of r.0.value ≡ renamed names.old.items begun (proof_of part.now.value)) }
+    ensures count { IfOk result (λ r. r.1 ≡ begun + labels (proof_of part.now.value)) }
+    ensures names { OnOk result (
+        names.new.items ≡ names.old.items ++ line_names begun (proof_of part.now.value)) }
+{
+    match &**part {
+        Refutation::Split { test, yes, no } => {
+            let (yes, middle) = renumbered(alloc, yes, names, begun)?;
+            let (no, end) = renumbered(alloc, no, names, middle)?;
+            let test = *test;
+            Ok((Rc::new(alloc, Refutation::Split { test, yes, no })?, end))
+        }
+        Refutation::Label { answers, inner, .. } => {
+            let (inner, end) = renumbered(alloc, inner, names, begun + 1)?;
+            names.push(begun)?;
+            let answers = copy(alloc, answers)?;
+            Ok((
+                Rc::new(
+                    alloc,
+                    Refutation::Label {
+                        number: begun,
+                        answers,
+                        inner,
+                    },
+                )?,
+                end,
+            ))
+        }
+        Refutation::Reuse { number } => {
+            let number = name_at(names.as_slice(), *number);
+            Ok((Rc::new(alloc, Refutation::Reuse { number })?, begun))
+        }
+        Refutation::ByValue => Ok((part.clone()?, begun)),
+        Refutation::BySlot { .. } => Ok((part.clone()?, begun)),
+        Refutation::ByClauses { .. } => Ok((part.clone()?, begun)),
+    }
+}
+
+/// The whole refutation, whose labels were numbered in the order in which they end, with its labels
+/// numbered by their lines.
+///
+/// Labels are numbered by 32 bits. The only error is want of memory.
+pub fn finished(alloc: Global, part: Part) -> Result<Rc<Refutation>, NoMemory>
+    requires { labels (part_proof part) < 2 ^ 32 }
+    ensures { IfOk result (λ r. proof_of r.value ≡ renamed [] 0 (part_proof part)) }
+{
+    let mut names = Vec::new(alloc);
+    let (refutation, _) = renumbered(alloc, &part.refutation, &mut names, 0)?;
+    Ok(refutation)
+}
+
+// The number at a place, or 0 past the end.
+fn name_at(names: &[u32], place: u32) -> u32
+    ensures { result ≡ slice_index_or names.now place 0 }
+{
+    match names.get(place as usize) {
+        Some(name) => *name,
+        None => 0,
+    }
+}
+
+fn copy(alloc: Global, answers: &AnswerList) -> Result<AnswerList, NoMemory>
+    ensures { IfOk result (λ list. list ≡ answers.now) }
+{
+    Ok(List::from_vec(Vec::from_slice(alloc, answers.as_slice())?))
+}
