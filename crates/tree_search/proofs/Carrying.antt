@@ -1,8 +1,9 @@
 -- The values of a path, and those of the path with one more answer.
-use Rattle.std.proofs.Common.{◌≡◌, ◌≢◌, ◌<◌, ◌++◌, ◌∷◌, [], ℕ, List, length, get_or, set, slice_get, Bool, true, false, IsTrue, ◌↔◌, MatchBool, Option, Some, None, IsSome, All, AllPairs, Any, ◌⊎◌, refl, sym, ap, ◌∙◌, subst, inl, inr, arith}
+use Rattle.std.proofs.Common.{◌≡◌, ◌≢◌, ◌<◌, ◌++◌, ◌∷◌, [], ℕ, List, length, get_or, set, slice_get, take, Bool, true, false, IsTrue, ◌↔◌, MatchBool, Option, Some, None, IsSome, All, AllPairs, Any, ◌⊎◌, refl, sym, ap, ◌∙◌, subst, inl, inr, arith}
 use Rattle.std.specs.Bool.{beq}
+use Rattle.std.specs.Prelude.{option_to_list}
 use Rattle.std.proofs.lemmas.Bool.{both_ways, cases_Bool, cases_order}
-use Rattle.std.proofs.lemmas.List.{length-set, length_push, get_or-set_same, get_or-set_other, get_or_append_left, get_or_push, get_or_default, set-get_or, set-set}
+use Rattle.std.proofs.lemmas.List.{take_at, length-set, length_push, get_or-set_same, get_or-set_other, get_or_append_left, get_or_push, get_or_default, set-get_or, set-set}
 use Rattle.std.proofs.lemmas.Option.{slice_get-get_or}
 use Rattle.std.proofs.lemmas.List.Elements.{All-push, Contains-append_left}
 use Rattle.formula_tree.specs.Answers.{Answers, answer_of}
@@ -99,6 +100,26 @@ module _ (values : List Pair) (i : ℕ) (s : Slot) (old v : SlotValue) (there : 
 pub put-back : (values : List Pair) (i : ℕ) (v before : Pair) → slice_get values i ≡ Some before → set (set values i v) i before ≡ values
 put-back values i v before there =
     set-set values i v before ∙ ap (set values i) (sym (slice_get-at values i before before there).1) ∙ set-get_or values i before
+
+-- what is left where a value that was put at the end is taken away
+push-same : (xs ys : List Pair) (v w : Pair) → xs ++ v ∷ [] ≡ ys ++ w ∷ [] → ys ≡ xs
+push-same xs ys v w e =
+    let first = length_push xs v in
+    let second = length_push ys w in
+    let all : length (xs ++ v ∷ []) ≡ length (ys ++ w ∷ []) = ap (λ (l : List Pair). length l) e in
+    let same : length xs ≡ length ys = omega arith in
+    sym (take_at ys (w ∷ []) (length xs) (sym same)) ∙ ap (λ (l : List Pair). take (length xs) l) (sym e) ∙ take_at xs (v ∷ []) (length xs) refl
+
+nothing-there : (r : Option Pair) → r ≡ None → IsSome r → ⊥
+nothing-there None e h = absurd (cc)
+nothing-there (Some p) e h = absurd (cc)
+
+pub popped : (xs : List Pair) (v : Pair) (old ys : List Pair) (r : Option Pair) → old ≡ xs ++ v ∷ [] → old ≡ ys ++ option_to_list r → (0 < length old → IsSome r) → ys ≡ xs
+popped xs v old ys (Some w) e last some = push-same xs ys v w (sym e ∙ last)
+popped xs v old ys None e last some =
+    let one = length_push xs v in
+    let all : length old ≡ length (xs ++ v ∷ []) = ap (λ (l : List Pair). length l) e in
+    absurd (nothing-there None refl (some (omega arith)))
 
 -- ---- one more answer
 

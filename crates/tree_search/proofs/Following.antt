@@ -7,7 +7,7 @@ use Rattle.cnf_clauses.specs.Following.{IsConflictAt, LosesLast}
 use Rattle.cnf_clauses.specs.Levels.{Followed}
 use Rattle.cnf_clauses.specs.Literals.{Clause}
 use Rattle.cnf_clauses.specs.Numbering.{clauses_of}
-use Rattle.cnf_clauses.specs.Replays.{NoneReplay, Replays}
+use Rattle.cnf_clauses.specs.Replays.{NoneReplay}
 use Rattle.policy_compile.specs.declared.outcome.Query.{Query}
 use Rattle.refute_check.specs.Propagated.{MeetsConflict}
 use Rattle.tree_search.specs.Decisions.{asked_tree}
@@ -36,9 +36,9 @@ module _ (query : Query) where
     pub followed-there : (g : Followed) → g ≡ followed_on f test answer → g ≡ followed_at query path
     followed-there g more = more ∙ on-there
 
-    -- or its hints replay from the path
-    pub conflict-there : (c : Conflict) → IsConflictAt f.clauses (f.path ++ (test, answer) ∷ []) c → Replays clauses path c.hints
-    conflict-there c met = subst (λ (g : Followed). Replays g.clauses g.path c.hints) on-there met.replay
+    -- or it meets a conflict at the path
+    pub conflict-there : (c : Conflict) → IsConflictAt f.clauses (f.path ++ (test, answer) ∷ []) c → IsConflictAt clauses path c
+    conflict-there c met = subst (λ (g : Followed). IsConflictAt g.clauses g.path c) on-there met
 
 -- the last answer taken back again
 pub back-there : (f g back : Followed) (test : ℕ) (answer : Bool) → g ≡ followed_on f test answer → back.clauses ≡ g.clauses → LosesLast g.path back.path → back ≡ f

@@ -1,6 +1,11 @@
 mod Carrying
-pub mod Laws
+mod Finding
 mod Following
+mod Keeping
+mod Leading
+pub mod Laws
+mod Picking
 mod Searching
 mod Splitting
+mod Standing
 mod Starting

@@ -1,13 +1,15 @@
--- What is decided at a node of a search, and from there at the node before it.
-use Rattle.std.proofs.Common.{◌≡◌, ◌≢◌, ℕ, ◌+◌, ◌<◌, ◌≤◌, List, length, All, Bool, true, false, Some, refl, sym, subst, arith}
-use Rattle.formula_tree.specs.Answers.{Answers}
-use Rattle.formula_tree.specs.Runs.{Run, answered, unanswered}
+-- What is found at a node of a search, and from there at the node before it.
+use Rattle.std.proofs.Common.{◌≡◌, ◌≢◌, ℕ, ◌+◌, ◌<◌, ◌≤◌, ◌++◌, List, length, All, true, false, Some, refl, sym, subst, arith, length-append}
+use Rattle.formula_tree.specs.Answers.{Answers, Contained}
+use Rattle.formula_tree.specs.Runs.{Run, answered}
 use Rattle.formula_tree.specs.Trees.{Tree}
 use Rattle.formula_tree.specs.Values.{pick, value}
 use Rattle.formula_tree.specs.declared.value.Three.TheVariants.{No}
-use Rattle.formula_tree.proofs.Laws.{pick-unanswered, unanswered-more}
+use Rattle.formula_tree.proofs.Laws.{pick-unanswered}
+use Rattle.cnf_clauses.specs.declared.following.Conflict.{Conflict}
+use Rattle.cnf_clauses.specs.Following.{IsConflictAt}
 use Rattle.cnf_clauses.specs.Numbering.{clauses_of}
-use Rattle.cnf_clauses.specs.Replays.{Replays}
+use Rattle.nogoods.specs.Hits.{NoHit, answers_at}
 use Rattle.policy_model.specs.declared.schema.Schema.{Schema}
 use Rattle.policy_model.specs.declared.test.Slot.{Slot}
 use Rattle.policy_model.specs.Soundness.{TestSuits}
@@ -18,17 +20,24 @@ use Rattle.slot_theory.specs.Slots.{patterns_at}
 use Rattle.wildcard_lang.specs.Places.{ShowWider}
 use Rattle.slot_theory.specs.Cores.{Accepts, HasTest}
 use Rattle.slot_theory.proofs.Laws.{impossible}
-use Rattle.refute_check.specs.Closing.{Before, Closes, after_part}
 use Rattle.refute_check.specs.Laws.{NoneMeets, TreeInRange}
-use Rattle.refute_check.specs.Proofs.{Proof, by_clauses, by_slot, by_value, depth, split, splits}
+use Rattle.refute_check.specs.Proofs.{Proof, by_clauses, by_value, labels, reuse, splits}
 use Rattle.refute_check.specs.Propagated.{MeetsConflict, PropagatedRun}
 use Rattle.refute_check.proofs.RunLaws.{plain-ends, propagated-ends, unmet-by-clauses, unmet-by-path, unmet-by-value}
-use Rattle.tree_search.specs.declared.outcome.Decided.{Decided}
-use Rattle.tree_search.specs.declared.outcome.Decided.TheVariants.{Refuted, Met, OutOfSplits, OutOfStates}
-use Rattle.tree_search.specs.Decisions.{IsWide, NeedMore, asked_tree}
-use Rattle.tree_search.specs.Nodes.{EndsWithNone, IsNode, LeadTo, at_start, in_yes, in_no, nowhere, to_yes, to_no}
-use Rattle.tree_search.specs.Search.{IsDecidedFrom, IsRefutedAt}
-use Rattle.tree_search.proofs.Splitting.{Runs, both-end, needs-no, needs-one, needs-yes, plain-splits, propagated-splits}
+use Rattle.search_parts.specs.declared.part.Needs.TheVariants.{Just, Open}
+use Rattle.search_parts.specs.declared.part.Part.{Part}
+use Rattle.search_parts.specs.Joining.{IsJoined, IsJoinedFrom}
+use Rattle.search_parts.specs.Making.{IsKeptCore, IsMadePart, IsPartOf, IsSlotPart, part_proof}
+use Rattle.search_parts.specs.Parts.{ClosesByStore}
+use Rattle.search_parts.proofs.Laws.{clauses-made, closed-none, closes-grows, kept-made, reuse-made, skip-made, slot-made, value-made}
+use Rattle.tree_search.specs.declared.found.Found.{Found}
+use Rattle.tree_search.specs.declared.found.Found.TheVariants.{Refuted, Met, OutOfSplits, OutOfStates}
+use Rattle.tree_search.specs.Decisions.{NeedMore, asked_tree}
+use Rattle.tree_search.specs.Leading.{LeadBy, nowhere, to_yes, to_no}
+use Rattle.tree_search.specs.Nodes.{EndsWithNone, IsNode, at_start, in_yes, in_no}
+use Rattle.tree_search.specs.Search.{IsFoundFrom, IsRefutedPart, IsWideBy}
+use Rattle.tree_search.specs.States.{AreAllUnmet}
+use Rattle.tree_search.proofs.Splitting.{Runs, both-end, needs-no, needs-one, needs-yes, plain-splits, propagated-splits, skip-end}
 
 module _ (schema : Schema) (query : Query) where
   abbrev P : Answers → Type 0
@@ -43,8 +52,14 @@ module _ (schema : Schema) (query : Query) where
   abbrev S : Runs
   S = PropagatedRun schema query.tests tree
 
-  abbrev IsRefuted : Answers → ℕ → Proof → Type 0
-  IsRefuted = IsRefutedAt schema query
+  abbrev C : List Answers → Proof → Answers → Type 0
+  C store = ClosesByStore store schema query.tests tree
+
+  abbrev Unmet : Answers → Type 0
+  Unmet = NoneMeets schema query.tests tree
+
+  abbrev IsPart : Answers → List Answers → List Answers → ℕ → Part → Type 0
+  IsPart = IsRefutedPart schema query
 
   -- ---- a node that is split
 
@@ -69,104 +84,140 @@ module _ (schema : Schema) (query : Query) where
       propagated = needs-yes S on_yes on_no p (propagated-splits schema query.tests tree p t h e quiet) left rest count more.propagated;
     }
 
-    module _ (k : ℕ) (y : Proof) (side_yes : IsRefuted on_yes k y) where
-      -- and where its yes side is refuted and they need more on its no side than is then left
+    -- what is found on the yes side, unless that is refuted
+    pub after-yes : (states left rest k used : ℕ) (old new : List Answers) (f : Found) → rest + 1 ≡ left → used ≡ k + 1 → ((r : _) → f ≡ Refuted r → ⊥) →
+        IsFoundFrom schema query states on_yes (record { old = old; new = new; left = rest; used = k }) f → IsFoundFrom schema query states p (record { old = old; new = new; left = left; used = used }) f
+    after-yes states left rest k used old new (Refuted r) count sum other is = absurd (other r refl)
+    after-yes states left rest k used old new (Met q) count sum other is = is
+    after-yes states left rest k used old new OutOfSplits count sum other is = need-yes left rest count is
+    after-yes states left rest k used old new (OutOfStates w) count sum other is = record {
+      node = in_yes p w.path t h e is.node;
+      near = record { count = is.near.count + 1; lead = to_yes (length old) p w.path t is.near.count (is.near.count + 1) is.near.lead refl; few = let few = is.near.few in omega arith };
+      not_no = is.not_no;
+      asked = is.asked;
+      texts = is.texts;
+    }
+
+    module _ (old middle : List Answers) (k : ℕ) (y : Part) (side_yes : IsPart on_yes old middle k y) where
+      -- where its yes side is refuted and they need more on its no side than is then left, so they do there
       need-no : (left rest : ℕ) → rest + k + 1 ≡ left → NeedMore schema query on_no rest → NeedMore schema query p left
       need-no left rest count more = record {
-        plain = needs-no R on_yes on_no p (plain-splits schema query.tests tree p t h e) k left rest side_yes.plain count more.plain;
-        propagated = needs-no S on_yes on_no p (propagated-splits schema query.tests tree p t h e quiet) k left rest side_yes.propagated count more.propagated;
+        plain = needs-no R on_yes on_no p (plain-splits schema query.tests tree p t h e) k left rest side_yes.counted.plain count more.plain;
+        propagated = needs-no S on_yes on_no p (propagated-splits schema query.tests tree p t h e quiet) k left rest side_yes.counted.propagated count more.propagated;
       }
 
       -- no run from the yes side ends with a request
       yes-side-ends : EndsWithNone P tree on_yes
-      yes-side-ends n run = let bad = (side_yes.plain true n run).0 in absurd (cc)
+      yes-side-ends n run = let bad = (side_yes.counted.plain true n run).0 in absurd (cc)
 
-      module _ (m : ℕ) (z : Proof) (side_no : IsRefuted on_no m z) where
-        -- the splits nest one deeper
-        both-nest : t < length query.tests → depth (split t y z) ≤ unanswered p (length query.tests)
-        both-nest within =
-            let new = pick-unanswered p tree t e in
-            let less = unanswered-more p t true (length query.tests) within new in
-            let also = unanswered-more p t false (length query.tests) within new in
-            let first = side_yes.nests in
-            let second = side_no.nests in
-            omega arith
+      -- the yes side closes by what is stored later, too
+      side-closes : (new more : List Answers) → new ≡ middle ++ more → C new (part_proof y) on_yes
+      side-closes new more grows =
+          let stored = side_yes.made.closed.stored in
+          rw grows (closes-grows schema query.tests tree middle more (length old) (part_proof y) on_yes side_yes.made.closed.order (omega arith) side_yes.made.closed.closes)
 
-        pub split-refuted : (used : ℕ) (r : Proof) → t < length query.tests → r ≡ split t y z → used ≡ k + m + 1 → IsRefuted p used r
-        split-refuted used r within is sum = record {
-          closes = λ before. rw is ((within, pick-unanswered p tree t e), side_yes.closes before, side_no.closes (after_part before y));
-          count = let first = side_yes.count in let second = side_no.count in rw is (omega arith);
-          nests = rw is (both-nest within);
-          plain = both-end R on_yes on_no p (plain-splits schema query.tests tree p t h e) k m used side_yes.plain side_no.plain sum;
-          propagated = both-end S on_yes on_no p (propagated-splits schema query.tests tree p t h e quiet) k m used side_yes.propagated side_no.propagated sum;
-        }
+      side-ended : (new more : List Answers) → new ≡ middle ++ more → length old + labels (part_proof y) ≤ length new
+      side-ended new more grows =
+          let stored = side_yes.made.closed.stored in
+          let long = length-append middle more in
+          rw grows (omega arith)
 
-      -- what is decided on the no side, unless that is refuted
-      pub after-no : (states left rest m used : ℕ) (d : Decided) → rest + k + 1 ≡ left → used ≡ k + m + 1 → ((r : _) → d ≡ Refuted r → ⊥) → IsDecidedFrom schema query states on_no rest m d → IsDecidedFrom schema query states p left used d
-      after-no states left rest m used (Refuted r) count sum other is = absurd (other r refl)
-      after-no states left rest m used (Met q) count sum other is = is
-      after-no states left rest m used OutOfSplits count sum other is = need-no left rest count is
-      after-no states left rest m used (OutOfStates w) count sum other is = λ before.
-          let wide = is (after_part before y) in
-          record {
-            node = in_no p w.path t h e yes-side-ends wide.node;
-            near = record {
-              count = k + wide.near.count + 1;
-              lead = to_no before p w.path t wide.near.count (k + wide.near.count + 1) y (side_yes.closes before) wide.near.lead (let same = side_yes.count in omega arith);
-              few = let few = wide.near.few in omega arith;
-            };
-            not_no = wide.not_no;
-            asked = wide.asked;
-            texts = wide.texts;
-          }
+      lead-no : (new more : List Answers) (node : Answers) (count : ℕ) → new ≡ middle ++ more → LeadBy schema query.tests tree new (length middle) count on_no node →
+          LeadBy schema query.tests tree new (length old) (splits (part_proof y) + count + 1) p node
+      lead-no new more node count grows lead =
+          to_no (length old) p node t count (splits (part_proof y) + count + 1) (part_proof y) (side-closes new more grows) side_yes.made.closed.order (side-ended new more grows)
+          (subst (λ (n : ℕ). LeadBy schema query.tests tree new n count on_no node) side_yes.made.closed.stored lead) refl
 
-    -- what is decided on the yes side, unless that is refuted
-    pub after-yes : (states left rest k used : ℕ) (d : Decided) → rest + 1 ≡ left → used ≡ k + 1 → ((r : _) → d ≡ Refuted r → ⊥) → IsDecidedFrom schema query states on_yes rest k d → IsDecidedFrom schema query states p left used d
-    after-yes states left rest k used (Refuted r) count sum other is = absurd (other r refl)
-    after-yes states left rest k used (Met q) count sum other is = is
-    after-yes states left rest k used OutOfSplits count sum other is = need-yes left rest count is
-    after-yes states left rest k used (OutOfStates w) count sum other is = λ before.
-        let wide = is before in
-        record {
-          node = in_yes p w.path t h e wide.node;
-          near = record { count = wide.near.count + 1; lead = to_yes before p w.path t wide.near.count (wide.near.count + 1) wide.near.lead refl; few = let few = wide.near.few in omega arith };
-          not_no = wide.not_no;
-          asked = wide.asked;
-          texts = wide.texts;
-        }
+      -- what is found on the no side, unless that is refuted
+      pub after-no : (states left rest m used : ℕ) (new more : List Answers) (f : Found) → rest + k + 1 ≡ left → used ≡ k + m + 1 → new ≡ middle ++ more → ((r : _) → f ≡ Refuted r → ⊥) →
+          IsFoundFrom schema query states on_no (record { old = middle; new = new; left = rest; used = m }) f → IsFoundFrom schema query states p (record { old = old; new = new; left = left; used = used }) f
+      after-no states left rest m used new more (Refuted r) count sum grows other is = absurd (other r refl)
+      after-no states left rest m used new more (Met q) count sum grows other is = is
+      after-no states left rest m used new more OutOfSplits count sum grows other is = need-no left rest count is
+      after-no states left rest m used new more (OutOfStates w) count sum grows other is = record {
+        node = in_no p w.path t h e yes-side-ends is.node;
+        near = record {
+          count = splits (part_proof y) + is.near.count + 1;
+          lead = lead-no new more w.path is.near.count grows is.near.lead;
+          few = let few = is.near.few in let first = side_yes.made.trim.few in omega arith;
+        };
+        not_no = is.not_no;
+        asked = is.asked;
+        texts = is.texts;
+      }
+
+      module _ (below : TreeInRange query.tests tree) (range : PathInRange query.tests p) (within : t < length query.tests) where
+        -- where the yes side closes without the answer, so does the node
+        pub skip-refuted : (used : ℕ) → AreAllUnmet schema query middle → C middle (part_proof y) p → used ≡ k + 1 → IsPart p old middle used y
+        skip-refuted used right closes sum =
+            let unmet : Unmet p = closed-none schema query.tests tree below middle right (part_proof y) p range closes in
+            record {
+              made = skip-made schema query.tests tree old middle p t k used y within (pick-unanswered p tree t e) side_yes.made closes (omega arith);
+              counted = record {
+                plain = skip-end R on_yes on_no p (plain-splits schema query.tests tree p t h e) k used side_yes.counted.plain sum (λ end n run. plain-ends schema query.tests tree below p end n range unmet run);
+                propagated = skip-end S on_yes on_no p (propagated-splits schema query.tests tree p t h e quiet) k used side_yes.counted.propagated sum (λ end n run. propagated-ends schema query.tests tree below p end n range unmet run);
+              };
+            }
+
+        -- where both sides are refuted, their split is
+        pub join-refuted : (new after : List Answers) (m used : ℕ) (z part : Part) → IsPart on_no middle new m z → NoHit old p → (C middle (part_proof y) p → ⊥) → used ≡ k + m + 1 →
+            IsJoined p (record { test = t; yes = y; no = z }) new after tree part → AreAllUnmet schema query new → IsPart p old after used part × AreAllUnmet schema query after
+        join-refuted new after m used z part side_no nothing needed sum joined right =
+            let from : IsJoinedFrom schema query.tests tree old new after p used part =
+            joined schema query.tests old middle k m used
+            (record { within = within; open_test = pick-unanswered p tree t e; yes_side = side_yes.made; no_side = side_no.made; needed = needed; nothing = nothing })
+            (omega arith) in (
+              record {
+                made = from.made;
+                counted = record {
+                  plain = both-end R on_yes on_no p (plain-splits schema query.tests tree p t h e) k m used side_yes.counted.plain side_no.counted.plain sum;
+                  propagated = both-end S on_yes on_no p (propagated-splits schema query.tests tree p t h e quiet) k m used side_yes.counted.propagated side_no.counted.propagated sum;
+                };
+              },
+              from.unmet right below range,
+            )
 
   -- ---- a node that isn't
 
-  module _ (path : Answers) where
+  module _ (path : Answers) (store : List Answers) where
     pub wide-here : (states used : ℕ) (copy : Answers) (s : Slot) (texts : List (List ℕ)) → copy ≡ path → value path tree ≢ No → HasTest query.tests path s → ShowWider (patterns_at schema query.tests path s) states texts →
-        (before : Before) → IsWide schema query before used states path (record { path = copy; slot = s; texts = texts })
-    wide-here states used copy s texts same says asked wide before = record {
+        IsWideBy schema query store (length store) used states path (record { path = copy; slot = s; texts = texts })
+    wide-here states used copy s texts same says asked wide = record {
       node = subst (λ (q : Answers). IsNode P tree path q) (sym same) (at_start path);
-      near = record { count = 0; lead = subst (λ (q : Answers). LeadTo schema query.tests tree before 0 path q) (sym same) (nowhere before path); few = omega arith };
+      near = record { count = 0; lead = subst (λ (q : Answers). LeadBy schema query.tests tree store (length store) 0 path q) (sym same) (nowhere (length store) path); few = omega arith };
       not_no = subst (λ (q : Answers). value q tree ≢ No) (sym same) says;
       asked = subst (λ (q : Answers). HasTest query.tests q s) (sym same) asked;
       texts = subst (λ (q : Answers). ShowWider (patterns_at schema query.tests q s) states texts) (sym same) wide;
     }
 
     module _ (below : TreeInRange query.tests tree) (range : PathInRange query.tests path) where
-      -- a refutation without splits, where no valid request answers the path and makes the query yes
-      leaf-refuted : (r : Proof) → splits r ≡ 0 → depth r ≡ 0 → ((before : Before) → Closes schema query.tests tree before r path) → NoneMeets schema query.tests tree path → IsRefuted path 0 r
-      leaf-refuted r none flat closes unmet = record {
-        closes = closes;
-        count = none;
-        nests = omega (arith, flat);
-        plain = λ end n run. (plain-ends schema query.tests tree below path end n range unmet run, omega arith);
-        propagated = λ end n run. (propagated-ends schema query.tests tree below path end n range unmet run, omega arith);
+      -- a part without splits, where no valid request answers the path and makes the query yes
+      leaf-refuted : (used : ℕ) (part : Part) → used ≡ 0 → IsMadePart schema query.tests tree store store path used part → Unmet path → IsPart path store store used part
+      leaf-refuted used part none made unmet = record {
+        made = made;
+        counted = record {
+          plain = λ end n run. (plain-ends schema query.tests tree below path end n range unmet run, omega arith);
+          propagated = λ end n run. (propagated-ends schema query.tests tree below path end n range unmet run, omega arith);
+        };
       }
 
-      pub value-refuted : (used : ℕ) (r : Proof) → used ≡ 0 → r ≡ by_value → value path tree ≡ No → IsRefuted path used r
-      value-refuted used r none is is_no =
-          rw (none, is) (leaf-refuted by_value refl refl (λ before. is_no) (unmet-by-value schema query.tests tree path range is_no))
+      pub value-refuted : (used : ℕ) (part : Part) → used ≡ 0 → IsPartOf by_value Open part → value path tree ≡ No → IsPart path store store used part
+      value-refuted used part none is is_no = leaf-refuted used part none (value-made schema query.tests tree store path used part is is_no) (unmet-by-value schema query.tests tree path range is_no)
 
-      pub clauses-refuted : (used : ℕ) (r : Proof) (hints : List ℕ) → used ≡ 0 → r ≡ by_clauses hints → Replays (clauses_of (length query.tests) tree) path hints → IsRefuted path used r
-      clauses-refuted used r hints none is replay =
-          rw (none, is) (leaf-refuted (by_clauses hints) refl refl (λ before. replay) (unmet-by-clauses schema query.tests tree below path range (record { hints = hints; replay = replay })))
+      pub clauses-refuted : (used : ℕ) (part : Part) (c : Conflict) → used ≡ 0 → IsPartOf (by_clauses c.hints) (Just c.answers) part → IsConflictAt (clauses_of (length query.tests) tree) path c → IsPart path store store used part
+      clauses-refuted used part c none is conflict =
+          leaf-refuted used part none (clauses-made schema query.tests tree store path used c part is conflict) (unmet-by-clauses schema query.tests tree below path range (record { hints = c.hints; replay = conflict.replay }))
 
-      pub slot-refuted : (used : ℕ) (r : Proof) (core : List ℕ) (proof : SlotProof) → used ≡ 0 → r ≡ by_slot core proof → All (TestSuits schema) query.tests → Accepts schema query.tests path core proof → IsRefuted path used r
-      slot-refuted used r core proof none is suit accepted =
-          rw (none, is) (leaf-refuted (by_slot core proof) refl refl (λ before. accepted) (unmet-by-path schema query.tests tree path (impossible schema query.tests path core proof suit accepted)))
+      pub slot-refuted : (used : ℕ) (part : Part) (core : List ℕ) (proof : SlotProof) → used ≡ 0 → IsSlotPart path core proof part → All (TestSuits schema) query.tests → Accepts schema query.tests path core proof → IsPart path store store used part
+      slot-refuted used part core proof none is suit accepted =
+          leaf-refuted used part none (slot-made schema query.tests tree store path used core proof part is accepted) (unmet-by-path schema query.tests tree path (impossible schema query.tests path core proof suit accepted))
+
+      -- a part that closes by what is stored, where that leaves no request
+      stored-refuted : (used : ℕ) (part : Part) → used ≡ 0 → AreAllUnmet schema query store → IsMadePart schema query.tests tree store store path used part → IsPart path store store used part
+      stored-refuted used part none right made = leaf-refuted used part none made (closed-none schema query.tests tree below store right (part_proof part) path range made.closed.closes)
+
+      pub reuse-refuted : (used : ℕ) (part : Part) (number : ℕ) → used ≡ 0 → AreAllUnmet schema query store → IsPartOf (reuse number) (Just (answers_at store number)) part → number < length store → Contained (answers_at store number) path → IsPart path store store used part
+      reuse-refuted used part number none right is within there = stored-refuted used part none right (reuse-made schema query.tests tree store path used number part is within there)
+
+      pub kept-refuted : (used : ℕ) (part : Part) (answers : Answers) (p : Proof) → used ≡ 0 → AreAllUnmet schema query store → IsPartOf p (Just answers) part → IsKeptCore schema query.tests answers p → Contained answers path → IsPart path store store used part
+      kept-refuted used part answers p none right is kept there = stored-refuted used part none right (kept-made schema query.tests tree store path used answers p part is kept there)

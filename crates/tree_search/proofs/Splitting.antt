@@ -3,8 +3,7 @@ use Rattle.std.proofs.Common.{◌≡◌, ◌<◌, ◌≤◌, ◌+◌, ◌⊎◌,
 use Rattle.formula_tree.specs.Answers.{Answers}
 use Rattle.formula_tree.specs.Runs.{Run, answered, no_by_path, no_by_value, no_side, yes_by_value, yes_side}
 use Rattle.formula_tree.specs.Trees.{Tree}
-use Rattle.formula_tree.specs.Values.{pick, value}
-use Rattle.formula_tree.specs.declared.value.Three.TheVariants.{No, Unknown, Yes}
+use Rattle.formula_tree.specs.Values.{pick}
 use Rattle.formula_tree.proofs.Laws.{pick-unknown}
 use Rattle.policy_model.specs.declared.schema.Schema.{Schema}
 use Rattle.policy_model.specs.declared.test.Test.{Test}
@@ -60,6 +59,10 @@ module _ (runs : Runs) (on_yes on_no : Answers) where
       let high : second ≤ m = rest.1 in
       (rest.0, omega arith)
 
+  skip-of : (first used : ℕ) → EndsUnmet runs on_yes first → used ≡ first + 1 → (end : Bool) (n : ℕ) → end ≡ false → SplitsInto runs on_yes on_no end n → (end ≡ false) × (used ≤ n)
+  skip-of first used ends sum end n unmet (inl (k, y, is, count)) = let bad = (ends true k y).0 in absurd (cc)
+  skip-of first used ends sum end n unmet (inr (k, m, y, z, count)) = let low : first ≤ k = (ends false k y).1 in (unmet, omega arith)
+
   module _ (path : Answers) (split : AllSplit runs path on_yes on_no) where
     pub needs-one : Needs runs path 0
     needs-one end n run = one-of end n (split end n run)
@@ -75,6 +78,10 @@ module _ (runs : Runs) (on_yes on_no : Answers) where
     -- where both sides end without one, so does the path, after the splits of both and one
     pub both-end : (first second used : ℕ) → EndsUnmet runs on_yes first → EndsUnmet runs on_no second → used ≡ first + second + 1 → EndsUnmet runs path used
     both-end first second used yes_ends no_ends sum end n run = both-of first second used yes_ends no_ends sum end n (split end n run)
+
+    -- where the yes side ends without one, and so does the path, it has the splits of the yes side and one
+    pub skip-end : (first used : ℕ) → EndsUnmet runs on_yes first → used ≡ first + 1 → ((end : Bool) (n : ℕ) → runs path end n → end ≡ false) → EndsUnmet runs path used
+    skip-end first used ends sum unmet end n run = skip-of first used ends sum end n (unmet end n run) (split end n run)
 
 -- ---- the two runs of a query split at a path that is open
 

@@ -1,37 +1,145 @@
--- What is decided at the start is decided of the query.
-use Rattle.std.proofs.Common.{◌≤◌, ℕ, [], length, arith}
-use Rattle.formula_tree.proofs.Laws.{unanswered-start}
+-- What is found at the start is decided of the query.
+use Rattle.std.proofs.Common.{◌≡◌, ◌≢◌, ◌≤◌, ◌-◌, ◌∙◌, ℕ, List, [], length, Result, Ok, Err, IfOk, OnOk, Bool, None, IsSome, refl, sym, ap, subst, arith}
+use Rattle.formula_tree.specs.Answers.{Answers}
 use Rattle.policy_model.specs.declared.schema.Schema.{Schema}
-use Rattle.refute_check.specs.Closing.{at_first}
-use Rattle.refute_check.specs.Proofs.{Proof}
+use Rattle.policy_compile.specs.declared.outcome.Query.{Query}
+use Rattle.refute_check.specs.Proofs.{Proof, proof_of}
+use Rattle.search_parts.specs.declared.learning.TheConstants.{MOST_LEARNED}
+use Rattle.search_parts.specs.declared.part.Part.{Part}
+use Rattle.search_parts.specs.Making.{IsRefutationOf, part_proof}
+use Rattle.search_parts.specs.Renaming.{renamed}
+use Rattle.search_parts.proofs.Laws.{finished-made, made-labels, names-none}
+use Rattle.formula_tree.specs.Values.{value}
+use Rattle.formula_tree.specs.declared.value.Three.TheVariants.{No}
+use Rattle.cnf_clauses.specs.declared.following.Conflict.{Conflict}
+use Rattle.cnf_clauses.specs.Following.{IsConflictAt}
+use Rattle.cnf_clauses.specs.Levels.{Followed}
+use Rattle.cnf_clauses.specs.Numbering.{clauses_of}
+use Rattle.nogoods.specs.Hits.{NoHit}
+use Rattle.nogoods.specs.Tracking.{Tracked}
+use Rattle.policy_model.specs.declared.test.Slot.{Slot}
+use Rattle.refute_check.specs.Laws.{TreeInRange}
+use Rattle.refute_check.specs.Proofs.{by_clauses, by_value}
+use Rattle.request_build.specs.Built.{AreSlotValues}
+use Rattle.slot_theory.specs.Cores.{HasTest}
+use Rattle.slot_theory.specs.Possible.{PathInRange}
+use Rattle.search_parts.specs.declared.part.Needs.TheVariants.{Just, Open}
+use Rattle.search_parts.specs.Making.{IsPartOf}
+use Rattle.tree_search.specs.declared.found.Found.{Found}
+use Rattle.tree_search.specs.declared.found.Found.TheVariants as found
 use Rattle.tree_search.specs.declared.outcome.Budgets.{Budgets}
 use Rattle.tree_search.specs.declared.outcome.Decided.{Decided}
-use Rattle.tree_search.specs.declared.outcome.Decided.TheVariants.{Refuted, Met, OutOfSplits, OutOfStates}
-use Rattle.policy_compile.specs.declared.outcome.Query.{Query}
-use Rattle.refute_check.specs.Proofs.{proof_of}
-use Rattle.tree_search.specs.Decisions.{IsDecision, IsRefutation}
-use Rattle.tree_search.specs.Search.{IsDecidedFrom, IsRefutedAt}
+use Rattle.tree_search.specs.Decisions.{IsDecision, IsRefutation, asked_tree}
+use Rattle.tree_search.specs.declared.state.State.{State}
+use Rattle.tree_search.specs.Search.{AreCarried, IsFoundFrom, IsRefutedPart, IsWideBy, followed_at, spent}
+use Rattle.tree_search.specs.States.{IsStanding, IsLearned, IsStartState}
+use Rattle.tree_search.specs.Whole.{HasFewLabels, IsTold, IsWholeSearch}
+use Rattle.tree_search.proofs.Finding.{found-at}
+use Rattle.tree_search.proofs.Keeping.{none-kept}
+use Rattle.tree_search.proofs.Leading.{leads-renamed}
+use Rattle.tree_search.proofs.Searching.{clauses-refuted, value-refuted}
 
 module _ (schema : Schema) (query : Query) where
-  -- a refutation at the start by no more splits than there may be
-  pub refutation-from : (most used : ℕ) (p : Proof) → IsRefutedAt schema query [] used p → used ≤ most → IsRefutation schema query most p
-  refutation-from most used p is few = record {
-    closes = is.closes at_first;
-    few = let count = is.count in omega arith;
-    nests = let open_tests = is.nests in let all = unanswered-start (length query.tests) in omega arith;
-  }
+  refutation-from : (store : List Answers) (most used : ℕ) (part : Part) (p : Proof) → IsRefutedPart schema query [] [] store used part → used ≤ most → p ≡ renamed [] 0 (part_proof part) → IsRefutation schema query most p
+  refutation-from store most used part p is few same =
+      let done : IsRefutationOf schema query.tests (asked_tree query) used (renamed [] 0 (part_proof part)) = finished-made schema query.tests (asked_tree query) store used part is.made in
+      rw same (record { closes = done.closes; few = let splits = done.few in omega arith; nests = done.nests; trimmed = done.trimmed })
 
-  -- what is decided from the start is decided of the query
-  pub decision-from : (budgets : Budgets) (used : ℕ) (d : Decided) → used ≤ budgets.splits → IsDecidedFrom schema query budgets.states [] budgets.splits used d → IsDecision schema query budgets d
-  decision-from budgets used (Refuted r) few is = refutation-from budgets.splits used (proof_of r.value) is few
-  decision-from budgets used (Met q) few is = is
-  decision-from budgets used OutOfSplits few is = is
-  decision-from budgets used (OutOfStates w) few is =
-      let wide = is at_first in
-      record {
+  -- what was found is what is decided
+  pub told-decides : (budgets : Budgets) (f : Found) (d : Decided) → IsWholeSearch schema query budgets f → IsTold f d → IsDecision schema query budgets d
+  told-decides budgets (found.Refuted part) d whole told =
+      subst (λ (x : Decided). IsDecision schema query budgets x) (sym told.1) (refutation-from whole.store budgets.splits whole.used part (proof_of told.0.value) whole.is whole.few told.2)
+  told-decides budgets (found.Met q) d whole told = subst (λ (x : Decided). IsDecision schema query budgets x) (sym told) whole.is
+  told-decides budgets found.OutOfSplits d whole told = subst (λ (x : Decided). IsDecision schema query budgets x) (sym told) whole.is
+  told-decides budgets (found.OutOfStates w) d whole told =
+      let wide : IsWideBy schema query whole.store 0 whole.used budgets.states [] w = whole.is in
+      subst (λ (x : Decided). IsDecision schema query budgets x) (sym told) (record {
         node = wide.node;
-        near = record { count = wide.near.count; lead = wide.near.lead; few = let less = wide.near.few in omega arith };
+        near = record {
+          count = wide.near.count;
+          lead = leads-renamed schema query.tests (asked_tree query) whole.store 0 wide.near.count [] w.path 0 [] wide.near.lead (names-none 0);
+          few = let less = wide.near.few in let most = whole.few in omega arith;
+        };
         not_no = wide.not_no;
         asked = wide.asked;
         texts = wide.texts;
-      }
+      })
+
+  -- and its labels are few
+  pub few-labels : (budgets : Budgets) (f : Found) → IsWholeSearch schema query budgets f → HasFewLabels f
+  few-labels budgets (found.Refuted part) whole =
+      let all = made-labels schema query.tests (asked_tree query) whole.store whole.used part whole.is.made in
+      let small = whole.small in
+      omega arith
+  few-labels budgets (found.Met q) whole = tt
+  few-labels budgets found.OutOfSplits whole = tt
+  few-labels budgets (found.OutOfStates w) whole = tt
+
+  -- ---- a query that is closed at the start
+
+  none-answered : PathInRange query.tests []
+  none-answered = λ n b e. absurd (cc)
+
+  whole-part : (budgets : Budgets) (part : Part) → IsRefutedPart schema query [] [] [] 0 part → IsWholeSearch schema query budgets (found.Refuted part)
+  whole-part budgets part is = record { store = []; used = 0; is = is; small = omega arith; few = omega arith }
+
+  pub whole-value : (budgets : Budgets) (part : Part) → TreeInRange query.tests (asked_tree query) → IsPartOf by_value Open part → value [] (asked_tree query) ≡ No → IsWholeSearch schema query budgets (found.Refuted part)
+  whole-value budgets part below is is_no = whole-part budgets part (value-refuted schema query [] [] below none-answered 0 part refl is is_no)
+
+  pub whole-clauses : (budgets : Budgets) (part : Part) (c : Conflict) → TreeInRange query.tests (asked_tree query) → IsPartOf (by_clauses c.hints) (Just c.answers) part → IsConflictAt (clauses_of (length query.tests) (asked_tree query)) [] c → IsWholeSearch schema query budgets (found.Refuted part)
+  whole-clauses budgets part c below is conflict = whole-part budgets part (clauses-refuted schema query [] [] below none-answered 0 part c refl is conflict)
+
+  -- ---- a search from the empty path
+
+  none-asked : (s : Slot) → HasTest query.tests [] s → ⊥
+  none-asked s h = let bad : IsSome {T = Bool} None = h.is.answered in absurd (cc)
+
+  none-valued : AreSlotValues schema query.tests [] []
+  none-valued = record {
+    each = λ k d within. absurd (omega arith);
+    needed = λ k d within. absurd (omega arith);
+    there = λ s asked. absurd (none-asked s asked);
+    once = λ i j d low within. absurd (omega arith);
+  }
+
+  none-learned : IsLearned schema query [] (record { lists = []; path = [] })
+  none-learned = record { path_is = refl; right = λ k d within. absurd (omega arith); few = omega arith }
+
+  module _ (clauses : Followed) (left : ℕ) (state : State) (is : IsStartState query clauses left state) where
+    pub start-stands : IsStanding schema query state.path state.tree state.learned state.cores
+    start-stands = rw is.path (record {
+      evaluated = is.tree;
+      stored = rw is.learned none-learned;
+      cores_path = is.cores.path;
+      kept = none-kept schema query.tests state.cores is.cores;
+    })
+
+    pub start-carries : AreCarried schema query state.path state.values
+    start-carries = rw (is.path, is.values) (record { range = none-answered; each = none-valued })
+
+    pub start-follows : clauses ≡ followed_at query [] → state.clauses ≡ followed_at query state.path
+    start-follows follows = rw is.path (is.clauses_are ∙ follows)
+
+    pub start-may : value [] (asked_tree query) ≢ No → value state.path (asked_tree query) ≢ No
+    start-may may = rw is.path may
+
+    none-hit : NoHit [] []
+    none-hit i within hit = absurd (omega arith)
+
+    pub start-nothing : NoHit state.learned.lists state.path
+    start-nothing = rw (is.learned, is.path) none-hit
+
+    -- what is found from it
+    pub whole-from : {E : Type 0} (budgets : Budgets) (end : State) (r : Result Found E) (A : Type 0) → left ≡ budgets.splits → (A → length end.learned.lists ≤ MOST_LEARNED) →
+        IfOk r (IsFoundFrom schema query budgets.states state.path (spent state end)) → OnOk r A → IfOk r (IsWholeSearch schema query budgets)
+    whole-from budgets end (Ok f) A same small is_found restored =
+        let all : state.left ≡ budgets.splits = is.left_is ∙ same in
+        let lists : state.learned.lists ≡ [] = ap (λ (t : Tracked). t.lists) is.learned in
+        record {
+          store = end.learned.lists;
+          used = state.left - end.left;
+          is = found-at schema query budgets.states state.path [] (spent state end) (record { old = []; new = end.learned.lists; left = budgets.splits; used = state.left - end.left }) f is.path (rw (lists, ← all) refl) is_found;
+          small = small restored;
+          few = omega arith;
+        }
+    whole-from budgets end (Err e) A same small is_found restored = tt

@@ -1,5 +1,5 @@
 -- What a search may decide of a query.
-use Rattle.std.specs.Prelude.{◌≢◌, ◌≤◌, ℕ, [], length}
+use Rattle.std.specs.Prelude.{◌≢◌, ◌≤◌, ◌*◌, ℕ, [], length}
 use Rattle.formula_tree.specs.Answers.{Answers}
 use Rattle.formula_tree.specs.Runs.{NeedsMore}
 use Rattle.formula_tree.specs.Trees.{Tree, tree_of}
@@ -17,6 +17,7 @@ use Rattle.refute_check.specs.Proofs.{Proof, depth, proof_of, splits}
 use Rattle.refute_check.specs.Closing.{Before, Closes, at_first}
 use Rattle.refute_check.specs.Laws.{MakesYes}
 use Rattle.refute_check.specs.Propagated.{PropagatedNeedsMore}
+use Rattle.search_parts.specs.Trimmed.{IsTrimmed}
 use Rattle.tree_search.specs.declared.outcome.Budgets.{Budgets}
 use Rattle.tree_search.specs.declared.outcome.Decided.{Decided}
 use Rattle.tree_search.specs.declared.outcome.Decided.TheVariants.{Refuted, Met, OutOfSplits, OutOfStates}
@@ -27,12 +28,13 @@ use Rattle.tree_search.specs.Nodes.{IsNode, LeadTo}
 abbrev pub asked_tree : Query → Tree
 asked_tree query = tree_of query.formula.value
 
--- the refutation closes the query; it has at most so many splits, a shared one counted at each place, and they nest at most as
--- deep as there are tests
+-- the refutation closes the query; it has at most so many splits, a shared one counted at each place; its splits and labels nest at
+-- most twice as deep as there are tests; and it is trimmed
 pub record IsRefutation (schema : Schema) (query : Query) (most : ℕ) (proof : Proof) : Type 0 where
   pub closes : Closes schema query.tests (asked_tree query) at_first proof []
   pub few : splits proof ≤ most
-  pub nests : depth proof ≤ length query.tests
+  pub nests : depth proof ≤ 2 * length query.tests
+  pub trimmed : IsTrimmed schema query.tests (asked_tree query) proof
 
 -- the request is valid and makes the query yes
 pub record MeetsQuery (schema : Schema) (query : Query) (q : Request) : Type 0 where

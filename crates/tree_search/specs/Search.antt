@@ -1,28 +1,42 @@
 -- What the steps of a search are asked and answer.
-use Rattle.std.specs.Prelude.{◌≡◌, ◌≢◌, ◌≤◌, ◌<◌, ◌-◌, ◌^◌, ◌++◌, ◌∷◌, [], ℕ, List, length, slice_set}
-use Rattle.std.specs.Prelude.{Bool, false, Option, Some, None, All}
+use Rattle.std.specs.Prelude.{◌≡◌, ◌≢◌, ◌≤◌, ◌<◌, ◌-◌, ◌^◌, ◌++◌, ◌∷◌, ◌↔◌, [], ℕ, List, length, slice_set}
+use Rattle.std.specs.Prelude.{Bool, true, false, Option, Some, None, All, IsTrue}
 use Rattle.formula_tree.specs.Answers.{Answers, answer_of}
-use Rattle.formula_tree.specs.Runs.{Run, answered, unanswered}
+use Rattle.formula_tree.specs.Runs.{Run, answered}
 use Rattle.formula_tree.specs.Values.{AreBelow, value}
 use Rattle.formula_tree.specs.declared.value.Three.TheVariants.{No}
 use Rattle.cnf_clauses.specs.Levels.{Followed}
 use Rattle.cnf_clauses.specs.Numbering.{clauses_of}
+use Rattle.nogoods.specs.Hits.{NoHit}
 use Rattle.text_table.specs.Table.{IsInOrder}
+use Rattle.wildcard_lang.specs.Places.{ShowWider}
 use Rattle.policy_model.specs.declared.schema.Schema.{Schema}
 use Rattle.policy_model.specs.declared.test.Slot.{Slot}
 use Rattle.policy_model.specs.Soundness.{SchemaIsSound, TestSuits}
 use Rattle.policy_compile.specs.declared.outcome.Query.{Query}
 use Rattle.slot_theory.specs.declared.outcome.SlotValue.{SlotValue}
+use Rattle.slot_theory.specs.Cores.{HasTest}
 use Rattle.slot_theory.specs.Possible.{IsPossible, PathInRange}
+use Rattle.slot_theory.specs.Slots.{patterns_at}
 use Rattle.request_build.specs.Built.{AreSlotValues}
-use Rattle.refute_check.specs.Closing.{Before, Closes}
-use Rattle.refute_check.specs.Proofs.{Proof, depth, proof_of, splits}
 use Rattle.refute_check.specs.Propagated.{PropagatedRun}
-use Rattle.tree_search.specs.declared.outcome.Decided.{Decided}
-use Rattle.tree_search.specs.declared.outcome.Decided.TheVariants.{Refuted, Met, OutOfSplits, OutOfStates}
+use Rattle.search_parts.specs.declared.part.Halves.{Halves}
+use Rattle.search_parts.specs.declared.learning.TheConstants.{MOST_LEARNED}
+use Rattle.search_parts.specs.declared.part.Part.{Part}
+use Rattle.search_parts.specs.Joining.{IsJoined}
+use Rattle.search_parts.specs.Making.{IsMadePart, part_proof}
+use Rattle.search_parts.specs.Needs.{AreNeeds}
+use Rattle.search_parts.specs.Parts.{ClosesByStore}
+use Rattle.tree_values.specs.Models.{answered_tree}
+use Rattle.tree_search.specs.declared.found.Found.{Found}
+use Rattle.tree_search.specs.declared.found.Found.TheVariants.{Refuted, Met, OutOfSplits, OutOfStates}
+use Rattle.tree_search.specs.declared.outcome.Wide.{Wide}
 use Rattle.tree_search.specs.declared.search.Search.{Search}
-use Rattle.tree_search.specs.declared.search.State.{State}
-use Rattle.tree_search.specs.Decisions.{IsWide, MeetsQuery, NeedMore, asked_tree}
+use Rattle.tree_search.specs.declared.state.State.{State}
+use Rattle.tree_search.specs.Decisions.{MeetsQuery, NeedMore, asked_tree}
+use Rattle.tree_search.specs.Leading.{LeadBy}
+use Rattle.tree_search.specs.Nodes.{IsNode}
+use Rattle.tree_search.specs.States.{IsStanding}
 
 -- slots, each with a value
 abbrev pub Values : Type 0
@@ -37,8 +51,14 @@ pub record IsAskedFor (schema : Schema) (query : Query) (states : ℕ) : Type 0 
   pub below : AreBelow (length query.tests) (asked_tree query)
   pub some : 1 ≤ states
 
-abbrev pub IsReady : Search → Type 0
-IsReady s = IsAskedFor s.schema.now s.query.now s.states
+-- and the clauses are the query's
+pub record IsReady (s : Search) : Type 0 where
+  pub asked : IsAskedFor s.schema.now s.query.now s.states
+  pub clauses_are : s.clauses.now ≡ clauses_of (length s.query.now.tests) (asked_tree s.query.now)
+
+-- all but the slots' values and the clauses is at the path
+abbrev pub Stands : Search → State → Type 0
+Stands s state = IsStanding s.schema.now s.query.now state.path state.tree state.learned state.cores
 
 -- the values are those of the path
 pub record AreCarried (schema : Schema) (query : Query) (path : Answers) (values : Values) : Type 0 where
@@ -83,38 +103,101 @@ CarriesWith s state value index = AreCarried s.schema.now s.query.now state.path
 abbrev pub MayBeYes : Search → State → Type 0
 MayBeYes s state = value state.path (asked_tree s.query.now) ≢ No
 
--- path, values and what is followed are as before, and no split has been added to those that are left
-pub record IsRestored (old new : State) : Type 0 where
+-- the path has the answers of nothing that was learned
+abbrev pub NothingLearned : State → Type 0
+NothingLearned state = NoHit state.learned.lists state.path
+
+-- all is at the path as before; some more may have been learned, and no split has been added to those that are left
+pub record IsRestored (s : Search) (old new : State) : Type 0 where
   pub path : new.path ≡ old.path
   pub values : new.values ≡ old.values
   pub clauses : new.clauses ≡ old.clauses
   pub left : new.left ≤ old.left
+  pub stands : Stands s new
+  pub more : List Answers
+  pub grows : new.learned.lists ≡ old.learned.lists ++ more
 
 -- a run from the path ends without a request, after at least so many splits
 abbrev pub EndsUnmet : (Answers → Bool → ℕ → Type 0) → Answers → ℕ → Type 0
 EndsUnmet runs path used = (end : Bool) (n : ℕ) → runs path end n → (end ≡ false) × (used ≤ n)
 
--- the refutation closes the query under the path, whatever stands before it, by so many splits, which nest no deeper than there
--- are tests that the path leaves open; and both runs from the path end without a request and have at least as many
-pub record IsRefutedAt (schema : Schema) (query : Query) (path : Answers) (used : ℕ) (proof : Proof) : Type 0 where
-  pub closes : (before : Before) → Closes schema query.tests (asked_tree query) before proof path
-  pub count : splits proof ≡ used
-  pub nests : depth proof ≤ unanswered path (length query.tests)
+-- both runs from the path end without a request and have at least so many splits
+pub record IsCounted (schema : Schema) (query : Query) (path : Answers) (used : ℕ) : Type 0 where
   pub plain : EndsUnmet (Run (IsPossible schema query.tests) (asked_tree query)) path used
   pub propagated : EndsUnmet (PropagatedRun schema query.tests (asked_tree query)) path used
 
--- what is decided from a path, where so many splits are left, by using so many
-abbrev pub IsDecidedFrom : Schema → Query → ℕ → Answers → ℕ → ℕ → Decided → Type 0
-IsDecidedFrom schema query states path left used (Refuted r) = IsRefutedAt schema query path used (proof_of r.value)
-IsDecidedFrom schema query states path left used (Met q) = MeetsQuery schema query q
-IsDecidedFrom schema query states path left used OutOfSplits = NeedMore schema query path left
-IsDecidedFrom schema query states path left used (OutOfStates w) = (before : Before) → IsWide schema query before used states path w
+-- the part closes the query under the path, where the first lists were stored before it and the second are now, by at most so many
+-- splits; and both runs from the path end without a request and have at least as many
+pub record IsRefutedPart (schema : Schema) (query : Query) (path : Answers) (old new : List Answers) (used : ℕ) (part : Part)
+    : Type 0 where
+  pub made : IsMadePart schema query.tests (asked_tree query) old new path used part
+  pub counted : IsCounted schema query path used
 
--- what is decided from the state's path
-abbrev pub IsDecidedHere : Search → State → State → Decided → Type 0
-IsDecidedHere s old new = IsDecidedFrom s.schema.now s.query.now s.states old.path old.left (old.left - new.left)
+-- no more splits than so many lead from the first path to the second, by what is stored, of which so many lists had ended before
+pub record IsNearBy (schema : Schema) (query : Query) (store : List Answers) (ended most : ℕ) (path node : Answers) : Type 0 where
+  pub count : ℕ
+  pub lead : LeadBy schema query.tests (asked_tree query) store ended count path node
+  pub few : count ≤ most
 
--- what is decided from its path with one more answer
-abbrev pub IsDecidedThere : Search → State → ℕ → Bool → State → Decided → Type 0
-IsDecidedThere s old test answer new =
-    IsDecidedFrom s.schema.now s.query.now s.states (answered old.path test answer) old.left (old.left - new.left)
+-- the kept path is a node of the plain run from the path, to which no more splits than so many lead, and at which the query
+-- isn't no; it answers a test of the slot, and the kept texts show the patterns of the slot there wider than the states
+pub record IsWideBy (schema : Schema) (query : Query) (store : List Answers) (ended most states : ℕ) (path : Answers) (w : Wide)
+    : Type 0 where
+  pub node : IsNode (IsPossible schema query.tests) (asked_tree query) path w.path
+  pub near : IsNearBy schema query store ended most path w.path
+  pub not_no : value w.path (asked_tree query) ≢ No
+  pub asked : HasTest query.tests w.path w.slot
+  pub texts : ShowWider (patterns_at schema query.tests w.path w.slot) states w.texts
+
+-- what was stored before a search, what is now, how many splits were left and how many were used
+pub record Spent : Type 0 where
+  pub old : List Answers
+  pub new : List Answers
+  pub left : ℕ
+  pub used : ℕ
+
+abbrev pub spent : State → State → Spent
+spent old new = record { old = old.learned.lists; new = new.learned.lists; left = old.left; used = old.left - new.left }
+
+-- what is found from a path
+abbrev pub IsFoundFrom : Schema → Query → ℕ → Answers → Spent → Found → Type 0
+IsFoundFrom schema query states path s (Refuted part) = IsRefutedPart schema query path s.old s.new s.used part
+IsFoundFrom schema query states path s (Met q) = MeetsQuery schema query q
+IsFoundFrom schema query states path s OutOfSplits = NeedMore schema query path s.left
+IsFoundFrom schema query states path s (OutOfStates w) = IsWideBy schema query s.new (length s.old) s.used states path w
+
+-- what is found from the state's path
+abbrev pub IsFoundHere : Search → State → State → Found → Type 0
+IsFoundHere s old new = IsFoundFrom s.schema.now s.query.now s.states old.path (spent old new)
+
+-- what is found from its path with one more answer
+abbrev pub IsFoundThere : Search → State → ℕ → Bool → State → Found → Type 0
+IsFoundThere s old test answer new =
+    IsFoundFrom s.schema.now s.query.now s.states (answered old.path test answer) (spent old new)
+
+-- ---- a split
+
+abbrev pub closes_here : Search → State → Part → Answers → Type 0
+closes_here s state part path =
+    ClosesByStore state.learned.lists s.schema.now s.query.now.tests (asked_tree s.query.now) (part_proof part) path
+
+-- the part closes the yes side of a split, and it is known what it needs
+pub record IsSide (s : Search) (state : State) (test : ℕ) (yes : Part) : Type 0 where
+  pub closes : closes_here s state yes (answered state.path test true)
+  pub needs : AreNeeds state.learned.lists (closes_here s state yes) (part_proof yes) (answered state.path test true) yes.needs
+
+-- it says whether the part closes at the path itself
+abbrev pub SaysIfClosed : Search → State → Part → Bool → Type 0
+SaysIfClosed s state part result = IsTrue result ↔ closes_here s state part state.path
+
+-- the split of the two, where all but what was learned is as before
+pub record IsJoinedHere (old : State) (halves : Halves) (new : State) (part : Part) : Type 0 where
+  pub path : new.path ≡ old.path
+  pub tree : new.tree ≡ old.tree
+  pub clauses : new.clauses ≡ old.clauses
+  pub cores : new.cores ≡ old.cores
+  pub values : new.values ≡ old.values
+  pub left : new.left ≡ old.left
+  pub learned_path : new.learned.path ≡ old.learned.path
+  pub few : length new.learned.lists ≤ MOST_LEARNED
+  pub joined : IsJoined old.path halves old.learned.lists new.learned.lists (answered_tree old.tree) part

@@ -1,12 +1,15 @@
 //! The search: a query refuted over all requests, or met by one.
 #![tactic(auto)]
 
+mod cores;
+mod deciding;
+mod found;
 mod outcome;
-mod refutations;
 mod runs;
 mod search;
+mod state;
 mod values;
 
+pub use deciding::decide;
 pub use outcome::{Budgets, Decided, Wide};
 pub use runs::queries_have_runs;
-pub use search::decide;

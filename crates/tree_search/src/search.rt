@@ -1,79 +1,79 @@
-//! The search: a node is closed by the tree's value, by a conflict of clauses or by a slot, in this order, and else
-//! split. What clauses derive isn't put into the path, so each node is one of the plain run.
-ghost use Rattle.std.specs.Prelude.{◌≡◌, ◌≢◌, ◌≤◌, ◌<◌, ◌^◌, [], None, All, IfOk, OnOk, length};
+//! The search. A node is closed by the tree's value, by a conflict of clauses, by what was learned, by a kept core or by
+//! its slot, in this order, and else split. What clauses derive isn't put into the path, so each node is one of the
+//! plain run.
+ghost use Rattle.std.specs.Prelude.{◌≡◌, ◌≢◌, ◌<◌, [], None, IfOk, OnOk, length};
 ghost use Rattle.formula_tree.specs.Answers.{answer_of};
-ghost use Rattle.formula_tree.specs.Values.{AreBelow, value};
+ghost use Rattle.formula_tree.specs.Values.{value};
 ghost use Rattle.formula_tree.specs.declared.value.Three.TheVariants.{No, Yes};
-ghost use Rattle.policy_model.specs.Soundness.{SchemaIsSound, TestSuits};
+ghost use Rattle.search_parts.specs.Joining.{AreReady};
 ghost use Rattle.slot_theory.specs.Slots.{slot_of, test_at};
-ghost use Rattle.tree_search.specs.Decisions.{IsDecision, MeetsQuery, asked_tree};
-ghost use Rattle.tree_search.specs.Search.{Carries, CarriesWith, Follows, IsAhead, IsDecidedHere, IsDecidedThere, IsOneLonger, IsReady, IsRestored, MayBeYes, followed_at};
+ghost use Rattle.tree_search.specs.Decisions.{MeetsQuery, asked_tree};
+ghost use Rattle.tree_search.specs.Search.{Carries, CarriesWith, Follows, IsAhead, IsFoundHere, IsFoundThere, IsJoinedHere, IsOneLonger, IsReady, IsRestored, IsSide, MayBeYes, NothingLearned, SaysIfClosed, Stands};
 ghost use Rattle.tree_search.specs.Values.{IsIndexOf};
 
-use crate::outcome::{Budgets, Decided, Wide};
-use crate::refutations::{by_clauses, by_slot, by_value, split};
+use crate::found::Found;
+use crate::outcome::Wide;
+use crate::state::State;
 use crate::values::{exchange, index_of, pop};
-use cnf_clauses::{Following, Start, clauses_of};
-use formula_tree::{Path, Three, pick, value3};
+use cnf_clauses::Clauses;
+use formula_tree::Three;
 use plain_lists::NoMemory;
 use policy_compile::Query;
 use policy_model::{Request, Schema, Slot};
-use request_build::{SlotValues, build};
+use request_build::build;
+use search_parts::{
+    Halves, Part, Shortening, clauses_part, join, reuse_part, slot_part, value_part,
+};
 use slot_theory::{Possible, SlotValue, meets, possible, slot_of};
 use std::alloc::Global;
 
 /// What a search is asked.
 #[derive(Drop)]
-struct Search<'a> {
-    alloc: Global,
-    schema: &'a Schema,
-    query: &'a Query,
+pub(crate) struct Search<'a> {
+    pub(crate) alloc: Global,
+    pub(crate) schema: &'a Schema,
+    pub(crate) query: &'a Query,
+    /// The clauses of the query's formula.
+    pub(crate) clauses: &'a Clauses,
     /// The most product states of a slot's patterns.
-    states: u32,
-}
-
-/// Where a search stands.
-#[derive(Drop)]
-struct State {
-    path: Path,
-    /// A value for each slot that the path asks about, and for no other slot. They are changed in
-    /// place and put back, so that no split copies them.
-    values: SlotValues,
-    /// Unit propagation from the path, which meets no conflict there.
-    clauses: Following,
-    /// How many splits may still be made.
-    left: u32,
+    pub(crate) states: u32,
 }
 
 impl<'a> Search<'a> {
-    /// The search from a path whose tests the values answer, and under which the query isn't no.
+    /// The search from a node that isn't closed.
     #[cycle(search)]
-    fn search(&self, state: &mut State) -> Result<Decided, NoMemory>
+    pub(crate) fn search(&self, state: &mut State) -> Result<Found, NoMemory>
         requires ready { IsReady self.now }
+        requires stands { Stands self.now state.old }
         requires carries { Carries self.now state.old }
         requires follows { Follows self.now state.old }
         requires may { MayBeYes self.now state.old }
-        ensures decided { IfOk result (IsDecidedHere self.now state.old state.new) }
-        ensures restored { OnOk result (IsRestored state.old state.new) }
+        requires nothing { NothingLearned state.old }
+        ensures found { IfOk result (IsFoundHere self.now state.old state.new) }
+        ensures restored { OnOk result (IsRestored self.now state.old state.new) }
     {
-        let Some(test) = pick(&self.query.formula, &state.path) else {
-            return Ok(Decided::Met(self.met(state)?));
+        let Some(test) = state.tree.pick() else {
+            return Ok(Found::Met(self.met(state)?));
         };
         // No clause closes the path, so the propagated run splits here too.
         state.clauses.is_quiet();
         if state.left == 0 {
-            return Ok(Decided::OutOfSplits);
+            return Ok(Found::OutOfSplits);
         }
         state.left -= 1;
         let yes = self.side(state, test, true)?;
-        let Decided::Refuted(yes) = yes else {
+        let Found::Refuted(yes) = yes else {
             return Ok(yes);
         };
+        let needless = self.is_needless(state, test, &yes)?;
+        if needless {
+            return Ok(Found::Refuted(yes));
+        }
         let no = self.side(state, test, false)?;
-        let Decided::Refuted(no) = no else {
+        let Found::Refuted(no) = no else {
             return Ok(no);
         };
-        Ok(Decided::Refuted(split(self.alloc, test, yes, no)?))
+        Ok(Found::Refuted(self.joined(state, Halves { test, yes, no })?))
     }
 
     /// The request of the values, where their path makes the query yes.
@@ -87,51 +87,108 @@ impl<'a> Search<'a> {
         build(self.alloc, self.schema, tests, &state.path, &state.values)
     }
 
+    /// Whether the part that closes the yes side of a split closes without the split's answer.
+    fn is_needless(&self, state: &State, test: u32, yes: &Part) -> Result<bool, NoMemory>
+        requires ready { IsReady self.now }
+        requires may { MayBeYes self.now state.now }
+        requires new { answer_of state.now.path test ≡ None }
+        requires side { IsSide self.now state.now test yes.now }
+        ensures { IfOk result (SaysIfClosed self.now state.now yes.now) }
+    {
+        let shortening = Shortening {
+            alloc: self.alloc,
+            query: self.query,
+            clauses: self.clauses,
+            learned: &state.learned,
+        };
+        shortening.is_needless(yes, test, &mut state.path.copy()?)
+    }
+
+    /// The split of two sides that are closed, learned where there is room.
+    fn joined(&self, state: &mut State, halves: Halves) -> Result<Part, NoMemory>
+        requires { AreReady state.old.path halves state.old.learned state.old.tree }
+        ensures joined { IfOk result (IsJoinedHere state.old halves state.new) }
+    {
+        join(
+            self.alloc,
+            &state.path,
+            halves,
+            &mut state.learned,
+            &mut state.tree,
+        )
+    }
+
     /// The search from the path with one more answer.
     #[cycle(search)]
-    fn side(&self, state: &mut State, test: u32, answer: bool) -> Result<Decided, NoMemory>
+    fn side(&self, state: &mut State, test: u32, answer: bool) -> Result<Found, NoMemory>
         requires ready { IsReady self.now }
+        requires stands { Stands self.now state.old }
         requires carries { Carries self.now state.old }
         requires follows { Follows self.now state.old }
         requires within { test < length self.now.query.now.tests }
         requires new { answer_of state.old.path test ≡ None }
-        ensures decided { IfOk result (IsDecidedThere self.now state.old test answer state.new) }
-        ensures restored { OnOk result (IsRestored state.old state.new) }
+        ensures found { IfOk result (IsFoundThere self.now state.old test answer state.new) }
+        ensures restored { OnOk result (IsRestored self.now state.old state.new) }
     {
-        state.path.push(test, answer)?;
-        let decided = self.enter(state, test, answer)?;
-        state.path.pop();
-        Ok(decided)
+        state.go_down(test, answer)?;
+        let found = self.enter(state, test, answer)?;
+        state.go_back(test);
+        Ok(found)
     }
 
-    /// The search from a path whose last answer neither the values nor the clauses follow.
+    /// The search from a path whose last answer neither the slots' values nor the clauses follow.
     #[cycle(search)]
-    fn enter(&self, state: &mut State, test: u32, answer: bool) -> Result<Decided, NoMemory>
+    fn enter(&self, state: &mut State, test: u32, answer: bool) -> Result<Found, NoMemory>
         requires ready { IsReady self.now }
+        requires stands { Stands self.now state.old }
         requires ahead { IsAhead self.now state.old test answer }
-        ensures decided { IfOk result (IsDecidedHere self.now state.old state.new) }
-        ensures restored { OnOk result (IsRestored state.old state.new) }
+        ensures found { IfOk result (IsFoundHere self.now state.old state.new) }
+        ensures restored { OnOk result (IsRestored self.now state.old state.new) }
     {
-        if let Three::No = value3(&self.query.formula, &state.path) {
-            return Ok(Decided::Refuted(by_value(self.alloc)?));
+        if let Three::No = state.tree.value() {
+            return Ok(Found::Refuted(value_part(self.alloc)?));
         }
         if let Some(conflict) = state.clauses.push(self.alloc, test, answer)? {
-            return Ok(Decided::Refuted(by_clauses(self.alloc, conflict.hints)?));
+            return Ok(Found::Refuted(clauses_part(self.alloc, conflict)?));
         }
-        let decided = self.go_in(state, test, answer)?;
+        let found = self.go_in(state, test, answer)?;
         state.clauses.pop();
-        Ok(decided)
+        Ok(found)
     }
 
-    /// The search from a path all of whose tests but the last the values answer.
+    /// The search from a path whose last answer the slots' values don't follow, unless it has the answers of
+    /// something that was learned or of a kept core.
     #[cycle(search)]
-    fn go_in(&self, state: &mut State, test: u32, answer: bool) -> Result<Decided, NoMemory>
+    fn go_in(&self, state: &mut State, test: u32, answer: bool) -> Result<Found, NoMemory>
         requires ready { IsReady self.now }
+        requires stands { Stands self.now state.old }
         requires longer { IsOneLonger self.now state.old test answer }
         requires follows { Follows self.now state.old }
         requires may { MayBeYes self.now state.old }
-        ensures decided { IfOk result (IsDecidedHere self.now state.old state.new) }
-        ensures restored { OnOk result (IsRestored state.old state.new) }
+        ensures found { IfOk result (IsFoundHere self.now state.old state.new) }
+        ensures restored { OnOk result (IsRestored self.now state.old state.new) }
+    {
+        if let Some(number) = state.learned.hit() {
+            let part = reuse_part(self.alloc, &state.learned, number)?;
+            return Ok(Found::Refuted(part));
+        }
+        if let Some(part) = state.cores.hit()? {
+            return Ok(Found::Refuted(part));
+        }
+        self.settle(state, test, answer)
+    }
+
+    /// The search from such a path, which has no such answers.
+    #[cycle(search)]
+    fn settle(&self, state: &mut State, test: u32, answer: bool) -> Result<Found, NoMemory>
+        requires ready { IsReady self.now }
+        requires stands { Stands self.now state.old }
+        requires longer { IsOneLonger self.now state.old test answer }
+        requires follows { Follows self.now state.old }
+        requires may { MayBeYes self.now state.old }
+        requires nothing { NothingLearned state.old }
+        ensures found { IfOk result (IsFoundHere self.now state.old state.new) }
+        ensures restored { OnOk result (IsRestored self.now state.old state.new) }
     {
         let asked = &self.query.tests.as_slice()[test as usize];
         let slot = slot_of(self.alloc, asked)?;
@@ -153,25 +210,29 @@ impl<'a> Search<'a> {
         answer: bool,
         slot: Slot,
         index: Option<usize>,
-    ) -> Result<Decided, NoMemory>
+    ) -> Result<Found, NoMemory>
         requires ready { IsReady self.now }
+        requires stands { Stands self.now state.old }
         requires longer { IsOneLonger self.now state.old test answer }
         requires follows { Follows self.now state.old }
         requires may { MayBeYes self.now state.old }
+        requires nothing { NothingLearned state.old }
         requires slot { slot ≡ slot_of (test_at self.now.query.now.tests test) }
         requires index { IsIndexOf slot state.old.values index }
-        ensures decided { IfOk result (IsDecidedHere self.now state.old state.new) }
-        ensures restored { OnOk result (IsRestored state.old state.new) }
+        ensures found { IfOk result (IsFoundHere self.now state.old state.new) }
+        ensures restored { OnOk result (IsRestored self.now state.old state.new) }
     {
         let (schema, tests) = (self.schema, &self.query.tests);
         match possible(self.alloc, schema, tests, &state.path, &slot, self.states)? {
             Possible::Found(value) => self.go_on(state, (slot, value), index),
             Possible::Conflict(core, proof) => {
-                Ok(Decided::Refuted(by_slot(self.alloc, core, proof)?))
+                let part = slot_part(self.alloc, &state.path, core, proof)?;
+                state.cores.keep(&part)?;
+                Ok(Found::Refuted(part))
             }
             Possible::TooMany(texts) => {
                 let path = state.path.copy()?;
-                Ok(Decided::OutOfStates(Wide { path, slot, texts }))
+                Ok(Found::OutOfStates(Wide { path, slot, texts }))
             }
         }
     }
@@ -183,88 +244,26 @@ impl<'a> Search<'a> {
         state: &mut State,
         value: (Slot, SlotValue),
         index: Option<usize>,
-    ) -> Result<Decided, NoMemory>
+    ) -> Result<Found, NoMemory>
         requires ready { IsReady self.now }
+        requires stands { Stands self.now state.old }
         requires index { IsIndexOf value.0 state.old.values index }
         requires carries { CarriesWith self.now state.old value index }
         requires follows { Follows self.now state.old }
         requires may { MayBeYes self.now state.old }
-        ensures decided { IfOk result (IsDecidedHere self.now state.old state.new) }
-        ensures restored { OnOk result (IsRestored state.old state.new) }
+        requires nothing { NothingLearned state.old }
+        ensures found { IfOk result (IsFoundHere self.now state.old state.new) }
+        ensures restored { OnOk result (IsRestored self.now state.old state.new) }
     {
         let Some(i) = index else {
             state.values.push(value)?;
-            let decided = self.search(state)?;
+            let found = self.search(state)?;
             pop(self.alloc, &mut state.values);
-            return Ok(decided);
+            return Ok(found);
         };
         let before = exchange(self.alloc, &mut state.values, i, value);
-        let decided = self.search(state)?;
+        let found = self.search(state)?;
         exchange(self.alloc, &mut state.values, i, before);
-        Ok(decided)
+        Ok(found)
     }
-}
-
-/// Decides a query within budgets: it splits on the first open test, yes first, and closes a path by the tree's
-/// value, by unit propagation over the query's clauses or by a slot. It stops for want of splits only where both
-/// the plain run and the propagated run need more.
-///
-/// The schema is sound and every test suits it, the formula's test numbers are below the number of
-/// tests, and both budgets are at least 1. The only error is want of memory.
-pub fn decide(
-    alloc: Global,
-    schema: &Schema,
-    query: &Query,
-    budgets: Budgets,
-) -> Result<Decided, NoMemory>
-    requires sound { SchemaIsSound schema.now }
-    requires suit { All (TestSuits schema.now) query.now.tests }
-    requires count { length query.now.tests < 2 ^ 32 }
-    requires below { AreBelow (length query.now.tests) (asked_tree query.now) }
-    requires splits { 1 ≤ budgets.splits }
-    requires states { 1 ≤ budgets.states }
-    ensures decision { IfOk result (IsDecision schema.now query.now budgets) }
-{
-    if let Three::No = value3(&query.formula, &Path::new(alloc)) {
-        return Ok(Decided::Refuted(by_value(alloc)?));
-    }
-    let clauses = clauses_of(alloc, &query.formula, query.tests.len() as u32)?;
-    match Following::start(alloc, clauses)? {
-        Start::Quiet(clauses) => begin(alloc, schema, query, budgets, clauses),
-        Start::Met(conflict) => Ok(Decided::Refuted(by_clauses(alloc, conflict.hints)?)),
-    }
-}
-
-// The search from the empty path, which neither the tree's value nor a clause closes.
-fn begin(
-    alloc: Global,
-    schema: &Schema,
-    query: &Query,
-    budgets: Budgets,
-    clauses: Following,
-) -> Result<Decided, NoMemory>
-    requires sound { SchemaIsSound schema.now }
-    requires suit { All (TestSuits schema.now) query.now.tests }
-    requires count { length query.now.tests < 2 ^ 32 }
-    requires below { AreBelow (length query.now.tests) (asked_tree query.now) }
-    requires states { 1 ≤ budgets.states }
-    requires follows { clauses ≡ followed_at query.now [] }
-    requires may { value [] (asked_tree query.now) ≢ No }
-    ensures decision { IfOk result (IsDecision schema.now query.now budgets) }
-{
-    let mut state = State {
-        path: Path::new(alloc),
-        values: SlotValues::new(alloc),
-        clauses,
-        left: budgets.splits,
-    };
-    // The schema's keys are in order, so the request of values that answer a path is valid.
-    let _keys = schema.len();
-    let search = Search {
-        alloc,
-        schema,
-        query,
-        states: budgets.states,
-    };
-    search.search(&mut state)
 }

@@ -1,0 +1,22 @@
+use Rattle.std.proofs.Common.{◌≡◌, [], length, sym}
+use Rattle.formula_tree.specs.Values.{value}
+use Rattle.formula_tree.specs.declared.value.Three.TheVariants.{No}
+use Rattle.cnf_clauses.specs.Following.{IsConflictAt}
+use Rattle.cnf_clauses.specs.Numbering.{clauses_of}
+use Rattle.tree_search.specs.Decisions.{asked_tree}
+use Rattle.tree_search.proofs.Starting.{whole-clauses, whole-value}
+use Rattle.tree_search.proofs.deciding.found_of.Goals as goal
+
+pub returns-in-No : goal.returns-in-No
+returns-in-No c =
+    let query = c.args.query.now in
+    let is_no : value [] (asked_tree query) ≡ No = sym (rw (c.deref.ensures, c.new.ensures) at c.in-No.ensures) in
+    whole-value c.args.schema.now query c.args.budgets c.in_ok-value_part.field-0 c.requires.below c.in_ok-value_part.ensures is_no
+
+pub returns-in_ok-clauses_part-in-Met : goal.returns-in_ok-clauses_part-in-Met
+returns-in_ok-clauses_part-in-Met c =
+    let query = c.args.query.now in
+    let met : IsConflictAt c.in_ok-clauses.clauses [] c.in-Met.conflict = rw c.in-Met.is at c.in_ok-clauses-2.ensures in
+    let clauses : c.in_ok-clauses.clauses ≡ clauses_of (length query.tests) (asked_tree query) = rw (c.deref-2.ensures, c.len.ensures) at c.in_ok-clauses.ensures in
+    let conflict : IsConflictAt (clauses_of (length query.tests) (asked_tree query)) [] c.in-Met.conflict = rw clauses at met in
+    whole-clauses c.args.schema.now query c.args.budgets c.in_ok-clauses_part-in-Met.field-0 c.in-Met.conflict c.requires.below c.in_ok-clauses_part-in-Met.ensures conflict
