@@ -1,0 +1,118 @@
+-- What the rows of a table tell of the order.
+use Rattle.std.proofs.Common.{◌≡◌, ◌≢◌, ℕ, ◌+◌, ◌<◌, ◌≤◌, List, [], length, get_or, true, false, true≢false, not, nat_eq, nat_lt, IsTrue, ◌↔◌, refl, sym, ap, ◌∙◌, subst, inl, inr, arith}
+use Rattle.std.proofs.lemmas.Bool.{and_from, and_parts, cases_Bool, cases_eq, cases_lt}
+use Rattle.std.proofs.lemmas.Bool.Decides.{nat_tests}
+use Rattle.std.proofs.lemmas.List.Elements.{All-contains}
+use Rattle.std.proofs.lemmas.Option.{slice_get_within, get_or_from_slice_get}
+use Rattle.policy_model.specs.declared.schema.Schema.{Schema}
+use Rattle.policy_model.specs.declared.test.Slot.{Slot}
+use Rattle.strata.specs.declared.predicate.Predicate.{Predicate}
+use Rattle.strata.specs.declared.rows.Row.{Row}
+use Rattle.strata.specs.Covers.{AreMaximalBelow, IsBelowAt, IsDecided, IsMaximalBelow, IsStrictlyBelow, predicate_at}
+use Rattle.strata.specs.Rows.{AreListed, AreSized, AreToldMaximal, IsNothingAmong, IsNothingTold, IsTable, IsToldMaximal, empty_row, tells_below, tells_between, tells_strictly}
+use Rattle.strata.specs.Strata.{IsOrder}
+use Rattle.strata.proofs.Ordering.{below-self}
+
+eq-true : (a b : ℕ) → a ≡ b → nat_eq a b ≡ true
+eq-true a b h = grind (arith, nat_tests)
+
+eq-false : (a b : ℕ) → a ≢ b → nat_eq a b ≡ false
+eq-false a b h = grind (arith, nat_tests)
+
+lt-true : (a b : ℕ) → a < b → nat_lt a b ≡ true
+lt-true a b h = grind (arith, nat_tests)
+
+lt-false : (a b : ℕ) → b ≤ a → nat_lt a b ≡ false
+lt-false a b h = grind (arith, nat_tests)
+
+-- each row of a table answers for those before it
+pub table-sized : (schema : Schema) (s : Slot) (kept : List Predicate) (rows : List Row) → IsTable schema s kept rows → AreSized rows
+table-sized schema s kept rows h i d l = let row = h.each i d l in (row.below.count, row.above.count)
+
+-- the answers of a table are right
+tells-below : (schema : Schema) (s : Slot) (kept : List Predicate) (rows : List Row) (j i : ℕ) → IsTable schema s kept rows → j < length rows → i < length rows → IsTrue (tells_below rows j i) ↔ IsBelowAt schema s kept j i
+tells-below schema s kept rows j i h wj wi = elim (cases_eq j i) [
+  | inl same ↦ rw (eq-true j i same) (λ _. subst (λ (m : ℕ). IsBelowAt schema s kept j m) same (below-self schema s (predicate_at kept j)), λ _. refl)
+  | inr differ ↦ elim (cases_lt j i) [
+    | inl less ↦ rw (eq-false j i differ, lt-true j i less) ((h.each i empty_row wi).above.each j less)
+    | inr more ↦ rw (eq-false j i differ, lt-false j i more) ((h.each j empty_row wj).below.each i (omega arith))
+  ]
+]
+
+tells-strictly : (schema : Schema) (s : Slot) (kept : List Predicate) (rows : List Row) (j i : ℕ) → IsTable schema s kept rows → j < length rows → i < length rows → tells_strictly rows j i ≡ true → IsStrictlyBelow schema s kept j i
+tells-strictly schema s kept rows j i h wj wi e =
+    let both = and_parts (not (nat_eq j i)) (tells_below rows j i) e in
+    record {
+      lower = omega (arith, h.count);
+      upper = omega (arith, h.count);
+      differ = λ same. let off : not (nat_eq j i) ≡ false = ap not (eq-true j i same) in absurd (cc);
+      below = (tells-below schema s kept rows j i h wj wi).0 both.1;
+    }
+
+strictly-tells : (schema : Schema) (s : Slot) (kept : List Predicate) (rows : List Row) (j i : ℕ) → IsTable schema s kept rows → IsStrictlyBelow schema s kept j i → tells_strictly rows j i ≡ true
+strictly-tells schema s kept rows j i h below =
+    and_from (not (nat_eq j i)) (tells_below rows j i) (ap not (eq-false j i below.differ)) ((tells-below schema s kept rows j i h (omega (arith, h.count, below.lower)) (omega (arith, h.count, below.upper))).1 below.below)
+
+-- what a table tells of those that are maximal strictly below is right
+told-maximal : (schema : Schema) (s : Slot) (kept : List Predicate) (rows : List Row) (j i : ℕ) → IsTable schema s kept rows → IsToldMaximal rows i j → IsMaximalBelow schema s kept j i
+told-maximal schema s kept rows j i h told = record {
+  strictly = tells-strictly schema s kept rows j i h told.lower told.upper told.strictly;
+  maximal = λ k low high.
+      let both : tells_between rows j k i ≡ true = and_from (tells_strictly rows j k) (tells_strictly rows k i) (strictly-tells schema s kept rows j k h low) (strictly-tells schema s kept rows k i h high) in
+      true≢false (sym both ∙ told.nothing k (omega (arith, h.count, low.upper)));
+}
+
+maximal-told : (schema : Schema) (s : Slot) (kept : List Predicate) (rows : List Row) (j i : ℕ) → IsTable schema s kept rows → IsMaximalBelow schema s kept j i → IsToldMaximal rows i j
+maximal-told schema s kept rows j i h maximal =
+    let wj : j < length rows = omega (arith, h.count, maximal.strictly.lower) in
+    let wi : i < length rows = omega (arith, h.count, maximal.strictly.upper) in
+    record {
+      lower = wj;
+      upper = wi;
+      strictly = strictly-tells schema s kept rows j i h maximal.strictly;
+      nothing = λ k wk. elim (cases_Bool (tells_between rows j k i)) [
+        | inl on ↦
+            let both = and_parts (tells_strictly rows j k) (tells_strictly rows k i) on in
+            absurd (maximal.maximal k (tells-strictly schema s kept rows j k h wj wk both.0) (tells-strictly schema s kept rows k i h wk wi both.1))
+        | inr off ↦ off
+      ];
+    }
+
+listed-maximal : (schema : Schema) (s : Slot) (kept : List Predicate) (rows : List Row) (i : ℕ) (numbers : List ℕ) → IsTable schema s kept rows → AreListed (IsToldMaximal rows i) (length rows) numbers → AreMaximalBelow schema s kept i numbers
+listed-maximal schema s kept rows i numbers h listed = record {
+  rise = listed.rise;
+  exact = λ j. (
+    λ here. told-maximal schema s kept rows j i h ((listed.exact j (All-contains (λ n. n < length rows) numbers j listed.within here)).0 here),
+    λ maximal. let told = maximal-told schema s kept rows j i h maximal in (listed.exact j told.lower).1 told,
+  );
+}
+
+table-decided : (schema : Schema) (s : Slot) (kept : List Predicate) (rows : List Row) → IsTable schema s kept rows → IsDecided schema s kept
+table-decided schema s kept rows h j i wj wi =
+    let says = tells-below schema s kept rows j i h (omega (arith, h.count)) (omega (arith, h.count)) in
+    elim (cases_Bool (tells_below rows j i)) [
+      | inl on ↦ inl (says.0 on)
+      | inr off ↦ inr (λ below. let on : tells_below rows j i ≡ true = says.1 below in absurd (cc))
+    ]
+
+-- the lists of a table are the order
+pub table-order : (schema : Schema) (s : Slot) (kept : List Predicate) (rows : List Row) (lists : List (List ℕ)) → IsTable schema s kept rows → AreToldMaximal rows (length rows) lists → IsOrder schema s kept lists
+table-order schema s kept rows lists h told = record {
+  count = told.count ∙ h.count;
+  each = λ i numbers at.
+      let within : i < length lists = slice_get_within lists i numbers at in
+      let here : get_or lists i [] ≡ numbers = get_or_from_slice_get lists i numbers [] at in
+      subst (λ (ns : List ℕ). AreMaximalBelow schema s kept i ns) here (listed-maximal schema s kept rows i (get_or lists i []) h (told.each i [] (omega (arith, told.count))));
+  decided = table-decided schema s kept rows h;
+}
+
+-- ---- none of the numbers so far is between
+
+pub nothing-more : (rows : List Row) (j k i : ℕ) → IsNothingAmong rows k j i → tells_between rows j k i ≡ false → IsNothingAmong rows (k + 1) j i
+nothing-more rows j k i h off m l = elim (cases_lt m k) [
+  | inl before ↦ h m before
+  | inr past ↦ let same : m ≡ k = omega arith in rw same off
+]
+
+pub nothing-at : (rows : List Row) (j k i : ℕ) → k < length rows → tells_between rows j k i ≡ true → IsTrue false ↔ IsNothingTold rows j i
+nothing-at rows j k i within on = (λ e. absurd (cc), λ nothing. absurd (true≢false (sym on ∙ nothing k within)))

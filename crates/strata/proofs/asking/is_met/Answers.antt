@@ -1,0 +1,6 @@
+use Rattle.strata.proofs.Standing.{any-met}
+use Rattle.strata.proofs.asking.is_met.Goals as goal
+
+pub returns-in-Every-clause-tells : goal.returns-in-Every-clause-tells
+returns-in-Every-clause-tells g c =
+    any-met (g.I.Inclusion.schema c.args.by.now) c.args.slot.now c.args.one.now c.in-Every.is (c.sound_schemas_have_requests.ensures (g.I.Inclusion.schema c.args.by.now) c.requires.slot.sound)

@@ -1,0 +1,10 @@
+pub mod Predicates
+pub mod Below
+pub mod Covers
+pub mod Strata
+pub mod Dimensions
+pub mod Asking
+pub mod Causes
+pub mod Rows
+pub mod Settling
+pub mod Making

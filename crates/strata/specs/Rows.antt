@@ -1,0 +1,72 @@
+-- Rows of answers: for each predicate that is kept, how it stands to those before it.
+use Rattle.std.specs.Prelude.{◌≡◌, ◌↔◌, ◌<◌, ℕ, Bool, true, false, not, ◌&&◌, nat_eq, nat_lt, if◌then◌else◌, List, [], IsTrue, All, Contains, length, slice_index_or}
+use Rattle.pattern_automata.specs.Closed.{rises_from}
+use Rattle.policy_model.specs.declared.schema.Schema.{Schema}
+use Rattle.policy_model.specs.declared.test.Slot.{Slot}
+use Rattle.strata.specs.declared.predicate.Predicate.{Predicate}
+use Rattle.strata.specs.declared.rows.Row.{Row}
+use Rattle.strata.specs.Below.{IsBelow}
+use Rattle.strata.specs.Covers.{predicate_at}
+
+-- for each of the first n predicates the answer whether P holds of it
+pub record AreAnswered (P : Predicate → Type 0) (kept : List Predicate) (n : ℕ) (answers : List Bool) : Type 0 where
+  pub count : length answers ≡ n
+  pub each : (j : ℕ) → j < n → IsTrue (slice_index_or answers j false) ↔ P (predicate_at kept j)
+
+-- whether p is below each of the first n predicates, and whether each is below p
+pub record IsRow (schema : Schema) (s : Slot) (kept : List Predicate) (n : ℕ) (p : Predicate) (row : Row) : Type 0 where
+  pub below : AreAnswered (λ q. IsBelow schema s p q) kept n row.below
+  pub above : AreAnswered (λ q. IsBelow schema s q p) kept n row.above
+
+-- for each predicate its row with those before it
+pub record IsTable (schema : Schema) (s : Slot) (kept : List Predicate) (rows : List Row) : Type 0 where
+  pub count : length rows ≡ length kept
+  pub each : (i : ℕ) (d : Row) → i < length rows → IsRow schema s kept i (predicate_at kept i) (slice_index_or rows i d)
+
+-- each row answers for those before it
+abbrev pub AreSized : List Row → Type 0
+AreSized rows = (i : ℕ) (d : Row) → i < length rows →
+    (length (slice_index_or rows i d).below ≡ i) × (length (slice_index_or rows i d).above ≡ i)
+
+abbrev pub empty_row : Row
+empty_row = record { below = []; above = [] }
+
+-- the answer in the rows whether number j is below number i
+abbrev pub tells_below : List Row → ℕ → ℕ → Bool
+tells_below rows j i =
+    (if nat_eq j i then true
+    else if nat_lt j i then slice_index_or (slice_index_or rows i empty_row).above j false
+    else slice_index_or (slice_index_or rows j empty_row).below i false)
+
+-- and whether it is strictly below it
+abbrev pub tells_strictly : List Row → ℕ → ℕ → Bool
+tells_strictly rows j i = not (nat_eq j i) && tells_below rows j i
+
+-- whether number k is strictly between them
+abbrev pub tells_between : List Row → ℕ → ℕ → ℕ → Bool
+tells_between rows j k i = tells_strictly rows j k && tells_strictly rows k i
+
+-- none of the first n numbers is strictly between number j and number i
+abbrev pub IsNothingAmong : List Row → ℕ → ℕ → ℕ → Type 0
+IsNothingAmong rows n j i = (k : ℕ) → k < n → tells_between rows j k i ≡ false
+
+abbrev pub IsNothingTold : List Row → ℕ → ℕ → Type 0
+IsNothingTold rows j i = IsNothingAmong rows (length rows) j i
+
+-- by the rows number j is maximal strictly below number i
+pub record IsToldMaximal (rows : List Row) (i j : ℕ) : Type 0 where
+  pub lower : j < length rows
+  pub upper : i < length rows
+  pub strictly : tells_strictly rows j i ≡ true
+  pub nothing : IsNothingTold rows j i
+
+-- the numbers below n, in rising order, of which P holds
+pub record AreListed (P : ℕ → Type 0) (n : ℕ) (numbers : List ℕ) : Type 0 where
+  pub rise : rises_from 0 numbers ≡ true
+  pub within : All (λ j. j < n) numbers
+  pub exact : (j : ℕ) → j < n → Contains numbers j ↔ P j
+
+-- for each of the first n numbers those that are maximal strictly below it
+pub record AreToldMaximal (rows : List Row) (n : ℕ) (lists : List (List ℕ)) : Type 0 where
+  pub count : length lists ≡ n
+  pub each : (i : ℕ) (d : List ℕ) → i < n → AreListed (IsToldMaximal rows i) (length rows) (slice_index_or lists i d)

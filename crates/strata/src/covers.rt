@@ -1,0 +1,52 @@
+//! For each predicate that is kept those that are maximal strictly below it.
+ghost use Rattle.std.specs.Prelude.{◌+◌, ◌<◌, ◌^◌, IfOk, OnOk, length};
+ghost use Rattle.strata.specs.Rows.{AreListed, AreSized, AreToldMaximal, IsToldMaximal};
+
+use crate::rows::{Row, is_maximal_below};
+use crate::stratum::NumberList;
+use plain_lists::{List, NoMemory};
+use std::alloc::Global;
+
+// Adds number j where it is maximal strictly below number i.
+fn look_at(rows: &[Row], i: usize, j: usize, numbers: &mut NumberList) -> Result<(), NoMemory>
+    requires sized { AreSized rows.now }
+    requires few { length rows.now < 2 ^ 32 }
+    requires upper { i < length rows.now }
+    requires lower { j < length rows.now }
+    requires before { AreListed (IsToldMaximal rows.now i) j numbers.old }
+    ensures { OnOk result (AreListed (IsToldMaximal rows.now i) (j + 1) numbers.new) }
+{
+    if !is_maximal_below(rows, j, i) {
+        return Ok(());
+    }
+    numbers.push(j as u32)?;
+    Ok(())
+}
+
+// The numbers of those that are maximal strictly below number i.
+fn covered(alloc: Global, rows: &[Row], i: usize) -> Result<NumberList, NoMemory>
+    requires sized { AreSized rows.now }
+    requires few { length rows.now < 2 ^ 32 }
+    requires upper { i < length rows.now }
+    ensures { IfOk result (AreListed (IsToldMaximal rows.now i) (length rows.now)) }
+{
+    let mut numbers = NumberList::new(alloc);
+    for j in 0..rows.len() {
+        look_at(rows, i, j, &mut numbers)?;
+    }
+    Ok(numbers)
+}
+
+// The same of each number.
+pub(crate) fn all_covered(alloc: Global, rows: &[Row]) -> Result<List<NumberList>, NoMemory>
+    requires sized { AreSized rows.now }
+    requires few { length rows.now < 2 ^ 32 }
+    ensures { IfOk result (AreToldMaximal rows.now (length rows.now)) }
+{
+    let mut lists = List::new(alloc);
+    for i in 0..rows.len() {
+        let numbers = covered(alloc, rows, i)?;
+        lists.push(numbers)?;
+    }
+    Ok(lists)
+}

@@ -1,0 +1,21 @@
+//! The predicates that a set names of each dimension, and their order by the valid requests that meet
+//! them.
+#![tactic(auto)]
+
+mod asking;
+mod covers;
+mod inclusion;
+mod kept;
+mod names;
+mod outcome;
+mod predicate;
+mod rows;
+mod search;
+mod stratum;
+
+pub use inclusion::{Inclusion, Within};
+pub use names::MOST_PREDICATES;
+pub use outcome::StrataFault;
+pub use predicate::{Predicate, PredicateList, test_of};
+pub use search::strata;
+pub use stratum::{NumberList, Strata, Stratum};

@@ -1,0 +1,90 @@
+//! Rows of answers: for each predicate that is kept, how it stands to those before it.
+ghost use Rattle.std.specs.Prelude.{◌≡◌, ◌<◌, ◌↔◌, [], IsTrue, length};
+ghost use Rattle.strata.specs.Rows.{AreSized, IsNothingTold, IsToldMaximal, tells_below, tells_between, tells_strictly};
+
+use plain_lists::List;
+use std::alloc::Global;
+
+// A predicate and those that are kept before it.
+#[derive(Drop)]
+pub(crate) struct Row {
+    // Whether the predicate is below each of them.
+    pub(crate) below: List<bool>,
+    // Whether each of them is below the predicate.
+    pub(crate) above: List<bool>,
+}
+
+impl Row {
+    pub(crate) fn new(alloc: Global) -> Row
+        ensures below { result.below ≡ [] }
+        ensures above { result.above ≡ [] }
+    {
+        Row {
+            below: List::new(alloc),
+            above: List::new(alloc),
+        }
+    }
+}
+
+// Whether number j is below number i.
+fn is_below(rows: &[Row], j: usize, i: usize) -> bool
+    requires sized { AreSized rows.now }
+    requires lower { j < length rows.now }
+    requires upper { i < length rows.now }
+    ensures { result ≡ tells_below rows.now j i }
+{
+    if j == i {
+        return true;
+    }
+    if j < i {
+        rows[i].above.as_slice()[j]
+    } else {
+        rows[j].below.as_slice()[i]
+    }
+}
+
+// Whether number j is strictly below number i.
+fn is_strictly_below(rows: &[Row], j: usize, i: usize) -> bool
+    requires sized { AreSized rows.now }
+    requires lower { j < length rows.now }
+    requires upper { i < length rows.now }
+    ensures { result ≡ tells_strictly rows.now j i }
+{
+    j != i && is_below(rows, j, i)
+}
+
+// Whether number k is strictly between number j and number i.
+fn is_between(rows: &[Row], j: usize, k: usize, i: usize) -> bool
+    requires sized { AreSized rows.now }
+    requires lower { j < length rows.now }
+    requires between { k < length rows.now }
+    requires upper { i < length rows.now }
+    ensures { result ≡ tells_between rows.now j k i }
+{
+    is_strictly_below(rows, j, k) && is_strictly_below(rows, k, i)
+}
+
+// Whether nothing lies strictly between number j and number i.
+fn is_nothing_between(rows: &[Row], j: usize, i: usize) -> bool
+    requires sized { AreSized rows.now }
+    requires lower { j < length rows.now }
+    requires upper { i < length rows.now }
+    ensures { IsTrue result ↔ IsNothingTold rows.now j i }
+{
+    for k in 0..rows.len() {
+        if is_between(rows, j, k, i) {
+            return false;
+        }
+    }
+    true
+}
+
+// Whether number j is maximal strictly below number i.
+pub(crate) fn is_maximal_below(rows: &[Row], j: usize, i: usize) -> bool
+    requires sized { AreSized rows.now }
+    requires lower { j < length rows.now }
+    requires upper { i < length rows.now }
+    ensures { IsTrue result ↔ IsToldMaximal rows.now i j }
+{
+    is_strictly_below(rows, j, i) && is_nothing_between(rows, j, i)
+}

@@ -1,0 +1,119 @@
+//! Strata of a query's tests.
+ghost use Rattle.std.specs.Prelude.{◌≡◌, ◌↔◌, ◌<◌, ◌≤◌, ◌^◌, IsTrue, All, length};
+ghost use Rattle.policy_model.specs.Soundness.{SchemaIsSound, TestSuits};
+ghost use Rattle.slot_theory.specs.Slots.{SlotIsIn};
+ghost use Rattle.strata.specs.declared.names.TheConstants.{MOST_PREDICATES};
+ghost use Rattle.strata.specs.Asking.{IsAskedIn};
+ghost use Rattle.strata.specs.Causes.{AreStrataOf};
+ghost use Rattle.strata.specs.Making.{MakesAll, MakesStratum, NamesAll, SuitSlots};
+ghost use Rattle.strata.specs.Predicates.{SuitsSlot};
+
+use crate::covers::all_covered;
+use crate::inclusion::Inclusion;
+use crate::kept::kept_of;
+use crate::names::{MOST_PREDICATES, named};
+use crate::outcome::StrataFault;
+use crate::predicate::PredicateList;
+use crate::stratum::{Strata, Stratum};
+use plain_lists::{EqualClone, List};
+use policy_compile::Query;
+use policy_model::{Schema, Slot, SlotList, Test};
+use std::alloc::Global;
+
+fn is_too_many(names: &PredicateList) -> bool
+    ensures { IsTrue result ↔ (MOST_PREDICATES < length names.now) }
+{
+    names.len() > MOST_PREDICATES
+}
+
+// The predicates that are named in each of the slots. They are counted before anything is asked.
+fn all_named(
+    alloc: Global,
+    tests: &[Test],
+    slots: &[Slot],
+) -> Result<List<PredicateList>, StrataFault>
+    requires { length slots.now < 2 ^ 32 }
+    ensures { NamesAll tests.now slots.now result }
+{
+    let mut all = List::new(alloc);
+    for d in 0..slots.len() {
+        let names = named(alloc, &slots[d], tests)?;
+        if is_too_many(&names) {
+            return Err(StrataFault::TooManyPredicates(d as u32));
+        }
+        all.push(names)?;
+    }
+    Ok(all)
+}
+
+// The stratum of the predicates that are named in the slot.
+fn stratum<I: Inclusion>(
+    alloc: Global,
+    slot: &Slot,
+    names: &PredicateList,
+    by: &mut I,
+) -> Result<Stratum, StrataFault>
+    requires slot { IsAskedIn (I.schema by.old) slot.now }
+    requires names { All (SuitsSlot (I.schema by.old) slot.now) names.now }
+    requires few { length names.now ≤ MOST_PREDICATES }
+    ensures makes { MakesStratum (I.schema by.old) (I.states by.old) slot.now names.now result }
+    ensures schema { I.schema by.new ≡ I.schema by.old }
+    ensures states { I.states by.new ≡ I.states by.old }
+{
+    let kept = kept_of(alloc, slot, names.as_slice(), by)?;
+    let below = all_covered(alloc, kept.rows.as_slice())?;
+    let copied = slot.copy()?;
+    Ok(Stratum {
+        slot: copied,
+        predicates: kept.predicates,
+        below,
+    })
+}
+
+fn all_strata<I: Inclusion>(
+    alloc: Global,
+    slots: &[Slot],
+    all: &[PredicateList],
+    by: &mut I,
+) -> Result<Strata, StrataFault>
+    requires slots { All (IsAskedIn (I.schema by.old)) slots.now }
+    requires suit { SuitSlots (I.schema by.old) slots.now all.now }
+    ensures makes { MakesAll (I.schema by.old) (I.states by.old) slots.now all.now result }
+    ensures schema { I.schema by.new ≡ I.schema by.old }
+    ensures states { I.states by.new ≡ I.states by.old }
+{
+    let mut dimensions = List::new(alloc);
+    for d in 0..slots.len() {
+        let made = stratum(alloc, &slots[d], &all[d], by)?;
+        dimensions.push(made)?;
+    }
+    Ok(Strata { dimensions })
+}
+
+/// For each of the slots the predicates that the query's tests name in it, without those that no
+/// valid request meets, and of several that the same valid requests meet the first alone, with their
+/// order. `Every` is the first. Each ordered pair is asked about at most once, and only where both are
+/// met and none before them is met by the same requests.
+///
+/// The schema is sound, the query's tests suit it, each key among the slots is one of the schema's, the
+/// slots are numbered by 32 bits, and `by` answers for the schema. `TooManyPredicates` comes exactly
+/// where in some slot more than 128 predicates are named.
+pub fn strata<I: Inclusion>(
+    alloc: Global,
+    _schema: &Schema,
+    query: &Query,
+    slots: &SlotList,
+    by: &mut I,
+) -> Result<Strata, StrataFault>
+    requires sound { SchemaIsSound _schema.now }
+    requires suit { All (TestSuits _schema.now) query.now.tests }
+    requires slots { All (SlotIsIn _schema.now) slots.now }
+    requires count { length slots.now < 2 ^ 32 }
+    requires schema { I.schema by.old ≡ _schema.now }
+    ensures outcome { AreStrataOf _schema.now (I.states by.old) query.now slots.now result }
+    ensures schema { I.schema by.new ≡ I.schema by.old }
+    ensures states { I.states by.new ≡ I.states by.old }
+{
+    let all = all_named(alloc, query.tests.as_slice(), slots.as_slice())?;
+    all_strata(alloc, slots.as_slice(), all.as_slice(), by)
+}
