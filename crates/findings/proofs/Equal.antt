@@ -1,0 +1,110 @@
+-- Equal tests.
+use Rattle.std.proofs.Common.{◌≡◌, ◌==◌, ◌&&◌, ℕ, List, Bool, true, false, ap, refl, arith}
+use mathlib.Core.Bool.{beq}
+use Rattle.std.specs.Bool.{Decides}
+use Rattle.std.proofs.lemmas.Grind.{common_steps}
+use Rattle.std.specs.Cmp.Lexicographic.{pointwise, pointwise_decides}
+use Rattle.std.proofs.lemmas.Bool.Decides.{Decides-eqb}
+use Rattle.cidr_bits.proofs.Laws.{blocks-Decides}
+use Rattle.intervals.proofs.Laws.{bytes-Decides, compares-Decides, scaled-Decides}
+use Rattle.policy_model.specs.declared.cond.Cond.{Cond}
+use Rattle.policy_model.specs.declared.cond.Cond.TheVariants as cond
+use Rattle.policy_model.specs.contracts.cond.CondPartialEq.TheImpl as conds
+use Rattle.policy_model.specs.declared.principal.Entry.{Entry}
+use Rattle.policy_model.specs.contracts.principal.EntryPartialEq.TheImpl as entry
+use Rattle.policy_model.specs.declared.test.Test.{Test}
+use Rattle.policy_model.specs.declared.test.Test.TheVariants.{Principal, Action, Resource, Present, SomeMeets, SomeMeetsNone}
+use Rattle.policy_model.specs.contracts.test.TestPartialEq.TheImpl as test
+use Rattle.wildcard_lang.specs.contracts.piece.PiecePartialEq.TheImpl as piece
+use Rattle.wildcard_lang.specs.declared.piece.Piece.{Piece}
+
+pieces-Decides : (a b : Piece) → Decides (piece.eq-value.it a b) (a ≡ b)
+pieces-Decides a b = grind (arith, common_steps)
+
+same-text : (x y : List ℕ) → pointwise ◌==◌ x y ≡ true → x ≡ y
+same-text x y = (pointwise_decides Decides-eqb x y).0
+
+text-same : (x y : List ℕ) → x ≡ y → pointwise ◌==◌ x y ≡ true
+text-same x y = (pointwise_decides Decides-eqb x y).1
+
+entries-Decides : (a b : Entry) → Decides (entry.eq-value.it a b) (a ≡ b)
+entries-Decides a b = grind (arith, common_steps, same-text, text-same)
+
+keys-Decide : (x y : List ℕ) → Decides (pointwise ◌==◌ x y) (x ≡ y)
+keys-Decide x y = pointwise_decides Decides-eqb x y
+
+flags-Decide : (a b : Bool) → Decides (beq a b) (a ≡ b)
+flags-Decide true true = (λ e. refl, λ e. refl)
+flags-Decide true false = (λ e. absurd (cc), λ e. absurd (cc))
+flags-Decide false true = (λ e. absurd (cc), λ e. absurd (cc))
+flags-Decide false false = (λ e. refl, λ e. refl)
+
+-- of two parts each is equal
+both-decide : {a b : Bool} {P Q R : Type 0} → Decides a P → Decides b Q → (R → P × Q) → (P → Q → R) → Decides (a && b) R
+both-decide {a = true} {b} h k apart together = (λ e. together (h.0 refl) (k.0 e), λ r. k.1 (apart r).1)
+both-decide {a = false} {b} h k apart together = (λ e. absurd (cc), λ r. let same = h.1 (apart r).0 in absurd (cc))
+
+pub conds-Decides : (a b : Cond) → Decides (conds.eq-value.it a b) (a ≡ b)
+conds-Decides (cond.Matches p) (cond.Matches q) = let same = pointwise_decides pieces-Decides p q in (λ e. ap cond.Matches (same.0 e), λ e. same.1 (cc))
+conds-Decides (cond.Matches p) (cond.Compares way n) = (λ e. absurd (cc), λ e. absurd (cc))
+conds-Decides (cond.Matches p) (cond.Inside b) = (λ e. absurd (cc), λ e. absurd (cc))
+conds-Decides (cond.Matches p) (cond.Flag u v) = (λ e. absurd (cc), λ e. absurd (cc))
+conds-Decides (cond.Matches p) (cond.Equals ys) = (λ e. absurd (cc), λ e. absurd (cc))
+conds-Decides (cond.Compares how m) (cond.Matches q) = (λ e. absurd (cc), λ e. absurd (cc))
+conds-Decides (cond.Compares how m) (cond.Compares way n) = both-decide (compares-Decides how way) (scaled-Decides m n) (λ e. (cc, cc)) (λ e f. cc)
+conds-Decides (cond.Compares how m) (cond.Inside b) = (λ e. absurd (cc), λ e. absurd (cc))
+conds-Decides (cond.Compares how m) (cond.Flag u v) = (λ e. absurd (cc), λ e. absurd (cc))
+conds-Decides (cond.Compares how m) (cond.Equals ys) = (λ e. absurd (cc), λ e. absurd (cc))
+conds-Decides (cond.Inside a) (cond.Matches q) = (λ e. absurd (cc), λ e. absurd (cc))
+conds-Decides (cond.Inside a) (cond.Compares way n) = (λ e. absurd (cc), λ e. absurd (cc))
+conds-Decides (cond.Inside a) (cond.Inside b) = let same = blocks-Decides a b in (λ e. ap cond.Inside (same.0 e), λ e. same.1 (cc))
+conds-Decides (cond.Inside a) (cond.Flag u v) = (λ e. absurd (cc), λ e. absurd (cc))
+conds-Decides (cond.Inside a) (cond.Equals ys) = (λ e. absurd (cc), λ e. absurd (cc))
+conds-Decides (cond.Flag s t) (cond.Matches q) = (λ e. absurd (cc), λ e. absurd (cc))
+conds-Decides (cond.Flag s t) (cond.Compares way n) = (λ e. absurd (cc), λ e. absurd (cc))
+conds-Decides (cond.Flag s t) (cond.Inside b) = (λ e. absurd (cc), λ e. absurd (cc))
+conds-Decides (cond.Flag s t) (cond.Flag u v) = both-decide (flags-Decide s u) (flags-Decide t v) (λ e. (cc, cc)) (λ e f. cc)
+conds-Decides (cond.Flag s t) (cond.Equals ys) = (λ e. absurd (cc), λ e. absurd (cc))
+conds-Decides (cond.Equals xs) (cond.Matches q) = (λ e. absurd (cc), λ e. absurd (cc))
+conds-Decides (cond.Equals xs) (cond.Compares way n) = (λ e. absurd (cc), λ e. absurd (cc))
+conds-Decides (cond.Equals xs) (cond.Inside b) = (λ e. absurd (cc), λ e. absurd (cc))
+conds-Decides (cond.Equals xs) (cond.Flag u v) = (λ e. absurd (cc), λ e. absurd (cc))
+conds-Decides (cond.Equals xs) (cond.Equals ys) = let same = bytes-Decides xs ys in (λ e. ap cond.Equals (same.0 e), λ e. same.1 (cc))
+
+pub tests-Decides : (a b : Test) → Decides (test.eq-value.it a b) (a ≡ b)
+tests-Decides (Principal x) (Principal y) = let same = entries-Decides x y in (λ e. ap Principal (same.0 e), λ e. same.1 (cc))
+tests-Decides (Principal x) (Action y) = (λ e. absurd (cc), λ e. absurd (cc))
+tests-Decides (Principal x) (Resource y) = (λ e. absurd (cc), λ e. absurd (cc))
+tests-Decides (Principal x) (Present y) = (λ e. absurd (cc), λ e. absurd (cc))
+tests-Decides (Principal x) (SomeMeets y d) = (λ e. absurd (cc), λ e. absurd (cc))
+tests-Decides (Principal x) (SomeMeetsNone y ds) = (λ e. absurd (cc), λ e. absurd (cc))
+tests-Decides (Action x) (Principal y) = (λ e. absurd (cc), λ e. absurd (cc))
+tests-Decides (Action x) (Action y) = let same = pointwise_decides pieces-Decides x y in (λ e. ap Action (same.0 e), λ e. same.1 (cc))
+tests-Decides (Action x) (Resource y) = (λ e. absurd (cc), λ e. absurd (cc))
+tests-Decides (Action x) (Present y) = (λ e. absurd (cc), λ e. absurd (cc))
+tests-Decides (Action x) (SomeMeets y d) = (λ e. absurd (cc), λ e. absurd (cc))
+tests-Decides (Action x) (SomeMeetsNone y ds) = (λ e. absurd (cc), λ e. absurd (cc))
+tests-Decides (Resource x) (Principal y) = (λ e. absurd (cc), λ e. absurd (cc))
+tests-Decides (Resource x) (Action y) = (λ e. absurd (cc), λ e. absurd (cc))
+tests-Decides (Resource x) (Resource y) = let same = pointwise_decides pieces-Decides x y in (λ e. ap Resource (same.0 e), λ e. same.1 (cc))
+tests-Decides (Resource x) (Present y) = (λ e. absurd (cc), λ e. absurd (cc))
+tests-Decides (Resource x) (SomeMeets y d) = (λ e. absurd (cc), λ e. absurd (cc))
+tests-Decides (Resource x) (SomeMeetsNone y ds) = (λ e. absurd (cc), λ e. absurd (cc))
+tests-Decides (Present x) (Principal y) = (λ e. absurd (cc), λ e. absurd (cc))
+tests-Decides (Present x) (Action y) = (λ e. absurd (cc), λ e. absurd (cc))
+tests-Decides (Present x) (Resource y) = (λ e. absurd (cc), λ e. absurd (cc))
+tests-Decides (Present x) (Present y) = let same = keys-Decide x y in (λ e. ap Present (same.0 e), λ e. same.1 (cc))
+tests-Decides (Present x) (SomeMeets y d) = (λ e. absurd (cc), λ e. absurd (cc))
+tests-Decides (Present x) (SomeMeetsNone y ds) = (λ e. absurd (cc), λ e. absurd (cc))
+tests-Decides (SomeMeets x c) (Principal y) = (λ e. absurd (cc), λ e. absurd (cc))
+tests-Decides (SomeMeets x c) (Action y) = (λ e. absurd (cc), λ e. absurd (cc))
+tests-Decides (SomeMeets x c) (Resource y) = (λ e. absurd (cc), λ e. absurd (cc))
+tests-Decides (SomeMeets x c) (Present y) = (λ e. absurd (cc), λ e. absurd (cc))
+tests-Decides (SomeMeets x c) (SomeMeets y d) = both-decide (keys-Decide x y) (conds-Decides c d) (λ e. (cc, cc)) (λ e f. cc)
+tests-Decides (SomeMeets x c) (SomeMeetsNone y ds) = (λ e. absurd (cc), λ e. absurd (cc))
+tests-Decides (SomeMeetsNone x cs) (Principal y) = (λ e. absurd (cc), λ e. absurd (cc))
+tests-Decides (SomeMeetsNone x cs) (Action y) = (λ e. absurd (cc), λ e. absurd (cc))
+tests-Decides (SomeMeetsNone x cs) (Resource y) = (λ e. absurd (cc), λ e. absurd (cc))
+tests-Decides (SomeMeetsNone x cs) (Present y) = (λ e. absurd (cc), λ e. absurd (cc))
+tests-Decides (SomeMeetsNone x cs) (SomeMeets y d) = (λ e. absurd (cc), λ e. absurd (cc))
+tests-Decides (SomeMeetsNone x cs) (SomeMeetsNone y ds) = both-decide (keys-Decide x y) (pointwise_decides conds-Decides cs ds) (λ e. (cc, cc)) (λ e f. cc)

@@ -1,0 +1,70 @@
+-- The whole walk: how it starts, goes on and ends.
+use Rattle.std.proofs.Common.{◌≡◌, ℕ, ◌+◌, List, [], ◌∷◌, ◌++◌, length, Ok, Err, Some, None, sym, ap, subst, arith}
+use Rattle.std.specs.Cmp.Lexicographic.{slice_cmp}
+use Rattle.std.specs.List.Sorted.{IsStrictlySortedBy}
+use Rattle.std.specs.Ordering.{nat_cmp}
+use Rattle.std.proofs.lemmas.List.{length-append}
+use Rattle.policy_model.specs.declared.request.Request.{Request}
+use Rattle.policy_model.specs.declared.schema.Schema.{Schema}
+use Rattle.policy_model.specs.declared.set.PolicySet.{PolicySet}
+use Rattle.policy_compile.specs.declared.outcome.Query.{Query}
+use Rattle.strata.specs.declared.stratum.Strata.{Strata}
+use Rattle.findings.specs.declared.outcome.SummaryFault.{SummaryFault}
+use Rattle.findings.specs.declared.outcome.SummaryFault.TheVariants as fault
+use Rattle.findings.specs.declared.walk.Walk.{Walk}
+use Rattle.findings.specs.Answers.{IsSummarised}
+use Rattle.findings.specs.Queries.{AreMadeFor, AreMadeUnder}
+use Rattle.findings.specs.Steps.{AreNumberedBelow}
+use Rattle.findings.specs.Summaries.{IsSummary, VisitsAtLeast, findings_of}
+use Rattle.findings.specs.Walked.{AreFindings, HasLookedAt, IsNext, IsTaken, LookFails, SameBesides, StandsAt, StartsAt, found_by}
+use Rattle.findings.proofs.Looking.{ends, one-more, stands-start, takes}
+use Rattle.findings.proofs.Made.{made-numbered, made-steps}
+
+module _ (schema : Schema) (base : Query) (strata : Strata) where
+  -- the start
+  pub looked-start : (w : Walk) → StartsAt strata.dimensions w → HasLookedAt schema base strata w 0
+  looked-start w starts = record {
+    stands = λ set made. stands-start schema set strata.dimensions (made-steps schema set base strata made) w starts;
+    count = ap length starts.looked;
+  }
+
+  -- what is asked of the next step
+  pub next-findings : AreMadeUnder schema base strata → (w : Walk) → StandsAt schema base strata w → AreFindings strata.dimensions w.coming.items
+  next-findings made w stands f h = (stands made.0 made.1).next f h
+
+  pub next-numbered : AreMadeUnder schema base strata → AreNumberedBelow strata.dimensions
+  next-numbered made = made-numbered schema made.0 base strata made.1
+
+  -- the next finding is taken
+  pub next-taken : (old new : Walk) (f : List ℕ) → StandsAt schema base strata old → IsNext strata.dimensions old new (Some f) → SameBesides old new → IsTaken schema base strata new f
+  next-taken old new f stands next same = λ set made. takes schema set strata.dimensions (made-steps schema set base strata made) old new f (stands set made) next.0 next.1 same
+
+  -- after it was looked at
+  pub looked-more : (old next new : Walk) (f : List ℕ) (n : ℕ) → HasLookedAt schema base strata old n → SameBesides old next → new.looked.keys ≡ next.looked.keys ++ f ∷ [] → StandsAt schema base strata new → HasLookedAt schema base strata new (n + 1)
+  looked-more old next new f n before same grows stands = record {
+    stands = stands;
+    count = (let one = length-append next.looked.keys (f ∷ []) in let long = ap length grows in let was = ap length same.looked in omega (arith, one, long, was, before.count));
+  }
+
+  -- at the end
+  pub all-summarised : (old new : Walk) (splits states findings : ℕ) (summary : List (List ℕ × Request)) → StandsAt schema base strata old → IsNext strata.dimensions old new None → SameBesides old new → summary ≡ found_by new → IsStrictlySortedBy (slice_cmp nat_cmp) (findings_of summary) →
+      (set : PolicySet) → AreMadeFor schema set base strata → IsSummarised schema set strata.dimensions splits states findings (Ok summary)
+  all-summarised old new splits states findings summary stands next same is order set made =
+      let sorted = subst (λ (xs : List (List ℕ × Request)). IsStrictlySortedBy (slice_cmp nat_cmp) (findings_of xs)) is order in
+      subst (IsSummary schema set strata.dimensions) (sym is) (ends schema set strata.dimensions (made-steps schema set base strata made) old new (stands set made) next.0 same sorted)
+
+  -- where one more would be needed
+  pub one-too-many : (old new : Walk) (f : List ℕ) (n findings splits states : ℕ) → HasLookedAt schema base strata old n → n ≡ findings → IsNext strata.dimensions old new (Some f) → SameBesides old new →
+      (set : PolicySet) → AreMadeFor schema set base strata → IsSummarised schema set strata.dimensions splits states findings (Err fault.OutOfFindings)
+  one-too-many old new f n findings splits states looked all next same set made =
+      let taken = next-taken old new f looked.stands next same set made in
+      let more = one-more schema set strata.dimensions (made-steps schema set base strata made) new f taken in
+      let count : length new.looked.keys + 1 ≡ findings + 1 = (let was = ap length same.looked in omega (arith, was, looked.count, all)) in
+      subst (VisitsAtLeast schema set strata.dimensions) count more
+
+  -- why one couldn't be looked at
+  pub fails-summarised : (splits states findings : ℕ) (e : SummaryFault) → LookFails schema base strata splits states e → (set : PolicySet) → AreMadeFor schema set base strata → IsSummarised schema set strata.dimensions splits states findings (Err e)
+  fails-summarised splits states findings fault.OutOfFindings fails set made = absurd (fails set made)
+  fails-summarised splits states findings (fault.OutOfSplits f) fails set made = fails set made
+  fails-summarised splits states findings (fault.OutOfStates f w) fails set made = fails set made
+  fails-summarised splits states findings fault.NoMemory fails set made = tt

@@ -1,0 +1,80 @@
+-- What may be asked of who decides queries, what is answered, and what a summary comes to.
+use Rattle.std.specs.Prelude.{◌≡◌, ◌<◌, ◌+◌, ◌^◌, ⊤, ℕ, List, [], length, All, true, false, Some, Result, Ok, Err}
+use Rattle.formula_tree.specs.Answers.{Answers}
+use Rattle.formula_tree.specs.Runs.{NeedsMore, Run, answered}
+use Rattle.formula_tree.specs.Trees.{Tree, tree_of}
+use Rattle.formula_tree.specs.Values.{AreBelow, pick}
+use Rattle.wildcard_lang.specs.Places.{ShowWider}
+use Rattle.policy_model.specs.declared.request.Request.{Request}
+use Rattle.policy_model.specs.declared.schema.Schema.{Schema}
+use Rattle.policy_model.specs.declared.set.PolicySet.{PolicySet}
+use Rattle.policy_model.specs.Soundness.{SchemaIsSound, TestSuits}
+use Rattle.policy_compile.specs.declared.outcome.Query.{Query}
+use Rattle.policy_compile.specs.Sets.{set_plan}
+use Rattle.slot_theory.specs.Possible.{IsPossible}
+use Rattle.slot_theory.specs.Slots.{patterns_at}
+use Rattle.refute_check.specs.Laws.{IsMetBy, NoneMeets}
+use Rattle.strata.specs.declared.stratum.Stratum.{Stratum}
+use Rattle.findings.specs.declared.decide.Asked.{Asked}
+use Rattle.findings.specs.declared.decide.Asked.TheVariants.{Met, Nobody, OutOfSplits, OutOfStates}
+use Rattle.findings.specs.declared.decide.Wide.{Wide}
+use Rattle.findings.specs.declared.outcome.SummaryFault.{SummaryFault}
+use Rattle.findings.specs.declared.outcome.SummaryFault.TheVariants as fault
+use Rattle.findings.specs.Queries.{IsFindingQuery}
+use Rattle.findings.specs.Summaries.{IsSummary, IsVisited, VisitsAtLeast}
+
+-- the tree of the question
+abbrev pub tree_asked : Query → Tree
+tree_asked query = tree_of query.formula.value
+
+-- a question that may be asked: its tests suit the schema and are numbered by 32 bits, and its tree has their numbers alone
+pub record IsAskable (schema : Schema) (query : Query) : Type 0 where
+  pub sound : SchemaIsSound schema
+  pub suit : All (TestSuits schema) query.tests
+  pub count : length query.tests < 2 ^ 32
+  pub below : AreBelow (length query.tests) (tree_asked query)
+
+-- The paths from which the plain run of the tree runs. It runs from the empty path; at a split on to the yes side, and to the no
+-- side where no run from the yes side ends with a request.
+pub data RunsFrom (possible : Answers → Type 0) (tree : Tree) : Answers → Type 0 where
+  from_start : RunsFrom possible tree []
+  from_yes : {path : Answers} {n : ℕ} → RunsFrom possible tree path → possible path → pick path tree ≡ Some n →
+      RunsFrom possible tree (answered path n true)
+  from_no : {path : Answers} {n : ℕ} → RunsFrom possible tree path → possible path → pick path tree ≡ Some n →
+      ((k : ℕ) → ¬ Run possible tree (answered path n true) true k) → RunsFrom possible tree (answered path n false)
+
+-- the plain run of the question needs more splits than so many
+abbrev pub SplitsFail : Schema → Query → ℕ → Type 0
+SplitsFail schema query splits = NeedsMore (IsPossible schema query.tests) (tree_asked query) [] splits
+
+-- the plain run runs from the kept path, and the kept texts show the patterns of the slot there wider than the states
+pub record StatesFail (schema : Schema) (query : Query) (states : ℕ) (w : Wide) : Type 0 where
+  pub path : RunsFrom (IsPossible schema query.tests) (tree_asked query) w.path
+  pub texts : ShowWider (patterns_at schema query.tests w.path w.slot) states w.texts
+
+-- a valid request that makes the question's tree yes; that there is none; or that a number is too small for the question
+abbrev pub IsAnswerTo : Schema → ℕ → ℕ → Query → Asked → Type 0
+IsAnswerTo schema splits states query (Met r) = IsMetBy schema query.tests (tree_asked query) [] r
+IsAnswerTo schema splits states query Nobody = NoneMeets schema query.tests (tree_asked query) []
+IsAnswerTo schema splits states query OutOfSplits = SplitsFail schema query splits
+IsAnswerTo schema splits states query (OutOfStates w) = StatesFail schema query states w
+
+-- the finding must be looked at, and of its query P holds
+pub record FailsAtFinding (schema : Schema) (set : PolicySet) (ds : List Stratum) (f : List ℕ) (P : Query → Type 0) : Type 0 where
+  pub visited : IsVisited schema set ds f
+  pub query : Query
+  pub is : IsFindingQuery (set_plan schema set) ds f query
+  pub fails : P query
+
+-- What a summary of a set comes to, where questions are answered within so many splits and states and at most so many findings may
+-- be looked at: the summary; that more findings must be looked at; or a finding that must be, and for whose query a number is too
+-- small
+abbrev pub IsSummarised :
+    Schema → PolicySet → List Stratum → ℕ → ℕ → ℕ → Result (List (List ℕ × Request)) SummaryFault → Type 0
+IsSummarised schema set ds splits states findings (Ok summary) = IsSummary schema set ds summary
+IsSummarised schema set ds splits states findings (Err fault.OutOfFindings) = VisitsAtLeast schema set ds (findings + 1)
+IsSummarised schema set ds splits states findings (Err (fault.OutOfSplits f)) =
+    FailsAtFinding schema set ds f (λ q. SplitsFail schema q splits)
+IsSummarised schema set ds splits states findings (Err (fault.OutOfStates f w)) =
+    FailsAtFinding schema set ds f (λ q. StatesFail schema q states w)
+IsSummarised schema set ds splits states findings (Err fault.NoMemory) = ⊤

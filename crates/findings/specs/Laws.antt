@@ -1,0 +1,46 @@
+-- What follows from the definitions of findings and summaries.
+use Rattle.std.specs.Prelude.{◌≢◌, ◌≤◌, ℕ, List, Any, Contains}
+use Rattle.policy_model.specs.declared.request.Request.{Request}
+use Rattle.policy_model.specs.declared.schema.Schema.{Schema}
+use Rattle.policy_model.specs.declared.set.PolicySet.{PolicySet}
+use Rattle.policy_model.specs.Requests.{IsValid}
+use Rattle.policy_model.specs.Sets.{Allows}
+use Rattle.policy_compile.specs.declared.outcome.Query.{Query}
+use Rattle.strata.specs.declared.stratum.Strata.{Strata}
+use Rattle.findings.specs.Findings.{IsStrictlyFiner, LiesIn}
+use Rattle.findings.specs.Queries.{AreMadeFor}
+use Rattle.findings.specs.Summaries.{IsSummary, Visits, VisitsAtLeast, findings_of}
+
+-- a set with its strata under a schema, and its summary
+pub record HasSummary (schema : Schema) (set : PolicySet) (strata : Strata) (summary : List (List ℕ × Request)) : Type 0 where
+  pub base : Query
+  pub made : AreMadeFor schema set base strata
+  pub is : IsSummary schema set strata.dimensions summary
+
+-- each valid request that the set allows lies in some finding of the summary
+abbrev pub SummariesCover : Type 0
+SummariesCover =
+    (schema : Schema) (set : PolicySet) (strata : Strata) (summary : List (List ℕ × Request)) →
+    HasSummary schema set strata summary → (r : Request) → IsValid schema r → Allows schema set r →
+    Any (LiesIn r strata.dimensions) (findings_of summary)
+
+-- no finding of the summary is strictly finer than another
+abbrev pub SummariesAreFlat : Type 0
+SummariesAreFlat =
+    (schema : Schema) (set : PolicySet) (strata : Strata) (summary : List (List ℕ × Request)) →
+    HasSummary schema set strata summary → (f g : List ℕ) → Contains (findings_of summary) f →
+    Contains (findings_of summary) g → ¬ IsStrictlyFiner schema strata.dimensions f g
+
+-- of two different findings of it, not every valid request that lies in the first lies in the second
+abbrev pub SummariesAreNeeded : Type 0
+SummariesAreNeeded =
+    (schema : Schema) (set : PolicySet) (strata : Strata) (summary : List (List ℕ × Request)) →
+    HasSummary schema set strata summary → (f g : List ℕ) → Contains (findings_of summary) f →
+    Contains (findings_of summary) g → f ≢ g →
+    ¬ ((r : Request) → IsValid schema r → LiesIn r strata.dimensions f → LiesIn r strata.dimensions g)
+
+-- where exactly so many findings must be looked at, no more must be
+abbrev pub VisitsAreBounded : Type 0
+VisitsAreBounded =
+    (schema : Schema) (set : PolicySet) (strata : Strata) (few many : ℕ) →
+    VisitsAtLeast schema set strata.dimensions few → Visits schema set strata.dimensions many → few ≤ many

@@ -1,0 +1,11 @@
+pub mod Findings
+pub mod Summaries
+pub mod Queries
+pub mod Texts
+pub mod Answers
+pub mod Steps
+pub mod Walks
+pub mod Walked
+pub mod Renumbering
+pub mod Asked
+pub mod Laws

@@ -1,0 +1,67 @@
+//! Summaries.
+ghost use Rattle.std.specs.Prelude.{◌≡◌, IfOk, map};
+ghost use Rattle.std.specs.Cmp.Lexicographic.{slice_cmp};
+ghost use Rattle.std.specs.List.Sorted.{IsStrictlySortedBy};
+ghost use Rattle.std.specs.Ordering.{nat_cmp};
+ghost use Rattle.policy_model.specs.declared.set.PolicySet.{PolicySet};
+ghost use Rattle.findings.specs.Answers.{IsSummarised};
+ghost use Rattle.findings.specs.Queries.{AreMadeFor, AreMadeUnder};
+ghost use Rattle.findings.specs.Summaries.{findings_of};
+ghost use Rattle.findings.specs.Walked.{found_by};
+
+use crate::decide::Decide;
+use crate::outcome::{Summary, SummaryFault};
+use crate::walk::Walk;
+use plain_lists::{List, NoMemory};
+use policy_compile::Query;
+use std::alloc::Global;
+use strata::Strata;
+
+// What was found, in the order of the findings' numbers.
+fn found_in(alloc: Global, walk: Walk) -> Result<Summary, NoMemory>
+    ensures found { IfOk result (λ summary. summary ≡ found_by walk) }
+    ensures order { IfOk result (λ summary.
+        IsStrictlySortedBy (slice_cmp nat_cmp) (findings_of summary)) }
+{
+    let mut summary = List::new(alloc);
+    'found: for (numbers, request) in walk.found {
+        summary.push((List::from_vec(numbers), request))?;
+    }
+    Ok(summary)
+}
+
+/// The summary of the set whose query is `base`: the irreducible findings that have no irreducible one
+/// strictly above, in the order of their numbers, each with a request of its own. `strata` are those of
+/// `base`, under the schema that `asks` answers for.
+///
+/// `OutOfFindings` comes only where more than `findings` findings have no irreducible one strictly above.
+/// `OutOfSplits` and `OutOfStates` hold such a finding, and come only where the numbers of `asks` are too
+/// small for its query.
+pub fn summarise<D: Decide>(
+    alloc: Global,
+    strata: &Strata,
+    base: &Query,
+    asks: &mut D,
+    findings: u32,
+) -> Result<Summary, SummaryFault>
+    requires made { AreMadeUnder (D.schema asks.old) base.now strata.now }
+    ensures summary { (set : PolicySet) → AreMadeFor (D.schema asks.old) set base.now strata.now →
+        IsSummarised (D.schema asks.old) set strata.now.dimensions
+        (D.splits asks.old) (D.states asks.old) findings result }
+    ensures schema { D.schema asks.new ≡ D.schema asks.old }
+    ensures splits { D.splits asks.new ≡ D.splits asks.old }
+    ensures states { D.states asks.new ≡ D.states asks.old }
+{
+    let mut walk = Walk::start(alloc, strata)?;
+    'findings: for _ in 0..findings {
+        let Some(finding) = walk.next(strata)? else {
+            return Ok(found_in(alloc, walk)?);
+        };
+        walk.look_at(strata, base, asks, finding)?;
+    }
+    let further = walk.next(strata)?;
+    match further {
+        None => Ok(found_in(alloc, walk)?),
+        Some(_) => Err(SummaryFault::OutOfFindings),
+    }
+}
