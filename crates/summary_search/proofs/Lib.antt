@@ -1,0 +1,7 @@
+mod Answering
+mod Patterns
+mod Plainly
+mod Runs
+mod Within
+mod Deciding
+mod Coming

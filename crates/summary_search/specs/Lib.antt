@@ -1,0 +1,4 @@
+pub mod Questions
+pub mod Plain
+pub mod Deciding
+pub mod Outcomes

@@ -1,0 +1,17 @@
+-- Predicates of which one lies below the other whatever the schema is.
+use Rattle.std.specs.Prelude.{ℕ, List}
+use Rattle.policy_model.specs.declared.principal.Entry.{Entry}
+use Rattle.policy_model.specs.declared.principal.PrincipalKind.{PrincipalKind}
+use Rattle.policy_model.specs.declared.request.Request.{Request}
+use Rattle.policy_model.specs.declared.test.Slot.{Slot}
+use Rattle.policy_model.specs.Principals.{EntryNames}
+use Rattle.strata.specs.declared.predicate.Predicate.{Predicate}
+use Rattle.strata.specs.Predicates.{MeetsPredicate}
+
+-- each principal of the one entry is one of the other
+abbrev pub EachNames : Entry → Entry → Type 0
+EachNames one other = (kind : PrincipalKind) (id : List ℕ) → EntryNames kind id one → EntryNames kind id other
+
+-- every request that meets the one in a slot meets the other there
+abbrev pub IsPlainlyBelow : Predicate → Predicate → Type 0
+IsPlainlyBelow one other = (s : Slot) (r : Request) → MeetsPredicate s one r → MeetsPredicate s other r

@@ -1,0 +1,36 @@
+-- What is told of a path of tests of one slot.
+use Rattle.std.specs.Prelude.{◌≡◌, ℕ, List, [], ◌∷◌, true, false, Option, Some, None}
+use Rattle.formula_tree.specs.Answers.{Answers}
+use Rattle.wildcard_lang.specs.Places.{ShowWider}
+use Rattle.policy_model.specs.declared.schema.Schema.{Schema}
+use Rattle.policy_model.specs.declared.test.Slot.{Slot}
+use Rattle.policy_model.specs.declared.test.Test.{Test}
+use Rattle.slot_theory.specs.Possible.{IsPossible}
+use Rattle.policy_model.specs.Soundness.{TestSuits}
+use Rattle.slot_theory.specs.Slots.{patterns_at, slot_of}
+use Rattle.strata.specs.declared.inclusion.Within.{Within}
+use Rattle.strata.specs.declared.inclusion.Within.TheVariants.{Yes, No, TooMany}
+
+-- whether some valid request answers the path; or one more text than the number of states, with different product states of the
+-- slot's patterns there
+abbrev pub TellsPossible : Schema → List Test → Answers → Slot → ℕ → Within → Type 0
+TellsPossible schema tests path s states Yes = IsPossible schema tests path
+TellsPossible schema tests path s states No = ¬ IsPossible schema tests path
+TellsPossible schema tests path s states (TooMany texts) = ShowWider (patterns_at schema tests path s) states texts
+
+-- the answer to the contrary question
+abbrev pub opposite : Within → Within
+opposite Yes = No
+opposite No = Yes
+opposite (TooMany texts) = TooMany texts
+
+-- whether some valid request passes the one test, where one is given, and not the other; or texts with too many product states
+abbrev pub TellsEscape : Schema → Slot → ℕ → Option Test → Test → Within → Type 0
+TellsEscape schema s states None other w = TellsPossible schema (other ∷ []) ((0, false) ∷ []) s states w
+TellsEscape schema s states (Some one) other w =
+    TellsPossible schema (one ∷ other ∷ []) ((0, true) ∷ (1, false) ∷ []) s states w
+
+-- the test is on the slot, and the schema can answer for it
+pub record IsTestOf (schema : Schema) (s : Slot) (t : Test) : Type 0 where
+  pub suits : TestSuits schema t
+  pub on : slot_of t ≡ s

@@ -1,0 +1,72 @@
+//! The summary of a set by the search.
+ghost use Rattle.std.specs.Prelude.{IfOk};
+ghost use Rattle.summary_search.specs.Outcomes.{AreAskable, AreInRange, AreStrataWithin, IsOfSomeSet, IsOutcomeFor};
+
+use crate::asking::BySearch;
+use crate::inclusion::ByProducts;
+use crate::outcome::{Limits, Outcome};
+use findings::{SummaryFault, summarise};
+use plain_lists::NoMemory;
+use policy_compile::{Query, tests_of_set_queries_suit};
+use policy_model::{Schema, SlotList};
+use request_build::sound_schemas_have_requests;
+use std::alloc::{AllocError, Global};
+use strata::{Strata, StrataFault, strata};
+
+// The summary of a set whose strata are these.
+fn summary_of(
+    alloc: Global,
+    schema: &Schema,
+    query: &Query,
+    slots: &SlotList,
+    made: Strata,
+    limits: Limits,
+) -> Result<Outcome, NoMemory>
+    requires askable { AreAskable schema.now slots.now }
+    requires set { IsOfSomeSet schema.now query.now }
+    requires limits { AreInRange limits }
+    requires made { AreStrataWithin schema.now query.now slots.now made }
+    ensures { IfOk result (IsOutcomeFor schema.now query.now slots.now limits) }
+{
+    sound_schemas_have_requests();
+    let mut asks = BySearch::new(schema, limits.splits, limits.states);
+    match summarise(alloc, &made, query, &mut asks, limits.findings) {
+        Ok(summary) => Ok(Outcome::Found(made, summary)),
+        Err(SummaryFault::OutOfFindings) => Ok(Outcome::OutOfFindings),
+        Err(SummaryFault::OutOfSplits(finding)) => Ok(Outcome::OutOfSplits(made, finding)),
+        Err(SummaryFault::OutOfStates(finding, wide)) => {
+            Ok(Outcome::OutOfStates(made, finding, wide))
+        }
+        Err(SummaryFault::NoMemory) => Err(AllocError),
+    }
+}
+
+/// The summary of a set, whose query this is, by the slots: the maximal irreducible findings, each with a
+/// request of its own. Or the one cause why there is none, which names a limit that is below the need.
+///
+/// The schema is sound and fits the set, the query is what `set_query` gave for it, there are at most four
+/// slots, which differ, each key among them is one of the schema's, and each limit is at least 1. The only
+/// error is want of memory.
+pub fn find_summary(
+    alloc: Global,
+    schema: &Schema,
+    query: &Query,
+    slots: &SlotList,
+    limits: Limits,
+) -> Result<Outcome, NoMemory>
+    requires askable { AreAskable schema.now slots.now }
+    requires set { IsOfSomeSet schema.now query.now }
+    requires limits { AreInRange limits }
+    ensures { IfOk result (IsOutcomeFor schema.now query.now slots.now limits) }
+{
+    tests_of_set_queries_suit();
+    let mut by = ByProducts::new(schema, limits.states);
+    match strata(alloc, schema, query, slots, &mut by) {
+        Ok(made) => summary_of(alloc, schema, query, slots, made, limits),
+        Err(StrataFault::TooManyPredicates(dimension)) => {
+            Ok(Outcome::TooManyPredicates(dimension))
+        }
+        Err(StrataFault::Wide(slot, texts)) => Ok(Outcome::Wide(slot, texts)),
+        Err(StrataFault::NoMemory) => Err(AllocError),
+    }
+}

@@ -1,0 +1,97 @@
+//! Which predicates some valid request meets, and which lie below which, by products.
+ghost use Rattle.std.specs.Prelude.{◌≡◌, ◌≤◌, IfOk, IfSome};
+ghost use Rattle.policy_model.specs.Soundness.{SchemaIsSound};
+ghost use Rattle.slot_theory.specs.Slots.{SlotIsIn};
+ghost use Rattle.summary_search.specs.Questions.{IsTestOf, TellsEscape, opposite};
+
+use crate::plain::is_plainly_below;
+use crate::questions::{ask_one, ask_two};
+use plain_lists::NoMemory;
+use policy_model::{Schema, Slot, Test};
+use request_build::sound_schemas_have_requests;
+use std::alloc::Global;
+use strata::{Inclusion, Predicate, Within, test_of};
+
+/// Answers questions on predicates by products of patterns, of so many states at most.
+#[derive(Drop)]
+pub struct ByProducts<'a> {
+    schema: &'a Schema,
+    states: u32,
+    ghost some: { 1 ≤ states },
+}
+
+impl<'a> ByProducts<'a> {
+    /// Answers for the schema by products of at most so many states.
+    pub fn new(schema: &'a Schema, states: u32) -> ByProducts<'a>
+        requires { 1 ≤ states }
+        ensures schema { result.schema.now ≡ schema.now }
+        ensures states { result.states ≡ states }
+    {
+        ByProducts { schema, states }
+    }
+}
+
+// The answer to the contrary question.
+fn opposite(answer: Within) -> Within
+    ensures { result ≡ opposite answer }
+{
+    match answer {
+        Within::Yes => Within::No,
+        Within::No => Within::Yes,
+        Within::TooMany(texts) => Within::TooMany(texts),
+    }
+}
+
+// Whether some valid request passes the one test, where one is given, and not the other.
+fn escapes(
+    alloc: Global,
+    schema: &Schema,
+    slot: &Slot,
+    one: Option<Test>,
+    other: Test,
+    states: u32,
+) -> Result<Within, NoMemory>
+    requires sound { SchemaIsSound schema.now }
+    requires slot { SlotIsIn schema.now slot.now }
+    requires one_suits { IfSome one (IsTestOf schema.now slot.now) }
+    requires other_suits { IsTestOf schema.now slot.now other }
+    requires some { 1 ≤ states }
+    ensures { IfOk result (TellsEscape schema.now slot.now states one other) }
+{
+    match one {
+        Some(test) => ask_two(alloc, schema, slot, test, other, states),
+        None => ask_one(alloc, schema, slot, other, false, states),
+    }
+}
+
+impl<'a> Inclusion for ByProducts<'a> {
+    ghost schema = { λ by. by.schema.now };
+
+    ghost states = { λ by. by.states };
+
+    fn met(&mut self, alloc: Global, slot: &Slot, one: &Predicate) -> Result<Within, NoMemory> {
+        sound_schemas_have_requests();
+        match test_of(alloc, slot, one)? {
+            Some(test) => ask_one(alloc, self.schema, slot, test, true, self.states),
+            None => Ok(Within::Yes),
+        }
+    }
+
+    fn within(
+        &mut self,
+        alloc: Global,
+        slot: &Slot,
+        one: &Predicate,
+        other: &Predicate,
+    ) -> Result<Within, NoMemory> {
+        if is_plainly_below(one, other) {
+            return Ok(Within::Yes);
+        }
+        let Some(test) = test_of(alloc, slot, other)? else {
+            return Ok(Within::Yes);
+        };
+        let first = test_of(alloc, slot, one)?;
+        let escaped = escapes(alloc, self.schema, slot, first, test, self.states)?;
+        Ok(opposite(escaped))
+    }
+}

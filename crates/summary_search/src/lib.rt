@@ -1,0 +1,13 @@
+//! Summaries of a set by the search: which predicates lie below which is answered by products, and whose
+//! a finding is by the search for a request.
+#![tactic(auto)]
+
+mod asking;
+mod finding;
+mod inclusion;
+mod outcome;
+mod plain;
+mod questions;
+
+pub use finding::find_summary;
+pub use outcome::{Limits, Outcome};

@@ -1,0 +1,32 @@
+//! Predicates of which one plainly lies below the other, without a product.
+ghost use Rattle.std.specs.Prelude.{IsTrue};
+ghost use Rattle.summary_search.specs.Plain.{EachNames, IsPlainlyBelow};
+
+use policy_model::{Entry, PrincipalKind, entry_names};
+use strata::Predicate;
+
+// Whether each principal of the one entry plainly is one of the other.
+fn is_entry_below(one: &Entry, other: &Entry) -> bool
+    ensures { IsTrue result → EachNames one.now other.now }
+{
+    match (one, other) {
+        (_, Entry::All) => true,
+        (Entry::Exact(kind, id), _) => entry_names(other, *kind, id),
+        (Entry::Account(_), Entry::Kind(kind)) => *kind == PrincipalKind::Aws,
+        _ => false,
+    }
+}
+
+/// Whether every request that meets the one plainly meets the other: everything lies below `Every`, and
+/// entries lie below one another by kind and account.
+pub fn is_plainly_below(one: &Predicate, other: &Predicate) -> bool
+    ensures { IsTrue result → IsPlainlyBelow one.now other.now }
+{
+    match (one, other) {
+        (_, Predicate::Every) => true,
+        (Predicate::Principal(first), Predicate::Principal(second)) => {
+            is_entry_below(first, second)
+        }
+        _ => false,
+    }
+}
