@@ -1,0 +1,7 @@
+use Rattle.std.proofs.Common.{lit≤}
+use Rattle.std.specs.Str.{chars}
+use Rattle.policy_load.proofs.sets.second_load.Goals as goal
+
+pub glob-requires : goal.glob-requires
+unfolding chars
+glob-requires c = lit≤ tt

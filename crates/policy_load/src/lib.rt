@@ -1,0 +1,9 @@
+//! Two sets of policies of a size that is asked for, on which the work of the comparer can be seen.
+#![tactic(auto)]
+
+mod keys;
+mod patterns;
+mod sets;
+
+pub use plain_lists::NoMemory;
+pub use sets::load_pair;
