@@ -1,29 +1,16 @@
 -- The numbers of `compare` are in their ranges.
-use Rattle.std.proofs.Common.{◌≡◌, ℕ, zero, suc, true, false, arith, refl, codes, List, [], ◌∷◌}
-use Rattle.std.specs.Prelude.{⊤, pos}
-use Rattle.std.specs.List.{All, list_all}
+use Rattle.std.proofs.Common.{◌≡◌, true, refl, codes}
+use Rattle.std.specs.Prelude.{pos}
+use Rattle.std.specs.List.{list_all}
 use Rattle.clap.specs.Words.{IsParsedFrom, app_of, found_of}
-use Rattle.clap.specs.Walk.{Rule}
 use Rattle.clap.specs.declared.builder.command.Command.{Command}
-use Rattle.clap.specs.declared.builder.value_parser.ValueParser.{ValueParser}
 use Rattle.clap.specs.declared.builder.value_parser.ValueParser.TheVariants.{Signed}
 use Rattle.clap.specs.declared.parser.matches.ArgMatches.{ArgMatches}
-use Rattle.command_words.proofs.Numbers.{HasParser, has_number}
+use Rattle.command_words.proofs.Numbers.{has_number}
+use Rattle.command_words.proofs.Rules.{EachHasParser, all_have, other}
 use Rattle.command_words.specs.Forms.{compare_form}
 use Rattle.command_words.specs.Parsing.{HasNumberUpTo}
 use Rattle.command_words.specs.declared.limits.TheConstants.{MOST_SPLITS, MOST_STATES}
-
-abbrev EachHasParser : List ℕ → ValueParser → List Rule → Type 0
-EachHasParser id q [] = ⊤
-EachHasParser id q (r ∷ rs) = HasParser id q r × EachHasParser id q rs
-
-all_have : (id : List ℕ) (q : ValueParser) (rs : List Rule) → EachHasParser id q rs → All (HasParser id q) rs
-all_have id q [] each k d lt = absurd (omega arith)
-all_have id q (r ∷ rs) each zero d lt = each.0
-all_have id q (r ∷ rs) each (suc k) d lt = all_have id q rs each.1 k d (omega arith)
-
-other : {P : Type 0} → false ≡ true → P
-other e = cc
 
 compare_is_plain : compare_form.top.is_plain ≡ true
 unfolding compare_form

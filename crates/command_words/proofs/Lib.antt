@@ -1,6 +1,10 @@
 mod Asking
 mod Compare
+mod Distinct
+mod Load
 mod Numbers
 mod Parses
 mod Readings
+mod Rules
 mod Simple
+mod Summary

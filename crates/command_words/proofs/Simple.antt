@@ -3,7 +3,7 @@ use Rattle.std.proofs.Common.{◌≡◌, ◌&&◌, Bool, true, false, refl, sym,
 use Rattle.clap.specs.Words.{App, is_simple, is_simple_and_free}
 use Rattle.clap.specs.Faults.{is_free_app}
 use Rattle.clap.specs.Simple.{built}
-use Rattle.command_words.specs.Forms.{check_form, compare_form, eval_form}
+use Rattle.command_words.specs.Forms.{check_form, compare_form, eval_form, load_form, summary_form}
 
 compare_is_simple : is_simple_and_free compare_form ≡ true
 unfolding compare_form
@@ -17,6 +17,14 @@ eval_is_simple : is_simple_and_free eval_form ≡ true
 unfolding eval_form
 eval_is_simple = refl
 
+summary_is_simple : is_simple_and_free summary_form ≡ true
+unfolding summary_form
+summary_is_simple = refl
+
+load_is_simple : is_simple_and_free load_form ≡ true
+unfolding load_form
+load_is_simple = refl
+
 pub simple_if_compare : (a : App) → a ≡ compare_form → is_simple_and_free a ≡ true
 simple_if_compare a e = subst (λ (x : App). is_simple_and_free x ≡ true) (sym e) compare_is_simple
 
@@ -25,6 +33,12 @@ simple_if_check a e = subst (λ (x : App). is_simple_and_free x ≡ true) (sym e
 
 pub simple_if_eval : (a : App) → a ≡ eval_form → is_simple_and_free a ≡ true
 simple_if_eval a e = subst (λ (x : App). is_simple_and_free x ≡ true) (sym e) eval_is_simple
+
+pub simple_if_summary : (a : App) → a ≡ summary_form → is_simple_and_free a ≡ true
+simple_if_summary a e = subst (λ (x : App). is_simple_and_free x ≡ true) (sym e) summary_is_simple
+
+pub simple_if_load : (a : App) → a ≡ load_form → is_simple_and_free a ≡ true
+simple_if_load a e = subst (λ (x : App). is_simple_and_free x ≡ true) (sym e) load_is_simple
 
 first_of_both : (a b : Bool) → (a && b) ≡ true → a ≡ true
 first_of_both true b e = refl

@@ -1,17 +1,22 @@
 -- What the words of a command line ask for.
-use Rattle.std.specs.Prelude.{◌≤◌, ⊤, ℕ, List, [], ◌∷◌, map, find, Bool, false, Option, Some, None, option_and_then, option_map, unwrap_or, String, string_bytes, codes}
+use Rattle.std.specs.Prelude.{◌≡◌, ◌≤◌, ◌&&◌, ⊤, ℕ, List, [], ◌∷◌, map, find, length, nat_lt, Bool, true, false, not, if◌then◌else◌}
+use Rattle.std.specs.Prelude.{Option, Some, None, option_and_then, option_map, unwrap_or, String, string_bytes, codes}
+use Rattle.std.specs.Char.{to_ascii_lowercase}
+use Rattle.std.specs.List.{list_any}
 use Rattle.std.specs.Option.{option_map_or}
 use Rattle.std.specs.Str.{bytes_eq}
 use Rattle.std.specs.Str.Parse.{digits_value, without_leading_plus}
-use Rattle.clap.specs.Words.{App, Kinds, Row, Text, fault_of, first_of, matches_of, one_of}
-use Rattle.command_words.specs.Forms.{check_form, compare_form, eval_form}
+use Rattle.clap.specs.Words.{App, Kinds, Row, Text, all_of, fault_of, first_of, matches_of, one_of}
+use Rattle.command_words.specs.Forms.{check_form, compare_form, eval_form, load_form, summary_form}
 use Rattle.command_words.specs.declared.asked.CheckWords.{CheckWords}
 use Rattle.command_words.specs.declared.asked.Command.{Command}
-use Rattle.command_words.specs.declared.asked.Command.TheVariants.{Compare, Check, Eval}
+use Rattle.command_words.specs.declared.asked.Command.TheVariants.{Compare, Check, Summary, Eval, Load}
 use Rattle.command_words.specs.declared.asked.CompareWords.{CompareWords}
 use Rattle.command_words.specs.declared.asked.EvalWords.{EvalWords}
 use Rattle.command_words.specs.declared.asked.FileNames.{FileNames}
+use Rattle.command_words.specs.declared.asked.SummaryWords.{SummaryWords}
 use Rattle.command_words.specs.declared.limits.TheConstants.{MOST_SPLITS, MOST_STATES, DEFAULT_SPLITS, DEFAULT_STATES}
+use Rattle.command_words.specs.declared.limits.TheConstants.{MOST_FINDINGS, DEFAULT_FINDINGS, MOST_KEYS, MOST_DIMENSIONS}
 
 -- the names of the files of two sets, and of a schema where one is named
 pub record Names : Type 0 where
@@ -31,6 +36,15 @@ pub record Checking : Type 0 where
   pub names : Names
   pub proof : List ℕ
 
+-- a summary of a set: the names of the dimensions, and the budgets
+pub record Summarising : Type 0 where
+  pub set : List ℕ
+  pub dimensions : List (List ℕ)
+  pub schema : Option (List ℕ)
+  pub splits : ℕ
+  pub states : ℕ
+  pub findings : ℕ
+
 -- an evaluation of a request
 pub record Evaluating : Type 0 where
   pub set : List ℕ
@@ -41,7 +55,10 @@ pub record Evaluating : Type 0 where
 pub data Asked : Type 0 where
   a_comparison : Comparing → Asked
   a_check : Checking → Asked
+  a_summary : Summarising → Asked
   an_evaluation : Evaluating → Asked
+  -- the jobs on two sets of so many keys
+  a_load : ℕ → Asked
 
 -- ---- the same, of owned names
 
@@ -63,6 +80,20 @@ comparing_in c = record {
 abbrev pub checking_in : CheckWords → Checking
 checking_in c = record { names = names_in c.names; proof = string_bytes c.proof }
 
+-- the texts of the words
+abbrev pub texts_in : {Z : Type 0} → List (String Z) → List Text
+texts_in words = map (λ word. string_bytes word) words
+
+abbrev pub summarising_in : SummaryWords → Summarising
+summarising_in s = record {
+  set = string_bytes s.set;
+  dimensions = texts_in s.dimensions.items;
+  schema = option_map (λ name. string_bytes name) s.schema;
+  splits = s.splits;
+  states = s.states;
+  findings = s.findings;
+}
+
 abbrev pub evaluating_in : EvalWords → Evaluating
 evaluating_in e = record {
   set = string_bytes e.set;
@@ -73,22 +104,56 @@ evaluating_in e = record {
 abbrev pub asked_in : Command → Asked
 asked_in (Compare c) = a_comparison (comparing_in c)
 asked_in (Check c) = a_check (checking_in c)
+asked_in (Summary s) = a_summary (summarising_in s)
 asked_in (Eval e) = an_evaluation (evaluating_in e)
+asked_in (Load keys) = a_load keys
+
+-- ---- the dimensions of a summary
+
+-- the name with its ASCII letters lowered
+abbrev pub lowered : Text → Text
+lowered name = map to_ascii_lowercase name
+
+-- the text is one of these
+abbrev pub is_one_of : Text → List Text → Bool
+is_one_of text others = list_any (λ other. bytes_eq other text) others
+
+-- none of the texts is another one of them
+abbrev pub are_distinct : List Text → Bool
+are_distinct [] = true
+are_distinct (text ∷ texts) = not (is_one_of text texts) && are_distinct texts
+
+-- at most four names, none of which is another one but for the case of ASCII letters
+abbrev pub are_dimensions : List Text → Bool
+are_dimensions names = not (nat_lt MOST_DIMENSIONS (length names)) && are_distinct (map lowered names)
+
+-- ---- ranges
 
 -- the numbers of a comparison lie in their ranges
 abbrev pub HasNumbersInRange : CompareWords → Type 0
 HasNumbersInRange c = (1 ≤ c.splits) × (c.splits ≤ MOST_SPLITS) × (1 ≤ c.states) × (c.states ≤ MOST_STATES)
 
+-- the numbers of a summary lie in their ranges
+abbrev pub HasBudgetsInRange : SummaryWords → Type 0
+HasBudgetsInRange s = (1 ≤ s.splits) × (s.splits ≤ MOST_SPLITS) × (1 ≤ s.states) × (s.states ≤ MOST_STATES)
+    × (1 ≤ s.findings) × (s.findings ≤ MOST_FINDINGS)
+
 abbrev pub IsInRange : Command → Type 0
 IsInRange (Compare c) = HasNumbersInRange c
 IsInRange (Check c) = ⊤
+IsInRange (Summary s) = HasBudgetsInRange s × (are_dimensions (texts_in s.dimensions.items) ≡ true)
 IsInRange (Eval e) = ⊤
+IsInRange (Load keys) = (1 ≤ keys) × (keys ≤ MOST_KEYS)
 
 -- ---- what the matches of a command say
 
 -- the name at a position that has to be taken: where `clap` finds no fault it is there
 abbrev pub name_at : Text → List Row → Text
 name_at id rows = unwrap_or (first_of id rows) []
+
+-- all names from a position on
+abbrev pub names_at : Text → List Row → List Text
+names_at id rows = unwrap_or (all_of id rows) []
 
 -- the number that the digits write, behind a plus or none
 abbrev pub written_number : Text → ℕ
@@ -120,6 +185,21 @@ comparison_of rows = a_comparison (record {
 abbrev pub check_of : List Row → Asked
 check_of rows = a_check (record { names = names_of rows; proof = name_at (codes "proof") rows })
 
+abbrev pub summarising_of : List Row → Summarising
+summarising_of rows = record {
+  set = name_at (codes "set") rows;
+  dimensions = names_at (codes "dimension") rows;
+  schema = first_of (codes "schema") rows;
+  splits = number_or DEFAULT_SPLITS (codes "splits") rows;
+  states = number_or DEFAULT_STATES (codes "states") rows;
+  findings = number_or DEFAULT_FINDINGS (codes "findings") rows;
+}
+
+-- a summary, unless there are too many dimensions or one stands twice
+abbrev pub summary_of : List Row → Option Asked
+summary_of rows =
+    if are_dimensions (names_at (codes "dimension") rows) then Some (a_summary (summarising_of rows)) else None
+
 abbrev pub evaluation_of : List Row → Asked
 evaluation_of rows = an_evaluation (record {
   set = name_at (codes "set") rows;
@@ -127,45 +207,53 @@ evaluation_of rows = an_evaluation (record {
   schema = first_of (codes "schema") rows;
 })
 
+-- the number has to be taken: where `clap` finds no fault it is there
+abbrev pub load_of : List Row → Asked
+load_of rows = a_load (number_or 1 (codes "keys") rows)
+
 -- ---- the table of the commands
 
--- a command: its form, whose name is the first word, and what the matches of the form ask
+-- a command: its form, whose name is the first word, and what the matches of the form ask, if anything
 pub record NamedCommand : Type 0 where
   pub form : App
-  pub asks : List Row → Asked
+  pub asks : List Row → Option Asked
 
 abbrev pub compare_command : NamedCommand
-compare_command = record { form = compare_form; asks = comparison_of }
+compare_command = record { form = compare_form; asks = λ rows. Some (comparison_of rows) }
 
 abbrev pub check_command : NamedCommand
-check_command = record { form = check_form; asks = check_of }
+check_command = record { form = check_form; asks = λ rows. Some (check_of rows) }
+
+abbrev pub summary_command : NamedCommand
+summary_command = record { form = summary_form; asks = summary_of }
 
 abbrev pub eval_command : NamedCommand
-eval_command = record { form = eval_form; asks = evaluation_of }
+eval_command = record { form = eval_form; asks = λ rows. Some (evaluation_of rows) }
+
+abbrev pub load_command : NamedCommand
+load_command = record { form = load_form; asks = λ rows. Some (load_of rows) }
 
 abbrev pub commands : List NamedCommand
-commands = compare_command ∷ check_command ∷ eval_command ∷ []
+commands = compare_command ∷ check_command ∷ summary_command ∷ eval_command ∷ load_command ∷ []
 
 -- the command that the first word names, by its exact text
 abbrev pub command_of : Text → Option NamedCommand
 command_of word = find (λ e. bytes_eq e.form.top.name word) commands
 
 -- what the matches ask, unless there is a fault
-abbrev pub asked_unless : Kinds → Asked → Option Asked
-asked_unless [] asked = Some asked
+abbrev pub asked_unless : Kinds → Option Asked → Option Asked
+asked_unless [] asked = asked
 asked_unless (kind ∷ kinds) asked = None
 
 -- what the words ask of a command, as `clap` reads them: it passes over the first, the command's name
 abbrev pub asked_of : NamedCommand → List Text → Option Asked
 asked_of e words = asked_unless (fault_of e.form words) (e.asks (matches_of e.form words))
 
--- what the words ask, or none where the first is missing or names no command, or `clap` refuses the others
+-- what the words ask, or none where the first is missing or names no command, where `clap` refuses the others, or where they ask
+-- for a summary by too many dimensions or by one twice
 abbrev pub asked : List Text → Option Asked
 asked [] = None
 asked (word ∷ words) = option_and_then (λ e. asked_of e (word ∷ words)) (command_of word)
-
-abbrev pub texts_in : {Z : Type 0} → List (String Z) → List Text
-texts_in words = map (λ word. string_bytes word) words
 
 abbrev pub asked_by : {Z : Type 0} → List (String Z) → Option Asked
 asked_by words = asked (texts_in words)

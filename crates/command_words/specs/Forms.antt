@@ -1,13 +1,30 @@
 -- The form of each command's words, as a simple command of `clap`.
 use Rattle.std.specs.Prelude.{◌∷◌, ℕ, List, [], fold, Some, pos, true, codes}
 use Rattle.clap.specs.Words.{App, Rule, Text, new_app, new_rule, with_rule}
-use Rattle.clap.specs.declared.builder.action.ArgAction.TheVariants.{Set, SetTrue}
+use Rattle.clap.specs.Lexer.{usize_max}
+use Rattle.clap.specs.declared.builder.action.ArgAction.TheVariants.{Append, Set, SetTrue}
 use Rattle.clap.specs.declared.builder.value_parser.ValueParser.TheVariants.{Signed}
-use Rattle.command_words.specs.declared.limits.TheConstants.{MOST_SPLITS, MOST_STATES}
+use Rattle.command_words.specs.declared.limits.TheConstants.{MOST_FINDINGS, MOST_KEYS, MOST_SPLITS, MOST_STATES}
 
 -- a name that has to stand, by its position
 abbrev pub name_rule : Text → Rule
 name_rule id = record (new_rule id) { required = true; action = Some Set }
+
+-- names of which one has to stand, behind the others by their position
+abbrev pub names_rule : Text → Rule
+names_rule id = record (new_rule id) {
+  required = true;
+  range = Some (record { start_inclusive = 1; end_inclusive = usize_max });
+  action = Some Append;
+}
+
+-- a number from 1 to `most` that has to stand, by its position
+abbrev pub amount_rule : Text → ℕ → Rule
+amount_rule id most = record (new_rule id) {
+  required = true;
+  action = Some Set;
+  parser = Some (Signed (pos 1) (pos most));
+}
 
 -- `--ID FILE`
 abbrev pub file_rule : Text → Rule
@@ -41,7 +58,18 @@ unfoldable pub check_form : App
 check_form = form_of (codes "check") (name_rule (codes "first") ∷ name_rule (codes "second")
     ∷ name_rule (codes "proof") ∷ file_rule (codes "schema") ∷ [])
 
+-- `summary SET DIMENSION.. [--schema FILE] [--splits N] [--states N] [--findings N]`
+unfoldable pub summary_form : App
+summary_form = form_of (codes "summary") (name_rule (codes "set")
+    ∷ names_rule (codes "dimension") ∷ file_rule (codes "schema")
+    ∷ number_rule (codes "splits") MOST_SPLITS ∷ number_rule (codes "states") MOST_STATES
+    ∷ number_rule (codes "findings") MOST_FINDINGS ∷ [])
+
 -- `eval SET REQUEST [--schema FILE]`
 unfoldable pub eval_form : App
 eval_form = form_of (codes "eval") (name_rule (codes "set") ∷ name_rule (codes "request")
     ∷ file_rule (codes "schema") ∷ [])
+
+-- `load N`
+unfoldable pub load_form : App
+load_form = form_of (codes "load") (amount_rule (codes "keys") MOST_KEYS ∷ [])

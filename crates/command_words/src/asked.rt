@@ -34,10 +34,26 @@ pub struct EvalWords {
     pub schema: Option<String>,
 }
 
+/// What `summary` is asked: the names of the files of a set, and of a schema where one is named; the
+/// dimensions, at most four, none of which is another one but for the case of ASCII letters; and the splits,
+/// the product states and the findings that it may need.
+#[derive(Drop)]
+pub struct SummaryWords {
+    pub set: String,
+    pub dimensions: Vec<String>,
+    pub schema: Option<String>,
+    pub splits: u32,
+    pub states: u32,
+    pub findings: u32,
+}
+
 /// One of the commands.
 #[derive(Drop)]
 pub enum Command {
     Compare(CompareWords),
     Check(CheckWords),
+    Summary(SummaryWords),
     Eval(EvalWords),
+    /// The number of keys.
+    Load(u32),
 }

@@ -3,12 +3,16 @@
 #![tactic(auto)]
 
 mod asked;
+mod dimensions;
 mod forms;
 mod limits;
 mod parsing;
 mod reading;
 
-pub use asked::{CheckWords, Command, CompareWords, EvalWords, FileNames};
-pub use limits::{DEFAULT_SPLITS, DEFAULT_STATES, MOST_SPLITS, MOST_STATES};
+pub use asked::{CheckWords, Command, CompareWords, EvalWords, FileNames, SummaryWords};
+pub use limits::{
+    DEFAULT_FINDINGS, DEFAULT_SPLITS, DEFAULT_STATES, MOST_DIMENSIONS, MOST_FINDINGS, MOST_KEYS,
+    MOST_SPLITS, MOST_STATES,
+};
 pub use plain_lists::NoMemory;
 pub use reading::read_words;

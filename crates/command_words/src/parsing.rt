@@ -1,7 +1,7 @@
 //! What `clap` makes of the words of a command, and what its matches say.
-ghost use Rattle.std.specs.Prelude.{◌≡◌, ◌≤◌, true, IfOk, IfSome, option_map, string_bytes};
+ghost use Rattle.std.specs.Prelude.{◌≡◌, ◌≤◌, map, true, IfOk, IfSome, option_map, string_bytes};
 ghost use Rattle.clap.specs.Words.{IsParsedFrom, app_of, first_of, found_of, is_simple_and_free, rows_of};
-ghost use Rattle.command_words.specs.Asked.{has_flag, name_at, number_or, texts_in};
+ghost use Rattle.command_words.specs.Asked.{has_flag, name_at, names_at, number_or, texts_in};
 ghost use Rattle.command_words.specs.Parsing.{HasNumberUpTo, Parses};
 
 use clap::error::ErrorKind;
@@ -32,6 +32,31 @@ pub(crate) fn name_at(alloc: Global, matches: &ArgMatches, id: &str) -> Result<S
     ensures { IfOk result (λ n. string_bytes n ≡ name_at id.now (rows_of (found_of matches.now))) }
 {
     String::from_str(alloc, matches.get_str(id).unwrap_or(""))
+}
+
+// The texts, owned.
+fn owned(alloc: Global, texts: &[&str]) -> Result<Vec<String>, NoMemory>
+    ensures { IfOk result (λ all. texts_in all.items ≡ map (λ text. text.now) texts.now) }
+{
+    let mut all = Vec::new(alloc);
+    for text in texts {
+        all.push(String::from_str(alloc, text)?)?;
+    }
+    Ok(all)
+}
+
+/// The names from a position on.
+pub(crate) fn names_at(
+    alloc: Global,
+    matches: &ArgMatches,
+    id: &str,
+) -> Result<Vec<String>, NoMemory>
+    ensures { IfOk result (λ all. texts_in all.items ≡ names_at id.now (rows_of (found_of matches.now))) }
+{
+    match matches.get_strs(id) {
+        Some(texts) => owned(alloc, texts),
+        None => Ok(Vec::new(alloc)),
+    }
 }
 
 /// The name of a file that an option gives, if it does.

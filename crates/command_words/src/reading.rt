@@ -1,16 +1,22 @@
 //! The words of a command line, read.
-ghost use Rattle.std.specs.Prelude.{◌≡◌, codes, IfOk, IfSome, option_and_then, option_map};
+ghost use Rattle.std.specs.Prelude.{◌≡◌, ◌≤◌, codes, IfOk, IfSome, option_and_then, option_map};
 ghost use Rattle.clap.specs.Words.{found_of, rows_of};
-ghost use Rattle.command_words.specs.Asked.{HasNumbersInRange, IsInRange, a_check, a_comparison, an_evaluation};
+ghost use Rattle.command_words.specs.Asked.{HasBudgetsInRange, HasNumbersInRange, IsInRange};
+ghost use Rattle.command_words.specs.Asked.{a_check, a_comparison, a_load, an_evaluation};
 ghost use Rattle.command_words.specs.Asked.{asked_by, asked_in, asked_of, check_command, check_of, checking_in};
 ghost use Rattle.command_words.specs.Asked.{command_of, compare_command, comparing_in, comparison_of, eval_command};
-ghost use Rattle.command_words.specs.Asked.{evaluating_in, evaluation_of, names_in, names_of, texts_in};
+ghost use Rattle.command_words.specs.Asked.{evaluating_in, evaluation_of, load_command, load_of, names_in, names_of};
+ghost use Rattle.command_words.specs.Asked.{summarising_in, summarising_of, summary_command, summary_of, texts_in};
 ghost use Rattle.command_words.specs.Parsing.{HasNumberUpTo};
 
-use crate::asked::{CheckWords, Command, CompareWords, EvalWords, FileNames};
-use crate::forms::{check_form, compare_form, eval_form};
-use crate::limits::{DEFAULT_SPLITS, DEFAULT_STATES, MOST_SPLITS, MOST_STATES};
-use crate::parsing::{file_of, has_flag, name_at, number_or, parsed};
+use crate::asked::{CheckWords, Command, CompareWords, EvalWords, FileNames, SummaryWords};
+use crate::dimensions::are_dimensions;
+use crate::forms::{check_form, compare_form, eval_form, load_form, summary_form};
+use crate::limits::{
+    DEFAULT_FINDINGS, DEFAULT_SPLITS, DEFAULT_STATES, MOST_FINDINGS, MOST_KEYS, MOST_SPLITS,
+    MOST_STATES,
+};
+use crate::parsing::{file_of, has_flag, name_at, names_at, number_or, parsed};
 use clap::ArgMatches;
 use plain_lists::NoMemory;
 use std::alloc::Global;
@@ -75,6 +81,54 @@ fn read_check(alloc: Global, words: &[String]) -> Result<Option<Command>, NoMemo
     }
 }
 
+// The names and the budgets of the matches of `summary`.
+fn summary_words(alloc: Global, matches: &ArgMatches) -> Result<SummaryWords, NoMemory>
+    requires splits { HasNumberUpTo (found_of matches.now) (codes "splits") MOST_SPLITS }
+    requires states { HasNumberUpTo (found_of matches.now) (codes "states") MOST_STATES }
+    requires findings { HasNumberUpTo (found_of matches.now) (codes "findings") MOST_FINDINGS }
+    ensures value { IfOk result (λ s. summarising_in s ≡ summarising_of (rows_of (found_of matches.now))) }
+    ensures within { IfOk result HasBudgetsInRange }
+{
+    Ok(SummaryWords {
+        set: name_at(alloc, matches, "set")?,
+        dimensions: names_at(alloc, matches, "dimension")?,
+        schema: file_of(alloc, matches, "schema")?,
+        splits: number_or(matches, "splits", MOST_SPLITS, DEFAULT_SPLITS),
+        states: number_or(matches, "states", MOST_STATES, DEFAULT_STATES),
+        findings: number_or(matches, "findings", MOST_FINDINGS, DEFAULT_FINDINGS),
+    })
+}
+
+// What the matches of `summary` ask, or none where there are too many dimensions or one stands twice.
+fn summary_in(alloc: Global, matches: &ArgMatches) -> Result<Option<Command>, NoMemory>
+    requires splits { HasNumberUpTo (found_of matches.now) (codes "splits") MOST_SPLITS }
+    requires states { HasNumberUpTo (found_of matches.now) (codes "states") MOST_STATES }
+    requires findings { HasNumberUpTo (found_of matches.now) (codes "findings") MOST_FINDINGS }
+    ensures value { IfOk result (λ c. option_map asked_in c
+        ≡ summary_of (rows_of (found_of matches.now))) }
+    ensures within { IfOk result (λ c. IfSome c IsInRange) }
+{
+    let asked = summary_words(alloc, matches)?;
+    if are_dimensions(alloc, asked.dimensions.as_slice())? {
+        Ok(Some(Command::Summary(asked)))
+    } else {
+        Ok(None)
+    }
+}
+
+// What the words of `summary` ask, or none where `clap` refuses them, where there are too many dimensions
+// or where one stands twice.
+fn read_summary(alloc: Global, words: &[String]) -> Result<Option<Command>, NoMemory>
+    ensures value { IfOk result (λ c. option_map asked_in c
+        ≡ asked_of summary_command (texts_in words.now)) }
+    ensures within { IfOk result (λ c. IfSome c IsInRange) }
+{
+    match parsed(summary_form(alloc)?, words)? {
+        Some(matches) => summary_in(alloc, &matches),
+        None => Ok(None),
+    }
+}
+
 // What the matches of `eval` ask.
 fn evaluation_in(alloc: Global, matches: &ArgMatches) -> Result<EvalWords, NoMemory>
     ensures { IfOk result (λ e. an_evaluation (evaluating_in e)
@@ -99,6 +153,27 @@ fn read_eval(alloc: Global, words: &[String]) -> Result<Option<Command>, NoMemor
     }
 }
 
+// The number of keys in the matches of `load`.
+fn load_in(matches: &ArgMatches) -> u32
+    requires { HasNumberUpTo (found_of matches.now) (codes "keys") MOST_KEYS }
+    ensures value { a_load result ≡ load_of (rows_of (found_of matches.now)) }
+    ensures within { (1 ≤ result) × (result ≤ MOST_KEYS) }
+{
+    number_or(matches, "keys", MOST_KEYS, 1)
+}
+
+// What the words of `load` ask, or none where `clap` refuses them.
+fn read_load(alloc: Global, words: &[String]) -> Result<Option<Command>, NoMemory>
+    ensures value { IfOk result (λ c. option_map asked_in c
+        ≡ asked_of load_command (texts_in words.now)) }
+    ensures within { IfOk result (λ c. IfSome c IsInRange) }
+{
+    match parsed(load_form(alloc)?, words)? {
+        Some(matches) => Ok(Some(Command::Load(load_in(&matches)))),
+        None => Ok(None),
+    }
+}
+
 // What the words ask of the command with this name.
 fn read_command(alloc: Global, name: &str, words: &[String]) -> Result<Option<Command>, NoMemory>
     ensures value { IfOk result (λ c. option_map asked_in c ≡ option_and_then (λ e. asked_of e
@@ -108,13 +183,17 @@ fn read_command(alloc: Global, name: &str, words: &[String]) -> Result<Option<Co
     match name {
         "compare" => read_compare(alloc, words),
         "check" => read_check(alloc, words),
+        "summary" => read_summary(alloc, words),
         "eval" => read_eval(alloc, words),
+        "load" => read_load(alloc, words),
         _ => Ok(None),
     }
 }
 
 /// What the words after the program's name ask, or none where there are none, where the first is no
-/// command, or where `clap` refuses the others: they aren't of the command's form, or ask for help.
+/// command, where `clap` refuses the others, which aren't of the command's form or ask for help, or where
+/// they ask for a summary by more than four dimensions, or by two that are equal but for the case of ASCII
+/// letters.
 pub fn read_words(alloc: Global, words: &[String]) -> Result<Option<Command>, NoMemory>
     ensures value { IfOk result (λ c. option_map asked_in c ≡ asked_by words.now) }
     ensures within { IfOk result (λ c. IfSome c IsInRange) }

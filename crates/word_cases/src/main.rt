@@ -2,7 +2,7 @@
 //! program's name, in which `⟦N|TEXT⟧` stands for N times TEXT.
 #![tactic(auto)]
 
-use command_words::{CheckWords, Command, CompareWords, EvalWords, read_words};
+use command_words::{CheckWords, Command, CompareWords, EvalWords, SummaryWords, read_words};
 use line_expansion::expand;
 use serde_json::Value;
 use std::alloc::{AllocError, Global};
@@ -71,6 +71,30 @@ fn push_check(alloc: Global, out: &mut String, asked: &CheckWords) -> Result<(),
     push_schema(alloc, out, asked.names.schema.as_deref())
 }
 
+fn push_budgets(alloc: Global, out: &mut String, asked: &SummaryWords) -> Result<(), AllocError> {
+    let splits = asked.splits;
+    let states = asked.states;
+    let findings = asked.findings;
+    let numbers = format!(in alloc; " splits {splits} states {states} findings {findings}")?;
+    out.push_str(numbers.as_str())
+}
+
+fn push_summary(alloc: Global, out: &mut String, asked: &SummaryWords) -> Result<(), AllocError> {
+    out.push_str("summary")?;
+    push_name(alloc, out, asked.set.as_str())?;
+    out.push_str(" by")?;
+    for dimension in asked.dimensions.as_slice() {
+        push_name(alloc, out, dimension.as_str())?;
+    }
+    push_schema(alloc, out, asked.schema.as_deref())?;
+    push_budgets(alloc, out, asked)
+}
+
+fn push_load(alloc: Global, out: &mut String, keys: u32) -> Result<(), AllocError> {
+    let line = format!(in alloc; "load {keys}")?;
+    out.push_str(line.as_str())
+}
+
 fn push_evaluation(alloc: Global, out: &mut String, asked: &EvalWords) -> Result<(), AllocError> {
     out.push_str("eval")?;
     push_name(alloc, out, asked.set.as_str())?;
@@ -82,7 +106,9 @@ fn push_answer(alloc: Global, out: &mut String, words: &[String]) -> Result<(), 
     match read_words(alloc, words)? {
         Some(Command::Compare(asked)) => push_comparison(alloc, out, &asked)?,
         Some(Command::Check(asked)) => push_check(alloc, out, &asked)?,
+        Some(Command::Summary(asked)) => push_summary(alloc, out, &asked)?,
         Some(Command::Eval(asked)) => push_evaluation(alloc, out, &asked)?,
+        Some(Command::Load(keys)) => push_load(alloc, out, keys)?,
         None => out.push_str("usage")?,
     }
     out.push('\n')
