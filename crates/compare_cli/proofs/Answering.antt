@@ -3,7 +3,7 @@ use Rattle.std.proofs.Common.{◌≡◌, ◌≤◌, ◌∙◌, ℕ, List, None, 
 use Rattle.std.specs.Prelude.{IfOk, MatchOption, Result, Vec}
 use Rattle.std.specs.declared.alloc.AllocError.{AllocError}
 use Rattle.std.specs.declared.alloc.Global.{Global}
-use Rattle.command_words.specs.Asked.{Asked, a_check, a_comparison, an_evaluation}
+use Rattle.command_words.specs.Asked.{Asked, a_check, a_comparison, a_load, a_summary, an_evaluation}
 use Rattle.pol_outside.specs.Folder.{Files, NamesFault}
 use Rattle.pol_outside.specs.declared.folder.TakeFault.{TakeFault}
 use Rattle.pol_outside.specs.declared.folder.TakeFault.TheVariants as fault
@@ -55,15 +55,23 @@ cause-read (a_check c) held (answer.Refused (refusal.TooLong role)) v = elim v.h
   | inl none ↦ absurd none
   | inr past ↦ absurd past.holds.holds
 ]
+cause-read (a_summary s) held answer.Usage v = absurd v.holds.holds.holds.1.holds
+cause-read (a_summary s) held (answer.ReadFault role) v = absurd v.holds.holds.holds.1.holds
+cause-read (a_summary s) held (answer.Refused (refusal.TooLong role)) v = absurd v.holds.holds.holds.1.holds
 cause-read (an_evaluation e) held answer.Usage v = absurd v.holds.holds.holds.holds
 cause-read (an_evaluation e) held (answer.ReadFault role) v = absurd v.holds.holds.holds.holds
 cause-read (an_evaluation e) held (answer.Refused (refusal.TooLong role)) v = absurd v.holds.holds.holds.holds
+cause-read (a_load keys) held answer.Usage v = absurd v
+cause-read (a_load keys) held (answer.ReadFault role) v = absurd v
+cause-read (a_load keys) held (answer.Refused (refusal.TooLong role)) v = absurd v
 cause-read asked held a v = v
 
 no-fault-read : (asked : Asked) (held : Option Files) (role : Role) → IsAnsweredFrom held asked (answer.ReadFault role) → ⊥
 no-fault-read (a_comparison c) held role v = v.holds.holds.holds
 no-fault-read (a_check c) held role v = v.holds.holds.holds.holds
+no-fault-read (a_summary s) held role v = v.holds.holds.holds.1.holds
 no-fault-read (an_evaluation e) held role v = v.holds.holds.holds.holds
+no-fault-read (a_load keys) held role v = v
 
 -- what files that were read are answered, while the folder failed at none
 pub IsAnswerTo-read : (asked : Asked) (r : Reading) → r.last ≡ r.last_before → (a : Answer) → IsAnsweredFrom r.held asked a → IsAnswerTo asked r a

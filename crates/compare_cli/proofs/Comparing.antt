@@ -1,5 +1,5 @@
 -- What the search decides of a query, and what a certificate shows of it, says what the sets allow.
-use Rattle.std.proofs.Common.{◌≡◌, ◌^◌, ◌≤◌, ℕ, Bool, List, [], ◌∷◌, ◌++◌, length, All, Some, slice_get, refl, ap, inl, inr, subst, sym, arith, Err}
+use Rattle.std.proofs.Common.{◌≡◌, ◌^◌, ◌≤◌, ℕ, Bool, List, [], ◌∷◌, ◌++◌, length, All, Option, Some, IfSome, false, slice_get, refl, ap, inl, inr, subst, sym, arith, Err}
 use Rattle.std.specs.Prelude.{string_bytes}
 use Rattle.std.proofs.Math.Pow.{pow_mono}
 use Rattle.std.proofs.lemmas.Bool.{cases_Bool}
@@ -7,7 +7,9 @@ use Rattle.std.proofs.lemmas.List.Elements.{All-nil}
 use Rattle.formula_tree.specs.Laws.{FewTestsFit}
 use Rattle.formula_tree.specs.Values.{AreBelow, holds}
 use Rattle.policy_model.specs.declared.request.Request.{Request}
+use Rattle.policy_difference.specs.Differences.{AskTheSame}
 use Rattle.policy_model.specs.declared.schema.Schema.{Schema}
+use Rattle.policy_model.specs.declared.set.PolicySet.{PolicySet}
 use Rattle.policy_model.specs.declared.test.Test.{Test}
 use Rattle.policy_model.specs.Requests.{IsValid}
 use Rattle.policy_model.specs.Soundness.{TestSuits}
@@ -25,10 +27,10 @@ use Rattle.proof_text.specs.Faults.{proof_fault}
 use Rattle.proof_text.specs.declared.fault.ProofAnswer.{ProofAnswer}
 use Rattle.proof_text.specs.declared.fault.ProofAnswer.TheVariants as proof_answer
 use Rattle.proof_text.specs.declared.fault.ProofFault.{ProofFault}
-use Rattle.proof_text.specs.Laws.{ClosingProofsHaveNoFault, HoldsSmallNumbers, limits_of}
+use Rattle.proof_text.specs.Laws.{ClosingProofsAreSmall, ClosingProofsHaveNoFault, HoldsSmallNumbers, limits_of}
 use Rattle.proof_text.specs.Lines.{verdict_line}
 use Rattle.proof_text.specs.Reads.{IsReadFrom, IsProofRead}
-use Rattle.proof_text.specs.Spelling.{spell}
+use Rattle.proof_text.specs.Spelling.{IsCertificateOf, spell}
 use Rattle.proof_text.specs.declared.limits.TheConstants.{MOST_NUMBER}
 use Rattle.proof_text.specs.declared.read.ReadProof.{ReadProof}
 use Rattle.tree_search.specs.declared.outcome.Budgets.{Budgets}
@@ -42,8 +44,8 @@ use Rattle.compare_cli.specs.declared.answer.Answer.{Answer}
 use Rattle.compare_cli.specs.declared.answer.Answer.TheVariants as answer
 use Rattle.compare_cli.specs.declared.pair.Pair.{Pair}
 use Rattle.compare_cli.specs.Certified.{Certifies, ClosesAll, ClosesBy, FailsAtLine}
-use Rattle.compare_cli.specs.Comparison.{Covers, FewTestsAreDecided, IsFitting, IsWitness, plan_of}
-use Rattle.compare_cli.specs.Decided.{IsChecked, IsComparison, IsDecisionAnswer, IsRefutedAnswer, IsVerdictAnswer}
+use Rattle.compare_cli.specs.Comparison.{Covers, FewTestsAreDecided, IsFitting, IsWitness, paired, plan_of}
+use Rattle.compare_cli.specs.Decided.{IsChecked, IsComparison, IsDecisionAnswer, IsRefutedAnswer, IsVerdict, IsVerdictAnswer, IsVerdictIn}
 
 pub query_tests : (pair : Pair) (q : Query) → IsFitting pair → IsQuery (plan_of pair) q → All (TestSuits pair.schema) q.tests
 query_tests pair q fitting is = All-collects (TestSuits pair.schema) [] (tests_in (plan_of pair)) q.tests is.tests (All-nil (TestSuits pair.schema)) (suit-query pair.schema pair.first pair.second fitting.first fitting.second)
@@ -73,40 +75,67 @@ witness_if_met pair q r fitting is valid (total, answers, met) =
     record { valid = valid; allowed = both.0; refused = both.1 }
 
 -- the certificate of a refutation that closes the query is read again
-certifies : ClosingProofsHaveNoFault → (pair : Pair) (q : Query) (budgets : Budgets) (p : Proof) (text : List ℕ) → IsQuery (plan_of pair) q → pair.schema.version ≤ MOST_NUMBER → IsRefutation pair.schema q budgets.splits p → text ≡ spell pair.schema.version p → HoldsSmallNumbers p → Certifies pair.schema q text
-certifies law pair q budgets p text is version h spelled small = record {
+certifies : ClosingProofsAreSmall → ClosingProofsHaveNoFault → (pair : Pair) (q : Query) (budgets : Budgets) (p : Proof) (text : List ℕ) → IsQuery (plan_of pair) q → pair.schema.version ≤ MOST_NUMBER → IsRefutation pair.schema q budgets.splits p → text ≡ spell pair.schema.version p → HoldsSmallNumbers p → Certifies pair.schema q text
+certifies sizes law pair q budgets p text is version h spelled small = record {
   proof = p;
   spelled = spelled;
   closes = h.closes;
+  trimmed = h.trimmed;
   readable = λ short.
       let nests = h.nests in
       let few = is.few in
-      law pair.schema q.tests (asked_tree q) pair.schema.version p (verdict_line ++ text) h.closes (omega arith) small (omega arith) version
-      (inr (ap (λ (t : List ℕ). verdict_line ++ t) spelled)) short;
+      let certificate : IsCertificateOf pair.schema.version (verdict_line ++ text) p = inr (ap (λ (t : List ℕ). verdict_line ++ t) spelled) in
+      record {
+        faultless = law pair.schema q.tests (asked_tree q) pair.schema.version p (verdict_line ++ text) h.closes (omega arith) small (omega arith) version certificate short;
+        proof = p;
+        spelled = certificate;
+        small = sizes pair.schema q.tests (asked_tree q) pair.schema.version p (verdict_line ++ text) h.closes small (omega arith) version certificate short;
+        closes = h.closes;
+      };
 }
 
-refuted_if_closed : ClosedQueriesAreNo → ClosingProofsHaveNoFault → (pair : Pair) (q : Query) (certified : Bool) (budgets : Budgets) (p : Proof) → IsFitting pair → IsQuery (plan_of pair) q → IsRefutation pair.schema q budgets.splits p → (a : Answer) → IsRefutedAnswer certified pair.schema.version p a → IsComparison certified budgets pair a
-refuted_if_closed law read pair q certified budgets p fitting is h answer.NotMore v = (v, (q, is), covers_if_closed law pair q p fitting is h.closes)
-refuted_if_closed law read pair q certified budgets p fitting is h (answer.Proved text) (asked, spelled, small, version) =
-    (asked, record { query = q; is = is; holds = certifies read pair q budgets p (string_bytes text) is version h spelled small }, covers_if_closed law pair q p fitting is h.closes)
-refuted_if_closed law read pair q certified budgets p fitting is h _ v = absurd v
+refuted_if_closed : ClosedQueriesAreNo → ClosingProofsAreSmall → ClosingProofsHaveNoFault → (pair : Pair) (q : Query) (certified : Bool) (budgets : Budgets) (p : Proof) → IsFitting pair → IsQuery (plan_of pair) q → IsRefutation pair.schema q budgets.splits p → (a : Answer) → IsRefutedAnswer certified pair.schema.version p a → IsComparison certified budgets pair a
+refuted_if_closed law sizes read pair q certified budgets p fitting is h answer.NotMore v = (v, (q, is), covers_if_closed law pair q p fitting is h.closes)
+refuted_if_closed law sizes read pair q certified budgets p fitting is h (answer.Proved text) (asked, spelled, small, version) =
+    (asked, record { query = q; is = is; holds = certifies sizes read pair q budgets p (string_bytes text) is version h spelled small }, covers_if_closed law pair q p fitting is h.closes)
+refuted_if_closed law sizes read pair q certified budgets p fitting is h _ v = absurd v
 
-pub comparison_if_decided : ClosedQueriesAreNo → ClosingProofsHaveNoFault → (pair : Pair) (q : Query) (certified : Bool) (budgets : Budgets) (d : Decided) → IsFitting pair → IsQuery (plan_of pair) q → IsDecision pair.schema q budgets d → (a : Answer) → IsDecisionAnswer certified pair.schema.version budgets d a → IsComparison certified budgets pair a
-comparison_if_decided law read pair q certified budgets (decided.Refuted r) fitting is h a v = refuted_if_closed law read pair q certified budgets (proof_of r.value) fitting is h a v
-comparison_if_decided law read pair q certified budgets (decided.Met r) fitting is h a v = subst (λ (x : Answer). IsComparison certified budgets pair x) (sym v) ((q, is), witness_if_met pair q r fitting is h.valid h.meets)
-comparison_if_decided law read pair q certified budgets decided.OutOfSplits fitting is h a v = subst (λ (x : Answer). IsComparison certified budgets pair x) (sym v) (refl, record { query = q; is = is; plain = h.plain; propagated = h.propagated })
-comparison_if_decided law read pair q certified budgets (decided.OutOfStates w) fitting is h a v = subst (λ (x : Answer). IsComparison certified budgets pair x) (sym v) (refl, record { query = q; is = is; path = w.path; node = h.node; wider = (w.texts, h.texts) })
+pub comparison_if_decided : ClosedQueriesAreNo → ClosingProofsAreSmall → ClosingProofsHaveNoFault → (pair : Pair) (q : Query) (certified : Bool) (budgets : Budgets) (d : Decided) → IsFitting pair → IsQuery (plan_of pair) q → IsDecision pair.schema q budgets d → (a : Answer) → IsDecisionAnswer certified pair.schema.version budgets d a → IsComparison certified budgets pair a
+comparison_if_decided law sizes read pair q certified budgets (decided.Refuted r) fitting is h a v = refuted_if_closed law sizes read pair q certified budgets (proof_of r.value) fitting is h a v
+comparison_if_decided law sizes read pair q certified budgets (decided.Met r) fitting is h a v = subst (λ (x : Answer). IsComparison certified budgets pair x) (sym v) ((q, is), witness_if_met pair q r fitting is h.valid h.meets)
+comparison_if_decided law sizes read pair q certified budgets decided.OutOfSplits fitting is h a v = subst (λ (x : Answer). IsComparison certified budgets pair x) (sym v) (refl, record { query = q; is = is; plain = h.plain; propagated = h.propagated })
+comparison_if_decided law sizes read pair q certified budgets (decided.OutOfStates w) fitting is h a v = subst (λ (x : Answer). IsComparison certified budgets pair x) (sym v) (refl, record { query = q; is = is; path = w.path; node = h.node; wider = (w.texts, h.texts) })
+
+-- a first set that asks the same is covered, so the pair's first set is
+covers-too : (pair : Pair) (first : PolicySet) → AskTheSame pair.first first pair.second → Covers (paired pair.schema first pair.second) → Covers pair
+covers-too pair first same covers r valid allowed = elim (same.split pair.schema r allowed) [ inl second ↦ second | inr left ↦ covers r valid left ]
+
+pub verdict_if_decided : ClosedQueriesAreNo → (pair : Pair) (first : PolicySet) (q : Query) (budgets : Budgets) (d : Decided) → IsFitting (paired pair.schema first pair.second) → AskTheSame pair.first first pair.second → IsQuery (plan_of (paired pair.schema first pair.second)) q → IsDecision pair.schema q budgets d → (o : Option Answer) → IsVerdictIn d o → IfSome o (IsVerdict pair)
+verdict_if_decided law pair first q budgets (decided.Refuted r) fitting same is h o v =
+    subst (λ (x : Option Answer). IfSome x (IsVerdict pair)) (sym v) (covers-too pair first same (covers_if_closed law (paired pair.schema first pair.second) q (proof_of r.value) fitting is h.closes))
+verdict_if_decided law pair first q budgets (decided.Met r) fitting same is h o v =
+    let found = witness_if_met (paired pair.schema first pair.second) q r fitting is h.valid h.meets in
+    subst (λ (x : Option Answer). IfSome x (IsVerdict pair)) (sym v) (record { valid = found.valid; allowed = same.within pair.schema r found.allowed; refused = found.refused })
+verdict_if_decided law pair first q budgets decided.OutOfSplits fitting same is h o v = subst (λ (x : Option Answer). IfSome x (IsVerdict pair)) (sym v) tt
+verdict_if_decided law pair first q budgets (decided.OutOfStates w) fitting same is h o v = subst (λ (x : Option Answer). IfSome x (IsVerdict pair)) (sym v) tt
+
+-- a verdict is a comparison, where the pair has a query
+pub comparison_if_verdict : (pair : Pair) (q : Query) (budgets : Budgets) → IsQuery (plan_of pair) q → (a : Answer) → IsVerdict pair a → IsComparison false budgets pair a
+comparison_if_verdict pair q budgets is answer.NotMore v = (refl, (q, is), v)
+comparison_if_verdict pair q budgets is (answer.More r) v = ((q, is), v)
+comparison_if_verdict pair q budgets is _ v = absurd v
 
 -- what a certificate that was read says of the sets
 pub checked_if_read : ClosedQueriesAreNo → (pair : Pair) (q : Query) (bytes : List ℕ) (read : ReadProof) → IsFitting pair → IsQuery (plan_of pair) q → IsReadFrom (limits_of q.tests pair.schema.version) bytes read → (a : Answer) → IsVerdictAnswer pair.schema q read a → IsChecked bytes pair a
 checked_if_read law pair q bytes read fitting is from answer.Accepted v =
-    let by : ClosesBy pair.schema q bytes = record { faultless = from.faultless; proof = proof_of read.refutation.value; spelled = from.spelled; closes = v } in
+    let by : ClosesBy pair.schema q bytes = record { faultless = from.faultless; proof = proof_of read.refutation.value; spelled = from.spelled; small = from.small; closes = v } in
     (record { query = q; is = is; holds = by }, covers_if_closed law pair q (proof_of read.refutation.value) fitting is v)
 checked_if_read law pair q bytes read fitting is from (answer.NotClosing line) (node, fails, here) =
     let at : FailsAtLine pair.schema q bytes line = record {
       faultless = from.faultless;
       proof = proof_of read.refutation.value;
       spelled = from.spelled;
+      small = from.small;
       node = node;
       fails = fails;
       line_is = subst (λ (ls : List ℕ). slice_get ls node ≡ Some line) from.lines here;
@@ -115,7 +144,7 @@ checked_if_read law pair q bytes read fitting is from (answer.NotClosing line) (
 checked_if_read law pair q bytes read fitting is from _ v = absurd v
 
 -- a plan has one list of tests
-one_list : (had read got other : List Test) → Collects had read got → Collects had read other → got ≡ other
+pub one_list : (had read got other : List Test) → Collects had read got → Collects had read other → got ≡ other
 one_list had [] got other nothing nothing = refl
 one_list had (t ∷ read) got other (again old rest) (again old_too rest_too) = one_list had read got other rest rest_too
 one_list had (t ∷ read) got other (anew new rest) (anew new_too rest_too) = one_list (had ++ t ∷ []) read got other rest rest_too

@@ -16,7 +16,8 @@ use Rattle.compare_cli.specs.declared.answer.Denial.{Denial}
 use Rattle.compare_cli.specs.declared.answer.Denial.TheVariants as denial
 use Rattle.request_json.specs.RequestFiles.{request_from}
 use Rattle.request_schema.specs.RunSchemas.{infer_fault}
-use Rattle.compare_cli.specs.Evaluated.{EvaluatesSet, IsEvaluation, IsUngranted, OfRequest, OfSetRun, evaluation_schema}
+use Rattle.compare_cli.specs.Evaluated.{EvaluatesSet, IsEvaluation, IsUngranted, OfRequest}
+use Rattle.compare_cli.specs.SetRun.{OfSetRun, one_schema}
 
 module _ (law : DecidersTellWhatIsAllowed) (schema : Schema) (set : PolicySet) (r : Request) (valid : IsValid schema r) where
   pub allowed-by : (name : StatementName) → IsDecider schema set r (by.Statement name) → Allows schema set r → IsEvaluation schema set r (answer.Allowed name)
@@ -36,14 +37,14 @@ module _ (law : DecidersTellWhatIsAllowed) (schema : Schema) (set : PolicySet) (
   not-guarded g lacks = (valid, law schema set r (by.NoGuard g) lacks, lacks)
 
 -- the schema of the run and the request of the file, of which the evaluation holds
-of-run : (request : List ℕ) (named : Schema) (set : PolicySet) (schema : Schema) (r : Request) (a : Answer) → infer_fault named set None ≡ None → schema ≡ evaluation_schema named set → request_from schema request ≡ Ok r → IsEvaluation schema set r a →
+of-run : (request : List ℕ) (named : Schema) (set : PolicySet) (schema : Schema) (r : Request) (a : Answer) → infer_fault named set None ≡ None → schema ≡ one_schema named set → request_from schema request ≡ Ok r → IsEvaluation schema set r a →
     OfSetRun named set (λ s. OfRequest s request (λ q. IsEvaluation s set q a))
 of-run request named set schema r a answered run stands is =
     let P : Schema → Type 0 = λ s. OfRequest s request (λ q. IsEvaluation s set q a) in
     record { answered = answered; holds = subst P run (record { request = r; stands = stands; holds = is }) }
 
 -- an evaluation of the request of a file is what the files may be answered
-pub evaluates : (request : List ℕ) (named : Schema) (set : PolicySet) (schema : Schema) (r : Request) (a : Answer) → infer_fault named set None ≡ None → schema ≡ evaluation_schema named set → request_from schema request ≡ Ok r → IsEvaluation schema set r a → EvaluatesSet request named set a
+pub evaluates : (request : List ℕ) (named : Schema) (set : PolicySet) (schema : Schema) (r : Request) (a : Answer) → infer_fault named set None ≡ None → schema ≡ one_schema named set → request_from schema request ≡ Ok r → IsEvaluation schema set r a → EvaluatesSet request named set a
 evaluates request named set schema r (answer.Allowed name) answered run stands is = of-run request named set schema r (answer.Allowed name) answered run stands is
 evaluates request named set schema r (answer.Denied d) answered run stands is = of-run request named set schema r (answer.Denied d) answered run stands is
 evaluates request named set schema r _ answered run stands is = absurd is

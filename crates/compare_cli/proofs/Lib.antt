@@ -1,4 +1,10 @@
+mod Accepting
 mod Answering
 mod Comparing
 mod Completeness
 mod Evaluating
+mod Lines
+mod Naming
+mod PairRuns
+mod Printing
+mod Summarising

@@ -1,7 +1,9 @@
 -- Which answer may be given, by what the arguments ask and what the folder holds.
-use Rattle.std.specs.Prelude.{◌≡◌, ◌⊎◌, ℕ, List, Option, Some, None, MatchOption, Result, Ok, Err, ⊤, alloc_error, if◌then◌else◌}
+pub use Rattle.compare_cli.specs.PairRun.{IsRunRead, OfRun, infer_role, pair_of}
+use Rattle.std.specs.Prelude.{◌≡◌, ◌⊎◌, ℕ, List, Option, Some, None, MatchOption, Result, Ok, Err, ⊤, alloc_error}
 use Rattle.std.specs.declared.alloc.AllocError.{AllocError}
-use Rattle.command_words.specs.Asked.{Asked, Comparing, Evaluating, Names, a_check, a_comparison, an_evaluation}
+use Rattle.command_words.specs.Asked.{Asked, Comparing, Evaluating, Names, Summarising}
+use Rattle.command_words.specs.Asked.{a_check, a_comparison, a_load, a_summary, an_evaluation}
 use Rattle.pol_outside.specs.Faults.{Rose}
 use Rattle.pol_outside.specs.Folder.{Files}
 use Rattle.pol_outside.specs.declared.folder.TakeFault.{TakeFault}
@@ -9,8 +11,7 @@ use Rattle.pol_outside.specs.declared.folder.TakeFault.TheVariants.{Failed, TooL
 use Rattle.policy_model.specs.declared.schema.Schema.{Schema}
 use Rattle.policy_model.specs.declared.set.PolicySet.{PolicySet}
 use Rattle.policy_json.specs.Sets.{set_from}
-use Rattle.request_schema.specs.RunSchemas.{FirstInferFault, infer_fault, schema_of_run}
-use Rattle.request_schema.specs.declared.infer_fault.InferFault.{InferFault}
+use Rattle.request_schema.specs.RunSchemas.{FirstInferFault}
 use Rattle.tree_search.specs.declared.outcome.Budgets.{Budgets}
 use Rattle.compare_cli.specs.declared.answer.Role.{Role}
 use Rattle.compare_cli.specs.declared.answer.Role.TheVariants.{First, Second}
@@ -21,11 +22,12 @@ use Rattle.compare_cli.specs.declared.answer.Refusal.TheVariants.{TooLong, NoSch
 use Rattle.compare_cli.specs.declared.answer.Answer.{Answer}
 use Rattle.compare_cli.specs.declared.answer.Answer.TheVariants.{Usage, ReadFault, Refused}
 use Rattle.compare_cli.specs.declared.pair.Pair.{Pair}
-use Rattle.compare_cli.specs.Comparison.{paired}
 use Rattle.compare_cli.specs.Decided.{IsChecked, IsComparison}
 use Rattle.compare_cli.specs.Evaluated.{Evaluates, EvaluationContents}
 use Rattle.compare_cli.specs.Files.{IsShort, IsShortIfNamed, IsLong}
+use Rattle.compare_cli.specs.Loaded.{AnswersLoad}
 use Rattle.compare_cli.specs.Standing.{HasSchema, HasSet, NamesSchema, SchemaFails, StandsFor}
+use Rattle.compare_cli.specs.Summarised.{Summarises, SummaryContents}
 
 -- the folder of a run: what it holds, and how many faults it had and the name of the last, before the run and now
 pub record Reading : Type 0 where
@@ -44,6 +46,8 @@ file_of (a_check c) First = Some c.names.first
 file_of (a_check c) Second = Some c.names.second
 file_of (a_check c) proof_file = Some c.proof
 file_of (a_check c) schema_file = c.names.schema
+file_of (a_summary s) set_file = Some s.set
+file_of (a_summary s) schema_file = s.schema
 file_of (an_evaluation e) set_file = Some e.set
 file_of (an_evaluation e) request_file = Some e.request
 file_of (an_evaluation e) schema_file = e.schema
@@ -74,22 +78,9 @@ pub record OfFiles (c : Contents) (P : Schema → PolicySet → PolicySet → Ty
   pub second_stands : StandsFor c.second two
   pub holds : P named one two
 
--- the two sets, under the schema of their run: the named keys, and what the sets' operators say of each further key
-abbrev pub pair_of : Schema → PolicySet → PolicySet → Pair
-pair_of named one two = paired (schema_of_run named one (Some two)) one two
-
--- no condition of the two sets is refused under the named keys, and of the sets under the schema of their run this holds
-pub record OfRun (named : Schema) (one two : PolicySet) (P : Pair → Type 0) : Type 0 where
-  pub answered : infer_fault named one (Some two) ≡ None
-  pub holds : P (pair_of named one two)
-
 -- of the pair that the files stand for this holds
 abbrev pub OfPair : Contents → (Pair → Type 0) → Type 0
 OfPair c P = OfFiles c (λ named one two. OfRun named one two P)
-
--- the set that a condition stands in
-abbrev pub infer_role : InferFault → Role
-infer_role fault = (if fault.second then Second else First)
 
 -- why files stand for no pair: the first that stands for nothing, with its first fault, in the order schema, first set, second set;
 -- then the first condition of the two sets that the run has no schema for
@@ -100,12 +91,6 @@ IsNoPair c (NoSet Second fault) = HasSchema c.schema × HasSet c.first × (set_f
 IsNoPair c (NoRun role fault) =
     OfFiles c (λ named one two. (role ≡ infer_role fault) × FirstInferFault named one (Some two) fault)
 IsNoPair c _ = ⊥
-
--- two sets under the schema of their run, or the first condition that it can't answer
-abbrev pub IsRunRead : Schema → PolicySet → PolicySet → Result Pair Refusal → Type 0
-IsRunRead named one two (Ok pair) = OfRun named one two (λ p. p ≡ pair)
-IsRunRead named one two (Err (NoRun role fault)) = (role ≡ infer_role fault) × FirstInferFault named one (Some two) fault
-IsRunRead named one two (Err _) = ⊥
 
 -- the pair that files stand for, or why they stand for none
 abbrev pub IsPairRead : Contents → Result Pair Refusal → Type 0
@@ -152,6 +137,13 @@ pub record EvaluationIsRead (held : Option Files) (e : Evaluating) (P : Evaluati
   pub schema_short : IsShortIfNamed held schema_file e.schema contents.schema
   pub holds : P contents
 
+-- all files of a summary were read within their limits, and of their bytes this holds
+pub record SummaryIsRead (held : Option Files) (s : Summarising) (P : SummaryContents → Type 0) : Type 0 where
+  pub contents : SummaryContents
+  pub set_short : IsShort held set_file s.set contents.set
+  pub schema_short : IsShortIfNamed held schema_file s.schema contents.schema
+  pub holds : P contents
+
 -- the files are read in the order of the command's line, and the schema last: each is reached where those before it were read
 abbrev pub IsReached : Option Files → Asked → Role → Type 0
 IsReached held (a_comparison c) First = ⊤
@@ -162,6 +154,8 @@ IsReached held (a_check c) Second = IsAtHand held First c.names.first
 IsReached held (a_check c) proof_file = IsAtHand held First c.names.first × IsAtHand held Second c.names.second
 IsReached held (a_check c) schema_file =
     IsAtHand held First c.names.first × IsAtHand held Second c.names.second × IsAtHand held proof_file c.proof
+IsReached held (a_summary s) set_file = ⊤
+IsReached held (a_summary s) schema_file = IsAtHand held set_file s.set
 IsReached held (an_evaluation e) set_file = ⊤
 IsReached held (an_evaluation e) request_file = IsAtHand held set_file e.set
 IsReached held (an_evaluation e) schema_file = IsAtHand held set_file e.set × IsAtHand held request_file e.request
@@ -182,7 +176,9 @@ abbrev pub IsAnsweredFrom : Option Files → Asked → Answer → Type 0
 IsAnsweredFrom held (a_comparison c) answer = AllRead held c.names (λ f. AnswersComparison c f answer)
 IsAnsweredFrom held (a_check c) answer =
     AllRead held c.names (λ f. ProofIsRead held c.proof (λ bytes. AnswersCheck bytes f answer))
+IsAnsweredFrom held (a_summary s) answer = SummaryIsRead held s (λ f. Summarises s f answer)
 IsAnsweredFrom held (an_evaluation e) answer = EvaluationIsRead held e (λ f. Evaluates f answer)
+IsAnsweredFrom held (a_load keys) answer = AnswersLoad keys answer
 
 -- why names are answered so
 abbrev pub IsCause : Asked → Option Files → Answer → Type 0

@@ -6,12 +6,13 @@ use Rattle.policy_model.specs.declared.schema.Schema.{Schema}
 use Rattle.refute_check.specs.Closing.{Closes, FailsAt, at_first}
 use Rattle.refute_check.specs.Proofs.{Proof}
 use Rattle.proof_text.specs.Faults.{proof_fault, skipped}
-use Rattle.proof_text.specs.Laws.{limits_of}
+use Rattle.proof_text.specs.Laws.{IsSmall, limits_of}
 use Rattle.proof_text.specs.LineForms.{lines_of}
 use Rattle.proof_text.specs.Lines.{verdict_line}
 use Rattle.proof_text.specs.Spelling.{IsCertificateOf, spell, starts}
 use Rattle.proof_text.specs.declared.fault.ProofFault.{ProofFault}
 use Rattle.proof_text.specs.declared.limits.TheConstants.{MOST_PROOF_BYTES}
+use Rattle.search_parts.specs.Trimmed.{IsTrimmed}
 
 -- the first fault of a certificate for the query: it is read for the number of its tests, in the format of the schema's version
 abbrev pub fault_for : Schema → Query → List ℕ → Option ProofFault
@@ -25,11 +26,13 @@ ClosesAll schema q proof = Closes schema q.tests (tree_of q.formula.value) at_fi
 abbrev pub FailsAll : Schema → Query → Proof → ℕ → Type 0
 FailsAll schema q proof node = FailsAt schema q.tests (tree_of q.formula.value) at_first proof [] node
 
--- the file has no fault, and the refutation that it is the certificate of closes the query
+-- the file has no fault, and the refutation that it is the certificate of closes the query. It is the certificate of no other, since
+-- its numbers are small
 pub record ClosesBy (schema : Schema) (q : Query) (bytes : List ℕ) : Type 0 where
   pub faultless : fault_for schema q bytes ≡ None
   pub proof : Proof
   pub spelled : IsCertificateOf schema.version bytes proof
+  pub small : IsSmall schema.version proof
   pub closes : ClosesAll schema q proof
 
 -- the file has no fault, and this is the line of the first node that fails
@@ -37,6 +40,7 @@ pub record FailsAtLine (schema : Schema) (q : Query) (bytes : List ℕ) (line : 
   pub faultless : fault_for schema q bytes ≡ None
   pub proof : Proof
   pub spelled : IsCertificateOf schema.version bytes proof
+  pub small : IsSmall schema.version proof
   pub node : ℕ
   pub fails : FailsAll schema q proof node
   pub line_is : slice_get (starts (skipped (lines_of bytes) + 2) proof) node ≡ Some line
@@ -45,16 +49,17 @@ pub record FailsAtLine (schema : Schema) (q : Query) (bytes : List ℕ) (line : 
 abbrev pub HasProofFault : Schema → Query → List ℕ → ProofFault → Type 0
 HasProofFault schema q bytes fault = fault_for schema q bytes ≡ Some fault
 
--- the text with the line `not more permissive` before it, which is the whole text of the answer, has no fault, as long as it has at
--- most as many bytes as a certificate may have
+-- the text with the line `not more permissive` before it, which is the whole text of the answer, has no fault, and the refutation that
+-- it is the certificate of closes the query, as long as it has at most as many bytes as a certificate may have
 abbrev pub IsReadable : Schema → Query → List ℕ → Type 0
 IsReadable schema q text =
-    length (verdict_line ++ text) ≤ MOST_PROOF_BYTES → fault_for schema q (verdict_line ++ text) ≡ None
+    length (verdict_line ++ text) ≤ MOST_PROOF_BYTES → ClosesBy schema q (verdict_line ++ text)
 
--- the text is the certificate of a refutation that closes the query, and is read again as one. So `check` of the same files and of
--- what was written answers `accepted`
+-- the text is the certificate of a trimmed refutation that closes the query, and is read again as one. That `check` of the same files and of
+-- what was written answers `accepted` is a law of its own
 pub record Certifies (schema : Schema) (q : Query) (text : List ℕ) : Type 0 where
   pub proof : Proof
   pub spelled : text ≡ spell schema.version proof
   pub closes : ClosesAll schema q proof
+  pub trimmed : IsTrimmed schema q.tests (tree_of q.formula.value) proof
   pub readable : IsReadable schema q text

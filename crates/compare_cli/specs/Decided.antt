@@ -1,5 +1,5 @@
 -- What a comparison of two sets may answer, and a check of a certificate.
-use Rattle.std.specs.Prelude.{◌≡◌, ◌≤◌, ℕ, List, slice_get, Bool, true, false, Some, Result, Ok, Err, string_bytes}
+use Rattle.std.specs.Prelude.{◌≡◌, ◌≤◌, ℕ, List, slice_get, Bool, true, false, Option, Some, None, Result, Ok, Err, string_bytes}
 use Rattle.policy_compile.specs.declared.outcome.Query.{Query}
 use Rattle.policy_compile.specs.Queries.{IsQuery}
 use Rattle.policy_model.specs.declared.schema.Schema.{Schema}
@@ -68,6 +68,19 @@ IsDecisionAnswer certified version budgets (decided.Refuted r) answer = IsRefute
 IsDecisionAnswer certified version budgets (decided.Met q) answer = answer ≡ More q
 IsDecisionAnswer certified version budgets decided.OutOfSplits answer = answer ≡ Undecided (Splits budgets.splits)
 IsDecisionAnswer certified version budgets (decided.OutOfStates w) answer = answer ≡ Undecided (States budgets.states w.slot)
+
+-- the verdict on two sets
+abbrev pub IsVerdict : Pair → Answer → Type 0
+IsVerdict pair NotMore = Covers pair
+IsVerdict pair (More q) = IsWitness pair q
+IsVerdict pair _ = ⊥
+
+-- the verdict in what a search decided, where there is one
+abbrev pub IsVerdictIn : Decided → Option Answer → Type 0
+IsVerdictIn (decided.Refuted r) answer = answer ≡ Some NotMore
+IsVerdictIn (decided.Met q) answer = answer ≡ Some (More q)
+IsVerdictIn decided.OutOfSplits answer = answer ≡ None
+IsVerdictIn (decided.OutOfStates w) answer = answer ≡ None
 
 -- the answer to a certificate that was read
 abbrev pub IsVerdictAnswer : Schema → Query → ReadProof → Answer → Type 0

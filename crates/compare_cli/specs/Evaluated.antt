@@ -9,14 +9,15 @@ use Rattle.policy_model.specs.declared.set.PolicySet.{PolicySet}
 use Rattle.policy_model.specs.Requests.{IsValid}
 use Rattle.policy_model.specs.Sets.{Allows}
 use Rattle.request_json.specs.RequestFiles.{request_from}
-use Rattle.request_schema.specs.RunSchemas.{FirstInferFault, infer_fault, schema_of_run}
+use Rattle.request_schema.specs.RunSchemas.{FirstInferFault}
 use Rattle.compare_cli.specs.declared.answer.Answer.{Answer}
 use Rattle.compare_cli.specs.declared.answer.Answer.TheVariants.{Refused, Allowed, Denied}
 use Rattle.compare_cli.specs.declared.answer.Denial.{Denial}
 use Rattle.compare_cli.specs.declared.answer.Denial.TheVariants.{ByStatement, NoStatement, NoGrant, NoGuard}
 use Rattle.compare_cli.specs.declared.answer.Refusal.TheVariants.{NoSchema, NoSet, NoRun, NoRequest}
 use Rattle.compare_cli.specs.declared.answer.Role.TheVariants.{Set as set_file}
-use Rattle.compare_cli.specs.Standing.{HasSchema, NamesSchema, SchemaFails, StandsFor}
+use Rattle.compare_cli.specs.SetRun.{OfSet, OfSetRun}
+use Rattle.compare_cli.specs.Standing.{HasSchema, SchemaFails}
 
 -- why the set doesn't allow the request: the first Deny statement that applies; no Allow statement of the grants that does, in a set
 -- without guards or with some; or the first guard without one
@@ -47,23 +48,6 @@ pub record EvaluationContents : Type 0 where
 abbrev pub evaluation_contents : List ℕ → List ℕ → Option (List ℕ) → EvaluationContents
 evaluation_contents set request schema = record { set = set; request = request; schema = schema }
 
--- the files stand for a schema and for a set, of which this holds
-pub record OfSet (c : EvaluationContents) (P : Schema → PolicySet → Type 0) : Type 0 where
-  pub named : Schema
-  pub set : PolicySet
-  pub schema_stands : NamesSchema c.schema named
-  pub set_stands : StandsFor c.set set
-  pub holds : P named set
-
--- the schema of a run over one set
-abbrev pub evaluation_schema : Schema → PolicySet → Schema
-evaluation_schema named set = schema_of_run named set None
-
--- no condition of the set is refused under the named keys, and of the schema of the run this holds
-pub record OfSetRun (named : Schema) (set : PolicySet) (P : Schema → Type 0) : Type 0 where
-  pub answered : infer_fault named set None ≡ None
-  pub holds : P (evaluation_schema named set)
-
 -- the file stands for a request under the schema, of which this holds
 pub record OfRequest (schema : Schema) (bytes : List ℕ) (P : Request → Type 0) : Type 0 where
   pub request : Request
@@ -83,4 +67,4 @@ EvaluatesSet request named set answer =
 abbrev pub Evaluates : EvaluationContents → Answer → Type 0
 Evaluates c (Refused (NoSchema fault)) = SchemaFails c.schema fault
 Evaluates c (Refused (NoSet role fault)) = (role ≡ set_file) × HasSchema c.schema × (set_from c.set ≡ Err fault)
-Evaluates c answer = OfSet c (λ named set. EvaluatesSet c.request named set answer)
+Evaluates c answer = OfSet c.set c.schema (λ named set. EvaluatesSet c.request named set answer)

@@ -1,11 +1,17 @@
 pub mod Answers
 pub mod Certified
+pub mod Checks
 pub mod Comparison
 pub mod Complete
 pub mod Decided
 pub mod Evaluated
 pub mod Files
+pub mod Loaded
+pub mod PairRun
 pub mod Promises
+pub mod Dimensions
+pub mod SetRun
+pub mod Summarised
 pub mod Standing
 pub mod Statuses
 pub mod Texts

@@ -20,6 +20,8 @@ status_of (answer.NotClosing line) = BadProof
 status_of (answer.BadProof fault) = BadProof
 status_of (answer.Allowed name) = Holds
 status_of (answer.Denied denial) = Fails
+status_of (answer.Summary found) = Holds
+status_of (answer.Loaded lines) = Holds
 
 -- the program's exit number
 abbrev pub exit_number : Status → ℕ

@@ -1,5 +1,6 @@
 -- The texts of the answers.
-use Rattle.std.specs.Prelude.{ℕ, List, ◌++◌, codes, decimal, if◌then◌else◌, string_bytes}
+use Rattle.std.specs.Prelude.{ℕ, List, ◌++◌, length, codes, decimal, if◌then◌else◌, String, string_bytes}
+use Rattle.std.specs.List.{flat_map}
 use Rattle.std.specs.Str.{encode_utf8_all}
 use Rattle.serde_json.specs.Data.{string}
 use Rattle.serde_json.specs.Written.{compact_text}
@@ -10,14 +11,16 @@ use Rattle.compare_cli.specs.declared.answer.Role.{Role}
 use Rattle.compare_cli.specs.declared.answer.Role.TheVariants.{First, Second, Set, Schema, Request, Proof}
 use Rattle.compare_cli.specs.declared.answer.Answer.{Answer}
 use Rattle.compare_cli.specs.declared.answer.Answer.TheVariants.{Usage, ReadFault, Refused, Undecided, NotMore, Proved, More}
-use Rattle.compare_cli.specs.declared.answer.Answer.TheVariants.{Accepted, NotClosing, BadProof, Allowed, Denied}
+use Rattle.compare_cli.specs.declared.answer.Answer.TheVariants.{Accepted, NotClosing, BadProof, Allowed, Denied, Summary, Loaded}
+use Rattle.compare_cli.specs.declared.answer.LoadLines.{LoadLines}
 use Rattle.compare_cli.specs.declared.answer.Denial.{Denial}
 use Rattle.compare_cli.specs.declared.answer.Denial.TheVariants.{ByStatement, NoStatement, NoGrant, NoGuard}
+use Rattle.compare_cli.specs.declared.answer.FoundLines.{FoundLines}
 use Rattle.compare_cli.specs.declared.answer.Refusal.{Refusal}
 use Rattle.compare_cli.specs.declared.answer.Refusal.TheVariants.{TooLong, NoSchema, NoSet, NoRun, TooManyTests}
-use Rattle.compare_cli.specs.declared.answer.Refusal.TheVariants.{TooManyPieces, NoRequest}
+use Rattle.compare_cli.specs.declared.answer.Refusal.TheVariants.{TooManyPieces, NoRequest, NoDimension, TooManyPredicates}
 use Rattle.compare_cli.specs.declared.answer.Shortage.{Shortage}
-use Rattle.compare_cli.specs.declared.answer.Shortage.TheVariants.{Splits, States}
+use Rattle.compare_cli.specs.declared.answer.Shortage.TheVariants.{Splits, States, Findings, SplitsIn, StatesIn}
 use Rattle.compare_cli.specs.Files.{limit_of}
 use Rattle.proof_text.specs.declared.fault.ProofCode.{ProofCode}
 use Rattle.proof_text.specs.declared.fault.ProofCode.TheVariants.{C1Syntax, C2Version, C3TestNumber, C4Limit}
@@ -128,6 +131,10 @@ request_fault_text fault = request_word fault.code ++ codes ": " ++ element_text
 unfoldable pub too_long_end : Role → List ℕ
 too_long_end role = codes ": file longer than " ++ decimal (limit_of role) ++ codes " bytes\n"
 
+-- the element of a dimension of which too many predicates are named
+abbrev pub predicates_of : List ℕ → List ℕ
+predicates_of word = codes "predicates of " ++ word
+
 -- the line of a refusal
 unfoldable pub refusal_text : Refusal → List ℕ
 refusal_text (TooLong role) = codes "refused: " ++ role_word role ++ too_long_end role
@@ -137,11 +144,25 @@ refusal_text (NoRun role fault) = codes "refused: " ++ role_word role ++ codes "
 refusal_text (NoRequest fault) = codes "refused: request: " ++ request_fault_text fault ++ codes "\n"
 refusal_text TooManyTests = codes "refused: query: P17 Limit: document 0, statement 0, \"tests\"\n"
 refusal_text TooManyPieces = codes "refused: query: P17 Limit: document 0, statement 0, \"pieces\"\n"
+refusal_text (NoDimension word) = codes "refused: schema: S5 UnknownDimension: " ++ element_text word ++ codes "\n"
+refusal_text (TooManyPredicates word) =
+    codes "refused: query: P17 Limit: document 0, statement 0, " ++ element_text (predicates_of word) ++ codes "\n"
+
+-- the end of a line on a finding's query
+unfoldable pub finding_end : {A : Type 0} → String A → List ℕ
+finding_end finding = codes " in " ++ string_bytes finding ++ codes "\n"
+
+-- the end of the line on the states of a slot in a finding's query
+unfoldable pub states_end : {A : Type 0} → Slot → String A → List ℕ
+states_end s finding = codes " at " ++ slot_word s ++ finding_end finding
 
 -- the line on a budget that is too small
 unfoldable pub shortage_text : Shortage → List ℕ
 shortage_text (Splits n) = codes "undecided: splits " ++ decimal n ++ codes "\n"
 shortage_text (States n s) = codes "undecided: states " ++ decimal n ++ codes " at " ++ slot_word s ++ codes "\n"
+shortage_text (Findings n) = codes "undecided: findings " ++ decimal n ++ codes "\n"
+shortage_text (SplitsIn n finding) = codes "undecided: splits " ++ decimal n ++ finding_end finding
+shortage_text (StatesIn n s finding) = codes "undecided: states " ++ decimal n ++ states_end s finding
 
 abbrev pub proof_word : ProofCode → List ℕ
 proof_word C1Syntax = codes "C1"
@@ -167,6 +188,39 @@ denial_text NoStatement = codes "denied: no statement applies\n"
 denial_text NoGrant = codes "denied: no grant applies\n"
 denial_text (NoGuard g) = codes "denied: guard " ++ decimal g ++ codes " allows nothing\n"
 
+-- the end of a finding's line, and the line of its request
+unfoldable pub request_end : FoundLines → List ℕ
+request_end lines = codes "\n" ++ request_text lines.request ++ codes "\n"
+
+-- a finding's line and that of its request
+unfoldable pub found_text : FoundLines → List ℕ
+found_text lines = string_bytes lines.finding ++ request_end lines
+
+-- how many findings there are
+unfoldable pub count_line : ℕ → List ℕ
+count_line count = codes "findings: " ++ decimal count ++ codes "\n"
+
+-- how many findings a summary has, and then each
+abbrev pub summary_text : List FoundLines → List ℕ
+summary_text found = count_line (length found) ++ flat_map found_text found
+
+-- the line on the number of keys
+abbrev pub keys_line : ℕ → List ℕ
+keys_line keys = codes "load " ++ decimal keys ++ codes "\n"
+
+-- the line of the comparison of the first set with the second, and that of the second with the first
+abbrev pub forth_line : List ℕ → List ℕ
+forth_line line = codes "first to second: " ++ line ++ codes "\n"
+
+abbrev pub back_line : List ℕ → List ℕ
+back_line line = codes "second to first: " ++ line ++ codes "\n"
+
+-- the lines of the jobs on two sets
+abbrev pub load_text : LoadLines → List ℕ
+load_text lines =
+    ((keys_line lines.keys ++ forth_line (string_bytes lines.forth)) ++ back_line (string_bytes lines.back))
+    ++ (string_bytes lines.summary ++ codes "\n")
+
 -- the whole text of an answer
 unfoldable pub answer_text : Answer → List ℕ
 answer_text Usage =
@@ -182,3 +236,5 @@ answer_text (NotClosing line) = codes "not closing: line " ++ decimal line ++ co
 answer_text (BadProof fault) = proof_fault_text fault
 answer_text (Allowed name) = codes "allowed: " ++ statement_line name
 answer_text (Denied denial) = denial_text denial
+answer_text (Summary found) = summary_text found
+answer_text (Loaded lines) = load_text lines

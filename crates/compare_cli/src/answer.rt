@@ -1,9 +1,11 @@
 //! The answers of a run.
+use plain_lists::List;
 use policy_json::PolicyFault;
 use policy_model::{Request, Slot, StatementName};
 use proof_text::ProofFault;
 use request_json::RequestFault;
 use request_schema::{InferFault, SchemaFault};
+use wildcard_lang::Text;
 
 /// Which of the files.
 #[derive(Clone, Copy, Debug, PartialEq, Eq)]
@@ -30,19 +32,31 @@ pub enum Refusal {
     NoRun(Role, InferFault),
     /// The file stands for no request: its first fault.
     NoRequest(RequestFault),
+    /// The first dimension that is neither a part of each request nor a key of the schema, as it is
+    /// written.
+    NoDimension(Text),
     /// The query has more than 1,000 different tests.
     TooManyTests,
     /// The patterns of the query's tests have more than 65,536 pieces together.
     TooManyPieces,
+    /// The first dimension of which the set names more than 128 predicates, as it is written.
+    TooManyPredicates(Text),
 }
 
-/// A budget that is too small for the plain run, by its number.
+/// A budget that is too small, by its number.
 #[derive(Drop)]
 pub enum Shortage {
-    /// More splits are needed.
+    /// The plain run needs more splits.
     Splits(u32),
-    /// More product states are needed at the slot.
+    /// More product states are needed at the slot: at a node of the plain run, or of a summary for two
+    /// predicates of the dimension.
     States(u32, Slot),
+    /// More findings have to be looked at.
+    Findings(u32),
+    /// The plain run of the query of a finding needs more splits. The finding is given by its text.
+    SplitsIn(u32, String),
+    /// At a node of that run more product states are needed at the slot.
+    StatesIn(u32, Slot, String),
 }
 
 /// Why a set doesn't allow a request.
@@ -56,6 +70,29 @@ pub enum Denial {
     NoGrant,
     /// The guard of this number, counted from 1, is the first without an Allow statement that applies.
     NoGuard(u32),
+}
+
+/// A finding of a summary, by its text, and a request of its own.
+#[derive(Drop)]
+pub struct FoundLines {
+    pub finding: String,
+    pub request: Request,
+}
+
+/// The findings of a summary, in their order.
+pub type FoundList = List<FoundLines>;
+
+/// What the jobs on two sets of so many keys came to: the first line of each answer.
+#[derive(Drop)]
+pub struct LoadLines {
+    /// How many keys there are.
+    pub keys: u32,
+    /// Of the comparison of the first set with the second.
+    pub forth: String,
+    /// Of the comparison of the second set with the first.
+    pub back: String,
+    /// Of the summary of the first set by its first key.
+    pub summary: String,
 }
 
 /// What a run answers.
@@ -86,4 +123,8 @@ pub enum Answer {
     Allowed(StatementName),
     /// The set doesn't allow the request.
     Denied(Denial),
+    /// The summary of the set by the dimensions.
+    Summary(FoundList),
+    /// The lines of the jobs on two sets.
+    Loaded(LoadLines),
 }

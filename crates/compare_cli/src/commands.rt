@@ -1,13 +1,16 @@
 //! What each command answers. Its files are read in the order of its line, the schema last.
-ghost use Rattle.std.specs.Prelude.{◌≡◌, ◌≤◌, IfOk};
-ghost use Rattle.command_words.specs.Asked.{IsInRange, a_check, a_comparison, an_evaluation, asked_in, checking_in, comparing_in, evaluating_in};
+ghost use Rattle.std.specs.Prelude.{◌≡◌, ◌≤◌, true, IfOk};
+ghost use Rattle.command_words.specs.Asked.{HasBudgetsInRange, IsInRange, a_check, a_comparison, a_summary, an_evaluation};
+ghost use Rattle.command_words.specs.Asked.{are_dimensions, asked_in, checking_in, comparing_in, evaluating_in, summarising_in, texts_in};
 ghost use Rattle.compare_cli.specs.Answers.{IsAnswerTo, IsFaultAnswer};
 
 use crate::answer::{Answer, Refusal, Role};
 use crate::contents::{check_of, comparison_of};
 use crate::evaluation::evaluate;
 use crate::files::{bytes_of, read_file, read_if_named};
-use command_words::{CheckWords, Command, CompareWords, EvalWords};
+use crate::loading::load_answer;
+use crate::summary::summary_of;
+use command_words::{CheckWords, Command, CompareWords, EvalWords, SummaryWords};
 use pol_outside::{Folder, TakeFault};
 use std::alloc::{AllocError, Global};
 
@@ -101,6 +104,35 @@ fn proof_check<F: Folder>(
     )
 }
 
+// The answer to a summary.
+fn summary<F: Folder>(
+    alloc: Global,
+    folder: &mut F,
+    words: &SummaryWords,
+) -> Result<Answer, AllocError>
+    requires budgets { HasBudgetsInRange words.now }
+    requires dimensions { are_dimensions (texts_in words.now.dimensions.items) ≡ true }
+    ensures given { IfOk result (IsAnswerTo (a_summary (summarising_in words.now)) (record {
+      held = F.held folder.old;
+      faults_before = F.faults folder.old;
+      faults = F.faults folder.new;
+      last_before = F.last_fault folder.old;
+      last = F.last_fault folder.new;
+    })) }
+    ensures held { F.held folder.new ≡ F.held folder.old }
+    ensures later { F.faults folder.old ≤ F.faults folder.new }
+{
+    let set = match read_file(alloc, folder, Role::Set, words.set.as_str()) {
+        Ok(bytes) => bytes,
+        Err(fault) => return fault_answer(Role::Set, fault),
+    };
+    let schema = match read_if_named(alloc, folder, Role::Schema, &words.schema) {
+        Ok(bytes) => bytes,
+        Err(fault) => return fault_answer(Role::Schema, fault),
+    };
+    summary_of(alloc, set.as_slice(), bytes_of(&schema), words)
+}
+
 // The answer to an evaluation of a request.
 fn evaluation<F: Folder>(
     alloc: Global,
@@ -152,6 +184,8 @@ pub fn answer_to<F: Folder>(
     match command {
         Command::Compare(words) => comparison(alloc, folder, words),
         Command::Check(words) => proof_check(alloc, folder, words),
+        Command::Summary(words) => summary(alloc, folder, words),
         Command::Eval(words) => evaluation(alloc, folder, words),
+        Command::Load(keys) => load_answer(alloc, *keys),
     }
 }

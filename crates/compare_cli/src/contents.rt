@@ -39,8 +39,8 @@ fn infer_role(fault: &InferFault) -> Role
     }
 }
 
-// Two sets under the schema of their run, or the first condition that it can't answer.
-fn run_pair(
+/// Two sets under the schema of their run, or the first condition that it can't answer.
+pub fn run_pair(
     alloc: Global,
     named: &Schema,
     first: PolicySet,

@@ -1,8 +1,10 @@
 //! The texts of the answers.
 ghost use Rattle.std.specs.Prelude.{◌≡◌, ◌++◌, IfOk, codes, decimal, string_bytes};
-ghost use Rattle.compare_cli.specs.Texts.{answer_text, code_word, denial_text, document_end, element_text, fault_text, infer_text, infer_word, number_end, place_of, proof_fault_text, proof_word, refusal_text, request_fault_text, request_word, role_word, schema_text, schema_word, shortage_text, slot_word, statement_end, statement_line, too_long_end};
+ghost use Rattle.std.specs.Prelude.{OnOk, flat_map, length};
+ghost use Rattle.compare_cli.specs.Texts.{back_line, finding_end, forth_line, keys_line, load_text, request_end};
+ghost use Rattle.compare_cli.specs.Texts.{answer_text, code_word, count_line, denial_text, document_end, element_text, fault_text, found_text, infer_text, infer_word, number_end, place_of, predicates_of, proof_fault_text, proof_word, refusal_text, request_fault_text, request_word, role_word, schema_text, schema_word, shortage_text, slot_word, states_end, statement_end, statement_line, summary_text, too_long_end};
 
-use crate::answer::{Answer, Denial, Refusal, Role, Shortage};
+use crate::answer::{Answer, Denial, FoundLines, LoadLines, Refusal, Role, Shortage};
 use crate::files::limit_of;
 use policy_json::{PolicyCode, PolicyFault};
 use policy_model::{Slot, StatementName};
@@ -14,8 +16,8 @@ use std::alloc::{AllocError, Global};
 use wildcard_lang::Text;
 
 /// The line that says how the program is called. It names the commands that come next too.
-const USAGE: &str =
-    "usage: compare FIRST SECOND | summary SET DIMENSION.. | check FIRST SECOND PROOF | eval SET REQUEST | load N\n";
+const USAGE: &str = "usage: compare FIRST SECOND | summary SET DIMENSION.. | \
+    check FIRST SECOND PROOF | eval SET REQUEST | load N\n";
 
 fn role_word(role: Role) -> &'static str
     ensures { result.now ≡ role_word role }
@@ -237,6 +239,15 @@ fn too_long_end(alloc: Global, role: Role) -> Result<String, AllocError>
     format!(in alloc; ": file longer than {limit} bytes\n")
 }
 
+// What is refused where too many predicates are named of a dimension, as JSON.
+fn predicates_text(alloc: Global, word: &Text) -> Result<String, AllocError>
+    ensures { IfOk result (λ s. string_bytes s ≡ element_text (predicates_of word.now)) }
+{
+    let word = word.to_utf8()?;
+    let element = format!(in alloc; "predicates of {word}")?;
+    Value::String(element).to_string(alloc)
+}
+
 #[tactic(auto, unfolding(crate::specs::Texts::refusal_text))]
 fn refusal_text(alloc: Global, refusal: &Refusal) -> Result<String, AllocError>
     ensures { IfOk result (λ s. string_bytes s ≡ refusal_text refusal.now) }
@@ -278,7 +289,65 @@ fn refusal_text(alloc: Global, refusal: &Refusal) -> Result<String, AllocError>
             alloc,
             "refused: query: P17 Limit: document 0, statement 0, \"pieces\"\n",
         ),
+        Refusal::NoDimension(word) => {
+            let word = element_text(alloc, word)?;
+            let word = word.as_str();
+            format!(in alloc; "refused: schema: S5 UnknownDimension: {word}\n")
+        }
+        Refusal::TooManyPredicates(word) => {
+            let element = predicates_text(alloc, word)?;
+            let element = element.as_str();
+            format!(in alloc; "refused: query: P17 Limit: document 0, statement 0, {element}\n")
+        }
     }
+}
+
+// The end of a line on a finding's query.
+#[tactic(auto, unfolding(crate::specs::Texts::finding_end))]
+fn finding_end(alloc: Global, finding: &String) -> Result<String, AllocError>
+    ensures { IfOk result (λ s. string_bytes s ≡ finding_end finding.now) }
+{
+    let finding = finding.as_str();
+    format!(in alloc; " in {finding}\n")
+}
+
+#[tactic(auto, unfolding(crate::specs::Texts::shortage_text))]
+fn splits_in_text(alloc: Global, splits: u32, finding: &String) -> Result<String, AllocError>
+    ensures { IfOk result (λ s. string_bytes s ≡ shortage_text (Shortage.SplitsIn splits finding.now)) }
+{
+    let end = finding_end(alloc, finding)?;
+    let splits = number_text(alloc, splits)?;
+    let splits = splits.as_str();
+    let end = end.as_str();
+    format!(in alloc; "undecided: splits {splits}{end}")
+}
+
+// The end of the line on the states of a slot in a finding's query.
+#[tactic(auto, unfolding(crate::specs::Texts::states_end))]
+fn states_end(alloc: Global, slot: &Slot, finding: &String) -> Result<String, AllocError>
+    ensures { IfOk result (λ s. string_bytes s ≡ states_end slot.now finding.now) }
+{
+    let end = finding_end(alloc, finding)?;
+    let slot = slot_word(alloc, slot)?;
+    let end = end.as_str();
+    format!(in alloc; " at {slot}{end}")
+}
+
+#[tactic(auto, unfolding(crate::specs::Texts::shortage_text))]
+fn states_in_text(
+    alloc: Global,
+    states: u32,
+    slot: &Slot,
+    finding: &String,
+) -> Result<String, AllocError>
+    ensures { IfOk result (λ s. string_bytes s
+        ≡ shortage_text (Shortage.StatesIn states slot.now finding.now)) }
+{
+    let end = states_end(alloc, slot, finding)?;
+    let states = number_text(alloc, states)?;
+    let states = states.as_str();
+    let end = end.as_str();
+    format!(in alloc; "undecided: states {states}{end}")
 }
 
 #[tactic(auto, unfolding(crate::specs::Texts::shortage_text))]
@@ -288,6 +357,9 @@ fn shortage_text(alloc: Global, shortage: &Shortage) -> Result<String, AllocErro
     match shortage {
         Shortage::Splits(splits) => format!(in alloc; "undecided: splits {splits}\n"),
         Shortage::States(states, slot) => states_text(alloc, *states, slot),
+        Shortage::Findings(findings) => format!(in alloc; "undecided: findings {findings}\n"),
+        Shortage::SplitsIn(splits, finding) => splits_in_text(alloc, *splits, finding),
+        Shortage::StatesIn(states, slot, finding) => states_in_text(alloc, *states, slot, finding),
     }
 }
 
@@ -339,7 +411,107 @@ fn denial_text(alloc: Global, denial: Denial) -> Result<String, AllocError>
     }
 }
 
-/// The text of an answer: one line, for `More` the request on a second one, and for `Proved` the
+// The end of a finding's line, and the line of its request.
+#[tactic(auto, unfolding(crate::specs::Texts::request_end))]
+fn request_end(alloc: Global, lines: &FoundLines) -> Result<String, AllocError>
+    ensures { IfOk result (λ s. string_bytes s ≡ request_end lines.now) }
+{
+    let request = write_request(alloc, &lines.request)?;
+    format!(in alloc; "\n{request}\n")
+}
+
+// A finding's line and that of its request.
+#[tactic(auto, unfolding(crate::specs::Texts::found_text))]
+fn found_text(alloc: Global, lines: &FoundLines) -> Result<String, AllocError>
+    ensures { IfOk result (λ s. string_bytes s ≡ found_text lines.now) }
+{
+    let end = request_end(alloc, lines)?;
+    let finding = lines.finding.as_str();
+    let end = end.as_str();
+    format!(in alloc; "{finding}{end}")
+}
+
+// How many findings there are.
+#[tactic(auto, unfolding(crate::specs::Texts::count_line))]
+fn count_line(alloc: Global, count: usize) -> Result<String, AllocError>
+    ensures { IfOk result (λ s. string_bytes s ≡ count_line count) }
+{
+    format!(in alloc; "findings: {count}\n")
+}
+
+// A finding's line and that of its request, behind a text.
+fn put_found(alloc: Global, text: &mut String, lines: &FoundLines) -> Result<(), AllocError>
+    ensures { OnOk result (string_bytes text.new ≡
+        string_bytes text.old ++ found_text lines.now) }
+{
+    let printed = found_text(alloc, lines)?;
+    text.push_str(printed.as_str())?;
+    Ok(())
+}
+
+// The lines of all findings, behind a text.
+fn put_each(alloc: Global, text: &mut String, found: &[FoundLines]) -> Result<(), AllocError>
+    ensures { OnOk result (string_bytes text.new ≡
+        string_bytes text.old ++ flat_map found_text found.now) }
+{
+    'found: for lines in found {
+        put_found(alloc, text, lines)?;
+    }
+    Ok(())
+}
+
+// The text of a summary.
+fn summary_text(alloc: Global, found: &[FoundLines]) -> Result<String, AllocError>
+    ensures { IfOk result (λ s. string_bytes s ≡ summary_text found.now) }
+{
+    let mut text = count_line(alloc, found.len())?;
+    put_each(alloc, &mut text, found)?;
+    Ok(text)
+}
+
+// The line on the number of keys.
+fn keys_line(alloc: Global, keys: u32) -> Result<String, AllocError>
+    ensures { IfOk result (λ s. string_bytes s ≡ keys_line keys) }
+{
+    format!(in alloc; "load {keys}\n")
+}
+
+// The line of the comparison of the first set with the second.
+fn forth_line(alloc: Global, line: &str) -> Result<String, AllocError>
+    ensures { IfOk result (λ s. string_bytes s ≡ forth_line line.now) }
+{
+    format!(in alloc; "first to second: {line}\n")
+}
+
+// The line of the comparison of the second set with the first.
+fn back_line(alloc: Global, line: &str) -> Result<String, AllocError>
+    ensures { IfOk result (λ s. string_bytes s ≡ back_line line.now) }
+{
+    format!(in alloc; "second to first: {line}\n")
+}
+
+// The line with its line feed.
+fn ended(alloc: Global, line: &str) -> Result<String, AllocError>
+    ensures { IfOk result (λ s. string_bytes s ≡ line.now ++ codes "\n") }
+{
+    format!(in alloc; "{line}\n")
+}
+
+// The lines of the jobs on two sets.
+fn load_text(alloc: Global, lines: &LoadLines) -> Result<String, AllocError>
+    ensures { IfOk result (λ s. string_bytes s ≡ load_text lines.now) }
+{
+    let forth = forth_line(alloc, lines.forth.as_str())?;
+    let back = back_line(alloc, lines.back.as_str())?;
+    let summary = ended(alloc, lines.summary.as_str())?;
+    let mut text = keys_line(alloc, lines.keys)?;
+    text.push_str(forth.as_str())?;
+    text.push_str(back.as_str())?;
+    text.push_str(summary.as_str())?;
+    Ok(text)
+}
+
+/// The text of an answer: one line, for `Summary` two more for each finding, for `More` the request on a second one, and for `Proved` the
 /// certificate behind the line.
 #[tactic(auto, unfolding(crate::specs::Texts::answer_text))]
 pub fn answer_text(alloc: Global, answer: &Answer) -> Result<String, AllocError>
@@ -371,5 +543,7 @@ pub fn answer_text(alloc: Global, answer: &Answer) -> Result<String, AllocError>
             format!(in alloc; "allowed: {line}")
         }
         Answer::Denied(denial) => denial_text(alloc, *denial),
+        Answer::Summary(found) => summary_text(alloc, found.as_slice()),
+        Answer::Loaded(lines) => load_text(alloc, lines),
     }
 }

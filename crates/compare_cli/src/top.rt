@@ -17,11 +17,11 @@ use std::alloc::{AllocError, Global};
 /// How a run ends.
 #[derive(Clone, Copy, Debug, PartialEq, Eq)]
 pub enum Status {
-    /// The answer is yes: `not more permissive`, `accepted` or `allowed`.
+    /// The answer is yes: `not more permissive`, `accepted` or `allowed`; or it is a summary.
     Holds,
     /// The answer is no: `more permissive` or `denied`.
     Fails,
-    /// A file was refused, or sets that are past a limit or that no schema can answer.
+    /// A file was refused, or a dimension, or sets that are past a limit or that no schema can answer.
     Refused,
     /// A budget ran out.
     Undecided,
@@ -92,6 +92,8 @@ fn status_of(answer: &Answer) -> Status
         Answer::BadProof(_) => Status::BadProof,
         Answer::Allowed(_) => Status::Holds,
         Answer::Denied(_) => Status::Fails,
+        Answer::Summary(_) => Status::Holds,
+        Answer::Loaded(_) => Status::Holds,
     }
 }
 
@@ -101,17 +103,21 @@ fn status_of(answer: &Answer) -> Status
 /// - `promises`: what each status says, of what the arguments ask, the bytes that the folder holds and
 ///   the bytes that were written. With `Holds` and `compare` or `check` the second set allows each valid
 ///   request that the first allows; what `compare` printed with `--proof` is a certificate that `check`
-///   accepts, up to 67,108,864 bytes; with `eval` the set allows the request. With `Fails` a valid request
-///   was written that the first set allows and the second doesn't, or `eval`'s set doesn't allow the
-///   request. With `BadProof` the line is that of the certificate's first fault, or of its first node that
-///   fails. A refusal, a budget, a fault of reading and the usage line come only by their cause, with their
-///   line. With `ReadFault` the folder's count of faults rose in this call, with `WriteFault` the sink's,
-///   and with every other answer the name of the folder's last fault is as it was.
+///   accepts, up to 67,108,864 bytes; with `summary` what was written are exactly the maximal irreducible
+///   findings of the set, each with a valid request that the set allows and that lies in no finer finding;
+///   with `eval` the set allows the request; with `load` each line is the first of an answer that the
+///   command would give to the two sets. With `Fails` a valid request was written that the first set allows
+///   and the second doesn't, or `eval`'s set doesn't allow the request. With `BadProof` the line is that of
+///   the certificate's first fault, or of its first node that fails. A refusal, a budget, a fault of
+///   reading and the usage line come only by their cause, with their line. With `ReadFault` the folder's
+///   count of faults rose in this call, with `WriteFault` the sink's, and with every other answer the name
+///   of the folder's last fault is as it was.
 /// - `usage`, `untouched`: where the arguments ask for nothing, nothing else than `Usage` comes but for
 ///   want of memory or of room, and the folder is as before.
 /// - `held`, `reads`, `writes`: what the folder holds stays as it is, and no count of faults falls.
-/// - `complete`: accepted files whose sets have a schema, budgets that aren't below the need of the plain
-///   run and no fault give an answer of the command, unless memory is wanting.
+/// - `complete`: accepted files whose sets have a schema, dimensions that it has, budgets that aren't below
+///   the need of the plain runs, of the predicates and of the findings that must be looked at, and no fault
+///   give an answer of the command, unless memory is wanting.
 pub fn run<F: Folder, S: Sink>(
     alloc: Global,
     arguments: &[String],

@@ -1,20 +1,33 @@
 //! The program that compares sets of IAM policies, as a function that each program crate calls.
 #![tactic(auto)]
 
+ghost use Rattle.std.specs.Prelude.{◌≡◌};
+ghost use Rattle.compare_program.specs.Numbers.{IsEndNumber};
+
 use compare_cli::{Status, exit_number, run};
 use pol_outside::{DiskFolder, StdSink};
 use std::io::Eprint;
+use std::marker::Model;
 use std::process::{ExitCode, Termination};
 use std::{env, io};
 
 /// The exit number where the runtime refuses the arguments. No status has it.
 const NO_ARGUMENTS: u8 = 9;
 
-/// How a run over the real files ended. Only `program` makes one, so that a `main` that gives one has
-/// run the program.
+/// How a run over the real files ended, which contracts see as its exit number. Only `program` makes one,
+/// so that a `main` that gives one has run the program.
 #[derive(Drop)]
 pub struct Ended {
     code: ExitCode,
+}
+
+impl Model for Ended {
+    ghost use Rattle.std.specs.Prelude.{ℕ};
+    ghost use Rattle.std.specs.Process.{exit_status};
+
+    ghost Value = { ℕ };
+
+    ghost view = { λ ended. exit_status ended.code };
 }
 
 impl Termination for Ended {
@@ -23,7 +36,9 @@ impl Termination for Ended {
     }
 }
 
-fn end_with(number: u8) -> Ended {
+fn end_with(number: u8) -> Ended
+    ensures { result ≡ number }
+{
     Ended {
         code: ExitCode::from(number),
     }
@@ -31,7 +46,11 @@ fn end_with(number: u8) -> Ended {
 
 /// One run over the real files and standard output, with the arguments after the program's name. It
 /// gives the exit number of its status, or that of a fault of the arguments: then nothing is written.
-pub fn program(rt: HostRuntime) -> Ended {
+/// What it reads and writes is the system's, of which no contract can speak: that the run is right is
+/// what `run` promises of every folder and sink.
+pub fn program(rt: HostRuntime) -> Ended
+    ensures { IsEndNumber result }
+{
     let arguments = match env::args(&rt) {
         Ok(arguments) => arguments,
         Err(error) => {

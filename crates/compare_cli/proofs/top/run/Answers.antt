@@ -1,6 +1,7 @@
-use Rattle.std.proofs.Common.{sym, subst}
+use Rattle.std.proofs.Common.{Option, Some, None, sym, subst}
 use Rattle.compare_cli.specs.declared.top.Status.{Status}
-use Rattle.command_words.specs.Asked.{asked_by}
+use Rattle.compare_cli.specs.declared.top.Status.TheVariants.{NoMemory}
+use Rattle.command_words.specs.Asked.{Asked, a_check, a_comparison, a_load, a_summary, an_evaluation, asked_by}
 use Rattle.compare_cli.specs.Answers.{Reading}
 use Rattle.compare_cli.specs.Complete.{IsDecided}
 use Rattle.compare_cli.proofs.Completeness.{answer_decided}
@@ -17,3 +18,15 @@ returns-in-Ok-put_all-clause-complete g c = λ accepted calm calm_sink.
     } in
     let asked = asked_by c.args.arguments.now in
     subst (λ (s : Status). IsDecided asked s) (sym c.status_of.ensures) (answer_decided asked r c.in-Ok.answer c.in-Ok.ensures.given accepted calm)
+
+-- want of memory ends any run
+without-memory : (asked : Option Asked) → IsDecided asked NoMemory
+without-memory None = tt
+without-memory (Some (a_comparison c)) = tt
+without-memory (Some (a_check c)) = tt
+without-memory (Some (a_summary s)) = tt
+without-memory (Some (an_evaluation e)) = tt
+without-memory (Some (a_load keys)) = tt
+
+pub returns-in_default-answer_text-clause-complete : goal.returns-in_default-answer_text-clause-complete
+returns-in_default-answer_text-clause-complete g c = λ accepted calm calm_sink. without-memory (asked_by c.args.arguments.now)

@@ -1,0 +1,103 @@
+-- What a summary came to says what is answered.
+use Rattle.std.proofs.Common.{◌≡◌, ◌<◌, ◌∙◌, ℕ, List, [], length, map, get_or, slice_get, All, Option, Some, None, refl, sym, subst, arith}
+use Rattle.std.proofs.lemmas.List.{get_or-map, length-map}
+use Rattle.std.proofs.lemmas.Option.{slice_get_within}
+use Rattle.policy_compile.specs.declared.outcome.Query.{Query}
+use Rattle.policy_compile.specs.Queries.{IsQuery}
+use Rattle.policy_compile.specs.Sets.{set_plan}
+use Rattle.policy_model.specs.declared.request.Request.{Request}
+use Rattle.policy_model.specs.declared.schema.Schema.{Schema}
+use Rattle.policy_model.specs.declared.set.PolicySet.{PolicySet}
+use Rattle.policy_model.specs.declared.test.Slot.{Slot}
+use Rattle.request_schema.specs.RunSchemas.{infer_fault}
+use Rattle.findings.specs.Answers.{FailsAtFinding, StatesFail}
+use Rattle.findings.specs.Findings.{IsFinding}
+use Rattle.findings.specs.Summaries.{IsMaximal, IsSummary, findings_of}
+use Rattle.findings.specs.declared.decide.Wide.{Wide as WideSlot}
+use Rattle.strata.specs.declared.stratum.Stratum.{Stratum}
+use Rattle.summary_search.specs.Outcomes.{IsOutcome}
+use Rattle.summary_search.specs.declared.outcome.Limits.{Limits}
+use Rattle.summary_search.specs.declared.outcome.Outcome.{Outcome}
+use Rattle.summary_search.specs.declared.outcome.Outcome.TheVariants as outcome
+use Rattle.compare_cli.specs.declared.answer.Answer.{Answer}
+use Rattle.compare_cli.specs.declared.answer.Answer.TheVariants as answer
+use Rattle.compare_cli.specs.declared.answer.Refusal.TheVariants as refusal
+use Rattle.compare_cli.specs.Dimensions.{AreKnown, dimension_slot, dimension_slots}
+use Rattle.compare_cli.specs.SetRun.{OfSetRun, one_schema}
+use Rattle.compare_cli.specs.Standing.{NamesSchema, StandsFor}
+use Rattle.compare_cli.specs.Summarised.{HasTexts, IsOutcomeAnswer, IsSummaryAnswer, StatesFailAt, Summarises, SummarisesKnown, SummarisesSet, SummarisesUnder, SummaryContents, limits_in}
+use Rattle.command_words.specs.Asked.{Summarising}
+
+-- ---- texts
+
+-- what holds of the images of a list's items
+all-of-map : {X Y : Type 0} (P : Y → Type 0) (f : X → Y) (xs : List X) → All P (map f xs) → All (λ x. P (f x)) xs
+all-of-map P f xs all k d l = subst P (get_or-map f xs k d (f d) l) (all k (f d) (subst (λ (n : ℕ). k < n) (sym (length-map xs f)) l))
+
+-- what a summary came to has texts
+pub texts-of : (words : List (List ℕ)) (limits : Limits) (schema : Schema) (set : PolicySet) (q : Query) (o : Outcome) → IsOutcome schema set q (dimension_slots words) limits o → HasTexts words o
+texts-of words limits schema set q (outcome.Found strata summary) is =
+    let finding : All (IsFinding strata.dimensions) (findings_of summary) = λ k d l. (is.1.maximal k d l).finding in
+    all-of-map (IsFinding strata.dimensions) (λ (p : List ℕ × Request). p.0) summary finding
+texts-of words limits schema set q (outcome.TooManyPredicates d) is =
+    let within : d < length (dimension_slots words) = slice_get_within (dimension_slots words) d is.slot is.at in
+    subst (λ (n : ℕ). d < n) (length-map words dimension_slot) within
+texts-of words limits schema set q (outcome.Wide s texts) is = tt
+texts-of words limits schema set q outcome.OutOfFindings is = tt
+texts-of words limits schema set q (outcome.OutOfSplits strata f) is = is.1.visited.finding
+texts-of words limits schema set q (outcome.OutOfStates strata f w) is = is.1.visited.finding
+
+-- ---- answers
+
+-- a finding whose query needs more states at a slot that is kept
+wide-at : (schema : Schema) (set : PolicySet) (ds : List Stratum) (f : List ℕ) (states : ℕ) (w : WideSlot) → FailsAtFinding schema set ds f (λ q. StatesFail schema q states w) → FailsAtFinding schema set ds f (StatesFailAt schema states w.slot)
+wide-at schema set ds f states w fails = record {
+  visited = fails.visited;
+  query = fails.query;
+  is = fails.is;
+  fails = record { wide = w; slot = refl; fails = fails.fails };
+}
+
+-- the answer to what a summary came to is what may be said of the query
+pub said-of-outcome : (words : List (List ℕ)) (limits : Limits) (schema : Schema) (set : PolicySet) (q : Query) (o : Outcome) → IsOutcome schema set q (dimension_slots words) limits o → (a : Answer) → IsOutcomeAnswer words limits o a → IsSummaryAnswer words limits schema set q a
+said-of-outcome words limits schema set q (outcome.Found strata summary) is a v =
+    subst (λ (x : Answer). IsSummaryAnswer words limits schema set q x) (sym v.is)
+    (record { strata = strata; are = is.0; holds = record { summary = summary; is = is.1; lines = v.lines } })
+said-of-outcome words limits schema set q (outcome.TooManyPredicates d) is a v =
+    subst (λ (x : Answer). IsSummaryAnswer words limits schema set q x) (sym v.is) (record { dimension = d; first = is; word = v.word; at = v.at; written = refl })
+said-of-outcome words limits schema set q (outcome.Wide s texts) is a v =
+    subst (λ (x : Answer). IsSummaryAnswer words limits schema set q x) (sym v) (refl, is.0, is.1, record { texts = texts; wide = is.2 })
+said-of-outcome words limits schema set q outcome.OutOfFindings is a v =
+    subst (λ (x : Answer). IsSummaryAnswer words limits schema set q x) (sym v) (refl, is)
+said-of-outcome words limits schema set q (outcome.OutOfSplits strata f) is a v =
+    subst (λ (x : Answer). IsSummaryAnswer words limits schema set q x) (sym v.is)
+    (refl, record { strata = strata; are = is.0; holds = record { finding = f; written = v.written; fails = is.1 } })
+said-of-outcome words limits schema set q (outcome.OutOfStates strata f w) is a v =
+    subst (λ (x : Answer). IsSummaryAnswer words limits schema set q x) (sym v.is)
+    (refl, record { strata = strata; are = is.0; holds = record { finding = f; written = v.written; fails = wide-at schema set strata.dimensions f limits.states w is.1 } })
+
+-- what is said of the query of a set is said of the set
+pub known-of-query : (words : List (List ℕ)) (limits : Limits) (schema : Schema) (set : PolicySet) (q : Query) → IsQuery (set_plan schema set) q → (a : Answer) → IsSummaryAnswer words limits schema set q a → SummarisesKnown words limits schema set a
+known-of-query words limits schema set q is (answer.Refused refusal.TooManyTests) v = absurd v
+known-of-query words limits schema set q is (answer.Refused refusal.TooManyPieces) v = absurd v
+known-of-query words limits schema set q is a v = record { query = q; is = is; holds = v }
+
+-- of which each dimension is known
+pub under-known : (words : List (List ℕ)) (limits : Limits) (schema : Schema) (set : PolicySet) → AreKnown schema words → (a : Answer) → SummarisesKnown words limits schema set a → SummarisesUnder words limits set a schema
+under-known words limits schema set known (answer.Refused (refusal.NoDimension element)) v = absurd v.holds
+under-known words limits schema set known a v = (known, v)
+
+-- no condition of which is refused
+pub set-under : (words : List (List ℕ)) (limits : Limits) (named : Schema) (set : PolicySet) (schema : Schema) → infer_fault named set None ≡ None → schema ≡ one_schema named set → (a : Answer) → SummarisesUnder words limits set a schema → SummarisesSet words limits a named set
+set-under words limits named set schema answered run (answer.Refused (refusal.NoRun role fault)) v = absurd v.1.holds
+set-under words limits named set schema answered run a v = record { answered = answered; holds = subst (SummarisesUnder words limits set a) run v }
+
+files-same : (s : Summarising) (c : SummaryContents) (named : Schema) (set : PolicySet) → NamesSchema c.schema named → StandsFor c.set set → (a : Answer) → SummarisesSet s.dimensions (limits_in s) a named set → Summarises s c a
+files-same s c named set schema_stands set_stands (answer.Refused (refusal.NoSchema fault)) v = absurd v.holds.1.holds
+files-same s c named set schema_stands set_stands (answer.Refused (refusal.NoSet role fault)) v = absurd v.holds.1.holds
+files-same s c named set schema_stands set_stands a v = record { named = named; set = set; schema_stands = schema_stands; set_stands = set_stands; holds = v }
+
+-- which files stand for
+pub files-set : (s : Summarising) (c : SummaryContents) (named : Schema) (set : PolicySet) (words : List (List ℕ)) (limits : Limits) → words ≡ s.dimensions → limits ≡ limits_in s → NamesSchema c.schema named → StandsFor c.set set → (a : Answer) → SummarisesSet words limits a named set → Summarises s c a
+files-set s c named set words limits same range schema_stands set_stands a v =
+    files-same s c named set schema_stands set_stands a (subst (λ (ws : List (List ℕ)). SummarisesSet ws (limits_in s) a named set) same (subst (λ (l : Limits). SummarisesSet words l a named set) range v))

@@ -1,0 +1,40 @@
+use Rattle.std.proofs.Common.{◌≡◌, ◌∙◌, ℕ, List, Option, option_map, sym, subst, rules}
+use Rattle.std.specs.Prelude.{Vec, string_bytes}
+use Rattle.std.specs.declared.alloc.Global.{Global}
+use Rattle.std.proofs.lemmas.Result.{IfOk-weaker}
+use Rattle.command_words.specs.Asked.{Asked, a_summary, summarising_in}
+use Rattle.pol_outside.specs.Folder.{Files}
+use Rattle.compare_cli.specs.declared.answer.Role.TheVariants as role
+use Rattle.compare_cli.specs.Answers.{Reading}
+use Rattle.compare_cli.specs.Files.{IsShort, IsShortIfNamed}
+use Rattle.compare_cli.specs.Summarised.{SummaryContents, summary_contents}
+use Rattle.compare_cli.proofs.Answering.{IsAnswerTo-read}
+use Rattle.compare_cli.proofs.commands.summary.Goals as goal
+
+pub returns-clause-given : goal.returns-clause-given
+returns-clause-given g c =
+    let held : Option Files = g.F.Folder.held c.args.folder.now in
+    let words = c.args.words.now in
+    let asked : Asked = a_summary (summarising_in words) in
+    let r : Reading = record {
+      held = held;
+      faults_before = g.F.Folder.faults c.args.folder.now;
+      faults = g.F.Folder.faults c.read_if_named.new.folder;
+      last_before = g.F.Folder.last_fault c.args.folder.now;
+      last = g.F.Folder.last_fault c.read_if_named.new.folder;
+    } in
+    let set_short : IsShort held role.Set (string_bytes words.set) c.as_slice.result.now = search rules in
+    let name : Option (List ℕ) = option_map (λ n. string_bytes n) words.schema in
+    let same : g.F.Folder.held c.read_file.new.folder ≡ held = c.in-Ok.ensures.held in
+    let read : IsShortIfNamed held role.Schema name (option_map (λ (b : Vec ℕ Global). b.items) c.in-Ok-read_if_named.bytes) =
+    subst (λ (h : Option Files). IsShortIfNamed h role.Schema name (option_map (λ (b : Vec ℕ Global). b.items) c.in-Ok-read_if_named.bytes)) same c.in-Ok-read_if_named.ensures.reads in
+    let schema_short : IsShortIfNamed held role.Schema name (option_map (λ f. f.now) c.bytes_of.result) =
+    subst (λ (bs : Option (List ℕ)). IsShortIfNamed held role.Schema name bs) (sym c.bytes_of.ensures) read in
+    let calm : r.last ≡ r.last_before = search rules in
+    let files : SummaryContents = summary_contents c.as_slice.result.now (option_map (λ f. f.now) c.bytes_of.result) in
+    IfOk-weaker c.summary_of.result _ _ (λ a v. IsAnswerTo-read asked r calm a (record {
+      contents = files;
+      set_short = set_short;
+      schema_short = schema_short;
+      holds = v;
+    })) c.summary_of.ensures

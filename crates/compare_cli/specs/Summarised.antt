@@ -1,0 +1,206 @@
+-- What a summary of a set may answer.
+use Rattle.std.specs.Prelude.{◌≡◌, ◌<◌, ◌+◌, ⊤, ℕ, List, [], length, map, slice_get, All, Contains}
+use Rattle.std.specs.Prelude.{Option, None, Some, Result, Ok, Err, String, string_bytes}
+use Rattle.std.specs.Str.{chars}
+use Rattle.std.specs.declared.alloc.Global.{Global}
+use Rattle.command_words.specs.Asked.{Summarising}
+use Rattle.findings.specs.Answers.{FailsAtFinding, SplitsFail, StatesFail}
+use Rattle.findings.specs.Findings.{IsFinding}
+use Rattle.findings.specs.Summaries.{IsSummary, VisitsAtLeast}
+use Rattle.findings.specs.Texts.{finding_text}
+use Rattle.findings.specs.declared.decide.Wide.{Wide as WideSlot}
+use Rattle.policy_compile.specs.declared.outcome.Query.{Query}
+use Rattle.policy_compile.specs.Numbering.{HasTooMany}
+use Rattle.policy_compile.specs.Plans.{tests_in}
+use Rattle.policy_compile.specs.Queries.{HasTooManyPieces, IsQuery}
+use Rattle.policy_compile.specs.Sets.{set_plan}
+use Rattle.policy_json.specs.Sets.{set_from}
+use Rattle.policy_model.specs.declared.request.Request.{Request}
+use Rattle.policy_model.specs.declared.schema.Schema.{Schema}
+use Rattle.policy_model.specs.declared.set.PolicySet.{PolicySet}
+use Rattle.policy_model.specs.declared.test.Slot.{Slot}
+use Rattle.request_schema.specs.RunSchemas.{FirstInferFault}
+use Rattle.strata.specs.Causes.{AreFew, IsFirstTooMany, NamesWide}
+use Rattle.strata.specs.declared.stratum.Stratum.{Stratum}
+use Rattle.summary_search.specs.Outcomes.{OfStrata}
+use Rattle.summary_search.specs.declared.outcome.Limits.{Limits}
+use Rattle.summary_search.specs.declared.outcome.Outcome.{Outcome}
+use Rattle.summary_search.specs.declared.outcome.Outcome.TheVariants as outcome
+use Rattle.summary_search.specs.declared.outcome.Outcome.TheVariants.{Found, Wide, OutOfFindings, OutOfSplits, OutOfStates}
+use Rattle.compare_cli.specs.declared.answer.Answer.{Answer}
+use Rattle.compare_cli.specs.declared.answer.Answer.TheVariants.{Refused, Undecided, Summary}
+use Rattle.compare_cli.specs.declared.answer.FoundLines.{FoundLines}
+use Rattle.compare_cli.specs.declared.answer.Refusal.{Refusal}
+use Rattle.compare_cli.specs.declared.answer.Refusal.TheVariants.{NoSchema, NoSet, NoRun, NoDimension}
+use Rattle.compare_cli.specs.declared.answer.Refusal.TheVariants.{TooManyTests, TooManyPieces, TooManyPredicates}
+use Rattle.compare_cli.specs.declared.answer.Role.TheVariants.{Set as set_file}
+use Rattle.compare_cli.specs.declared.answer.Shortage.{Shortage}
+use Rattle.compare_cli.specs.declared.answer.Shortage.TheVariants.{Splits, States, Findings, SplitsIn, StatesIn}
+use Rattle.compare_cli.specs.Dimensions.{AreKnown, IsFirstUnknown, dimension_slots}
+use Rattle.compare_cli.specs.SetRun.{OfSet, OfSetRun}
+use Rattle.compare_cli.specs.Standing.{HasSchema, SchemaFails}
+
+-- ---- the strata of a set
+
+-- of the query of the set this holds
+pub record OfSetQuery (schema : Schema) (set : PolicySet) (P : Query → Type 0) : Type 0 where
+  pub query : Query
+  pub is : IsQuery (set_plan schema set) query
+  pub holds : P query
+
+-- of the strata of the query by the dimensions that words name, of none of which too many predicates are named, this holds
+abbrev pub OfDimensions : List (List ℕ) → Schema → Query → (List Stratum → Type 0) → Type 0
+OfDimensions words schema q P = OfStrata schema q (dimension_slots words) P
+
+-- a finding's text with its request, and a finding's line with that of its request
+abbrev pub told : List Stratum → List ℕ × Request → List ℕ × Request
+told ds p = (finding_text ds p.0, p.1)
+
+abbrev pub told_by : FoundLines → List ℕ × Request
+told_by lines = (string_bytes lines.finding, lines.request)
+
+-- the lines are those of the findings and their requests, in order
+abbrev pub AreLinesOf : List Stratum → List (List ℕ × Request) → List FoundLines → Type 0
+AreLinesOf ds summary found = map told_by found ≡ map (told ds) summary
+
+-- the summary of the set is printed: its findings in their order, each with a request of its own
+pub record Prints (schema : Schema) (set : PolicySet) (found : List FoundLines) (ds : List Stratum) : Type 0 where
+  pub summary : List (List ℕ × Request)
+  pub is : IsSummary schema set ds summary
+  pub lines : AreLinesOf ds summary found
+
+-- the text is that of a finding that must be looked at, and of its query this holds
+pub record IsFailingText (schema : Schema) (set : PolicySet) (text : List ℕ) (P : Query → Type 0) (ds : List Stratum)
+    : Type 0 where
+  pub finding : List ℕ
+  pub written : text ≡ finding_text ds finding
+  pub fails : FailsAtFinding schema set ds finding P
+
+-- at a node of the plain run of the query the patterns of the slot have more product states
+pub record StatesFailAt (schema : Schema) (states : ℕ) (s : Slot) (q : Query) : Type 0 where
+  pub wide : WideSlot
+  pub slot : wide.slot ≡ s
+  pub fails : StatesFail schema q states wide
+
+-- two predicates of the dimension have patterns with more product states
+pub record WidePredicates (schema : Schema) (q : Query) (states : ℕ) (s : Slot) : Type 0 where
+  pub texts : List (List ℕ)
+  pub wide : NamesWide schema q.tests states s texts
+
+-- ---- what is answered
+
+-- a budget that is too small: for two predicates of a dimension, for the number of findings that must be looked at, or for the
+-- query of one of them
+abbrev pub IsShortOf : List (List ℕ) → Limits → Schema → PolicySet → Query → Shortage → Type 0
+IsShortOf words limits schema set q (States n s) =
+    (n ≡ limits.states) × Contains (dimension_slots words) s × AreFew q.tests (dimension_slots words) ×
+    WidePredicates schema q n s
+IsShortOf words limits schema set q (Findings n) =
+    (n ≡ limits.findings) × OfDimensions words schema q (λ ds. VisitsAtLeast schema set ds (n + 1))
+IsShortOf words limits schema set q (SplitsIn n text) =
+    (n ≡ limits.splits) ×
+    OfDimensions words schema q (IsFailingText schema set (string_bytes text) (λ f. SplitsFail schema f n))
+IsShortOf words limits schema set q (StatesIn n s text) =
+    (n ≡ limits.states) ×
+    OfDimensions words schema q (IsFailingText schema set (string_bytes text) (StatesFailAt schema n s))
+IsShortOf words limits schema set q (Splits n) = ⊥
+
+-- the word, given by its characters, is the first dimension of which too many predicates are named
+pub record NamesTooManyOf (words : List (List ℕ)) (q : Query) (element : List ℕ) : Type 0 where
+  pub dimension : ℕ
+  pub first : IsFirstTooMany q.tests (dimension_slots words) dimension
+  pub word : List ℕ
+  pub at : slice_get words dimension ≡ Some word
+  pub written : element ≡ chars word
+
+-- the first dimension of which too many predicates are named, a budget that is too small, or the summary
+abbrev pub IsSummaryAnswer : List (List ℕ) → Limits → Schema → PolicySet → Query → Answer → Type 0
+IsSummaryAnswer words limits schema set q (Refused (TooManyPredicates element)) = NamesTooManyOf words q element
+IsSummaryAnswer words limits schema set q (Undecided shortage) = IsShortOf words limits schema set q shortage
+IsSummaryAnswer words limits schema set q (Summary found) = OfDimensions words schema q (Prints schema set found)
+IsSummaryAnswer words limits schema set q _ = ⊥
+
+-- what a set may be answered, of which the schema has each dimension: a limit that its query is past, or what is said of the query
+abbrev pub SummarisesKnown : List (List ℕ) → Limits → Schema → PolicySet → Answer → Type 0
+SummarisesKnown words limits schema set (Refused TooManyTests) = HasTooMany [] (tests_in (set_plan schema set))
+SummarisesKnown words limits schema set (Refused TooManyPieces) = HasTooManyPieces (set_plan schema set)
+SummarisesKnown words limits schema set answer =
+    OfSetQuery schema set (λ q. IsSummaryAnswer words limits schema set q answer)
+
+-- what a set may be answered under the schema of its run: the first word that names no dimension, or what else is said
+abbrev pub SummarisesUnder : List (List ℕ) → Limits → PolicySet → Answer → Schema → Type 0
+SummarisesUnder words limits set (Refused (NoDimension element)) schema = IsFirstUnknown schema words element
+SummarisesUnder words limits set answer schema = AreKnown schema words × SummarisesKnown words limits schema set answer
+
+-- what a set under named keys may be answered: the first condition that the run has no schema for, or what is said under that
+abbrev pub SummarisesSet : List (List ℕ) → Limits → Answer → Schema → PolicySet → Type 0
+SummarisesSet words limits (Refused (NoRun role fault)) named set =
+    (role ≡ set_file) × FirstInferFault named set None fault
+SummarisesSet words limits answer named set = OfSetRun named set (SummarisesUnder words limits set answer)
+
+-- ---- what the parts of an answer come to
+
+-- the query of the set, or a limit that it is past
+abbrev pub IsSetQueried : Schema → PolicySet → Result Query Refusal → Type 0
+IsSetQueried schema set (Ok q) = IsQuery (set_plan schema set) q
+IsSetQueried schema set (Err TooManyTests) = HasTooMany [] (tests_in (set_plan schema set))
+IsSetQueried schema set (Err TooManyPieces) = HasTooManyPieces (set_plan schema set)
+IsSetQueried schema set (Err _) = ⊥
+
+-- what a summary came to has texts: its findings have a number of each dimension, and a dimension is one of the words
+abbrev pub HasTexts : List (List ℕ) → Outcome → Type 0
+HasTexts words (Found strata summary) = All (λ p. IsFinding strata.dimensions p.0) summary
+HasTexts words (outcome.TooManyPredicates d) = d < length words
+HasTexts words (Wide s texts) = ⊤
+HasTexts words OutOfFindings = ⊤
+HasTexts words (OutOfSplits strata f) = IsFinding strata.dimensions f
+HasTexts words (OutOfStates strata f w) = IsFinding strata.dimensions f
+
+-- the answer to the dimension of an index
+pub record IsTooManyAnswer (words : List (List ℕ)) (d : ℕ) (answer : Answer) : Type 0 where
+  pub word : List ℕ
+  pub at : slice_get words d ≡ Some word
+  pub is : answer ≡ Refused (TooManyPredicates (chars word))
+
+-- the answer to a finding, of a budget that is too small for its query
+pub record IsFindingAnswer (ds : List Stratum) (f : List ℕ) (short : String Global → Shortage) (answer : Answer) : Type 0 where
+  pub text : String Global
+  pub written : string_bytes text ≡ finding_text ds f
+  pub is : answer ≡ Undecided (short text)
+
+-- the answer to a summary
+pub record IsFoundAnswer (ds : List Stratum) (summary : List (List ℕ × Request)) (answer : Answer) : Type 0 where
+  pub found : List FoundLines
+  pub lines : AreLinesOf ds summary found
+  pub is : answer ≡ Summary found
+
+-- the answer to what a summary came to
+abbrev pub IsOutcomeAnswer : List (List ℕ) → Limits → Outcome → Answer → Type 0
+IsOutcomeAnswer words limits (Found strata summary) answer = IsFoundAnswer strata.dimensions summary answer
+IsOutcomeAnswer words limits (outcome.TooManyPredicates d) answer = IsTooManyAnswer words d answer
+IsOutcomeAnswer words limits (Wide s texts) answer = answer ≡ Undecided (States limits.states s)
+IsOutcomeAnswer words limits OutOfFindings answer = answer ≡ Undecided (Findings limits.findings)
+IsOutcomeAnswer words limits (OutOfSplits strata f) answer =
+    IsFindingAnswer strata.dimensions f (SplitsIn limits.splits) answer
+IsOutcomeAnswer words limits (OutOfStates strata f w) answer =
+    IsFindingAnswer strata.dimensions f (StatesIn limits.states w.slot) answer
+
+-- ---- the files
+
+-- the bytes of the files: of the set, and of the schema where one is named
+pub record SummaryContents : Type 0 where
+  pub set : List ℕ
+  pub schema : Option (List ℕ)
+
+abbrev pub summary_contents : List ℕ → Option (List ℕ) → SummaryContents
+summary_contents set schema = record { set = set; schema = schema }
+
+-- the limits of a summary
+abbrev pub limits_in : Summarising → Limits
+limits_in s = record { splits = s.splits; states = s.states; findings = s.findings }
+
+-- what the files of a summary may be answered: the schema's first fault, then the set's, then what they say together
+abbrev pub Summarises : Summarising → SummaryContents → Answer → Type 0
+Summarises s c (Refused (NoSchema fault)) = SchemaFails c.schema fault
+Summarises s c (Refused (NoSet role fault)) = (role ≡ set_file) × HasSchema c.schema × (set_from c.set ≡ Err fault)
+Summarises s c answer = OfSet c.set c.schema (SummarisesSet s.dimensions (limits_in s) answer)

@@ -1,0 +1,229 @@
+//! Summarises a set of policies by dimensions.
+ghost use Rattle.std.specs.Prelude.{◌≡◌, ◌≤◌, ◌<◌, true, All, IfOk, length, option_map};
+ghost use Rattle.std.specs.Str.{IsUtf8};
+ghost use Rattle.command_words.specs.Asked.{HasBudgetsInRange, are_dimensions, summarising_in, texts_in};
+ghost use Rattle.policy_model.specs.Soundness.{IsSound, SchemaFits, SchemaIsSound};
+ghost use Rattle.findings.specs.Findings.{IsFinding};
+ghost use Rattle.summary_search.specs.Outcomes.{AreInRange};
+ghost use Rattle.compare_cli.specs.Dimensions.{AreKnown, dimension_slots};
+ghost use Rattle.compare_cli.specs.Summarised.{AreLinesOf, HasTexts, IsOutcomeAnswer, IsSetQueried, IsTooManyAnswer};
+ghost use Rattle.compare_cli.specs.Summarised.{Summarises, SummarisesKnown, SummarisesSet, SummarisesUnder};
+ghost use Rattle.compare_cli.specs.Summarised.{limits_in, summary_contents, told, told_by};
+
+use crate::answer::{Answer, FoundLines, FoundList, Refusal, Role, Shortage};
+use crate::contents::named_schema;
+use crate::dimensions::slots_of;
+use command_words::SummaryWords;
+use findings::{Finding, Summary, finding_text};
+use plain_lists::EqualClone;
+use policy_compile::{Query, QueryFault, set_query};
+use policy_json::{PolicyAnswer, read_set};
+use policy_model::{PolicySet, Request, Schema, SlotList};
+use request_schema::{InferAnswer, SchemaAnswer, infer};
+use std::alloc::{AllocError, Global};
+use strata::Strata;
+use summary_search::{Limits, Outcome, find_summary};
+use wildcard_lang::Text;
+
+// The text of a finding with its request.
+fn lines_of(
+    alloc: Global,
+    strata: &Strata,
+    found: &(Finding, Request),
+) -> Result<FoundLines, AllocError>
+    requires { IsFinding strata.now.dimensions found.now.0 }
+    ensures { IfOk result (λ l. told_by l ≡ told strata.now.dimensions found.now) }
+{
+    Ok(FoundLines {
+        finding: finding_text(alloc, strata, &found.0)?,
+        request: found.1.copy()?,
+    })
+}
+
+// The texts of the findings with their requests.
+fn all_lines(
+    alloc: Global,
+    strata: &Strata,
+    summary: &[(Finding, Request)],
+) -> Result<FoundList, AllocError>
+    requires { All (λ p. IsFinding strata.now.dimensions p.0) summary.now }
+    ensures { IfOk result (AreLinesOf strata.now.dimensions summary.now) }
+{
+    let mut lines = FoundList::new(alloc);
+    for found in summary {
+        lines.push(lines_of(alloc, strata, found)?)?;
+    }
+    Ok(lines)
+}
+
+// The query of the set, or the limit that it is past.
+fn query_of(
+    alloc: Global,
+    schema: &Schema,
+    set: &PolicySet,
+) -> Result<Result<Query, Refusal>, AllocError>
+    requires { SchemaFits schema.now set.now }
+    ensures { IfOk result (IsSetQueried schema.now set.now) }
+{
+    match set_query(alloc, schema, set) {
+        Ok(query) => Ok(Ok(query)),
+        Err(QueryFault::TooManyTests) => Ok(Err(Refusal::TooManyTests)),
+        Err(QueryFault::TooManyPieces) => Ok(Err(Refusal::TooManyPieces)),
+        Err(QueryFault::NoMemory) => Err(AllocError),
+    }
+}
+
+// The answer on the dimension of the index: too many predicates of it are named.
+fn too_many(alloc: Global, words: &[String], dimension: u32) -> Result<Answer, AllocError>
+    requires { dimension < length words.now }
+    ensures { IfOk result (IsTooManyAnswer (texts_in words.now) dimension) }
+{
+    let word = Text::of(alloc, words[dimension as usize].as_str())?;
+    Ok(Answer::Refused(Refusal::TooManyPredicates(word)))
+}
+
+// The answer to what the summary came to.
+fn outcome_answer(
+    alloc: Global,
+    outcome: Outcome,
+    words: &[String],
+    limits: Limits,
+) -> Result<Answer, AllocError>
+    requires { HasTexts (texts_in words.now) outcome }
+    ensures { IfOk result (IsOutcomeAnswer (texts_in words.now) limits outcome) }
+{
+    match outcome {
+        Outcome::Found(strata, summary) => {
+            let lines = all_lines(alloc, &strata, summary.as_slice())?;
+            Ok(Answer::Summary(lines))
+        }
+        Outcome::TooManyPredicates(dimension) => too_many(alloc, words, dimension),
+        Outcome::Wide(slot, _) => Ok(Answer::Undecided(Shortage::States(limits.states, slot))),
+        Outcome::OutOfFindings => Ok(Answer::Undecided(Shortage::Findings(limits.findings))),
+        Outcome::OutOfSplits(strata, finding) => {
+            let text = finding_text(alloc, &strata, &finding)?;
+            Ok(Answer::Undecided(Shortage::SplitsIn(limits.splits, text)))
+        }
+        Outcome::OutOfStates(strata, finding, wide) => {
+            let text = finding_text(alloc, &strata, &finding)?;
+            let shortage = Shortage::StatesIn(limits.states, wide.slot, text);
+            Ok(Answer::Undecided(shortage))
+        }
+    }
+}
+
+// The answer of a set under the schema of its run, by slots of it.
+fn known_answer(
+    alloc: Global,
+    schema: &Schema,
+    set: &PolicySet,
+    slots: &SlotList,
+    words: &[String],
+    limits: Limits,
+) -> Result<Answer, AllocError>
+    requires sound { SchemaIsSound schema.now }
+    requires fits { SchemaFits schema.now set.now }
+    requires dimensions { are_dimensions (texts_in words.now) ≡ true }
+    requires texts { All IsUtf8 (texts_in words.now) }
+    requires known { AreKnown schema.now (texts_in words.now) }
+    requires slots { slots.now ≡ dimension_slots (texts_in words.now) }
+    requires limits { AreInRange limits }
+    ensures { IfOk result (SummarisesKnown (texts_in words.now) limits schema.now set.now) }
+{
+    let query = match query_of(alloc, schema, set)? {
+        Ok(query) => query,
+        Err(refusal) => return Ok(Answer::Refused(refusal)),
+    };
+    let outcome = find_summary(alloc, schema, &query, slots, limits)?;
+    outcome_answer(alloc, outcome, words, limits)
+}
+
+/// The summary of a set, under the schema of its run, by the dimensions that the words name.
+pub fn summarise_set(
+    alloc: Global,
+    schema: &Schema,
+    set: &PolicySet,
+    words: &[String],
+    limits: Limits,
+) -> Result<Answer, AllocError>
+    requires sound { SchemaIsSound schema.now }
+    requires fits { SchemaFits schema.now set.now }
+    requires dimensions { are_dimensions (texts_in words.now) ≡ true }
+    requires limits { AreInRange limits }
+    ensures { IfOk result (λ a. SummarisesUnder (texts_in words.now) limits set.now a schema.now) }
+{
+    match slots_of(alloc, schema, words)? {
+        Ok(slots) => known_answer(alloc, schema, set, &slots, words, limits),
+        Err(refusal) => Ok(Answer::Refused(refusal)),
+    }
+}
+
+/// The answer of a set under named keys.
+pub fn set_summary(
+    alloc: Global,
+    named: &Schema,
+    set: &PolicySet,
+    words: &[String],
+    limits: Limits,
+) -> Result<Answer, AllocError>
+    requires sound { SchemaIsSound named.now }
+    requires set_sound { IsSound set.now }
+    requires dimensions { are_dimensions (texts_in words.now) ≡ true }
+    requires limits { AreInRange limits }
+    ensures { IfOk result (λ a. SummarisesSet (texts_in words.now) limits a named.now set.now) }
+{
+    match infer(alloc, named, set, None) {
+        Ok(schema) => summarise_set(alloc, &schema, set, words, limits),
+        Err(InferAnswer::Refused(fault)) => {
+            Ok(Answer::Refused(Refusal::NoRun(Role::Set, fault)))
+        }
+        Err(InferAnswer::NoMemory) => Err(AllocError),
+    }
+}
+
+// The limits that the words name.
+fn limits_of(words: &SummaryWords) -> Limits
+    requires { HasBudgetsInRange words.now }
+    ensures value { result ≡ limits_in (summarising_in words.now) }
+    ensures range { AreInRange result }
+{
+    Limits {
+        splits: words.splits,
+        states: words.states,
+        findings: words.findings,
+    }
+}
+
+/// The answer of files that were read, that of a set and that of a schema where one is named, to a
+/// summary.
+pub fn summary_of(
+    alloc: Global,
+    set: &[u8],
+    schema: Option<&[u8]>,
+    words: &SummaryWords,
+) -> Result<Answer, AllocError>
+    requires budgets { HasBudgetsInRange words.now }
+    requires dimensions { are_dimensions (texts_in words.now.dimensions.items) ≡ true }
+    ensures { IfOk result (Summarises (summarising_in words.now)
+        (summary_contents set.now (option_map (λ f. f.now) schema.entry))) }
+{
+    let named = match named_schema(alloc, schema) {
+        Ok(named) => named,
+        Err(SchemaAnswer::Refused(fault)) => return Ok(Answer::Refused(Refusal::NoSchema(fault))),
+        Err(SchemaAnswer::NoMemory) => return Err(AllocError),
+    };
+    let set = match read_set(alloc, set) {
+        Ok(set) => set,
+        Err(PolicyAnswer::Refused(fault)) => {
+            return Ok(Answer::Refused(Refusal::NoSet(Role::Set, fault)));
+        }
+        Err(PolicyAnswer::NoMemory) => return Err(AllocError),
+    };
+    set_summary(
+        alloc,
+        &named,
+        &set,
+        words.dimensions.as_slice(),
+        limits_of(words),
+    )
+}
