@@ -2,10 +2,15 @@
 //! exit number and what it wrote.
 //!
 //! A line is a command and its files, a tab before each: `check FIRST SECOND PROOF` or `eval SET REQUEST`,
-//! and behind them a schema's file or none. In a certificate `/` stands for a line feed.
+//! and behind them a schema's file or none. In a certificate `/` stands for a line feed. `printed FIRST
+//! SECOND` compares two sets, and checks what that printed with its certificate: both exit numbers are
+//! printed, and the answer of the check. `splits N` and `labels N` check certificates that nest deep.
 #![tactic(auto)]
 
+mod deep;
+
 use compare_cli::{exit_number, run};
+use deep::{chain_of_splits, set_of_actions};
 use pol_outside::{MemoryFolder, MemorySink};
 use std::alloc::Global;
 use std::io;
@@ -111,11 +116,42 @@ fn print_evaluation(alloc: Global, out: &mut impl Write, files: &str) -> io::Res
     print_asked(alloc, out, &mut folder, "eval set request", schema)
 }
 
+/// Prints the check of what a comparison of the files of a line printed with its certificate.
+fn print_printed(alloc: Global, out: &mut impl Write, files: &str) -> io::Result<()> {
+    let mut folder = MemoryFolder::new(alloc);
+    let files = hold_next(alloc, &mut folder, "first", files)?;
+    let files = hold_next(alloc, &mut folder, "second", files)?;
+    let schema = hold_schema(alloc, &mut folder, files)?;
+    let words = "compare first second --proof --states 100000";
+    let arguments = arguments_of(alloc, words, schema)?;
+    let mut sink = MemorySink::new(alloc, ROOM, ROOM)?;
+    let number = exit_number(run(alloc, arguments.as_slice(), &mut folder, &mut sink));
+    write!(out, "{number} ")?;
+    folder.hold("proof", sink.written())?;
+    print_asked(alloc, out, &mut folder, "check first second proof", schema)
+}
+
+/// Prints the check of a certificate that splits on each of so many actions, in labels or not.
+fn print_deep(alloc: Global, out: &mut impl Write, number: &str, labels: bool) -> io::Result<()> {
+    let Ok(count) = number.parse::<u32>() else {
+        return Err(ErrorKind::InvalidData.into());
+    };
+    let mut folder = MemoryFolder::new(alloc);
+    let set = set_of_actions(alloc, count)?;
+    folder.hold("first", set.as_bytes())?;
+    folder.hold("second", set.as_bytes())?;
+    folder.hold("proof", chain_of_splits(alloc, count, labels)?.as_bytes())?;
+    print_asked(alloc, out, &mut folder, "check first second proof", false)
+}
+
 fn print_line(alloc: Global, out: &mut impl Write, line: &str) -> io::Result<()> {
     let (command, files) = line.split_once('\t').unwrap_or((line, ""));
     match command {
         "check" => print_check(alloc, out, files),
         "eval" => print_evaluation(alloc, out, files),
+        "printed" => print_printed(alloc, out, files),
+        "splits" => print_deep(alloc, out, files, false),
+        "labels" => print_deep(alloc, out, files, true),
         _ => Err(ErrorKind::InvalidData.into()),
     }
 }
