@@ -42,7 +42,9 @@ impl<T: Closes> Model for Store<T> {
 
     ghost view = { λ s. zip s.lists (shared_values s.values.items) };
 
-    ghost invariant = { λ s. (length s.lists ≡ length s.values.items) × AllClose T.closes (zip s.lists (shared_values s.values.items)) };
+    ghost invariant = { λ s.
+        (length s.lists ≡ length s.values.items) ×
+        AllClose T.closes (zip s.lists (shared_values s.values.items)) };
 }
 
 impl<T: Closes> Store<T> {

@@ -35,7 +35,8 @@ pub(crate) fn watch(
     number: usize,
 ) -> Result<(), NoMemory>
     ensures kept { KeepsWatchers watching.old.items watching.new.items }
-    ensures ok { OnOk result (Contains (watchers_in watching.new.items (bucket_of test answer)) number) }
+    ensures ok { OnOk result
+        (Contains (watchers_in watching.new.items (bucket_of test answer)) number) }
 {
     let bucket = bucket_of(test, answer);
     make_room(watching, bucket)?;
@@ -104,7 +105,8 @@ fn turn_one(
 ) -> Result<(), NoMemory>
     ensures kept { KeepsWatchers watching.old.items watching.new.items }
     ensures stay { (n : ℕ) → Contains stay.old n → Contains stay.new n }
-    ensures turned { OnOk result (TurnsOrStays lists.now path.now watching.new.items stay.new number) }
+    ensures turned { OnOk result
+        (TurnsOrStays lists.now path.now watching.new.items stay.new number) }
     ensures hits { StayAsHits lists.now path.now stay.old → StayAsHits lists.now path.now stay.new }
 {
     let Some(answers) = lists.get(number) else {

@@ -67,9 +67,10 @@ fn read_keys(
     keys: &Map<String, Value>,
     conditions: &mut ConditionList,
 ) -> Result<(), PolicyAnswer>
-    ensures read { AreKeysRead location operator escapes (pairs_of (members_view keys.now.entries)) result }
-    ensures added { OnOk result (AddsKeys operator escapes (pairs_of (members_view keys.now.entries))
-        conditions.old conditions.new) }
+    ensures read { AreKeysRead location operator escapes
+        (pairs_of (members_view keys.now.entries)) result }
+    ensures added { OnOk result (AddsKeys operator escapes
+        (pairs_of (members_view keys.now.entries)) conditions.old conditions.new) }
 {
     for (key, value) in keys {
         let at = KeyLocation {
@@ -113,7 +114,8 @@ fn read_operators(
     escapes: bool,
     operators: &Map<String, Value>,
 ) -> Result<ConditionList, PolicyAnswer>
-    ensures { AreOperatorsRead location escapes (pairs_of (members_view operators.now.entries)) result }
+    ensures { AreOperatorsRead location escapes
+        (pairs_of (members_view operators.now.entries)) result }
 {
     let mut conditions = List::new(alloc);
     for (name, keys) in operators {

@@ -33,7 +33,8 @@ pub(crate) struct KeyLocation<'a> {
 
 // The decimal digits of a number, if there is one.
 fn digits_of(alloc: Global, number: Option<i128>) -> Result<Option<String>, AllocError>
-    ensures { IfOk result (λ text. option_map string_bytes text ≡ option_map signed_decimal number) }
+    ensures { IfOk result
+        (λ text. option_map string_bytes text ≡ option_map signed_decimal number) }
 {
     match number {
         Some(number) => Ok(Some(format!(in alloc; "{number}")?)),

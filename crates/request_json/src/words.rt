@@ -30,7 +30,8 @@ fn kind_of_name(name: &str) -> PrincipalKind
 
 // The first member's name, and the string that it is.
 fn first_pair(members: &Map<String, Value>) -> (&str, &str)
-    ensures { (result.0.now, result.1.now) ≡ first_pair (pairs_of (members_view members.now.entries)) }
+    ensures { (result.0.now, result.1.now) ≡
+        first_pair (pairs_of (members_view members.now.entries)) }
 {
     match members.iter().next() {
         Some((name, value)) => (name.as_str(), string_in(value)),

@@ -1,5 +1,5 @@
--- Refutations while they are made: a label's number is its place in the order of learning, which is the order in which the nodes of
--- labels end. So a part is judged by the lists that are stored, and reading order is one numbering.
+-- Refutations while they are made. A node that is learned takes the next free number when it ends, so a part is judged by the lists
+-- that are stored, and the order of their lines is one numbering of them.
 use Rattle.std.specs.Prelude.{◌≡◌, ◌<◌, ◌+◌, ℕ, List, length, true, false, None, Some, slice_get}
 use Rattle.formula_tree.specs.Answers.{Answers, Contained, answer_of}
 use Rattle.formula_tree.specs.Runs.{answered}

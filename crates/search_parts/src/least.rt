@@ -80,7 +80,8 @@ fn cut_down(
     requires free { answer_of path.now test ≡ None }
     requires within { test < length values.old.table }
     requires no { IsNoOn (answered_tree values.old) path.now test sides }
-    ensures cut { IfOk result (IsCutDown (answered_tree values.old) path.now needed.now test sides) }
+    ensures cut { IfOk result
+        (IsCutDown (answered_tree values.old) path.now needed.now test sides) }
     ensures rise { IfOk result (λ answers. Rise answers) }
     ensures values { values.new ≡ values.old }
 {

@@ -76,7 +76,8 @@ fn member_shows(
 ) -> Result<bool, NoMemory>
     requires sound { RuleIsSound rule.now }
     requires rises { rises_from 0 core.now ≡ true }
-    ensures { IfOk result (λ yes. IsTrue yes ↔ MemberShows rule.now asks.now core.now n closed.now) }
+    ensures { IfOk result
+        (λ yes. IsTrue yes ↔ MemberShows rule.now asks.now core.now n closed.now) }
 {
     match index_in(core, n) {
         Some(index) => shows_member(alloc, rule, asks, index, closed),
