@@ -18,7 +18,7 @@ use Rattle.proof_text.specs.declared.fault.ProofCode.{ProofCode}
 use Rattle.proof_text.specs.declared.fault.ProofCode.TheVariants.{C1Syntax, C2Version, C3TestNumber, C4Limit}
 use Rattle.proof_text.specs.declared.limits.Limits.{Limits}
 use Rattle.proof_text.specs.declared.limits.TheConstants.{MOST_NESTING, MOST_NUMBER}
-use Rattle.proof_text.specs.declared.place.Place.{Place}
+use Rattle.proof_text.specs.declared.location.Location.{Location}
 use Rattle.proof_text.proofs.Taking.{fails-behind, fails-below, fails-longer, leads-both, leads-line}
 
 -- ---- what a line without a fault passes
@@ -85,21 +85,21 @@ around-more ns n begun around is = record {
 
 -- ---- splits
 
-pub split-takes : (limits : Limits) (depth test : ℕ) (inside line : List ℕ) (place behind middle end : Place) (y z : Proof) → IsBehind line 0 place behind → line_said (a_node depth inside) line ≡ Some (split_line test) → fault_of_line limits place.begun (a_node depth inside) (Some (split_line test)) ≡ None →
-    TakesLines limits (a_node (depth + 1) inside ∷ []) behind (node_lines y) middle → TakesLines limits (a_node (depth + 1) inside ∷ []) middle (node_lines z) end → TakesLines limits (a_node depth inside ∷ []) place (node_lines (split test y z)) end
-split-takes limits depth test inside line place behind middle end y z next said passes first second =
-    leads-line limits (a_node depth inside) place behind end line (split_line test) (node_lines y ++ node_lines z) next said passes
+pub split-takes : (limits : Limits) (depth test : ℕ) (inside line : List ℕ) (location behind middle end : Location) (y z : Proof) → IsBehind line 0 location behind → line_said (a_node depth inside) line ≡ Some (split_line test) → fault_of_line limits location.begun (a_node depth inside) (Some (split_line test)) ≡ None →
+    TakesLines limits (a_node (depth + 1) inside ∷ []) behind (node_lines y) middle → TakesLines limits (a_node (depth + 1) inside ∷ []) middle (node_lines z) end → TakesLines limits (a_node depth inside ∷ []) location (node_lines (split test y z)) end
+split-takes limits depth test inside line location behind middle end y z next said passes first second =
+    leads-line limits (a_node depth inside) location behind end line (split_line test) (node_lines y ++ node_lines z) next said passes
     (leads-both limits (a_node (depth + 1) inside ∷ []) (a_node (depth + 1) inside ∷ []) behind middle end (node_lines y) (node_lines z) first second)
 
-pub split-first_fails : (limits : Limits) (depth test : ℕ) (inside line : List ℕ) (place behind : Place) (answer : ProofAnswer) → IsBehind line 0 place behind → line_said (a_node depth inside) line ≡ Some (split_line test) → fault_of_line limits place.begun (a_node depth inside) (Some (split_line test)) ≡ None →
-    FailsFrom limits (a_node (depth + 1) inside ∷ []) behind answer → FailsFrom limits (a_node depth inside ∷ []) place answer
-split-first_fails limits depth test inside line place behind answer next said passes fails =
-    fails-below limits (a_node depth inside) place behind line (split_line test) answer next said passes (fails-longer limits (a_node (depth + 1) inside ∷ []) (a_node (depth + 1) inside ∷ []) behind answer fails)
+pub split-first_fails : (limits : Limits) (depth test : ℕ) (inside line : List ℕ) (location behind : Location) (answer : ProofAnswer) → IsBehind line 0 location behind → line_said (a_node depth inside) line ≡ Some (split_line test) → fault_of_line limits location.begun (a_node depth inside) (Some (split_line test)) ≡ None →
+    FailsFrom limits (a_node (depth + 1) inside ∷ []) behind answer → FailsFrom limits (a_node depth inside ∷ []) location answer
+split-first_fails limits depth test inside line location behind answer next said passes fails =
+    fails-below limits (a_node depth inside) location behind line (split_line test) answer next said passes (fails-longer limits (a_node (depth + 1) inside ∷ []) (a_node (depth + 1) inside ∷ []) behind answer fails)
 
-pub split-second_fails : (limits : Limits) (depth test : ℕ) (inside line : List ℕ) (place behind middle : Place) (y : Proof) (answer : ProofAnswer) → IsBehind line 0 place behind → line_said (a_node depth inside) line ≡ Some (split_line test) → fault_of_line limits place.begun (a_node depth inside) (Some (split_line test)) ≡ None →
-    TakesLines limits (a_node (depth + 1) inside ∷ []) behind (node_lines y) middle → FailsFrom limits (a_node (depth + 1) inside ∷ []) middle answer → FailsFrom limits (a_node depth inside ∷ []) place answer
-split-second_fails limits depth test inside line place behind middle y answer next said passes first fails =
-    fails-below limits (a_node depth inside) place behind line (split_line test) answer next said passes (fails-behind limits (a_node (depth + 1) inside ∷ []) (a_node (depth + 1) inside ∷ []) behind middle (node_lines y) answer first fails)
+pub split-second_fails : (limits : Limits) (depth test : ℕ) (inside line : List ℕ) (location behind middle : Location) (y : Proof) (answer : ProofAnswer) → IsBehind line 0 location behind → line_said (a_node depth inside) line ≡ Some (split_line test) → fault_of_line limits location.begun (a_node depth inside) (Some (split_line test)) ≡ None →
+    TakesLines limits (a_node (depth + 1) inside ∷ []) behind (node_lines y) middle → FailsFrom limits (a_node (depth + 1) inside ∷ []) middle answer → FailsFrom limits (a_node depth inside ∷ []) location answer
+split-second_fails limits depth test inside line location behind middle y answer next said passes first fails =
+    fails-below limits (a_node depth inside) location behind line (split_line test) answer next said passes (fails-behind limits (a_node (depth + 1) inside ∷ []) (a_node (depth + 1) inside ∷ []) behind middle (node_lines y) answer first fails)
 
 -- the lines of a split's nodes
 pub split-starts : (test n m k : ℕ) (y z : Proof) (before own first all : List ℕ) → own ≡ before ++ n ∷ [] → first ≡ own ++ starts m y → all ≡ first ++ starts k z → m ≡ n + 1 → k ≡ m + length (node_lines y) → all ≡ before ++ starts n (split test y z)
@@ -115,13 +115,13 @@ label-starts number n m given p before own all e f next =
 
 -- ---- cores
 
-pub core-read : {X : Type 0} (tree : X → Proof) (limits : Limits) (depth : ℕ) (inside core line : List ℕ) (from to : Place) (r : Result (X × Place) ProofAnswer) → IsBehind line 0 from to → line_said (a_node depth inside) line ≡ Some (slot_line core) → fault_of_line limits from.begun (a_node depth inside) (Some (slot_line core)) ≡ None →
+pub core-read : {X : Type 0} (tree : X → Proof) (limits : Limits) (depth : ℕ) (inside core line : List ℕ) (from to : Location) (r : Result (X × Location) ProofAnswer) → IsBehind line 0 from to → line_said (a_node depth inside) line ≡ Some (slot_line core) → fault_of_line limits from.begun (a_node depth inside) (Some (slot_line core)) ≡ None →
     ArePartsRead (λ (x : X). lines_behind (tree x)) limits (a_slot_proof ∷ []) to r → IfOk r (λ x. IsOfCore core (tree x.0)) → ArePartsRead (λ (x : X). node_lines (tree x)) limits (a_node depth inside ∷ []) from r
 core-read tree limits depth inside core line from to (Ok x) next is passes read of =
     subst (λ (ls : List Line). TakesLines limits (a_node depth inside ∷ []) from ls x.1) (sym of.lines) (leads-line limits (a_node depth inside) from to x.1 line (slot_line core) (lines_behind (tree x.0)) next is passes read)
 core-read tree limits depth inside core line from to (Err answer) next is passes read of = fails-below limits (a_node depth inside) from to line (slot_line core) answer next is passes read
 
-pub core-starts : {X : Type 0} (tree : X → Proof) (core before own : List ℕ) (n : ℕ) (r : Result (X × Place) ProofAnswer) → own ≡ before ++ n ∷ [] → IfOk r (λ x. IsOfCore core (tree x.0)) → IfOk r (λ x. own ≡ before ++ starts n (tree x.0))
+pub core-starts : {X : Type 0} (tree : X → Proof) (core before own : List ℕ) (n : ℕ) (r : Result (X × Location) ProofAnswer) → own ≡ before ++ n ∷ [] → IfOk r (λ x. IsOfCore core (tree x.0)) → IfOk r (λ x. own ≡ before ++ starts n (tree x.0))
 core-starts tree core before own n (Ok x) e of = e ∙ ap (λ l. before ++ l) (sym (of.alone n))
 core-starts tree core before own n (Err answer) e of = tt
 
@@ -131,16 +131,16 @@ pub known-at : (limits : Limits) (begun depth : ℕ) (seen inside line : List �
     (line_said (a_node depth inside) line ≡ Some l) × (fault_of_line limits begun (a_node depth inside) (Some l) ≡ None)
 known-at limits begun depth seen inside line l same known = subst (λ (ns : List ℕ). (line_said (a_node depth ns) line ≡ Some l) × (fault_of_line limits begun (a_node depth ns) (Some l) ≡ None)) same known
 
-pub takes-at : (limits : Limits) (depth : ℕ) (seen inside : List ℕ) (from to : Place) (ls : List Line) → seen ≡ inside → TakesLines limits (a_node depth seen ∷ []) from ls to → TakesLines limits (a_node depth inside ∷ []) from ls to
+pub takes-at : (limits : Limits) (depth : ℕ) (seen inside : List ℕ) (from to : Location) (ls : List Line) → seen ≡ inside → TakesLines limits (a_node depth seen ∷ []) from ls to → TakesLines limits (a_node depth inside ∷ []) from ls to
 takes-at limits depth seen inside from to ls same takes = subst (λ (ns : List ℕ). TakesLines limits (a_node depth ns ∷ []) from ls to) same takes
 
-pub fails-at : (limits : Limits) (depth : ℕ) (seen inside : List ℕ) (from : Place) (answer : ProofAnswer) → seen ≡ inside → FailsFrom limits (a_node depth seen ∷ []) from answer → FailsFrom limits (a_node depth inside ∷ []) from answer
+pub fails-at : (limits : Limits) (depth : ℕ) (seen inside : List ℕ) (from : Location) (answer : ProofAnswer) → seen ≡ inside → FailsFrom limits (a_node depth seen ∷ []) from answer → FailsFrom limits (a_node depth inside ∷ []) from answer
 fails-at limits depth seen inside from answer same fails = subst (λ (ns : List ℕ). FailsFrom limits (a_node depth ns ∷ []) from answer) same fails
 
 -- ---- labels
 
-pub behind-label : (line : List ℕ) (place behind to : Place) → IsBehind line 0 place behind → to.number ≡ behind.number → to.begun ≡ behind.begun + 1 → to.bytes.now ≡ behind.bytes.now → HasLineRoom to → IsBehind line 1 place to
-behind-label line place behind to next number begun bytes room = record {
+pub behind-label : (line : List ℕ) (location behind to : Location) → IsBehind line 0 location behind → to.number ≡ behind.number → to.begun ≡ behind.begun + 1 → to.bytes.now ≡ behind.bytes.now → HasLineRoom to → IsBehind line 1 location to
+behind-label line location behind to next number begun bytes room = record {
   cut = next.cut ∙ ap (λ (bs : List ℕ). line ∷ lines_of bs) (sym bytes);
   number = number ∙ next.number;
   begun = omega (arith, begun, next.begun);
@@ -151,12 +151,12 @@ pub around-entered : (inside entered : List ℕ) (number begun after : ℕ) → 
 around-entered inside entered number begun after around is grown next =
     subst (λ (ns : List ℕ). AreAround ns after) (sym grown) (subst (λ n. AreAround (inside ++ number ∷ []) n) (sym next) (around-more inside number begun around is))
 
-pub label-takes : (limits : Limits) (depth number : ℕ) (given : Answers) (inside entered line : List ℕ) (place to end : Place) (p : Proof) → IsBehind line 1 place to → (line_said (a_node depth inside) line ≡ Some (label_line number given)) × (fault_of_line limits place.begun (a_node depth inside) (Some (label_line number given)) ≡ None) →
-    entered ≡ inside ++ number ∷ [] → TakesLines limits (a_node (depth + 1) entered ∷ []) to (node_lines p) end → TakesLines limits (a_node depth inside ∷ []) place (node_lines (label number given p)) end
-label-takes limits depth number given inside entered line place to end p next known grown takes =
-    leads-line limits (a_node depth inside) place to end line (label_line number given) (node_lines p) next known.0 known.1 (takes-at limits (depth + 1) entered (inside ++ number ∷ []) to end (node_lines p) grown takes)
+pub label-takes : (limits : Limits) (depth number : ℕ) (given : Answers) (inside entered line : List ℕ) (location to end : Location) (p : Proof) → IsBehind line 1 location to → (line_said (a_node depth inside) line ≡ Some (label_line number given)) × (fault_of_line limits location.begun (a_node depth inside) (Some (label_line number given)) ≡ None) →
+    entered ≡ inside ++ number ∷ [] → TakesLines limits (a_node (depth + 1) entered ∷ []) to (node_lines p) end → TakesLines limits (a_node depth inside ∷ []) location (node_lines (label number given p)) end
+label-takes limits depth number given inside entered line location to end p next known grown takes =
+    leads-line limits (a_node depth inside) location to end line (label_line number given) (node_lines p) next known.0 known.1 (takes-at limits (depth + 1) entered (inside ++ number ∷ []) to end (node_lines p) grown takes)
 
-pub label-fails : (limits : Limits) (depth number : ℕ) (given : Answers) (inside entered line : List ℕ) (place to : Place) (answer : ProofAnswer) → IsBehind line 1 place to → (line_said (a_node depth inside) line ≡ Some (label_line number given)) × (fault_of_line limits place.begun (a_node depth inside) (Some (label_line number given)) ≡ None) →
-    entered ≡ inside ++ number ∷ [] → FailsFrom limits (a_node (depth + 1) entered ∷ []) to answer → FailsFrom limits (a_node depth inside ∷ []) place answer
-label-fails limits depth number given inside entered line place to answer next known grown fails =
-    fails-below limits (a_node depth inside) place to line (label_line number given) answer next known.0 known.1 (fails-at limits (depth + 1) entered (inside ++ number ∷ []) to answer grown fails)
+pub label-fails : (limits : Limits) (depth number : ℕ) (given : Answers) (inside entered line : List ℕ) (location to : Location) (answer : ProofAnswer) → IsBehind line 1 location to → (line_said (a_node depth inside) line ≡ Some (label_line number given)) × (fault_of_line limits location.begun (a_node depth inside) (Some (label_line number given)) ≡ None) →
+    entered ≡ inside ++ number ∷ [] → FailsFrom limits (a_node (depth + 1) entered ∷ []) to answer → FailsFrom limits (a_node depth inside ∷ []) location answer
+label-fails limits depth number given inside entered line location to answer next known grown fails =
+    fails-below limits (a_node depth inside) location to line (label_line number given) answer next known.0 known.1 (fails-at limits (depth + 1) entered (inside ++ number ∷ []) to answer grown fails)

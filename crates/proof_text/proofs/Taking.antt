@@ -21,7 +21,7 @@ use Rattle.proof_text.specs.declared.fault.ProofCode.TheVariants.{C1Syntax, C4Li
 use Rattle.proof_text.specs.declared.fault.ProofFault.{ProofFault}
 use Rattle.proof_text.specs.declared.limits.Limits.{Limits}
 use Rattle.proof_text.specs.declared.limits.TheConstants.{MOST_NUMBER}
-use Rattle.proof_text.specs.declared.place.Place.{Place}
+use Rattle.proof_text.specs.declared.location.Location.{Location}
 use Rattle.proof_text.proofs.Texts.{spelled}
 
 -- ---- one line
@@ -54,7 +54,7 @@ numbers-small (n ∷ ns) e =
 at-numbers : (limits : Limits) (more : List Expected) (n m begun after : ℕ) (rest : List (List ℕ)) → n ≡ m → begun ≡ after → fault_from limits more n begun rest ≡ fault_from limits more m after rest
 at-numbers limits more n m begun after rest same alike = ap (λ k. fault_from limits more k begun rest) same ∙ ap (λ k. fault_from limits more m k rest) alike
 
-pub leads-none : (limits : Limits) (at : Place) → HasLineRoom at → TakesLines limits [] at [] at
+pub leads-none : (limits : Limits) (at : Location) → HasLineRoom at → TakesLines limits [] at [] at
 leads-none limits at room = record {
   cut = refl;
   count = omega arith;
@@ -65,7 +65,7 @@ leads-none limits at room = record {
 }
 
 -- a line, and what it calls for
-pub leads-line : (limits : Limits) (e : Expected) (from to end : Place) (line : List ℕ) (l : Line) (ls : List Line) → IsBehind line (labels_begun l) from to → line_said e line ≡ Some l → fault_of_line limits from.begun e (Some l) ≡ None →
+pub leads-line : (limits : Limits) (e : Expected) (from to end : Location) (line : List ℕ) (l : Line) (ls : List Line) → IsBehind line (labels_begun l) from to → line_said e line ≡ Some l → fault_of_line limits from.begun e (Some l) ≡ None →
     TakesLines limits (calls_for e l) to ls end → TakesLines limits (e ∷ []) from (l ∷ ls) end
 leads-line limits e from to end line l ls behind is passes takes =
     let size : are_small (numbers_in l) ≡ true = passed-size (are_small (numbers_in l)) _ passes in
@@ -85,7 +85,7 @@ leads-line limits e from to end line l ls behind is passes takes =
     }
 
 -- a line that calls for nothing
-pub leads-alone : (limits : Limits) (e : Expected) (from to : Place) (line : List ℕ) (l : Line) → IsBehind line (labels_begun l) from to → line_said e line ≡ Some l → fault_of_line limits from.begun e (Some l) ≡ None → calls_for e l ≡ [] →
+pub leads-alone : (limits : Limits) (e : Expected) (from to : Location) (line : List ℕ) (l : Line) → IsBehind line (labels_begun l) from to → line_said e line ≡ Some l → fault_of_line limits from.begun e (Some l) ≡ None → calls_for e l ≡ [] →
     TakesLines limits (e ∷ []) from (l ∷ []) to
 leads-alone limits e from to line l behind is passes none =
     leads-line limits e from to to line l [] behind is passes (subst (λ (es : List Expected). TakesLines limits es to [] to) (sym none) (leads-none limits to behind.room))
@@ -95,7 +95,7 @@ labels-append [] ms = omega arith
 labels-append (l ∷ ls) ms = omega (arith, labels-append ls ms)
 
 -- what parts ask for, and what those behind them do
-pub leads-both : (limits : Limits) (es fs : List Expected) (a b c : Place) (ls ms : List Line) → TakesLines limits es a ls b → TakesLines limits fs b ms c → TakesLines limits (es ++ fs) a (ls ++ ms) c
+pub leads-both : (limits : Limits) (es fs : List Expected) (a b c : Location) (ls ms : List Line) → TakesLines limits es a ls b → TakesLines limits fs b ms c → TakesLines limits (es ++ fs) a (ls ++ ms) c
 leads-both limits es fs a b c ls ms front back =
     let texts : map line_text (ls ++ ms) ≡ map line_text ls ++ map line_text ms = map-append line_text ls ms in
     let labels = labels-append ls ms in
@@ -118,29 +118,29 @@ leads-both limits es fs a b c ls ms front back =
 
 -- ---- first faults
 
-pub fails-line : (limits : Limits) (e : Expected) (from to : Place) (line : List ℕ) (begins : ℕ) (code : ProofCode) → IsBehind line begins from to → fault_of_line limits from.begun e (line_said e line) ≡ Some code →
+pub fails-line : (limits : Limits) (e : Expected) (from to : Location) (line : List ℕ) (begins : ℕ) (code : ProofCode) → IsBehind line begins from to → fault_of_line limits from.begun e (line_said e line) ≡ Some code →
     FailsFrom limits (e ∷ []) from (Refused (proof_fault_at from.number code))
 fails-line limits e from to line begins code behind fails = λ more.
     ap (fault_from limits (e ∷ more) from.number from.begun) behind.cut ∙ stop limits e more from.number from.begun line (lines_of to.bytes.now) code fails
 
-pub fails-end : (limits : Limits) (e : Expected) (from : Place) (answer : ProofAnswer) → lines_of from.bytes.now ≡ [] → answer ≡ Refused (proof_fault_at from.number C1Syntax) → FailsFrom limits (e ∷ []) from answer
+pub fails-end : (limits : Limits) (e : Expected) (from : Location) (answer : ProofAnswer) → lines_of from.bytes.now ≡ [] → answer ≡ Refused (proof_fault_at from.number C1Syntax) → FailsFrom limits (e ∷ []) from answer
 fails-end limits e from answer none is =
     let here : FailsFrom limits (e ∷ []) from (Refused (proof_fault_at from.number C1Syntax)) = λ more. ap (fault_from limits (e ∷ more) from.number from.begun) none in
     subst (λ (a : ProofAnswer). FailsFrom limits (e ∷ []) from a) (sym is) here
 
 -- behind a line that is taken
-pub fails-below : (limits : Limits) (e : Expected) (from to : Place) (line : List ℕ) (l : Line) (answer : ProofAnswer) → IsBehind line (labels_begun l) from to → line_said e line ≡ Some l → fault_of_line limits from.begun e (Some l) ≡ None →
+pub fails-below : (limits : Limits) (e : Expected) (from to : Location) (line : List ℕ) (l : Line) (answer : ProofAnswer) → IsBehind line (labels_begun l) from to → line_said e line ≡ Some l → fault_of_line limits from.begun e (Some l) ≡ None →
     FailsFrom limits (calls_for e l) to answer → FailsFrom limits (e ∷ []) from answer
 fails-below limits e from to line l (Refused fault) behind is passes fails = λ more.
     ap (fault_from limits (e ∷ more) from.number from.begun) behind.cut ∙ step limits e more from.number from.begun line (lines_of to.bytes.now) l is passes ∙
     at-numbers limits (calls_for e l ++ more) (from.number + 1) to.number (from.begun + labels_begun l) to.begun (lines_of to.bytes.now) (sym behind.number) (sym behind.begun) ∙ fails more
 fails-below limits e from to line l NoMemory behind is passes fails = tt
 
-pub fails-longer : (limits : Limits) (es fs : List Expected) (from : Place) (answer : ProofAnswer) → FailsFrom limits es from answer → FailsFrom limits (es ++ fs) from answer
+pub fails-longer : (limits : Limits) (es fs : List Expected) (from : Location) (answer : ProofAnswer) → FailsFrom limits es from answer → FailsFrom limits (es ++ fs) from answer
 fails-longer limits es fs from (Refused fault) fails = λ more. ap (λ p. fault_from limits p from.number from.begun (lines_of from.bytes.now)) (append_assoc es fs more) ∙ fails (fs ++ more)
 fails-longer limits es fs from NoMemory fails = tt
 
-pub fails-behind : (limits : Limits) (es fs : List Expected) (a b : Place) (ls : List Line) (answer : ProofAnswer) → TakesLines limits es a ls b → FailsFrom limits fs b answer → FailsFrom limits (es ++ fs) a answer
+pub fails-behind : (limits : Limits) (es fs : List Expected) (a b : Location) (ls : List Line) (answer : ProofAnswer) → TakesLines limits es a ls b → FailsFrom limits fs b answer → FailsFrom limits (es ++ fs) a answer
 fails-behind limits es fs a b ls (Refused fault) front fails = λ more.
     ap (λ p. fault_from limits p a.number a.begun (lines_of a.bytes.now)) (append_assoc es fs more) ∙
     ap (fault_from limits (es ++ (fs ++ more)) a.number a.begun) front.cut ∙
@@ -150,13 +150,13 @@ fails-behind limits es fs a b ls NoMemory front fails = tt
 
 -- ---- readers of one line, and of what it calls for
 
-pub line-refused : {X : Type 0} (value : X → Line) (limits : Limits) (e : Expected) (from to : Place) (line : List ℕ) (begins : ℕ) (a : LineAnswer) (answer : ProofAnswer) → IsBehind line begins from to → IsLineRead value limits from.begun e (line_said e line) (Err a) → answer ≡ answer_here from.number a →
+pub line-refused : {X : Type 0} (value : X → Line) (limits : Limits) (e : Expected) (from to : Location) (line : List ℕ) (begins : ℕ) (a : LineAnswer) (answer : ProofAnswer) → IsBehind line begins from to → IsLineRead value limits from.begun e (line_said e line) (Err a) → answer ≡ answer_here from.number a →
     FailsFrom limits (e ∷ []) from answer
 line-refused value limits e from to line begins (Fails code) answer behind read is =
     subst (λ (r : ProofAnswer). FailsFrom limits (e ∷ []) from r) (sym is) (fails-line limits e from to line begins code behind read)
 line-refused value limits e from to line begins NoLineMemory answer behind read is = subst (λ (r : ProofAnswer). FailsFrom limits (e ∷ []) from r) (sym is) tt
 
-pub end-refused : (limits : Limits) (e : Expected) (from : Place) (answer : ProofAnswer) → IsLineAt from (Err answer) → FailsFrom limits (e ∷ []) from answer
+pub end-refused : (limits : Limits) (e : Expected) (from : Location) (answer : ProofAnswer) → IsLineAt from (Err answer) → FailsFrom limits (e ∷ []) from answer
 end-refused limits e from answer read = fails-end limits e from answer read.0 read.1
 
 replicate-next : (n : ℕ) (e : Expected) → replicate (n + 1) e ≡ replicate n e ++ e ∷ []
@@ -167,7 +167,7 @@ replicate-both zero m e = ap (λ k. replicate k e) (omega arith)
 replicate-both (suc n) m e = let k : suc n + m ≡ suc (n + m) = omega arith in ap (λ j. replicate j e) k ∙ ap (λ (es : List Expected). e ∷ es) (replicate-both n m e)
 
 -- product states so far
-pub states-more : (limits : Limits) (i j : ℕ) (from at to : Place) (set grown : List (List (List ℕ))) (state : List (List ℕ)) → TakesLines limits (replicate i a_state) from (map places_line set) at → TakesLines limits (a_state ∷ []) at (places_line state ∷ []) to → j ≡ i + 1 → grown ≡ set ++ state ∷ [] →
+pub states-more : (limits : Limits) (i j : ℕ) (from at to : Location) (set grown : List (List (List ℕ))) (state : List (List ℕ)) → TakesLines limits (replicate i a_state) from (map places_line set) at → TakesLines limits (a_state ∷ []) at (places_line state ∷ []) to → j ≡ i + 1 → grown ≡ set ++ state ∷ [] →
     TakesLines limits (replicate j a_state) from (map places_line grown) to
 states-more limits i j from at to set grown state front back next grows =
     let both = leads-both limits (replicate i a_state) (a_state ∷ []) from at to (map places_line set) (places_line state ∷ []) front back in
@@ -175,7 +175,7 @@ states-more limits i j from at to set grown state front back next grows =
     let lines : map places_line grown ≡ map places_line set ++ places_line state ∷ [] = ap (map places_line) grows ∙ map-append places_line set (state ∷ []) in
     subst (λ (es : List Expected). TakesLines limits es from (map places_line grown) to) (sym parts) (subst (λ (ls : List Line). TakesLines limits (replicate i a_state ++ a_state ∷ []) from ls to) (sym lines) both)
 
-pub states-stop : (limits : Limits) (i n : ℕ) (from at : Place) (set : List (List (List ℕ))) (answer : ProofAnswer) → TakesLines limits (replicate i a_state) from (map places_line set) at → i < n → FailsFrom limits (a_state ∷ []) at answer → FailsFrom limits (replicate n a_state) from answer
+pub states-stop : (limits : Limits) (i n : ℕ) (from at : Location) (set : List (List (List ℕ))) (answer : ProofAnswer) → TakesLines limits (replicate i a_state) from (map places_line set) at → i < n → FailsFrom limits (a_state ∷ []) at answer → FailsFrom limits (replicate n a_state) from answer
 states-stop limits i n from at set answer front below fails =
     let whole : replicate n a_state ≡ replicate (i + 1) a_state ++ replicate (n - (i + 1)) a_state = ap (λ k. replicate k a_state) (omega arith) ∙ replicate-both (i + 1) (n - (i + 1)) a_state in
     let here = fails-behind limits (replicate i a_state) (a_state ∷ []) from at (map places_line set) answer front fails in
@@ -183,7 +183,7 @@ states-stop limits i n from at set answer front below fails =
     subst (λ (es : List Expected). FailsFrom limits es from answer) (sym whole) there
 
 -- a closed set behind the line of its size
-pub closed-read : (limits : Limits) (e : Expected) (from to : Place) (line : List ℕ) (count : ℕ) (r : Result (List (List (List ℕ)) × Place) ProofAnswer) → IsBehind line 0 from to → line_said e line ≡ Some (closed_line count) → fault_of_line limits from.begun e (Some (closed_line count)) ≡ None →
+pub closed-read : (limits : Limits) (e : Expected) (from to : Location) (line : List ℕ) (count : ℕ) (r : Result (List (List (List ℕ)) × Location) ProofAnswer) → IsBehind line 0 from to → line_said e line ≡ Some (closed_line count) → fault_of_line limits from.begun e (Some (closed_line count)) ≡ None →
     ArePartsRead (map places_line) limits (replicate count a_state) to r → IfOk r (λ x. length x.0 ≡ count) → ArePartsRead closed_lines limits (e ∷ []) from r
 closed-read limits e from to line count (Ok x) behind is passes read size =
     let all = leads-line limits e from to x.1 line (closed_line count) (map places_line x.0) behind is passes read in
@@ -192,21 +192,21 @@ closed-read limits e from to line count (Err answer) behind is passes read size 
 
 -- ---- four parts of one kind
 
-pub four-takes : (limits : Limits) (e : Expected) (a b c d f : Place) (k l m n : List Line) → TakesLines limits (e ∷ []) a k b → TakesLines limits (e ∷ []) b l c → TakesLines limits (e ∷ []) c m d → TakesLines limits (e ∷ []) d n f →
+pub four-takes : (limits : Limits) (e : Expected) (a b c d f : Location) (k l m n : List Line) → TakesLines limits (e ∷ []) a k b → TakesLines limits (e ∷ []) b l c → TakesLines limits (e ∷ []) c m d → TakesLines limits (e ∷ []) d n f →
     TakesLines limits (e ∷ e ∷ e ∷ e ∷ []) a (k ++ (l ++ (m ++ n))) f
 four-takes limits e a b c d f k l m n one two three four =
     leads-both limits (e ∷ []) (e ∷ e ∷ e ∷ []) a b f k (l ++ (m ++ n)) one (leads-both limits (e ∷ []) (e ∷ e ∷ []) b c f l (m ++ n) two (leads-both limits (e ∷ []) (e ∷ []) c d f m n three four))
 
-pub third-fails : (limits : Limits) (e : Expected) (a b c : Place) (k l : List Line) (answer : ProofAnswer) → TakesLines limits (e ∷ []) a k b → TakesLines limits (e ∷ []) b l c → FailsFrom limits (e ∷ []) c answer → FailsFrom limits (e ∷ e ∷ e ∷ e ∷ []) a answer
+pub third-fails : (limits : Limits) (e : Expected) (a b c : Location) (k l : List Line) (answer : ProofAnswer) → TakesLines limits (e ∷ []) a k b → TakesLines limits (e ∷ []) b l c → FailsFrom limits (e ∷ []) c answer → FailsFrom limits (e ∷ e ∷ e ∷ e ∷ []) a answer
 third-fails limits e a b c k l answer one two fails =
     fails-behind limits (e ∷ []) (e ∷ e ∷ e ∷ []) a b k answer one (fails-behind limits (e ∷ []) (e ∷ e ∷ []) b c l answer two (fails-longer limits (e ∷ []) (e ∷ []) c answer fails))
 
-pub fourth-fails : (limits : Limits) (e : Expected) (a b c d : Place) (k l m : List Line) (answer : ProofAnswer) → TakesLines limits (e ∷ []) a k b → TakesLines limits (e ∷ []) b l c → TakesLines limits (e ∷ []) c m d → FailsFrom limits (e ∷ []) d answer → FailsFrom limits (e ∷ e ∷ e ∷ e ∷ []) a answer
+pub fourth-fails : (limits : Limits) (e : Expected) (a b c d : Location) (k l m : List Line) (answer : ProofAnswer) → TakesLines limits (e ∷ []) a k b → TakesLines limits (e ∷ []) b l c → TakesLines limits (e ∷ []) c m d → FailsFrom limits (e ∷ []) d answer → FailsFrom limits (e ∷ e ∷ e ∷ e ∷ []) a answer
 fourth-fails limits e a b c d k l m answer one two three fails =
     fails-behind limits (e ∷ []) (e ∷ e ∷ e ∷ []) a b k answer one (fails-behind limits (e ∷ []) (e ∷ e ∷ []) b c l answer two (fails-behind limits (e ∷ []) (e ∷ []) c d m answer three fails))
 
 -- four kinds behind their line
-pub kinds-read : (limits : Limits) (from to : Place) (line : List ℕ) (r : Result (SlotProof × Place) ProofAnswer) → IsBehind line 0 from to → line_said a_slot_proof line ≡ Some kinds_line → fault_of_line limits from.begun a_slot_proof (Some kinds_line) ≡ None →
+pub kinds-read : (limits : Limits) (from to : Location) (line : List ℕ) (r : Result (SlotProof × Location) ProofAnswer) → IsBehind line 0 from to → line_said a_slot_proof line ≡ Some kinds_line → fault_of_line limits from.begun a_slot_proof (Some kinds_line) ≡ None →
     ArePartsRead behind_kinds limits (a_kind_proof ∷ a_kind_proof ∷ a_kind_proof ∷ a_kind_proof ∷ []) to r → IfOk r (λ x. slot_lines x.0 ≡ kinds_line ∷ behind_kinds x.0) → ArePartsRead slot_lines limits (a_slot_proof ∷ []) from r
 kinds-read limits from to line (Ok x) behind is passes read whole =
     let all = leads-line limits a_slot_proof from to x.1 line kinds_line (behind_kinds x.0) behind is passes read in

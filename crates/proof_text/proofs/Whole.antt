@@ -8,7 +8,7 @@ use Rattle.proof_text.specs.Faults.{fault_from, fault_of_line, proof_fault, proo
 use Rattle.proof_text.specs.LineForms.{a_node, a_version, line_said, lines_of}
 use Rattle.proof_text.specs.Lines.{Line, certificate_line, line_parts, line_text, verdict_line}
 use Rattle.proof_text.specs.Spelling.{IsCertificateOf, node_lines, proof_lines, spell, starts}
-use Rattle.proof_text.specs.Steps.{FailsFrom, IsBehind, IsEndRead, IsFirstPlace, IsLineRead, TakesLines, answer_here, labels_in}
+use Rattle.proof_text.specs.Steps.{FailsFrom, IsBehind, IsEndRead, IsFirstLocation, IsLineRead, TakesLines, answer_here, labels_in}
 use Rattle.proof_text.specs.Reads.{IsProofRead}
 use Rattle.proof_text.specs.declared.fault.LineAnswer.{LineAnswer}
 use Rattle.proof_text.proofs.Branching.{fails-at, passes, takes-at}
@@ -18,7 +18,7 @@ use Rattle.proof_text.specs.declared.fault.ProofAnswer.TheVariants.{Refused, NoM
 use Rattle.proof_text.specs.declared.fault.ProofCode.TheVariants.{C1Syntax}
 use Rattle.proof_text.specs.declared.fault.ProofFault.{ProofFault}
 use Rattle.proof_text.specs.declared.limits.Limits.{Limits}
-use Rattle.proof_text.specs.declared.place.Place.{Place}
+use Rattle.proof_text.specs.declared.location.Location.{Location}
 
 -- ---- a file is its lines
 
@@ -44,17 +44,17 @@ text-of bs ls e = sym (concat-lines bs) ∙ ap concat e ∙ concat-texts ls
 
 -- ---- the first fault of a file
 
-fault-at : (limits : Limits) (bytes : List ℕ) (start : Place) → IsFirstPlace bytes start → proof_fault limits bytes ≡ fault_from limits (a_version ∷ []) start.number start.begun (lines_of start.bytes.now)
+fault-at : (limits : Limits) (bytes : List ℕ) (start : Location) → IsFirstLocation bytes start → proof_fault limits bytes ≡ fault_from limits (a_version ∷ []) start.number start.begun (lines_of start.bytes.now)
 unfolding proof_fault
 fault-at limits bytes start first =
     ap (λ n. fault_from limits (a_version ∷ []) n 0 (drop (skipped (lines_of bytes)) (lines_of bytes))) (sym first.number) ∙
     ap (λ k. fault_from limits (a_version ∷ []) start.number k (drop (skipped (lines_of bytes)) (lines_of bytes))) (sym first.begun) ∙
     ap (fault_from limits (a_version ∷ []) start.number start.begun) (sym first.lines)
 
-pub whole-fails : (limits : Limits) (bytes : List ℕ) (start : Place) (fault : ProofFault) → IsFirstPlace bytes start → FailsFrom limits (a_version ∷ []) start (Refused fault) → proof_fault limits bytes ≡ Some fault
+pub whole-fails : (limits : Limits) (bytes : List ℕ) (start : Location) (fault : ProofFault) → IsFirstLocation bytes start → FailsFrom limits (a_version ∷ []) start (Refused fault) → proof_fault limits bytes ≡ Some fault
 whole-fails limits bytes start fault first fails = fault-at limits bytes start first ∙ fails []
 
-pub read-refused : (limits : Limits) (bytes : List ℕ) (start : Place) (answer : ProofAnswer) → IsFirstPlace bytes start → FailsFrom limits (a_version ∷ []) start answer → IsProofRead limits bytes (Err answer)
+pub read-refused : (limits : Limits) (bytes : List ℕ) (start : Location) (answer : ProofAnswer) → IsFirstLocation bytes start → FailsFrom limits (a_version ∷ []) start answer → IsProofRead limits bytes (Err answer)
 read-refused limits bytes start (Refused fault) first fails = whole-fails limits bytes start fault first fails
 read-refused limits bytes start NoMemory first fails = tt
 
@@ -71,22 +71,22 @@ behind-end : (limits : Limits) (n begun : ℕ) (lines : List (List ℕ)) (l : Li
 behind-end limits n begun lines l ls e = ap (fault_from limits [] n begun) e
 
 -- lines up to the end
-taken-whole : (limits : Limits) (bytes : List ℕ) (start end : Place) (ls : List Line) → IsFirstPlace bytes start → TakesLines limits (a_version ∷ []) start ls end → proof_fault limits bytes ≡ fault_from limits [] end.number end.begun (lines_of end.bytes.now)
+taken-whole : (limits : Limits) (bytes : List ℕ) (start end : Location) (ls : List Line) → IsFirstLocation bytes start → TakesLines limits (a_version ∷ []) start ls end → proof_fault limits bytes ≡ fault_from limits [] end.number end.begun (lines_of end.bytes.now)
 taken-whole limits bytes start end ls first takes =
     fault-at limits bytes start first ∙ ap (fault_from limits (a_version ∷ []) start.number start.begun) takes.cut ∙ takes.taken [] start.number (lines_of end.bytes.now) ∙
     ap (λ n. fault_from limits [] n (start.begun + labels_in ls) (lines_of end.bytes.now)) (omega (arith, takes.count, length-map ls line_text)) ∙
     ap (λ k. fault_from limits [] end.number k (lines_of end.bytes.now)) (sym takes.begun)
 
-pub whole-longer : (limits : Limits) (bytes : List ℕ) (start end : Place) (ls : List Line) (fault : ProofFault) → IsFirstPlace bytes start → TakesLines limits (a_version ∷ []) start ls end → end.bytes.now ≢ [] → fault ≡ proof_fault_at end.number C1Syntax → proof_fault limits bytes ≡ Some fault
+pub whole-longer : (limits : Limits) (bytes : List ℕ) (start end : Location) (ls : List Line) (fault : ProofFault) → IsFirstLocation bytes start → TakesLines limits (a_version ∷ []) start ls end → end.bytes.now ≢ [] → fault ≡ proof_fault_at end.number C1Syntax → proof_fault limits bytes ≡ Some fault
 whole-longer limits bytes start end ls fault first takes some is =
     let more = some-line end.bytes.now some in
     taken-whole limits bytes start end ls first takes ∙ behind-end limits end.number end.begun (lines_of end.bytes.now) more.0 more.1 more.2 ∙ ap Some (sym is)
 
-pub whole-none : (limits : Limits) (bytes : List ℕ) (start end : Place) (ls : List Line) → IsFirstPlace bytes start → TakesLines limits (a_version ∷ []) start ls end → end.bytes.now ≡ [] → proof_fault limits bytes ≡ None
+pub whole-none : (limits : Limits) (bytes : List ℕ) (start end : Location) (ls : List Line) → IsFirstLocation bytes start → TakesLines limits (a_version ∷ []) start ls end → end.bytes.now ≡ [] → proof_fault limits bytes ≡ None
 whole-none limits bytes start end ls first takes none =
     taken-whole limits bytes start end ls first takes ∙ ap (λ (bs : List ℕ). fault_from limits [] end.number end.begun (lines_of bs)) none
 
-pub whole-spelled : (limits : Limits) (version : ℕ) (bytes : List ℕ) (start end : Place) (p : Proof) → IsFirstPlace bytes start → TakesLines limits (a_version ∷ []) start (proof_lines version p) end → end.bytes.now ≡ [] → IsCertificateOf version bytes p
+pub whole-spelled : (limits : Limits) (version : ℕ) (bytes : List ℕ) (start end : Location) (p : Proof) → IsFirstLocation bytes start → TakesLines limits (a_version ∷ []) start (proof_lines version p) end → end.bytes.now ≡ [] → IsCertificateOf version bytes p
 whole-spelled limits version bytes start end p first takes none =
     let lines : lines_of start.bytes.now ≡ map line_text (proof_lines version p) = takes.cut ∙ ap (λ (bs : List ℕ). map line_text (proof_lines version p) ++ lines_of bs) none ∙ append-nil (map line_text (proof_lines version p)) in
     let text : start.bytes.now ≡ spell version p = text-of start.bytes.now (proof_lines version p) lines in
@@ -133,29 +133,29 @@ few-nodes version bytes p (inr is) = omega (arith, ap length is, length-append v
 at-first : (limits : Limits) (begun v : ℕ) → begun ≡ 0 → fault_of_line limits 0 a_version (Some (certificate_line v)) ≡ None → fault_of_line limits begun a_version (Some (certificate_line v)) ≡ None
 at-first limits begun v none passes = subst (λ k. fault_of_line limits k a_version (Some (certificate_line v)) ≡ None) (sym none) passes
 
-pub version-takes : (limits : Limits) (start behind end : Place) (line : List ℕ) (v : ℕ) (seen : List ℕ) (p : Proof) → start.begun ≡ 0 → IsBehind line 0 start behind → (line_said a_version line ≡ Some (certificate_line v)) × (fault_of_line limits 0 a_version (Some (certificate_line v)) ≡ None) →
+pub version-takes : (limits : Limits) (start behind end : Location) (line : List ℕ) (v : ℕ) (seen : List ℕ) (p : Proof) → start.begun ≡ 0 → IsBehind line 0 start behind → (line_said a_version line ≡ Some (certificate_line v)) × (fault_of_line limits 0 a_version (Some (certificate_line v)) ≡ None) →
     seen ≡ [] → TakesLines limits (a_node 0 seen ∷ []) behind (node_lines p) end → TakesLines limits (a_version ∷ []) start (proof_lines limits.version p) end
 version-takes limits start behind end line v seen p none next known empty takes =
     let same : v ≡ limits.version = eqb-true v limits.version (passes limits 0 a_version (certificate_line v) known.1).2 in
     let all = leads-line limits a_version start behind end line (certificate_line v) (node_lines p) next known.0 (at-first limits start.begun v none known.1) (takes-at limits 0 seen [] behind end (node_lines p) empty takes) in
     subst (λ n. TakesLines limits (a_version ∷ []) start (certificate_line n ∷ node_lines p) end) same all
 
-pub version-fails : (limits : Limits) (bytes : List ℕ) (start behind : Place) (line : List ℕ) (v : ℕ) (seen : List ℕ) (answer : ProofAnswer) → IsFirstPlace bytes start → IsBehind line 0 start behind → (line_said a_version line ≡ Some (certificate_line v)) × (fault_of_line limits 0 a_version (Some (certificate_line v)) ≡ None) →
+pub version-fails : (limits : Limits) (bytes : List ℕ) (start behind : Location) (line : List ℕ) (v : ℕ) (seen : List ℕ) (answer : ProofAnswer) → IsFirstLocation bytes start → IsBehind line 0 start behind → (line_said a_version line ≡ Some (certificate_line v)) × (fault_of_line limits 0 a_version (Some (certificate_line v)) ≡ None) →
     seen ≡ [] → FailsFrom limits (a_node 0 seen ∷ []) behind answer → IsProofRead limits bytes (Err answer)
 version-fails limits bytes start behind line v seen answer first next known empty fails =
     read-refused limits bytes start answer first (fails-below limits a_version start behind line (certificate_line v) answer next known.0 (at-first limits start.begun v first.begun known.1) (fails-at limits 0 seen [] behind answer empty fails))
 
-pub version-refused : (limits : Limits) (bytes : List ℕ) (start behind : Place) (line : List ℕ) (a : LineAnswer) (answer : ProofAnswer) → IsFirstPlace bytes start → IsBehind line 0 start behind → IsLineRead (λ n. certificate_line n) limits 0 a_version (line_said a_version line) (Err a) → answer ≡ answer_here start.number a →
+pub version-refused : (limits : Limits) (bytes : List ℕ) (start behind : Location) (line : List ℕ) (a : LineAnswer) (answer : ProofAnswer) → IsFirstLocation bytes start → IsBehind line 0 start behind → IsLineRead (λ n. certificate_line n) limits 0 a_version (line_said a_version line) (Err a) → answer ≡ answer_here start.number a →
     IsProofRead limits bytes (Err answer)
 version-refused limits bytes start behind line a answer first next read is =
     let here : IsLineRead (λ n. certificate_line n) limits start.begun a_version (line_said a_version line) (Err a) = subst (λ k. IsLineRead (λ n. certificate_line n) limits k a_version (line_said a_version line) (Err a)) (sym first.begun) read in
     read-refused limits bytes start answer first (line-refused (λ n. certificate_line n) limits a_version start behind line 0 a answer next here is)
 
-pub end-fails : (limits : Limits) (bytes : List ℕ) (start end : Place) (ls : List Line) (answer : ProofAnswer) → IsFirstPlace bytes start → TakesLines limits (a_version ∷ []) start ls end → IsEndRead end (Err answer) → IsProofRead limits bytes (Err answer)
+pub end-fails : (limits : Limits) (bytes : List ℕ) (start end : Location) (ls : List Line) (answer : ProofAnswer) → IsFirstLocation bytes start → TakesLines limits (a_version ∷ []) start ls end → IsEndRead end (Err answer) → IsProofRead limits bytes (Err answer)
 end-fails limits bytes start end ls answer first takes read =
     subst (λ (r : ProofAnswer). IsProofRead limits bytes (Err r)) (sym read.1) (whole-longer limits bytes start end ls (proof_fault_at end.number C1Syntax) first takes read.0 refl)
 
 -- the lines of the nodes
-pub node-starts : (limits : Limits) (bytes : List ℕ) (start behind : Place) (line before own : List ℕ) (p : Proof) → IsFirstPlace bytes start → IsBehind line 0 start behind → before ≡ [] → own ≡ before ++ starts behind.number p → own ≡ starts (skipped (lines_of bytes) + 2) p
+pub node-starts : (limits : Limits) (bytes : List ℕ) (start behind : Location) (line before own : List ℕ) (p : Proof) → IsFirstLocation bytes start → IsBehind line 0 start behind → before ≡ [] → own ≡ before ++ starts behind.number p → own ≡ starts (skipped (lines_of bytes) + 2) p
 node-starts limits bytes start behind line before own p first next empty is =
     is ∙ ap (λ l. l ++ starts behind.number p) empty ∙ ap (λ n. starts n p) (omega (arith, next.number, first.number))

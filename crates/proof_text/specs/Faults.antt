@@ -55,7 +55,7 @@ abbrev pub labels_around : Expected → List ℕ
 labels_around (a_node depth inside) = inside
 labels_around e = []
 
--- a label's node has ended where the label began before, and where the place isn't inside of it
+-- a label's node has ended where the label began before, and where the line isn't inside of it
 abbrev pub has_ended : ℕ → List ℕ → ℕ → Bool
 has_ended begun inside n = nat_lt n begun && not (list_any (λ m. m == n) inside)
 

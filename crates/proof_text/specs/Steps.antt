@@ -15,7 +15,7 @@ use Rattle.proof_text.specs.declared.fault.ProofAnswer.TheVariants.{Refused, NoM
 use Rattle.proof_text.specs.declared.fault.ProofCode.TheVariants.{C1Syntax}
 use Rattle.proof_text.specs.declared.limits.Limits.{Limits}
 use Rattle.proof_text.specs.declared.limits.TheConstants.{MOST_NUMBER, MOST_PROOF_BYTES}
-use Rattle.proof_text.specs.declared.place.Place.{Place}
+use Rattle.proof_text.specs.declared.location.Location.{Location}
 
 -- what stands behind a part, as parts: nothing, or a text that is cut at each such byte
 abbrev pub parts_left : ℕ → Option (List ℕ) → List (List ℕ)
@@ -70,8 +70,8 @@ IsLineRead value limits begun e said (Err (Fails code)) = fault_of_line limits b
 IsLineRead value limits begun e said (Err NoLineMemory) = Unit {0}
 
 -- the numbers of lines are within 32 bits, and each label that began has a line
-abbrev pub HasLineRoom : Place → Type 0
-HasLineRoom place = (place.number + length place.bytes.now ≤ MOST_PROOF_BYTES + 2) × (place.begun ≤ place.number)
+abbrev pub HasLineRoom : Location → Type 0
+HasLineRoom location = (location.number + length location.bytes.now ≤ MOST_PROOF_BYTES + 2) × (location.begun ≤ location.number)
 
 -- how many labels lines begin
 abbrev pub labels_in : List Line → ℕ
@@ -85,8 +85,8 @@ AreLinesTaken limits es begun more_begun taken =
     (more : List Expected) (n : ℕ) (rest : List (List ℕ)) →
     fault_from limits (es ++ more) n begun (taken ++ rest) ≡ fault_from limits more (n + length taken) (begun + more_begun) rest
 
--- from one place to a later one these lines were taken, which the parts ask for, and whose numbers are small
-pub record TakesLines (limits : Limits) (es : List Expected) (from : Place) (lines : List Line) (to : Place) : Type 0 where
+-- from one location to a later one these lines were taken, which the parts ask for, and whose numbers are small
+pub record TakesLines (limits : Limits) (es : List Expected) (from : Location) (lines : List Line) (to : Location) : Type 0 where
   pub cut : lines_of from.bytes.now ≡ map line_text lines ++ lines_of to.bytes.now
   pub count : to.number ≡ from.number + length lines
   pub begun : to.begun ≡ from.begun + labels_in lines
@@ -94,26 +94,26 @@ pub record TakesLines (limits : Limits) (es : List Expected) (from : Place) (lin
   pub small : All HasSmallNumbers lines
   pub room : HasLineRoom to
 
--- the first fault of the lines from a place on, where these parts must stand, whatever must stand behind
-abbrev pub FailsFrom : Limits → List Expected → Place → ProofAnswer → Type 0
+-- the first fault of the lines from a location on, where these parts must stand, whatever must stand behind
+abbrev pub FailsFrom : Limits → List Expected → Location → ProofAnswer → Type 0
 FailsFrom limits es from (Refused fault) =
     (more : List Expected) → fault_from limits (es ++ more) from.number from.begun (lines_of from.bytes.now) ≡ Some fault
 FailsFrom limits es from NoMemory = Unit {0}
 
--- what a reader of what these parts ask for answers: what the lines stand for, and the place behind them, or the first fault
-abbrev pub ArePartsRead : {X : Type 0} → (X → List Line) → Limits → List Expected → Place → Result (X × Place) ProofAnswer → Type 0
+-- what a reader of what these parts ask for answers: what the lines stand for, and the location behind them, or the first fault
+abbrev pub ArePartsRead : {X : Type 0} → (X → List Line) → Limits → List Expected → Location → Result (X × Location) ProofAnswer → Type 0
 ArePartsRead lines limits es from (Ok r) = TakesLines limits es from (lines r.0) r.1
 ArePartsRead lines limits es from (Err answer) = FailsFrom limits es from answer
 
--- one line more: the place behind it
-pub record IsBehind (line : List ℕ) (begins : ℕ) (from to : Place) : Type 0 where
+-- one line more: the location behind it
+pub record IsBehind (line : List ℕ) (begins : ℕ) (from to : Location) : Type 0 where
   pub cut : lines_of from.bytes.now ≡ line ∷ lines_of to.bytes.now
   pub number : to.number ≡ from.number + 1
   pub begun : to.begun ≡ from.begun + begins
   pub room : HasLineRoom to
 
--- the line at a place, which must stand there: C1 at its number where the file ends
-abbrev pub IsLineAt : Place → Result (Bor (List ℕ) × Place) ProofAnswer → Type 0
+-- the line at a location, which must stand there: C1 at its number where the file ends
+abbrev pub IsLineAt : Location → Result (Bor (List ℕ) × Location) ProofAnswer → Type 0
 IsLineAt from (Ok r) = IsBehind r.0.now 0 from r.1
 IsLineAt from (Err answer) = (lines_of from.bytes.now ≡ []) × (answer ≡ Refused (proof_fault_at from.number C1Syntax))
 
@@ -122,15 +122,15 @@ abbrev pub answer_here : ℕ → LineAnswer → ProofAnswer
 answer_here n (Fails code) = Refused (proof_fault_at n code)
 answer_here n NoLineMemory = NoMemory
 
--- the place of the certificate in a file
-pub record IsFirstPlace (bytes : List ℕ) (place : Place) : Type 0 where
-  pub number : place.number ≡ skipped (lines_of bytes) + 1
-  pub begun : place.begun ≡ 0
-  pub lines : lines_of place.bytes.now ≡ drop (skipped (lines_of bytes)) (lines_of bytes)
-  pub whole : (bytes ≡ place.bytes.now) ⊎ (bytes ≡ verdict_line ++ place.bytes.now)
-  pub room : HasLineRoom place
+-- the location of the certificate in a file
+pub record IsFirstLocation (bytes : List ℕ) (location : Location) : Type 0 where
+  pub number : location.number ≡ skipped (lines_of bytes) + 1
+  pub begun : location.begun ≡ 0
+  pub lines : lines_of location.bytes.now ≡ drop (skipped (lines_of bytes)) (lines_of bytes)
+  pub whole : (bytes ≡ location.bytes.now) ⊎ (bytes ≡ verdict_line ++ location.bytes.now)
+  pub room : HasLineRoom location
 
--- whether a file ends at a place: C1 at its number where it doesn't
-abbrev pub IsEndRead : Place → Result (Unit {0}) ProofAnswer → Type 0
+-- whether a file ends at a location: C1 at its number where it doesn't
+abbrev pub IsEndRead : Location → Result (Unit {0}) ProofAnswer → Type 0
 IsEndRead from (Ok u) = from.bytes.now ≡ []
 IsEndRead from (Err answer) = (from.bytes.now ≢ []) × (answer ≡ Refused (proof_fault_at from.number C1Syntax))

@@ -11,7 +11,7 @@ ghost use Rattle.proof_text.specs.Steps.{HasLineRoom, ArePartsRead};
 use crate::fault::ProofAnswer;
 use crate::limits::{Limits, MOST_NESTING};
 use crate::lines::{Around, NodeLine, node_line};
-use crate::place::{Place, answer_at, line_at, with_label};
+use crate::location::{Location, answer_at, line_at, with_label};
 use crate::read::LineList;
 use crate::slots::read_slot_proof;
 use plain_lists::NoMemory;
@@ -56,43 +56,43 @@ fn read_core<'a>(
     alloc: Global,
     limits: Limits,
     core: Core,
-    place: Place<'a>,
-) -> Result<(Rc<Refutation>, Place<'a>), ProofAnswer>
-    requires { HasLineRoom place }
+    location: Location<'a>,
+) -> Result<(Rc<Refutation>, Location<'a>), ProofAnswer>
+    requires { HasLineRoom location }
     ensures read { ArePartsRead (λ node. lines_behind (proof_of node.value)) limits
-        (a_slot_proof ∷ []) place.entry result }
+        (a_slot_proof ∷ []) location.entry result }
     ensures core { IfOk result (λ r. IsOfCore core (proof_of r.0.value)) }
 {
-    let (proof, end) = read_slot_proof(alloc, limits, place)?;
+    let (proof, end) = read_slot_proof(alloc, limits, location)?;
     Ok((shared(alloc, Refutation::BySlot { core, proof })?, end))
 }
 
-/// The node at the place, below so many splits and labels, with all that is below it. The line of each
+/// The node at the location, below so many splits and labels, with all that is below it. The line of each
 /// node is put behind those before, and the labels around are as before. `value` stands wherever the
 /// tree's value is asked.
 pub(crate) fn read_node<'a>(
     alloc: Global,
     limits: Limits,
     depth: u32,
-    place: Place<'a>,
+    location: Location<'a>,
     value: &Rc<Refutation>,
     trail: &mut Trail,
-) -> Result<(Rc<Refutation>, Place<'a>), ProofAnswer>
-    requires room { HasLineRoom place }
+) -> Result<(Rc<Refutation>, Location<'a>), ProofAnswer>
+    requires room { HasLineRoom location }
     requires depth { depth ≤ MOST_NESTING }
-    requires around { AreAround trail.old.inside.items place.begun }
+    requires around { AreAround trail.old.inside.items location.begun }
     requires value { value.now.value ≡ ByValue }
     ensures read { ArePartsRead (λ node. node_lines (proof_of node.value)) limits
-        (a_node depth trail.old.inside.items ∷ []) place.entry result }
+        (a_node depth trail.old.inside.items ∷ []) location.entry result }
     ensures inside { OnOk result (trail.new.inside.items ≡ trail.old.inside.items) }
     ensures lines { IfOk result (λ r. trail.new.lines ≡
-        trail.old.lines ++ starts place.entry.number (proof_of r.0.value)) }
+        trail.old.lines ++ starts location.entry.number (proof_of r.0.value)) }
 {
-    let (line, behind) = line_at(place)?;
-    trail.lines.push(place.number)?;
+    let (line, behind) = line_at(location)?;
+    trail.lines.push(location.number)?;
     let around = Around {
         depth,
-        begun: place.begun,
+        begun: location.begun,
         inside: trail.inside.as_slice(),
     };
     match node_line(alloc, limits, around, line) {
@@ -131,6 +131,6 @@ pub(crate) fn read_node<'a>(
             behind,
         )),
         Ok(NodeLine::Reuse(number)) => Ok((shared(alloc, Refutation::Reuse { number })?, behind)),
-        Err(answer) => Err(answer_at(place.number, answer)),
+        Err(answer) => Err(answer_at(location.number, answer)),
     }
 }

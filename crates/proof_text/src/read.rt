@@ -5,8 +5,8 @@ ghost use Rattle.proof_text.specs.Reads.{HasFewNodes, IsProofRead};
 use crate::fault::ProofAnswer;
 use crate::limits::{Limits, MOST_PROOF_BYTES};
 use crate::lines::version_line;
+use crate::location::{answer_at, first_location, line_at, require_end};
 use crate::nodes::{Trail, read_node, shared};
-use crate::place::{answer_at, first_place, line_at, require_end};
 use plain_lists::List;
 use refute_check::Refutation;
 use std::alloc::Global;
@@ -41,7 +41,7 @@ pub fn read_proof(
     ensures nodes { IfOk result (HasFewNodes bytes.now) }
 {
     let limits = Limits { tests, version };
-    let start = first_place(bytes);
+    let start = first_location(bytes);
     let (line, behind) = line_at(start)?;
     if let Err(answer) = version_line(limits, line) {
         return Err(answer_at(start.number, answer));

@@ -10,9 +10,9 @@ ghost use Rattle.proof_text.specs.Steps.{HasLineRoom, IsLineRead, ArePartsRead, 
 
 use crate::fault::{LineAnswer, ProofAnswer, ProofCode};
 use crate::limits::Limits;
+use crate::location::{Location, answer_at, line_at};
 use crate::numbers::one_number;
 use crate::parts::{content_of, cut};
-use crate::place::{Place, answer_at, line_at};
 use crate::states::{closed_count, read_closed, read_states};
 use slot_theory::{KindProof, SlotProof};
 use std::alloc::Global;
@@ -154,19 +154,19 @@ fn kind_line(limits: Limits, begun: u32, line: &[u8]) -> Result<KindLine, LineAn
 fn read_kind<'a>(
     alloc: Global,
     limits: Limits,
-    place: Place<'a>,
-) -> Result<(KindProof, Place<'a>), ProofAnswer>
-    requires { HasLineRoom place }
-    ensures { ArePartsRead kind_lines limits (a_kind_proof ∷ []) place.entry result }
+    location: Location<'a>,
+) -> Result<(KindProof, Location<'a>), ProofAnswer>
+    requires { HasLineRoom location }
+    ensures { ArePartsRead kind_lines limits (a_kind_proof ∷ []) location.entry result }
 {
-    let (line, behind) = line_at(place)?;
-    match kind_line(limits, place.begun, line) {
+    let (line, behind) = line_at(location)?;
+    match kind_line(limits, location.begun, line) {
         Ok(KindLine::Never) => Ok((KindProof::Never, behind)),
         Ok(KindLine::Closed(count)) => {
             let (closed, end) = read_states(alloc, limits, count, behind)?;
             Ok((KindProof::Closed(closed), end))
         }
-        Err(answer) => Err(answer_at(place.number, answer)),
+        Err(answer) => Err(answer_at(location.number, answer)),
     }
 }
 
@@ -174,14 +174,14 @@ fn read_kind<'a>(
 fn read_kinds<'a>(
     alloc: Global,
     limits: Limits,
-    place: Place<'a>,
-) -> Result<(SlotProof, Place<'a>), ProofAnswer>
-    requires { HasLineRoom place }
+    location: Location<'a>,
+) -> Result<(SlotProof, Location<'a>), ProofAnswer>
+    requires { HasLineRoom location }
     ensures kinds { ArePartsRead behind_kinds limits
-        (a_kind_proof ∷ a_kind_proof ∷ a_kind_proof ∷ a_kind_proof ∷ []) place.entry result }
+        (a_kind_proof ∷ a_kind_proof ∷ a_kind_proof ∷ a_kind_proof ∷ []) location.entry result }
     ensures whole { IfOk result (λ r. slot_lines r.0 ≡ kinds_line ∷ behind_kinds r.0) }
 {
-    let (aws, first) = read_kind(alloc, limits, place)?;
+    let (aws, first) = read_kind(alloc, limits, location)?;
     let (service, second) = read_kind(alloc, limits, first)?;
     let (federated, third) = read_kind(alloc, limits, second)?;
     let (canonical_user, end) = read_kind(alloc, limits, third)?;
@@ -195,13 +195,13 @@ fn read_kinds<'a>(
 pub(crate) fn read_slot_proof<'a>(
     alloc: Global,
     limits: Limits,
-    place: Place<'a>,
-) -> Result<(SlotProof, Place<'a>), ProofAnswer>
-    requires { HasLineRoom place }
-    ensures { ArePartsRead slot_lines limits (a_slot_proof ∷ []) place.entry result }
+    location: Location<'a>,
+) -> Result<(SlotProof, Location<'a>), ProofAnswer>
+    requires { HasLineRoom location }
+    ensures { ArePartsRead slot_lines limits (a_slot_proof ∷ []) location.entry result }
 {
-    let (line, behind) = line_at(place)?;
-    match slot_line(limits, place.begun, line) {
+    let (line, behind) = line_at(location)?;
+    match slot_line(limits, location.begun, line) {
         Ok(SlotLine::Points) => Ok((SlotProof::Points, behind)),
         Ok(SlotLine::Absent) => Ok((SlotProof::Absent, behind)),
         Ok(SlotLine::Required) => Ok((SlotProof::Required, behind)),
@@ -218,6 +218,6 @@ pub(crate) fn read_slot_proof<'a>(
             let (closed, end) = read_closed(alloc, limits, behind)?;
             Ok((SlotProof::SomeMember(closed), end))
         }
-        Err(answer) => Err(answer_at(place.number, answer)),
+        Err(answer) => Err(answer_at(location.number, answer)),
     }
 }

@@ -9,9 +9,9 @@ ghost use Rattle.proof_text.specs.Steps.{HasLineRoom, IsLineRead, ArePartsRead, 
 
 use crate::fault::{LineAnswer, ProofAnswer, ProofCode};
 use crate::limits::Limits;
+use crate::location::{Location, answer_at, line_at};
 use crate::numbers::{numbers_in, one_number, rises};
 use crate::parts::{content_of, cut};
-use crate::place::{Place, answer_at, line_at};
 use pattern_automata::{Closed, PlaceList, PlaceLists};
 use std::alloc::Global;
 
@@ -105,16 +105,16 @@ fn state_line(
 fn read_state<'a>(
     alloc: Global,
     limits: Limits,
-    place: Place<'a>,
-) -> Result<(PlaceLists, Place<'a>), ProofAnswer>
-    requires { HasLineRoom place }
+    location: Location<'a>,
+) -> Result<(PlaceLists, Location<'a>), ProofAnswer>
+    requires { HasLineRoom location }
     ensures { ArePartsRead
-        (λ lists. places_line lists ∷ []) limits (a_state ∷ []) place.entry result }
+        (λ lists. places_line lists ∷ []) limits (a_state ∷ []) location.entry result }
 {
-    let (line, behind) = line_at(place)?;
-    match state_line(alloc, limits, place.begun, line) {
+    let (line, behind) = line_at(location)?;
+    match state_line(alloc, limits, location.begun, line) {
         Ok(lists) => Ok((lists, behind)),
-        Err(answer) => Err(answer_at(place.number, answer)),
+        Err(answer) => Err(answer_at(location.number, answer)),
     }
 }
 
@@ -123,15 +123,15 @@ pub(crate) fn read_states<'a>(
     alloc: Global,
     limits: Limits,
     count: u32,
-    place: Place<'a>,
-) -> Result<(Closed, Place<'a>), ProofAnswer>
-    requires { HasLineRoom place }
+    location: Location<'a>,
+) -> Result<(Closed, Location<'a>), ProofAnswer>
+    requires { HasLineRoom location }
     ensures states { ArePartsRead
-        (map places_line) limits (replicate count a_state) place.entry result }
+        (map places_line) limits (replicate count a_state) location.entry result }
     ensures count { IfOk result (λ r. length r.0 ≡ count) }
 {
     let mut set = Closed::new(alloc);
-    let mut at = place;
+    let mut at = location;
     for done in 0..count {
         let (state, behind) = read_state(alloc, limits, at)?;
         set.push(state)?;
@@ -181,14 +181,14 @@ fn set_line(limits: Limits, begun: u32, line: &[u8]) -> Result<u32, LineAnswer>
 pub(crate) fn read_closed<'a>(
     alloc: Global,
     limits: Limits,
-    place: Place<'a>,
-) -> Result<(Closed, Place<'a>), ProofAnswer>
-    requires { HasLineRoom place }
-    ensures { ArePartsRead closed_lines limits (a_closed_set ∷ []) place.entry result }
+    location: Location<'a>,
+) -> Result<(Closed, Location<'a>), ProofAnswer>
+    requires { HasLineRoom location }
+    ensures { ArePartsRead closed_lines limits (a_closed_set ∷ []) location.entry result }
 {
-    let (line, behind) = line_at(place)?;
-    match set_line(limits, place.begun, line) {
+    let (line, behind) = line_at(location)?;
+    match set_line(limits, location.begun, line) {
         Ok(count) => read_states(alloc, limits, count, behind),
-        Err(answer) => Err(answer_at(place.number, answer)),
+        Err(answer) => Err(answer_at(location.number, answer)),
     }
 }

@@ -7,15 +7,15 @@ use Rattle.proof_text.proofs.slots.read_kinds.Goals as goal
 pub returns-in_err-federated-clause-kinds : goal.returns-in_err-federated-clause-kinds
 returns-in_err-federated-clause-kinds c =
     let p = err_from_is_err_and c.from_residual-in_err-federated.result c.from_residual-in_err-federated.ensures.1 in
-    rw (p.1, p.2) (third-fails c.args.limits a_kind_proof c.args.place c.in_ok-aws.first c.in_ok-service.second (kind_lines c.in_ok-aws.aws) (kind_lines c.in_ok-service.service) _ c.in_ok-aws.ensures c.in_ok-service.ensures c.in_err-federated.ensures)
+    rw (p.1, p.2) (third-fails c.args.limits a_kind_proof c.args.location c.in_ok-aws.first c.in_ok-service.second (kind_lines c.in_ok-aws.aws) (kind_lines c.in_ok-service.service) _ c.in_ok-aws.ensures c.in_ok-service.ensures c.in_err-federated.ensures)
 
 pub returns-in_err-canonical_user-clause-kinds : goal.returns-in_err-canonical_user-clause-kinds
 returns-in_err-canonical_user-clause-kinds c =
     let p = err_from_is_err_and c.from_residual-in_err-canonical_user.result c.from_residual-in_err-canonical_user.ensures.1 in
-    rw (p.1, p.2) (fourth-fails c.args.limits a_kind_proof c.args.place c.in_ok-aws.first c.in_ok-service.second c.in_ok-federated.third (kind_lines c.in_ok-aws.aws) (kind_lines c.in_ok-service.service) (kind_lines c.in_ok-federated.federated) _
+    rw (p.1, p.2) (fourth-fails c.args.limits a_kind_proof c.args.location c.in_ok-aws.first c.in_ok-service.second c.in_ok-federated.third (kind_lines c.in_ok-aws.aws) (kind_lines c.in_ok-service.service) (kind_lines c.in_ok-federated.federated) _
     c.in_ok-aws.ensures c.in_ok-service.ensures c.in_ok-federated.ensures c.in_err-canonical_user.ensures)
 
 pub returns-clause-kinds : goal.returns-clause-kinds
 returns-clause-kinds c =
-    four-takes c.args.limits a_kind_proof c.args.place c.in_ok-aws.first c.in_ok-service.second c.in_ok-federated.third c.in_ok-canonical_user.end (kind_lines c.in_ok-aws.aws) (kind_lines c.in_ok-service.service) (kind_lines c.in_ok-federated.federated) (kind_lines c.in_ok-canonical_user.canonical_user)
+    four-takes c.args.limits a_kind_proof c.args.location c.in_ok-aws.first c.in_ok-service.second c.in_ok-federated.third c.in_ok-canonical_user.end (kind_lines c.in_ok-aws.aws) (kind_lines c.in_ok-service.service) (kind_lines c.in_ok-federated.federated) (kind_lines c.in_ok-canonical_user.canonical_user)
     c.in_ok-aws.ensures c.in_ok-service.ensures c.in_ok-federated.ensures c.in_ok-canonical_user.ensures

@@ -5,4 +5,4 @@ use Rattle.proof_text.specs.Steps.{TakesLines}
 use Rattle.proof_text.proofs.states.read_states.Given as goal
 
 abbrev pub invariant-loop-done : goal.invariant-loop-done
-invariant-loop-done l = TakesLines l.limits (replicate l.done a_state) l.fn.place (map places_line l.set) l.at × (length l.set ≡ l.done)
+invariant-loop-done l = TakesLines l.limits (replicate l.done a_state) l.fn.location (map places_line l.set) l.at × (length l.set ≡ l.done)

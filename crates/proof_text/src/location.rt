@@ -1,18 +1,18 @@
-//! Places in a file, and its lines one by one.
+//! Locations in a file, and its lines one by one.
 ghost use Rattle.std.specs.Prelude.{◌≡◌, ◌≢◌, ◌<◌, ◌+◌, ◌≤◌, ◌∷◌, [], drop, take, length};
 ghost use Rattle.proof_text.specs.declared.fault.ProofAnswer.TheVariants.{Refused};
 ghost use Rattle.proof_text.specs.Faults.{proof_fault_at};
 ghost use Rattle.proof_text.specs.LineForms.{lines_of};
-ghost use Rattle.proof_text.specs.Steps.{HasLineRoom, IsEndRead, IsFirstPlace, IsLineAt, answer_here};
+ghost use Rattle.proof_text.specs.Steps.{HasLineRoom, IsEndRead, IsFirstLocation, IsLineAt, answer_here};
 
 use crate::fault::{LineAnswer, ProofAnswer, ProofCode, ProofFault};
 use crate::limits::MOST_PROOF_BYTES;
 use crate::parts::first_at;
 
-/// A place in front of a line: the line's number, how many labels began before it, and the bytes from
+/// A location in front of a line: the line's number, how many labels began before it, and the bytes from
 /// there on.
 #[derive(Clone, Copy)]
-pub(crate) struct Place<'a> {
+pub(crate) struct Location<'a> {
     pub number: u32,
     pub begun: u32,
     pub bytes: &'a [u8],
@@ -49,20 +49,20 @@ pub(crate) fn answer_at(number: u32, answer: LineAnswer) -> ProofAnswer
     }
 }
 
-/// The line at the place, which must stand, and the place behind it: C1 at its number where the file ends.
-pub(crate) fn line_at<'a>(place: Place<'a>) -> Result<(&'a [u8], Place<'a>), ProofAnswer>
-    requires { HasLineRoom place }
-    ensures { IsLineAt place.entry result }
+/// The line at the location, which must stand, and the location behind it: C1 at its number where the file ends.
+pub(crate) fn line_at<'a>(location: Location<'a>) -> Result<(&'a [u8], Location<'a>), ProofAnswer>
+    requires { HasLineRoom location }
+    ensures { IsLineAt location.entry result }
 {
-    if place.bytes.is_empty() {
-        return Err(fault(place.number, ProofCode::C1Syntax));
+    if location.bytes.is_empty() {
+        return Err(fault(location.number, ProofCode::C1Syntax));
     }
-    let (line, bytes) = place.bytes.split_at(line_length(place.bytes));
-    let number = place.number + 1;
-    let begun = place.begun;
+    let (line, bytes) = location.bytes.split_at(line_length(location.bytes));
+    let number = location.number + 1;
+    let begun = location.begun;
     Ok((
         line,
-        Place {
+        Location {
             number,
             begun,
             bytes,
@@ -70,28 +70,28 @@ pub(crate) fn line_at<'a>(place: Place<'a>) -> Result<(&'a [u8], Place<'a>), Pro
     ))
 }
 
-/// The place, where one label more began in front of it.
-pub(crate) fn with_label<'a>(place: Place<'a>) -> Place<'a>
-    requires room { HasLineRoom place }
-    requires fewer { place.begun < place.number }
-    ensures number { result.number ≡ place.entry.number }
-    ensures begun { result.begun ≡ place.entry.begun + 1 }
-    ensures bytes { result.bytes.now ≡ place.entry.bytes.now }
+/// The location, where one label more began in front of it.
+pub(crate) fn with_label<'a>(location: Location<'a>) -> Location<'a>
+    requires room { HasLineRoom location }
+    requires fewer { location.begun < location.number }
+    ensures number { result.number ≡ location.entry.number }
+    ensures begun { result.begun ≡ location.entry.begun + 1 }
+    ensures bytes { result.bytes.now ≡ location.entry.bytes.now }
     ensures room { HasLineRoom result }
 {
-    Place {
-        number: place.number,
-        begun: place.begun + 1,
-        bytes: place.bytes,
+    Location {
+        number: location.number,
+        begun: location.begun + 1,
+        bytes: location.bytes,
     }
 }
 
-/// The place of the certificate in a file: behind the answer of a comparison, where that stands first.
-pub(crate) fn first_place(bytes: &[u8]) -> Place<'_>
+/// The location of the certificate in a file: behind the answer of a comparison, where that stands first.
+pub(crate) fn first_location(bytes: &[u8]) -> Location<'_>
     requires { length bytes.now ≤ MOST_PROOF_BYTES }
-    ensures { IsFirstPlace bytes.now result }
+    ensures { IsFirstLocation bytes.now result }
 {
-    let start = Place {
+    let start = Location {
         number: 1,
         begun: 0,
         bytes,
@@ -101,7 +101,7 @@ pub(crate) fn first_place(bytes: &[u8]) -> Place<'_>
     }
     let (line, behind) = bytes.split_at(line_length(bytes));
     if line == b"not more permissive\n".as_slice() {
-        return Place {
+        return Location {
             number: 2,
             begun: 0,
             bytes: behind,
@@ -111,11 +111,11 @@ pub(crate) fn first_place(bytes: &[u8]) -> Place<'_>
 }
 
 /// Passes at the end of the file: C1 at the number of a line that stands there.
-pub(crate) fn require_end(place: Place<'_>) -> Result<(), ProofAnswer>
-    ensures { IsEndRead place.entry result }
+pub(crate) fn require_end(location: Location<'_>) -> Result<(), ProofAnswer>
+    ensures { IsEndRead location.entry result }
 {
-    if place.bytes.is_empty() {
+    if location.bytes.is_empty() {
         return Ok(());
     }
-    Err(fault(place.number, ProofCode::C1Syntax))
+    Err(fault(location.number, ProofCode::C1Syntax))
 }
