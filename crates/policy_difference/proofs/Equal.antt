@@ -3,6 +3,7 @@ use Rattle.std.proofs.Common.{◌≡◌, ◌==◌, ℕ, List, Bool, true, false,
 use Rattle.std.proofs.Common.{not as opposite}
 use Rattle.std.proofs.lemmas.Bool.Decides.{Decides-eqb}
 use Rattle.policy_model.specs.declared.operator.Condition.{Condition}
+use Rattle.policy_model.specs.declared.operator.Operand.TheVariants as operand
 use Rattle.policy_model.specs.declared.operator.Operator.{Operator}
 use Rattle.policy_model.specs.contracts.operator.OperatorPartialEq.TheImpl as operators
 use Rattle.std.specs.Bool.{Decides}
@@ -19,6 +20,18 @@ pieces-Decides a b = grind (arith, common_steps)
 
 pub same-pattern : (p q : List Piece) → pointwise pieces.eq-value.it p q ≡ true → p ≡ q
 same-pattern p q = (pointwise_decides pieces-Decides p q).0
+
+pub equal-pattern : (p q : List Piece) → p ≡ q → pointwise pieces.eq-value.it p q ≡ true
+equal-pattern p q = (pointwise_decides pieces-Decides p q).1
+
+pub equal-block : (a b : Block) → a ≡ b → blocks.eq-value.it a b ≡ true
+equal-block a b = (blocks-Decides a b).1
+
+pub pattern-of : (p q : List Piece) → operand.Pattern p ≡ operand.Pattern q → p ≡ q
+pattern-of p q e = cc
+
+pub block-of : (a b : Block) → operand.Block a ≡ operand.Block b → a ≡ b
+block-of a b e = cc
 
 pub same-block : (a b : Block) → blocks.eq-value.it a b ≡ true → a ≡ b
 same-block a b = (blocks-Decides a b).0

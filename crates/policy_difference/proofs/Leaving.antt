@@ -1,15 +1,19 @@
 -- What is left of a set without shared statements, and what it allows.
 use Rattle.std.proofs.Common.{◌≡◌, ℕ, ◌+◌, ◌<◌, ◌≤◌, suc, zero, take, drop, get_or, List, [], ◌∷◌, length, Any, All, Bool, true, false, ◌⊎◌, inl, inr, refl, sym, ap, ◌∙◌, subst, arith}
 use Rattle.std.proofs.lemmas.List.{drop_all, drop_more, take_all}
-use Rattle.std.proofs.lemmas.List.Elements.{All-nil, All-cons, All-head, All-more, All-tail, All-weaker}
-use Rattle.policy_model.specs.Sets.{Allows, Decides, SomeDecides}
+use Rattle.std.proofs.lemmas.List.Elements.{All-nil, All-cons, All-get_or, All-head, All-more, All-tail, All-weaker}
+use Rattle.wildcard_lang.specs.Matching.{Matches}
+use Rattle.policy_model.specs.Conditions.{ConditionHolds}
+use Rattle.policy_model.specs.Principals.{EntryHolds}
+use Rattle.policy_model.specs.Sets.{Allows, Decides, MatcherHolds, OptionalHolds, SomeDecides}
 use Rattle.policy_model.specs.Soundness.{DocumentFits, DocumentIsSound, StatementIsSound, ConditionFits}
+use Rattle.policy_model.specs.declared.operator.Condition.{Condition}
 use Rattle.policy_model.specs.declared.request.Request.{Request}
 use Rattle.policy_model.specs.declared.schema.Schema.{Schema}
 use Rattle.policy_model.specs.declared.set.Document.{Document}
 use Rattle.policy_model.specs.declared.set.PolicySet.{PolicySet}
 use Rattle.policy_model.specs.declared.set.Statement.{Statement}
-use Rattle.policy_difference.specs.Differences.{AreLeft, DeniesToo, FitsToo, IsBound, IsDifference, IsShared, Leaves, SharedStatementsAddNothing, StandsIn}
+use Rattle.policy_difference.specs.Differences.{AreLeft, AsksNoMore, DeniesToo, FitsToo, HasWider, IsBound, IsDifference, IsShared, Leaves, SharedStatementsAddNothing, StandsIn}
 
 -- ---- some of a list
 
@@ -41,7 +45,7 @@ none-all : {T : Type 0} (P : T → Type 0) (xs : List T) → ¬ Any P xs → All
 none-all P [] none = All-nil (λ x. ¬ P x)
 none-all P (x ∷ xs) none = All-cons (λ y. ¬ P y) x xs (λ p. none (here P x xs p)) (none-all P xs (λ some. none (there P x xs some)))
 
-apart : true ≡ false → ⊥
+pub apart : true ≡ false → ⊥
 apart e = absurd (cc)
 
 -- ---- what is left of a list
@@ -51,7 +55,7 @@ module _ {T : Type 0} (P : T → Type 0) where
   some-whole : (Q : T → Type 0) (xs left : List T) → Leaves P xs left → Any Q left → Any Q xs
   some-whole Q [] left leaves some = absurd (none_of_none Q (subst (Any Q) leaves some))
   some-whole Q (x ∷ xs) left (inl (p, rest)) some = there Q x xs (some-whole Q xs left rest some)
-  some-whole Q (x ∷ xs) left (inr (rest, e, leaves)) some = elim (cases_some Q x rest (subst (Any Q) e some)) [
+  some-whole Q (x ∷ xs) left (inr (other, rest, e, leaves)) some = elim (cases_some Q x rest (subst (Any Q) e some)) [
     | inl q ↦ here Q x xs q
     | inr more ↦ there Q x xs (some-whole Q xs rest leaves more)
   ]
@@ -66,7 +70,7 @@ module _ {T : Type 0} (P : T → Type 0) where
       | inr found ↦ inr found
     ]
   ]
-  some-left Q (x ∷ xs) left (inr (rest, e, leaves)) some = elim (cases_some Q x xs some) [
+  some-left Q (x ∷ xs) left (inr (other, rest, e, leaves)) some = elim (cases_some Q x xs some) [
     | inl q ↦ inr (subst (Any Q) (sym e) (here Q x rest q))
     | inr more ↦ elim (some-left Q xs rest leaves more) [
       | inl found ↦ inl (there (λ y. P y × Q y) x xs found)
@@ -77,13 +81,13 @@ module _ {T : Type 0} (P : T → Type 0) where
   all-left : (Q : T → Type 0) (xs left : List T) → Leaves P xs left → All Q xs → All Q left
   all-left Q [] left leaves all = subst (All Q) (sym leaves) all
   all-left Q (x ∷ xs) left (inl (p, rest)) all = all-left Q xs left rest (All-tail Q x xs all)
-  all-left Q (x ∷ xs) left (inr (rest, e, leaves)) all =
+  all-left Q (x ∷ xs) left (inr (other, rest, e, leaves)) all =
       subst (All Q) (sym e) (All-cons Q x rest (All-head Q x xs all) (all-left Q xs rest leaves (All-tail Q x xs all)))
 
   length-left : (xs left : List T) → Leaves P xs left → length left ≤ length xs
   length-left [] left leaves = rw leaves (omega arith)
   length-left (x ∷ xs) left (inl (p, rest)) = omega (arith, length-left xs left rest)
-  length-left (x ∷ xs) left (inr (rest, e, leaves)) = rw e (omega (arith, length-left xs rest leaves))
+  length-left (x ∷ xs) left (inr (other, rest, e, leaves)) = rw e (omega (arith, length-left xs rest leaves))
 
 -- ---- documents and sets
 
@@ -148,6 +152,27 @@ module _ (schema : Schema) (r : Request) where
       λ d some. any-any (λ (t : Statement). t ≡ s) (Decides schema allow r) (λ t e. subst (Decides schema allow r) (sym e) decides) d.statements some in
       any-any (λ (d : Document). Any (λ (t : Statement). t ≡ s) d.statements) (λ (d : Document). Any (Decides schema allow r) d.statements) in-document documents stands
 
+  -- a statement applies where one does that asks no less
+  wider-decides : (t s : Statement) → AsksNoMore t s → Decides schema true r s → Decides schema true r t
+  wider-decides t s wider (allow, applies) = (
+    wider.allow ∙ allow,
+    record {
+      principal = subst (OptionalHolds (EntryHolds r)) (sym wider.principal) applies.principal;
+      action = subst (MatcherHolds (λ p. Matches p r.action)) (sym wider.action) applies.action;
+      resource = subst (OptionalHolds (λ p. Matches p r.resource)) (sym wider.resource) applies.resource;
+      conditions = All-weaker (λ (c : Condition). Any (λ d. d ≡ c) s.conditions) (ConditionHolds schema r) (λ c some. (
+          let found = some-of (ConditionHolds schema r) (λ d. d ≡ c) (λ (d : Condition). ConditionHolds schema r c) (λ d holds e. subst (ConditionHolds schema r) e holds) s.conditions applies.conditions some in
+          found.4)) t.conditions wider.conditions;
+    },
+  )
+
+  -- where a shared statement applies, one of the documents does that they share it by
+  has-wider-decides : (s : Statement) (documents : List Document) → Decides schema true r s → HasWider documents s → SomeDecides schema true r documents
+  has-wider-decides s documents decides wider =
+      let in-document : (d : Document) → Any (λ (t : Statement). AsksNoMore t s) d.statements → Any (Decides schema true r) d.statements =
+      λ d some. any-any (λ (t : Statement). AsksNoMore t s) (Decides schema true r) (λ t w. wider-decides t s w decides) d.statements some in
+      any-any (λ (d : Document). Any (λ (t : Statement). AsksNoMore t s) d.statements) (λ (d : Document). Any (Decides schema true r) d.statements) in-document documents wider
+
   module _ (first second : PolicySet) (bound : IsBound first second) where
     -- what denies a request in the second set's grants denies it in the first's
     denied-first : SomeDecides schema false r second.grants → SomeDecides schema false r first.grants
@@ -169,7 +194,7 @@ module _ (schema : Schema) (r : Request) where
     -- a shared statement that applies makes the second set allow what the first allows
     second-allows : Allows schema first r → (s : Statement) → IsShared second.grants s → Decides schema true r s → Allows schema second r
     second-allows allows s shared decides = record {
-      granted = stands-decides true s second.grants decides shared.stands;
+      granted = has-wider-decides s second.grants decides shared.wider;
       guarded = guard-of (SomeDecides schema true r) allows.guarded;
       not_denied = λ some. allows.not_denied (denied-first some);
       not_denied_by_guard = λ some.
@@ -230,9 +255,13 @@ more-item P xs i x l all is p = All-more P xs i x l all (subst P is p)
 pub all-items : {T : Type 0} (P : T → Type 0) (xs : List T) (i : ℕ) → length xs ≤ i → All P (take i xs) → All P xs
 all-items P xs i le all = subst (All P) (take_all i xs le) all
 
-pub leaves-kept : {T : Type 0} (P : T → Type 0) (xs : List T) (i : ℕ) (x : T) (rest : List T) → i < length xs → x ≡ get_or xs i x → Leaves P (drop (i + 1) xs) rest → Leaves P (drop i xs) (x ∷ rest)
-leaves-kept P xs i x rest l is leaves =
-    subst (λ ys. Leaves P ys (x ∷ rest)) (sym (drop_more xs i x l)) (inr (rest, ap (λ y. y ∷ rest) is, leaves))
+-- an item of which P doesn't hold stands against all
+pub against-all : {T : Type 0} (P : T → Type 0) (xs : List T) (i : ℕ) (x : T) → i < length xs → x ≡ get_or xs i x → (¬ P x) → ¬ All P xs
+against-all P xs i x l is against all = against (subst P (sym is) (All-get_or P xs i x l all))
+
+pub leaves-kept : {T : Type 0} (P : T → Type 0) (xs : List T) (i : ℕ) (x : T) (rest : List T) → i < length xs → x ≡ get_or xs i x → (¬ P x) → Leaves P (drop (i + 1) xs) rest → Leaves P (drop i xs) (x ∷ rest)
+leaves-kept P xs i x rest l is against leaves =
+    subst (λ ys. Leaves P ys (x ∷ rest)) (sym (drop_more xs i x l)) (inr (λ p. against (subst P (sym is) p), rest, ap (λ y. y ∷ rest) is, leaves))
 
 pub leaves-out : {T : Type 0} (P : T → Type 0) (xs : List T) (i : ℕ) (x : T) (rest : List T) → i < length xs → x ≡ get_or xs i x → P x → Leaves P (drop (i + 1) xs) rest → Leaves P (drop i xs) rest
 leaves-out P xs i x rest l is p leaves = subst (λ ys. Leaves P ys rest) (sym (drop_more xs i x l)) (inl (subst P is p, leaves))

@@ -31,25 +31,48 @@ pub record IsBound (first second : PolicySet) : Type 0 where
   pub denies : All (λ d. All (DeniesToo first.grants) d.statements) second.grants
   pub guards : All (λ g. Any (λ h. h ≡ g) first.guards) second.guards
 
--- an Allow statement that stands in one of the documents
+-- the statement t has the effect, the principal, the action and the resource of s, and no condition that s lacks, so that it
+-- applies wherever s does
+pub record AsksNoMore (t s : Statement) : Type 0 where
+  pub allow : t.allow ≡ s.allow
+  pub principal : t.principal ≡ s.principal
+  pub action : t.action ≡ s.action
+  pub resource : t.resource ≡ s.resource
+  pub conditions : All (λ c. Any (λ d. d ≡ c) s.conditions) t.conditions
+
+-- a statement of one of the documents asks no more
+abbrev pub HasWider : List Document → Statement → Type 0
+HasWider documents s = Any (λ d. Any (λ t. AsksNoMore t s) d.statements) documents
+
+-- an Allow statement that one of the documents has too, with all of its conditions or fewer
 pub record IsShared (documents : List Document) (s : Statement) : Type 0 where
   pub allow : s.allow ≡ true
-  pub stands : StandsIn s documents
+  pub wider : HasWider documents s
 
--- the list without items of which P holds
+-- the others share an Allow statement of the documents
+abbrev pub ShareSome : List Document → List Document → Type 0
+ShareSome others documents = Any (λ d. Any (IsShared others) d.statements) documents
+
+-- the list without the items of which P holds
 abbrev pub Leaves : {T : Type 0} → (T → Type 0) → List T → List T → Type 0
 Leaves P [] left = left ≡ []
-Leaves {T} P (x ∷ xs) left = (P x × Leaves P xs left) ⊎ ((rest : List T) × (left ≡ x ∷ rest) × Leaves P xs rest)
+Leaves {T} P (x ∷ xs) left =
+    (P x × Leaves P xs left) ⊎ ((¬ P x) × (rest : List T) × (left ≡ x ∷ rest) × Leaves P xs rest)
 
--- document by document, without statements that the others share
+-- document by document, without the statements that the others share
 abbrev pub AreLeft : List Document → List Document → List Document → Type 0
 AreLeft others [] left = left ≡ []
 AreLeft others (d ∷ documents) left =
     (e : Document) × (rest : List Document) × (left ≡ e ∷ rest) × Leaves (IsShared others) d.statements e.statements ×
     AreLeft others documents rest
 
--- the first set without Allow statements of its grants that stand in those of the second, where what bounds the second bounds the
--- first too
+-- some statement of the first set's grants can be left out: the second's grants share it, and what bounds the second bounds the first
+pub record CanLeaveOut (first second : PolicySet) : Type 0 where
+  pub bound : IsBound first second
+  pub shared : ShareSome second.grants first.grants
+
+-- the first set without the Allow statements of its grants that those of the second share, where what bounds the second bounds
+-- the first too
 pub record IsDifference (first second less : PolicySet) : Type 0 where
   pub bound : IsBound first second
   pub grants : AreLeft second.grants first.grants less.grants

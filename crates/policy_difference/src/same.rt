@@ -1,14 +1,15 @@
 //! Statements compared part by part.
-ghost use Rattle.std.specs.Prelude.{◌≡◌, Any, IsTrue};
+ghost use Rattle.std.specs.Prelude.{◌≡◌, ◌↔◌, All, Any, IsTrue};
+ghost use Rattle.policy_difference.specs.Differences.{AsksNoMore};
 
 use policy_model::{Condition, Document, DocumentList, Entry, Matcher, Operand, Statement};
 use wildcard_lang::Pattern;
 
 /// What can be compared with another.
 pub(crate) trait Same {
-    /// Whether the other is the same. It may be no where they are the same but for how they were made.
+    /// Whether the other is the same.
     fn same(&self, other: &Self) -> bool
-        ensures { IsTrue result → self.now ≡ other.now };
+        ensures { IsTrue result ↔ (self.now ≡ other.now) };
 }
 
 impl Same for Pattern {
@@ -102,7 +103,7 @@ impl Same for DocumentList {
 
 /// Whether the lists have the same items in the same order.
 pub(crate) fn same_items<T: Same>(ones: &[T], others: &[T]) -> bool
-    ensures { IsTrue result → ones.now ≡ others.now }
+    ensures { IsTrue result ↔ (ones.now ≡ others.now) }
 {
     if ones.len() != others.len() {
         return false;
@@ -117,12 +118,39 @@ pub(crate) fn same_items<T: Same>(ones: &[T], others: &[T]) -> bool
 
 /// Whether one of the items is the same as this one.
 pub(crate) fn is_among<T: Same>(one: &T, items: &[T]) -> bool
-    ensures { IsTrue result → Any (λ item. item ≡ one.now) items.now }
+    ensures { IsTrue result ↔ Any (λ item. item ≡ one.now) items.now }
+{
+    items.iter().any(|item| item.same(one))
+}
+
+// Whether each of the items is the same as one of the others.
+fn are_among<T: Same>(items: &[T], others: &[T]) -> bool
+    ensures { IsTrue result ↔ All (λ item. Any (λ other. other ≡ item) others.now) items.now }
 {
     'items: for item in items {
-        if item.same(one) {
-            return true;
+        if !is_among(item, others) {
+            return false;
         }
     }
-    false
+    true
+}
+
+/// Whether the first statement has the effect, the principal, the action and the resource of the other, and
+/// no condition that the other lacks.
+pub(crate) fn asks_no_more(statement: &Statement, other: &Statement) -> bool
+    ensures { IsTrue result ↔ AsksNoMore statement.now other.now }
+{
+    if statement.allow != other.allow {
+        return false;
+    }
+    if !statement.action.same(&other.action) {
+        return false;
+    }
+    if !statement.resource.same(&other.resource) {
+        return false;
+    }
+    if !statement.principal.same(&other.principal) {
+        return false;
+    }
+    are_among(statement.conditions.as_slice(), other.conditions.as_slice())
 }
