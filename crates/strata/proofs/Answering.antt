@@ -1,5 +1,5 @@
 -- Rows of answers that grow.
-use Rattle.std.proofs.Common.{◌≡◌, ℕ, ◌+◌, ◌<◌, ◌≤◌, List, [], ◌∷◌, ◌++◌, length, get_or, Bool, false, IsTrue, ◌↔◌, refl, sym, ap, ◌∙◌, subst, inl, inr, arith}
+use Rattle.std.proofs.Common.{◌≡◌, ℕ, ◌+◌, ◌<◌, ◌≤◌, List, [], ◌∷◌, ◌++◌, length, get_or, Bool, true, false, refl, sym, ap, ◌∙◌, subst, inl, inr, arith}
 use Rattle.std.proofs.lemmas.Bool.{cases_lt}
 use Rattle.std.proofs.lemmas.List.{get_or_append_left, get_or_push, length_push}
 use Rattle.policy_model.specs.declared.schema.Schema.{Schema}
@@ -9,20 +9,30 @@ use Rattle.strata.specs.declared.predicate.Predicate.TheVariants.{Every}
 use Rattle.strata.specs.declared.rows.Row.{Row}
 use Rattle.strata.specs.Below.{IsBelow}
 use Rattle.strata.specs.Covers.{predicate_at}
-use Rattle.strata.specs.Rows.{AreAnswered, IsRow, IsTable}
+use Rattle.strata.specs.Rows.{AreAnswered, IsRow, IsTable, TellsBelow}
+use Rattle.strata.proofs.Ordering.{apart-below}
 
-pub answered-none : (P : Predicate → Type 0) (kept : List Predicate) → AreAnswered P kept 0 []
+-- an answer that is true tells that the one is below the other
+pub says-below : (schema : Schema) (s : Slot) (p q : Predicate) (b : Bool) → TellsBelow schema s p q b → b ≡ true → IsBelow schema s p q
+says-below schema s p q b says on = subst (λ (a : Bool). TellsBelow schema s p q a) on says
+
+-- and where it is, the answer is true
+pub below-says : (schema : Schema) (s : Slot) (p q : Predicate) (b : Bool) → TellsBelow schema s p q b → IsBelow schema s p q → b ≡ true
+below-says schema s p q true says below = refl
+below-says schema s p q false says below = absurd (apart-below schema s p q says below)
+
+pub answered-none : (P : Predicate → Bool → Type 0) (kept : List Predicate) → AreAnswered P kept 0 []
 answered-none P kept = record { count = refl; each = λ j l. absurd (omega arith) }
 
-pub answered-push : (P : Predicate → Type 0) (kept : List Predicate) (n : ℕ) (answers : List Bool) (b : Bool) → AreAnswered P kept n answers → IsTrue b ↔ P (predicate_at kept n) → AreAnswered P kept (n + 1) (answers ++ b ∷ [])
+pub answered-push : (P : Predicate → Bool → Type 0) (kept : List Predicate) (n : ℕ) (answers : List Bool) (b : Bool) → AreAnswered P kept n answers → P (predicate_at kept n) b → AreAnswered P kept (n + 1) (answers ++ b ∷ [])
 answered-push P kept n answers b h says = record {
   count = length_push answers b ∙ ap (λ m. m + 1) h.count;
   each = λ j l. elim (cases_lt j n) [
-    | inl before ↦ subst (λ (a : Bool). IsTrue a ↔ P (predicate_at kept j)) (sym (get_or_append_left answers (b ∷ []) false j (omega (arith, h.count)))) (h.each j before)
+    | inl before ↦ subst (λ (a : Bool). P (predicate_at kept j) a) (sym (get_or_append_left answers (b ∷ []) false j (omega (arith, h.count)))) (h.each j before)
     | inr last ↦
         let same : j ≡ n = omega arith in
         let here : get_or (answers ++ b ∷ []) j false ≡ b = get_or_push answers b false j (h.count ∙ sym same) in
-        subst (λ (a : Bool). IsTrue a ↔ P (predicate_at kept j)) (sym here) (subst (λ (m : ℕ). IsTrue b ↔ P (predicate_at kept m)) (sym same) says)
+        subst (λ (a : Bool). P (predicate_at kept j) a) (sym here) (subst (λ (m : ℕ). P (predicate_at kept m) b) (sym same) says)
   ];
 }
 
@@ -30,16 +40,16 @@ answered-push P kept n answers b h says = record {
 pub at-longer : (kept more : List Predicate) (j : ℕ) → j < length kept → predicate_at (kept ++ more) j ≡ predicate_at kept j
 at-longer kept more j l = get_or_append_left kept more Every j l
 
-answered-longer : (P : Predicate → Type 0) (kept more : List Predicate) (n : ℕ) (answers : List Bool) → n ≤ length kept → AreAnswered P kept n answers → AreAnswered P (kept ++ more) n answers
+answered-longer : (P : Predicate → Bool → Type 0) (kept more : List Predicate) (n : ℕ) (answers : List Bool) → n ≤ length kept → AreAnswered P kept n answers → AreAnswered P (kept ++ more) n answers
 answered-longer P kept more n answers within h = record {
   count = h.count;
-  each = λ j l. subst (λ (p : Predicate). IsTrue (get_or answers j false) ↔ P p) (sym (at-longer kept more j (omega arith))) (h.each j l);
+  each = λ j l. subst (λ (p : Predicate). P p (get_or answers j false)) (sym (at-longer kept more j (omega arith))) (h.each j l);
 }
 
 row-longer : (schema : Schema) (s : Slot) (kept more : List Predicate) (n : ℕ) (p : Predicate) (row : Row) → n ≤ length kept → IsRow schema s kept n p row → IsRow schema s (kept ++ more) n p row
 row-longer schema s kept more n p row within h = record {
-  below = answered-longer (λ q. IsBelow schema s p q) kept more n row.below within h.below;
-  above = answered-longer (λ q. IsBelow schema s q p) kept more n row.above within h.above;
+  below = answered-longer (λ q b. TellsBelow schema s p q b) kept more n row.below within h.below;
+  above = answered-longer (λ q b. TellsBelow schema s q p b) kept more n row.above within h.above;
 }
 
 pub table-none : (schema : Schema) (s : Slot) → IsTable schema s [] []

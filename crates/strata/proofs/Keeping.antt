@@ -7,7 +7,7 @@ use Rattle.std.proofs.lemmas.List.Elements.{All-contains, All-contains_itself, C
 use Rattle.policy_model.specs.declared.schema.Schema.{Schema}
 use Rattle.policy_model.specs.declared.test.Slot.{Slot}
 use Rattle.strata.specs.declared.predicate.Predicate.{Predicate}
-use Rattle.strata.specs.Below.{AreKept, IsKeptAfter, IsMetUnder, Keeps, MeetTheSame, keeps_none, keeps_it, drops_it}
+use Rattle.strata.specs.Below.{AreKeptAmong, IsKeptAfter, IsMetUnder, Keeps, MeetTheSame, keeps_none, keeps_it, drops_it}
 use Rattle.strata.proofs.Ordering.{any-of, below-self, kept-named, same-through}
 
 -- a predicate that is kept after all of these
@@ -27,7 +27,7 @@ drops-last schema s earlier (q ∷ names) kept p (drops_it here rest) h =
     drops_it here (drops-last schema s (earlier ++ q ∷ []) names kept p rest (subst (λ (ps : List Predicate). IsKeptAfter schema s ps p → ⊥) (sym (append_assoc earlier (q ∷ []) names)) h))
 
 -- what is kept is among what is named
-pub kept-among : (schema : Schema) (s : Slot) (names kept : List Predicate) → AreKept schema s names kept → All (Contains names) kept
+pub kept-among : (schema : Schema) (s : Slot) (names kept : List Predicate) → AreKeptAmong schema s names kept → All (Contains names) kept
 kept-among schema s names kept are = kept-named (Contains names) schema s [] names kept are (All-contains_itself names)
 
 -- no more are kept than are named
@@ -45,7 +45,7 @@ Covers schema s names kept = (q : Predicate) → Contains names q → IsMetUnder
 
 -- ---- a predicate that no valid request meets
 
-pub unmet-keeps : (schema : Schema) (s : Slot) (names kept : List Predicate) (p : Predicate) → AreKept schema s names kept → (IsMetUnder schema s p → ⊥) → AreKept schema s (names ++ p ∷ []) kept
+pub unmet-keeps : (schema : Schema) (s : Slot) (names kept : List Predicate) (p : Predicate) → AreKeptAmong schema s names kept → (IsMetUnder schema s p → ⊥) → AreKeptAmong schema s (names ++ p ∷ []) kept
 unmet-keeps schema s names kept p are unmet = drops-last schema s [] names kept p are (λ h. unmet h.met)
 
 pub unmet-covers : (schema : Schema) (s : Slot) (names kept : List Predicate) (p : Predicate) → Covers schema s names kept → (IsMetUnder schema s p → ⊥) → Covers schema s (names ++ p ∷ []) kept
@@ -56,7 +56,7 @@ unmet-covers schema s names kept p covers unmet q here met = elim (Contains-push
 
 -- ---- a predicate that is met by the same requests as a kept one
 
-pub same-keeps : (schema : Schema) (s : Slot) (names kept : List Predicate) (p : Predicate) → AreKept schema s names kept → Any (λ k. MeetTheSame schema s k p) kept → AreKept schema s (names ++ p ∷ []) kept
+pub same-keeps : (schema : Schema) (s : Slot) (names kept : List Predicate) (p : Predicate) → AreKeptAmong schema s names kept → Any (λ k. MeetTheSame schema s k p) kept → AreKeptAmong schema s (names ++ p ∷ []) kept
 same-keeps schema s names kept p are some =
     drops-last schema s [] names kept p are
     (λ h. h.first (any-of (λ k. MeetTheSame schema s k p) names some.1 (All-contains (Contains names) kept some.1 (kept-among schema s names kept are) (some.0, some.2, some.3)) some.4))
@@ -69,7 +69,7 @@ same-covers schema s names kept p covers some q here met = elim (Contains-push_c
 
 -- ---- a predicate that is kept
 
-pub new-keeps : (schema : Schema) (s : Slot) (names kept : List Predicate) (p : Predicate) → AreKept schema s names kept → Covers schema s names kept → IsMetUnder schema s p → (Any (λ k. MeetTheSame schema s k p) kept → ⊥) → AreKept schema s (names ++ p ∷ []) (kept ++ p ∷ [])
+pub new-keeps : (schema : Schema) (s : Slot) (names kept : List Predicate) (p : Predicate) → AreKeptAmong schema s names kept → Covers schema s names kept → IsMetUnder schema s p → (Any (λ k. MeetTheSame schema s k p) kept → ⊥) → AreKeptAmong schema s (names ++ p ∷ []) (kept ++ p ∷ [])
 new-keeps schema s names kept p are covers met apart = keeps-last schema s [] names kept p are (record {
   met = met;
   first = λ some.

@@ -21,9 +21,9 @@ use Rattle.strata.specs.declared.rows.Row.{Row}
 use Rattle.strata.specs.declared.stratum.Strata.{Strata}
 use Rattle.strata.specs.declared.stratum.Stratum.{Stratum}
 use Rattle.strata.specs.Asking.{IsAskedIn}
-use Rattle.strata.specs.Below.{AreKept}
+use Rattle.strata.specs.Below.{AreKeptAmong}
 use Rattle.strata.specs.Causes.{AreFew, AreStrataOf, HaveWidePair, IsFirstTooMany, NamesTooMany, NamesWide}
-use Rattle.strata.specs.Making.{AreAllNamed, AreFewNamed, AreStrataAmong, IsStratumOf, MakesAll, MakesStratum, NamesAll, SuitSlots, names_at, slot_at}
+use Rattle.strata.specs.Making.{AreAllNamed, AreFewNamed, AreStrataAmong, IsStratumOf, MakesAll, MakesStratum, NamesAll, SuitSlots, named_at, slot_at}
 use Rattle.strata.specs.Predicates.{AreNamed, SuitsSlot, read_in}
 use Rattle.strata.specs.Rows.{AreSized, AreToldMaximal}
 use Rattle.strata.specs.Settling.{AreKeptSoFar, FailsAmong}
@@ -76,7 +76,7 @@ first-too-many tests slots d all s names h within at named many = record {
   at = at-some slots d s within at;
   many = record { names = names; named = named; many = many };
   first = λ e t l there.
-      not-too-many tests t (names_at all e) (subst (λ (x : Slot). AreFewNamed tests x (names_at all e)) (get_or_from_slice_get slots e t slot.Principal there) (h.each e l));
+      not-too-many tests t (named_at all e) (subst (λ (x : Slot). AreFewNamed tests x (named_at all e)) (get_or_from_slice_get slots e t slot.Principal there) (h.each e l));
 }
 
 pub named-end : (tests : List Test) (slots : List Slot) (n : ℕ) (all : List (List Predicate)) → n ≤ length slots → length slots ≤ n → AreAllNamed tests slots n all → AreAllNamed tests slots (length slots) all
@@ -98,7 +98,7 @@ kept-fits schema s names xs kept rows same whole few h =
 pub stratum-made : (schema : Schema) (s copied : Slot) (names xs : List Predicate) (kept : Kept) (rows : List Row) (lists : List (List ℕ)) → copied ≡ s → rows ≡ kept.rows → xs ≡ names → AreKeptSoFar schema s xs kept → AreToldMaximal rows (length rows) lists → IsStratumOf schema s names (record { slot = copied; predicates = kept.predicates; below = lists })
 stratum-made schema s copied names xs kept rows lists copy same whole h told = record {
   slot = copy;
-  kept = subst (λ (ns : List Predicate). AreKept schema s ns kept.predicates) whole h.keeps;
+  kept = subst (λ (ns : List Predicate). AreKeptAmong schema s ns kept.predicates) whole h.keeps;
   order = table-order schema s kept.predicates kept.rows lists h.table (subst (λ (ys : List Row). AreToldMaximal ys (length ys) lists) same told);
 }
 
@@ -112,24 +112,24 @@ made-push schema slots all n made new s names x h within inside at own is longer
     subst (λ (xs : List Stratum). AreStrataAmong schema slots all (n + 1) xs) (sym longer) (record {
       count = length_push made x ∙ ap (λ m. m + 1) h.count;
       each = λ d y l. elim (cases_lt d n) [
-        | inl before ↦ subst (λ (z : Stratum). IsStratumOf schema (slot_at slots d) (names_at all d) z) (sym (get_or_append_left made (x ∷ []) y d (omega (arith, h.count)))) (h.each d y before)
+        | inl before ↦ subst (λ (z : Stratum). IsStratumOf schema (slot_at slots d) (named_at all d) z) (sym (get_or_append_left made (x ∷ []) y d (omega (arith, h.count)))) (h.each d y before)
         | inr past ↦
             let same : n ≡ d = omega arith in
-            subst (λ (z : Stratum). IsStratumOf schema (slot_at slots d) (names_at all d) z) (sym (get_or_push made x y d (h.count ∙ same)))
-            (subst (λ (m : ℕ). IsStratumOf schema (slot_at slots m) (names_at all m) x) same
-            (subst (λ (t : Slot). IsStratumOf schema t (names_at all n) x) (at-slot slots n s within at)
+            subst (λ (z : Stratum). IsStratumOf schema (slot_at slots d) (named_at all d) z) (sym (get_or_push made x y d (h.count ∙ same)))
+            (subst (λ (m : ℕ). IsStratumOf schema (slot_at slots m) (named_at all m) x) same
+            (subst (λ (t : Slot). IsStratumOf schema t (named_at all n) x) (at-slot slots n s within at)
             (subst (λ (ns : List Predicate). IsStratumOf schema s ns x) (own ∙ get_or_default all n names [] inside) is)))
       ];
     })
 
 pub made-fails : (schema : Schema) (states : ℕ) (slots : List Slot) (all : List (List Predicate)) (n : ℕ) (s : Slot) (names : List Predicate) (r : Result Strata StrataFault) (e : StrataFault) → IsErrAnd r (λ f. f ≡ e) → n < length slots → n < length all → s ≡ get_or slots n s → names ≡ get_or all n names → FailsAmong schema states s names e → MakesAll schema states slots all r
 made-fails schema states slots all n s names (Ok x) e is within inside at own h = absurd is
-made-fails schema states slots all n s names (Err f) e is within inside at own h = by f (subst (FailsAmong schema states (slot_at slots n) (names_at all n)) (sym is) here)
+made-fails schema states slots all n s names (Err f) e is within inside at own h = by f (subst (FailsAmong schema states (slot_at slots n) (named_at all n)) (sym is) here)
   where
-    here : FailsAmong schema states (slot_at slots n) (names_at all n) e
-    here = subst (λ (t : Slot). FailsAmong schema states t (names_at all n) e) (at-slot slots n s within at) (subst (λ (ns : List Predicate). FailsAmong schema states s ns e) (own ∙ get_or_default all n names [] inside) h)
+    here : FailsAmong schema states (slot_at slots n) (named_at all n) e
+    here = subst (λ (t : Slot). FailsAmong schema states t (named_at all n) e) (at-slot slots n s within at) (subst (λ (ns : List Predicate). FailsAmong schema states s ns e) (own ∙ get_or_default all n names [] inside) h)
 
-    by : (g : StrataFault) → FailsAmong schema states (slot_at slots n) (names_at all n) g → MakesAll schema states slots all (Err g)
+    by : (g : StrataFault) → FailsAmong schema states (slot_at slots n) (named_at all n) g → MakesAll schema states slots all (Err g)
     by NoMemory k = tt
     by (TooManyPredicates d) k = absurd k
     by (Wide t texts) k = record { index = n; within = within; fails = k }
@@ -145,20 +145,20 @@ all-asked schema slots sound within = λ k d l. record { sound = sound; slot = w
 pub all-suit : (schema : Schema) (tests : List Test) (slots : List Slot) (all : List (List Predicate)) → All (TestSuits schema) tests → AreAllNamed tests slots (length slots) all → SuitSlots schema slots all
 all-suit schema tests slots all suit h = record {
   count = h.count;
-  suit = λ d l. named-suit schema (slot_at slots d) tests (names_at all d) suit (h.each d l).named;
+  suit = λ d l. named-suit schema (slot_at slots d) tests (named_at all d) suit (h.each d l).named;
   few = λ d l. (h.each d l).few;
 }
 
 all-few : (tests : List Test) (slots : List Slot) (all : List (List Predicate)) → AreAllNamed tests slots (length slots) all → AreFew tests slots
 all-few tests slots all h k d l many =
-    not-too-many tests (slot_at slots k) (names_at all k) (h.each k l) (subst (NamesTooMany tests) (get_or_default slots k d slot.Principal l) many)
+    not-too-many tests (slot_at slots k) (named_at all k) (h.each k l) (subst (NamesTooMany tests) (get_or_default slots k d slot.Principal l) many)
 
 strata-of : (schema : Schema) (query : Query) (slots : List Slot) (all : List (List Predicate)) (strata : Strata) → AreAllNamed query.tests slots (length slots) all → AreStrataAmong schema slots all (length slots) strata.dimensions → AreStrata schema query slots strata
 strata-of schema query slots all strata h made = record {
   on = same_lists (map (λ (x : Stratum). x.slot) strata.dimensions) slots (length-map strata.dimensions (λ (x : Stratum). x.slot) ∙ made.count) each-slot;
   each = λ d x l.
-      let is : IsStratumOf schema (slot_at slots d) (names_at all d) (get_or strata.dimensions d x) = made.each d x (omega (arith, made.count)) in
-      own-stratum (slot_at slots d) (names_at all d) (get_or strata.dimensions d x) is (h.each d (omega (arith, made.count))).named;
+      let is : IsStratumOf schema (slot_at slots d) (named_at all d) (get_or strata.dimensions d x) = made.each d x (omega (arith, made.count)) in
+      own-stratum (slot_at slots d) (named_at all d) (get_or strata.dimensions d x) is (h.each d (omega (arith, made.count))).named;
 }
   where
     each-slot : (k : ℕ) (d : Slot) → k < length (map (λ (x : Stratum). x.slot) strata.dimensions) → get_or (map (λ (x : Stratum). x.slot) strata.dimensions) k d ≡ get_or slots k d
@@ -173,7 +173,7 @@ strata-of schema query slots all strata h made = record {
       predicates = record {
         names = names;
         named = subst (λ (t : Slot). AreNamed t query.tests names) (sym is.slot) named;
-        kept = subst (λ (t : Slot). AreKept schema t names x.predicates) (sym is.slot) is.kept;
+        kept = subst (λ (t : Slot). AreKeptAmong schema t names x.predicates) (sym is.slot) is.kept;
       };
       order = subst (λ (t : Slot). IsOrder schema t x.predicates x.below) (sym is.slot) is.order;
     }
@@ -187,6 +187,7 @@ wide-named schema states s tests names texts named h = record {
     other = h.other;
     one_named = among h.one h.one_named;
     other_named = among h.other h.other_named;
+    differ = h.differ;
     wider = h.wider;
   };
 }
@@ -204,9 +205,9 @@ outcome schema states query slots all (Ok strata) h made = (strata-of schema que
 outcome schema states query slots all (Err NoMemory) h made = tt
 outcome schema states query slots all (Err (TooManyPredicates d)) h made = absurd made.fails
 outcome schema states query slots all (Err (Wide s texts)) h made =
-    let fails : FailsAmong schema states (slot_at slots made.index) (names_at all made.index) (Wide s texts) = made.fails in
+    let fails : FailsAmong schema states (slot_at slots made.index) (named_at all made.index) (Wide s texts) = made.fails in
     let own : NamesWide schema query.tests states (slot_at slots made.index) texts =
-    wide-named schema states (slot_at slots made.index) query.tests (names_at all made.index) texts (h.each made.index made.within).named fails.1 in (
+    wide-named schema states (slot_at slots made.index) query.tests (named_at all made.index) texts (h.each made.index made.within).named fails.1 in (
       (made.index, made.within, get_or_default slots made.index s slot.Principal made.within ∙ sym fails.0),
       all-few query.tests slots all h,
       subst (λ (t : Slot). NamesWide schema query.tests states t texts) (sym fails.0) own,
@@ -231,7 +232,7 @@ one-asked schema slots d s each within at = subst (IsAskedIn schema) (sym at) (e
 pub one-suits-now : (schema : Schema) (slots : List Slot) (all : List (List Predicate)) (d : ℕ) (s : Slot) (names : List Predicate) → SuitSlots schema slots all → d < length slots → s ≡ get_or slots d s → names ≡ get_or all d names → All (SuitsSlot schema s) names
 one-suits-now schema slots all d s names h within at own =
     let inside : d < length all = omega (arith, h.count) in
-    subst (λ (ns : List Predicate). All (SuitsSlot schema s) ns) (sym (own ∙ get_or_default all d names [] inside)) (subst (λ (t : Slot). All (SuitsSlot schema t) (names_at all d)) (sym (at-slot slots d s within at)) (h.suit d within))
+    subst (λ (ns : List Predicate). All (SuitsSlot schema s) ns) (sym (own ∙ get_or_default all d names [] inside)) (subst (λ (t : Slot). All (SuitsSlot schema t) (named_at all d)) (sym (at-slot slots d s within at)) (h.suit d within))
 
 pub one-few : (schema : Schema) (slots : List Slot) (all : List (List Predicate)) (d : ℕ) (names : List Predicate) → SuitSlots schema slots all → d < length slots → names ≡ get_or all d names → length names ≤ MOST_PREDICATES
 one-few schema slots all d names h within own =

@@ -10,7 +10,7 @@ use Rattle.policy_model.specs.Requests.{HasValidRequest}
 use Rattle.strata.specs.declared.predicate.Predicate.{Predicate}
 use Rattle.strata.specs.declared.predicate.Predicate.TheVariants.{Every}
 use Rattle.strata.specs.Predicates.{Gathers, MeetsPredicate, gathers_none, gathers_again, gathers_anew, read_in}
-use Rattle.strata.specs.Below.{AreKept, IsBelow, IsMetUnder, Keeps, MeetTheSame, keeps_none, keeps_it, drops_it}
+use Rattle.strata.specs.Below.{AreKeptAmong, IsApart, IsBelow, IsMetUnder, Keeps, MeetTheSame, keeps_none, keeps_it, drops_it}
 use Rattle.strata.specs.Covers.{IsBelowAt, IsStrictlyBelow, predicate_at}
 use Rattle.strata.specs.Strata.{AreKeptOf}
 
@@ -19,6 +19,10 @@ below-self schema s p = λ r valid meets. meets
 
 pub below-through : (schema : Schema) (s : Slot) (p q t : Predicate) → IsBelow schema s p q → IsBelow schema s q t → IsBelow schema s p t
 below-through schema s p q t first second = λ r valid meets. second r valid (first r valid meets)
+
+-- one that is below another isn't apart from it
+pub apart-below : (schema : Schema) (s : Slot) (p q : Predicate) → IsApart schema s p q → IsBelow schema s p q → ⊥
+apart-below schema s p q apart below = apart.misses (below apart.request apart.valid apart.meets)
 
 pub same-through : (schema : Schema) (s : Slot) (p q t : Predicate) → MeetTheSame schema s p q → MeetTheSame schema s q t → MeetTheSame schema s p t
 same-through schema s p q t first second = record {
@@ -63,7 +67,7 @@ kept-named P schema s earlier (p ∷ names) kept (keeps_it {kept = more} h rest)
 kept-named P schema s earlier (p ∷ names) kept (drops_it h rest) each = kept-named P schema s (earlier ++ p ∷ []) names kept rest (λ k d w. each (suc k) d (omega arith))
 
 -- two numbers of kept predicates that are below one another are the same
-pub kept-differ : (schema : Schema) (s : Slot) (names kept : List Predicate) (i j : ℕ) → AreKept schema s names kept → i < length kept → j < length kept → IsBelowAt schema s kept i j → IsBelowAt schema s kept j i → i ≡ j
+pub kept-differ : (schema : Schema) (s : Slot) (names kept : List Predicate) (i j : ℕ) → AreKeptAmong schema s names kept → i < length kept → j < length kept → IsBelowAt schema s kept i j → IsBelowAt schema s kept j i → i ≡ j
 kept-differ schema s names kept i j are wi wj below above = elim (cases_lt i j) [
   | inl less ↦ absurd (kept-apart schema s [] names kept are i j Every less wj (record { below = below; above = above }))
   | inr more ↦ elim (cases_lt j i) [
@@ -76,7 +80,7 @@ pub strictly-irreflexive : (schema : Schema) (s : Slot) (kept : List Predicate) 
 strictly-irreflexive schema s kept i h = h.differ refl
 
 -- strictly below is transitive on the predicates that are kept
-pub strictly-through : (schema : Schema) (s : Slot) (names kept : List Predicate) (i j k : ℕ) → AreKept schema s names kept → IsStrictlyBelow schema s kept i j → IsStrictlyBelow schema s kept j k → IsStrictlyBelow schema s kept i k
+pub strictly-through : (schema : Schema) (s : Slot) (names kept : List Predicate) (i j k : ℕ) → AreKeptAmong schema s names kept → IsStrictlyBelow schema s kept i j → IsStrictlyBelow schema s kept j k → IsStrictlyBelow schema s kept i k
 strictly-through schema s names kept i j k are first second = record {
   lower = first.lower;
   upper = second.upper;
@@ -90,7 +94,7 @@ gathers-begins p had [] got gathers_none = (had, refl)
 gathers-begins p had (q ∷ read) got (gathers_again here rest) = gathers-begins p had read got rest
 gathers-begins p had (q ∷ read) got (gathers_anew new rest) = gathers-begins p (had ++ q ∷ []) read got rest
 
-first-kept : (schema : Schema) (s : Slot) (names kept : List Predicate) → HasValidRequest schema → AreKept schema s (Every ∷ names) kept → (rest : List Predicate) × (kept ≡ Every ∷ rest)
+first-kept : (schema : Schema) (s : Slot) (names kept : List Predicate) → HasValidRequest schema → AreKeptAmong schema s (Every ∷ names) kept → (rest : List Predicate) × (kept ≡ Every ∷ rest)
 first-kept schema s names kept some (keeps_it {kept = more} h rest) = (more, refl)
 first-kept schema s names kept some (drops_it h rest) = absurd (h (record {
   met = record { request = some.0; valid = some.1; meets = tt };
@@ -101,7 +105,7 @@ first-kept schema s names kept some (drops_it h rest) = absurd (h (record {
 pub any-first : (schema : Schema) (s : Slot) (tests : List Test) (kept : List Predicate) → HasValidRequest schema → AreKeptOf schema s tests kept → (rest : List Predicate) × (kept ≡ Every ∷ rest)
 any-first schema s tests kept some are =
     let begins = gathers-begins Every [] (read_in s tests) are.names are.named in
-    first-kept schema s begins.0 kept some (subst (λ (ns : List Predicate). AreKept schema s ns kept) begins.1 are.kept)
+    first-kept schema s begins.0 kept some (subst (λ (ns : List Predicate). AreKeptAmong schema s ns kept) begins.1 are.kept)
 
 -- and each other one is strictly below it
 pub all-below-any : (schema : Schema) (s : Slot) (tests : List Test) (kept : List Predicate) (i : ℕ) → HasValidRequest schema → AreKeptOf schema s tests kept → 0 < i → i < length kept → IsStrictlyBelow schema s kept i 0

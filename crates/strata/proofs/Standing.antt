@@ -1,5 +1,5 @@
 -- How a predicate stands to those that are kept, as questions on it are answered.
-use Rattle.std.proofs.Common.{◌≡◌, ℕ, zero, suc, ◌+◌, ◌<◌, ◌≤◌, List, [], ◌∷◌, ◌++◌, length, get_or, take, drop, All, Bool, true, false, true≢false, ◌&&◌, IsTrue, ◌↔◌, Contains, Option, Some, None, refl, sym, ap, ◌∙◌, subst, inl, inr, ◌⊎◌, arith}
+use Rattle.std.proofs.Common.{◌≡◌, ◌≢◌, ℕ, zero, suc, ◌+◌, ◌<◌, ◌≤◌, List, [], ◌∷◌, ◌++◌, length, get_or, take, drop, All, Bool, true, false, true≢false, ◌&&◌, IsTrue, ◌↔◌, Contains, Option, Some, None, refl, sym, ap, ◌∙◌, subst, inl, inr, ◌⊎◌, arith}
 use Rattle.std.specs.Prelude.{Any, Result, Ok, Err, IsErrAnd}
 use Rattle.std.proofs.lemmas.Bool.{and_from, and_parts, cases_lt}
 use Rattle.std.proofs.lemmas.List.{get_or_read, take-append-drop, take_all, take_more}
@@ -8,20 +8,22 @@ use Rattle.wildcard_lang.specs.Places.{ShowWider}
 use Rattle.policy_model.specs.declared.schema.Schema.{Schema}
 use Rattle.policy_model.specs.declared.test.Slot.{Slot}
 use Rattle.policy_model.specs.Requests.{HasValidRequest}
+use Rattle.strata.specs.declared.inclusion.Within.{Within}
+use Rattle.strata.specs.declared.inclusion.Within.TheVariants as within
 use Rattle.strata.specs.declared.kept.Kept.{Kept}
 use Rattle.strata.specs.declared.outcome.StrataFault.{StrataFault}
 use Rattle.strata.specs.declared.outcome.StrataFault.TheVariants.{TooManyPredicates, Wide, NoMemory}
 use Rattle.strata.specs.declared.predicate.Predicate.{Predicate}
 use Rattle.strata.specs.declared.predicate.Predicate.TheVariants.{Every}
 use Rattle.strata.specs.declared.rows.Row.{Row}
-use Rattle.strata.specs.Asking.{pair_patterns}
-use Rattle.strata.specs.Below.{AreKept, IsBelow, IsMetUnder, MeetTheSame, keeps_none}
+use Rattle.strata.specs.Asking.{AnswersMet, AnswersWithin, pair_patterns}
+use Rattle.strata.specs.Below.{AreKeptAmong, IsMetUnder, MeetTheSame, keeps_none}
 use Rattle.strata.specs.Covers.{predicate_at}
 use Rattle.strata.specs.Predicates.{SuitsSlot}
-use Rattle.strata.specs.Rows.{AreAnswered, IsRow, IsTable}
-use Rattle.strata.specs.Settling.{AreKeptSoFar, FailsAmong, FailsWide, IsRowOf, KeepsOf, KeepsOneMore}
-use Rattle.strata.proofs.Answering.{answered-none, answered-push, table-none, table-push}
-use Rattle.strata.proofs.Ordering.{kept-named}
+use Rattle.strata.specs.Rows.{AreAnswered, IsRow, IsTable, TellsBelow}
+use Rattle.strata.specs.Settling.{AreKeptSoFar, FailsAmong, FailsWide, IsRowOf, IsWidePair, KeepsOf, KeepsOneMore, SettlesTo, TellsMet, TellsWithin}
+use Rattle.strata.proofs.Answering.{answered-none, answered-push, below-says, says-below, table-none, table-push}
+use Rattle.strata.proofs.Ordering.{below-self, kept-named}
 use Rattle.strata.proofs.Keeping.{kept-among, new-covers, new-keeps, same-covers, same-keeps, unmet-covers, unmet-keeps}
 
 -- ---- what is asked
@@ -29,6 +31,38 @@ use Rattle.strata.proofs.Keeping.{kept-among, new-covers, new-keeps, same-covers
 -- where some request is valid, some valid one meets `any`
 pub any-met : (schema : Schema) (s : Slot) (p : Predicate) → p ≡ Every → HasValidRequest schema → IsTrue true ↔ IsMetUnder schema s p
 any-met schema s p is some = (λ _. subst (IsMetUnder schema s) (sym is) (record { request = some.0; valid = some.1; meets = tt }), λ _. refl)
+
+-- what an answer comes to, where the predicate isn't `any`
+pub settles-met : (schema : Schema) (states : ℕ) (s : Slot) (p : Predicate) (answer : Within) (r : Result Bool StrataFault) → p ≢ Every → AnswersMet schema states s p answer → SettlesTo s answer r → TellsMet schema states s p r
+settles-met schema states s p answer (Err NoMemory) differ says is = tt
+settles-met schema states s p within.Yes (Ok b) differ says is = (λ _. says, λ _. (cc))
+settles-met schema states s p within.No (Ok b) differ says is = (λ on. absurd (cc), λ met. absurd (says met))
+settles-met schema states s p (within.TooMany texts) (Ok b) differ says is = absurd (cc)
+settles-met schema states s p within.Yes (Err (Wide t xs)) differ says is = absurd (cc)
+settles-met schema states s p within.No (Err (Wide t xs)) differ says is = absurd (cc)
+settles-met schema states s p (within.TooMany texts) (Err (Wide t xs)) differ says is =
+    (cc, record { differ = differ; wider = (let same : texts ≡ xs = cc in subst (ShowWider (pair_patterns schema s p Every) states) same says) })
+settles-met schema states s p within.Yes (Err (TooManyPredicates d)) differ says is = absurd (cc)
+settles-met schema states s p within.No (Err (TooManyPredicates d)) differ says is = absurd (cc)
+settles-met schema states s p (within.TooMany texts) (Err (TooManyPredicates d)) differ says is = absurd (cc)
+
+-- and of two predicates that differ
+pub settles-within : (schema : Schema) (states : ℕ) (s : Slot) (p q : Predicate) (answer : Within) (r : Result Bool StrataFault) → p ≢ q → AnswersWithin schema states s p q answer → SettlesTo s answer r → TellsWithin schema states s p q r
+settles-within schema states s p q answer (Err NoMemory) differ says is = tt
+settles-within schema states s p q within.Yes (Ok b) differ says is = (let on : true ≡ b = cc in subst (λ (a : Bool). TellsBelow schema s p q a) on says)
+settles-within schema states s p q within.No (Ok b) differ says is = (let off : false ≡ b = cc in subst (λ (a : Bool). TellsBelow schema s p q a) off says)
+settles-within schema states s p q (within.TooMany texts) (Ok b) differ says is = absurd (cc)
+settles-within schema states s p q within.Yes (Err (Wide t xs)) differ says is = absurd (cc)
+settles-within schema states s p q within.No (Err (Wide t xs)) differ says is = absurd (cc)
+settles-within schema states s p q (within.TooMany texts) (Err (Wide t xs)) differ says is =
+    (cc, record { differ = differ; wider = (let same : texts ≡ xs = cc in subst (ShowWider (pair_patterns schema s p q) states) same says) })
+settles-within schema states s p q within.Yes (Err (TooManyPredicates d)) differ says is = absurd (cc)
+settles-within schema states s p q within.No (Err (TooManyPredicates d)) differ says is = absurd (cc)
+settles-within schema states s p q (within.TooMany texts) (Err (TooManyPredicates d)) differ says is = absurd (cc)
+
+-- each predicate is below an equal one
+pub equal-within : (schema : Schema) (states : ℕ) (s : Slot) (p q : Predicate) → p ≡ q → TellsWithin schema states s p q (Ok true)
+equal-within schema states s p q same = subst (λ (t : Predicate). TellsWithin schema states s p t (Ok true)) same (below-self schema s p)
 
 -- `any` and those that are named
 pub any-in : (names : List Predicate) → Contains (Every ∷ names) Every
@@ -42,8 +76,8 @@ in-cases names p (zero, l, e) = inl e
 in-cases names p (suc k, l, e) = inr (k, omega arith, e)
 
 -- a pair of predicates that is too wide is one of those that are named
-pub pair-fails : (schema : Schema) (states : ℕ) (s : Slot) (p q : Predicate) (names : List Predicate) (e : StrataFault) → Contains (Every ∷ names) p → Contains (Every ∷ names) q → FailsWide (ShowWider (pair_patterns schema s p q) states) s e → FailsAmong schema states s names e
-pair-fails schema states s p q names (Wide t texts) here there h = (h.0, record { one = p; other = q; one_named = here; other_named = there; wider = h.1 })
+pub pair-fails : (schema : Schema) (states : ℕ) (s : Slot) (p q : Predicate) (names : List Predicate) (e : StrataFault) → Contains (Every ∷ names) p → Contains (Every ∷ names) q → FailsWide (IsWidePair schema states s p q) s e → FailsAmong schema states s names e
+pair-fails schema states s p q names (Wide t texts) here there h = (h.0, record { one = p; other = q; one_named = here; other_named = there; differ = h.1.differ; wider = h.1.wider })
 pair-fails schema states s p q names (TooManyPredicates d) here there h = h
 pair-fails schema states s p q names NoMemory here there h = tt
 
@@ -62,6 +96,7 @@ fails-more schema states s few names (Wide t texts) more h = (
     other = h.1.other;
     one_named = longer-in few names more h.1.one h.1.one_named;
     other_named = longer-in few names more h.1.other h.1.other_named;
+    differ = h.1.differ;
     wider = h.1.wider;
   },
 )
@@ -72,46 +107,46 @@ fails-more schema states s few names NoMemory more h = tt
 
 pub row-none : (schema : Schema) (s : Slot) (kept : List Predicate) (p : Predicate) (row : Row) → row.below ≡ [] → row.above ≡ [] → IsRow schema s kept 0 p row
 row-none schema s kept p row below above = record {
-  below = subst (λ (xs : List Bool). AreAnswered (λ q. IsBelow schema s p q) kept 0 xs) (sym below) (answered-none (λ q. IsBelow schema s p q) kept);
-  above = subst (λ (xs : List Bool). AreAnswered (λ q. IsBelow schema s q p) kept 0 xs) (sym above) (answered-none (λ q. IsBelow schema s q p) kept);
+  below = subst (λ (xs : List Bool). AreAnswered (λ q b. TellsBelow schema s p q b) kept 0 xs) (sym below) (answered-none (λ q b. TellsBelow schema s p q b) kept);
+  above = subst (λ (xs : List Bool). AreAnswered (λ q b. TellsBelow schema s q p b) kept 0 xs) (sym above) (answered-none (λ q b. TellsBelow schema s q p b) kept);
 }
 
 -- an answer of one who answers for the schema
-pub told-below : (now schema : Schema) (s : Slot) (p q : Predicate) (b : Bool) → now ≡ schema → IsTrue b ↔ IsBelow now s p q → IsTrue b ↔ IsBelow schema s p q
-told-below now schema s p q b same h = subst (λ (x : Schema). IsTrue b ↔ IsBelow x s p q) same h
+pub told-below : (now schema : Schema) (s : Slot) (p q : Predicate) (b : Bool) → now ≡ schema → TellsBelow now s p q b → TellsBelow schema s p q b
+told-below now schema s p q b same h = subst (λ (x : Schema). TellsBelow x s p q b) same h
 
-pub told-wide : (now schema : Schema) (had states : ℕ) (s : Slot) (p q : Predicate) (e : StrataFault) → now ≡ schema → had ≡ states → FailsWide (ShowWider (pair_patterns now s p q) had) s e → FailsWide (ShowWider (pair_patterns schema s p q) states) s e
-told-wide now schema had states s p q e same few h = subst (λ (x : Schema). FailsWide (ShowWider (pair_patterns x s p q) states) s e) same (subst (λ (n : ℕ). FailsWide (ShowWider (pair_patterns now s p q) n) s e) few h)
+pub told-wide : (now schema : Schema) (had states : ℕ) (s : Slot) (p q : Predicate) (e : StrataFault) → now ≡ schema → had ≡ states → FailsWide (IsWidePair now had s p q) s e → FailsWide (IsWidePair schema states s p q) s e
+told-wide now schema had states s p q e same few h = subst (λ (x : Schema). FailsWide (IsWidePair x states s p q) s e) same (subst (λ (n : ℕ). FailsWide (IsWidePair now n s p q) s e) few h)
 
 -- one more predicate was compared
-pub row-push : (schema : Schema) (s : Slot) (kept : List Predicate) (i : ℕ) (p q : Predicate) (row : Row) (below above : Bool) (lows highs : List Bool) → IsRow schema s kept i p row → i < length kept → q ≡ get_or kept i q → IsTrue below ↔ IsBelow schema s p q → IsTrue above ↔ IsBelow schema s q p → lows ≡ row.below ++ below ∷ [] → highs ≡ row.above ++ above ∷ [] → IsRow schema s kept (i + 1) p (record { below = lows; above = highs })
+pub row-push : (schema : Schema) (s : Slot) (kept : List Predicate) (i : ℕ) (p q : Predicate) (row : Row) (below above : Bool) (lows highs : List Bool) → IsRow schema s kept i p row → i < length kept → q ≡ get_or kept i q → TellsBelow schema s p q below → TellsBelow schema s q p above → lows ≡ row.below ++ below ∷ [] → highs ≡ row.above ++ above ∷ [] → IsRow schema s kept (i + 1) p (record { below = lows; above = highs })
 row-push schema s kept i p q row below above lows highs h within at low high is_low is_high =
     let here : q ≡ predicate_at kept i = get_or_read kept i q within at Every in
     record {
-      below = subst (λ (xs : List Bool). AreAnswered (λ t. IsBelow schema s p t) kept (i + 1) xs) (sym is_low) (answered-push (λ t. IsBelow schema s p t) kept i row.below below h.below (subst (λ (t : Predicate). IsTrue below ↔ IsBelow schema s p t) here low));
-      above = subst (λ (xs : List Bool). AreAnswered (λ t. IsBelow schema s t p) kept (i + 1) xs) (sym is_high) (answered-push (λ t. IsBelow schema s t p) kept i row.above above h.above (subst (λ (t : Predicate). IsTrue above ↔ IsBelow schema s t p) here high));
+      below = subst (λ (xs : List Bool). AreAnswered (λ t b. TellsBelow schema s p t b) kept (i + 1) xs) (sym is_low) (answered-push (λ t b. TellsBelow schema s p t b) kept i row.below below h.below (subst (λ (t : Predicate). TellsBelow schema s p t below) here low));
+      above = subst (λ (xs : List Bool). AreAnswered (λ t b. TellsBelow schema s t p b) kept (i + 1) xs) (sym is_high) (answered-push (λ t b. TellsBelow schema s t p b) kept i row.above above h.above (subst (λ (t : Predicate). TellsBelow schema s t p above) here high));
     }
 
 -- none of the first n predicates is met by the same requests as p
 abbrev pub AreApart : Schema → Slot → List Predicate → ℕ → Predicate → Type 0
 AreApart schema s kept n p = (j : ℕ) → j < n → MeetTheSame schema s (predicate_at kept j) p → ⊥
 
-pub apart-push : (schema : Schema) (s : Slot) (kept : List Predicate) (i : ℕ) (p q : Predicate) (below above both : Bool) → AreApart schema s kept i p → i < length kept → q ≡ get_or kept i q → IsTrue below ↔ IsBelow schema s p q → IsTrue above ↔ IsBelow schema s q p → both ≡ (below && above) → both ≡ false → AreApart schema s kept (i + 1) p
+pub apart-push : (schema : Schema) (s : Slot) (kept : List Predicate) (i : ℕ) (p q : Predicate) (below above both : Bool) → AreApart schema s kept i p → i < length kept → q ≡ get_or kept i q → TellsBelow schema s p q below → TellsBelow schema s q p above → both ≡ (below && above) → both ≡ false → AreApart schema s kept (i + 1) p
 apart-push schema s kept i p q below above both h within at low high is off j l same = elim (cases_lt j i) [
   | inl before ↦ h j before same
   | inr past ↦
       let last : j ≡ i = omega arith in
       let here : predicate_at kept j ≡ q = ap (predicate_at kept) last ∙ sym (get_or_read kept i q within at Every) in
       let own : MeetTheSame schema s q p = subst (λ (t : Predicate). MeetTheSame schema s t p) here same in
-      let on : (below && above) ≡ true = and_from below above (low.1 own.above) (high.1 own.below) in
+      let on : (below && above) ≡ true = and_from below above (below-says schema s p q below low own.above) (below-says schema s q p above high own.below) in
       true≢false (sym on ∙ (sym is ∙ off))
 ]
 
 -- one of those that are kept is met by the same requests
-pub row-same : (schema : Schema) (s : Slot) (kept : List Predicate) (i : ℕ) (p q : Predicate) (below above both : Bool) → i < length kept → q ≡ get_or kept i q → IsTrue below ↔ IsBelow schema s p q → IsTrue above ↔ IsBelow schema s q p → both ≡ (below && above) → both ≡ true → Any (λ t. MeetTheSame schema s t p) kept
+pub row-same : (schema : Schema) (s : Slot) (kept : List Predicate) (i : ℕ) (p q : Predicate) (below above both : Bool) → i < length kept → q ≡ get_or kept i q → TellsBelow schema s p q below → TellsBelow schema s q p above → both ≡ (below && above) → both ≡ true → Any (λ t. MeetTheSame schema s t p) kept
 row-same schema s kept i p q below above both within at low high is on =
     let parts = and_parts below above (sym is ∙ on) in
-    (i, q, within, sym at, record { below = high.0 parts.1; above = low.0 parts.0 })
+    (i, q, within, sym at, record { below = says-below schema s q p above high parts.1; above = says-below schema s p q below low parts.0 })
 
 -- none of those that are kept is
 pub row-end : (schema : Schema) (s : Slot) (kept : List Predicate) (n : ℕ) (p : Predicate) (row : Row) → n ≡ length kept → IsRow schema s kept n p row → AreApart schema s kept n p → IsRow schema s kept (length kept) p row × ¬ Any (λ q. MeetTheSame schema s q p) kept
@@ -128,7 +163,7 @@ row-fails schema states s kept p (Err f) e is h = subst (FailsAmong schema state
 
 pub so-far-none : (schema : Schema) (s : Slot) (kept : Kept) → kept.predicates ≡ [] → kept.rows ≡ [] → AreKeptSoFar schema s [] kept
 so-far-none schema s kept none rows = record {
-  keeps = subst (λ (ps : List Predicate). AreKept schema s [] ps) (sym none) keeps_none;
+  keeps = subst (λ (ps : List Predicate). AreKeptAmong schema s [] ps) (sym none) keeps_none;
   covers = λ q here met. absurd (omega (arith, here.1));
   table = subst (λ (ps : List Predicate). IsTable schema s ps kept.rows) (sym none) (subst (λ (xs : List Row). IsTable schema s [] xs) (sym rows) (table-none schema s));
 }
@@ -151,7 +186,7 @@ so-far-same schema s names kept p h some = record {
 
 pub so-far-new : (schema : Schema) (s : Slot) (names : List Predicate) (kept new : Kept) (p : Predicate) (row : Row) → AreKeptSoFar schema s names kept → IsMetUnder schema s p → IsRow schema s kept.predicates (length kept.predicates) p row × ¬ Any (λ q. MeetTheSame schema s q p) kept.predicates → new.predicates ≡ kept.predicates ++ p ∷ [] → new.rows ≡ kept.rows ++ row ∷ [] → AreKeptSoFar schema s (names ++ p ∷ []) new
 so-far-new schema s names kept new p row h met is predicates rows = record {
-  keeps = subst (λ (ps : List Predicate). AreKept schema s (names ++ p ∷ []) ps) (sym predicates) (new-keeps schema s names kept.predicates p h.keeps h.covers met is.1);
+  keeps = subst (λ (ps : List Predicate). AreKeptAmong schema s (names ++ p ∷ []) ps) (sym predicates) (new-keeps schema s names kept.predicates p h.keeps h.covers met is.1);
   covers = λ q here own. subst (λ (ps : List Predicate). Any (λ k. MeetTheSame schema s k q) ps) (sym predicates) (new-covers schema s names kept.predicates p h.covers q here own);
   table = subst (λ (ps : List Predicate). IsTable schema s ps new.rows) (sym predicates) (subst (λ (xs : List Row). IsTable schema s (kept.predicates ++ p ∷ []) xs) (sym rows) (table-push schema s kept.predicates kept.rows p row h.table is.0));
 }
@@ -173,7 +208,7 @@ kept-fails schema states s names (Err f) e is h = subst (FailsAmong schema state
 
 -- ---- one more predicate is looked at
 
-pub met-fails : (schema : Schema) (states : ℕ) (s : Slot) (names : List Predicate) (kept : Kept) (p : Predicate) (r : Result Unit StrataFault) (e : StrataFault) → IsErrAnd r (λ f. f ≡ e) → FailsWide (ShowWider (pair_patterns schema s p Every) states) s e → KeepsOneMore schema states s (names ++ p ∷ []) kept r
+pub met-fails : (schema : Schema) (states : ℕ) (s : Slot) (names : List Predicate) (kept : Kept) (p : Predicate) (r : Result Unit StrataFault) (e : StrataFault) → IsErrAnd r (λ f. f ≡ e) → FailsWide (IsWidePair schema states s p Every) s e → KeepsOneMore schema states s (names ++ p ∷ []) kept r
 met-fails schema states s names kept p r e is h =
     one-fails schema states s (names ++ p ∷ []) kept r e is (pair-fails schema states s p Every (names ++ p ∷ []) e (in-more (names ++ p ∷ []) p (Contains-push names p)) (any-in (names ++ p ∷ [])) h)
 

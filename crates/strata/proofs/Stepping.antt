@@ -4,18 +4,18 @@ use Rattle.std.proofs.lemmas.Bool.{cases_lt, cases_eq}
 use Rattle.policy_model.specs.declared.schema.Schema.{Schema}
 use Rattle.policy_model.specs.declared.test.Slot.{Slot}
 use Rattle.strata.specs.declared.predicate.Predicate.{Predicate}
-use Rattle.strata.specs.Below.{AreKept}
-use Rattle.strata.specs.Covers.{IsDecided, IsMaximalBelow, IsStrictlyBelow}
-use Rattle.strata.proofs.Ordering.{strictly-through}
+use Rattle.strata.specs.Below.{AreKeptAmong}
+use Rattle.strata.specs.Covers.{OrderIsDecided, IsMaximalBelow, IsStrictlyBelow, predicate_at}
+use Rattle.strata.proofs.Ordering.{apart-below, strictly-through}
 
-module _ (schema : Schema) (s : Slot) (names kept : List Predicate) (are : AreKept schema s names kept) (decided : IsDecided schema s kept) where
+module _ (schema : Schema) (s : Slot) (names kept : List Predicate) (are : AreKeptAmong schema s names kept) (decided : OrderIsDecided schema s kept) where
   -- whether one number is strictly below another
   pub strictly-decided : (i j : ℕ) → i < length kept → j < length kept → IsStrictlyBelow schema s kept i j ⊎ (IsStrictlyBelow schema s kept i j → ⊥)
   strictly-decided i j wi wj = elim (cases_eq i j) [
     | inl same ↦ inr (λ h. h.differ same)
     | inr differ ↦ elim (decided i j wi wj) [
       | inl below ↦ inl (record { lower = wi; upper = wj; differ = differ; below = below })
-      | inr not ↦ inr (λ h. not h.below)
+      | inr apart ↦ inr (λ h. apart-below schema s (predicate_at kept i) (predicate_at kept j) apart h.below)
     ]
   ]
 

@@ -17,7 +17,7 @@ use Rattle.slot_theory.proofs.Laws.{on-slot}
 use Rattle.text_table.specs.Table.{item_at}
 use Rattle.strata.specs.declared.predicate.Predicate.{Predicate}
 use Rattle.strata.specs.declared.predicate.Predicate.TheVariants.{Every, Principal, Word, Meets}
-use Rattle.strata.specs.Predicates.{AreNamed, Gathers, SuitsSlot, gathers_none, gathers_again, gathers_anew, predicates_of, read_in}
+use Rattle.strata.specs.Predicates.{AreNamed, Gathers, SuitsSlot, gathers_none, gathers_again, gathers_anew, test_predicates, read_in}
 
 -- of each of these the rule asks what P says
 key-each : (schema : Schema) (key : List ℕ) (cs : List Cond) → IsKeyWith schema (λ rule. All (IsCondOf rule.kind) cs) key → All (λ c. IsKeyWith schema (λ rule. IsCondOf rule.kind c) key) cs
@@ -28,7 +28,7 @@ key-each schema key cs = by (item_at key schema.keys)
     by (Some rule) h = h
 
 -- what a test names suits the test's slot
-own-suit : (schema : Schema) (t : Test) → TestSuits schema t → All (SuitsSlot schema (slot_of t)) (predicates_of t)
+own-suit : (schema : Schema) (t : Test) → TestSuits schema t → All (SuitsSlot schema (slot_of t)) (test_predicates t)
 own-suit schema (test.Principal entry) suits = All-cons (SuitsSlot schema slot.Principal) (Principal entry) [] suits (All-nil (SuitsSlot schema slot.Principal))
 own-suit schema (test.Action pattern) suits = All-cons (SuitsSlot schema slot.Action) (Word pattern) [] tt (All-nil (SuitsSlot schema slot.Action))
 own-suit schema (test.Resource pattern) suits = All-cons (SuitsSlot schema slot.Resource) (Word pattern) [] tt (All-nil (SuitsSlot schema slot.Resource))
@@ -37,15 +37,15 @@ own-suit schema (test.SomeMeets key c) suits = All-cons (SuitsSlot schema (slot.
 own-suit schema (test.SomeMeetsNone key cs) suits = All-map (SuitsSlot schema (slot.Key key)) Meets cs (key-each schema key cs suits)
 
 -- what a test names in a slot suits it
-one-suits : (schema : Schema) (s : Slot) (t : Test) → TestSuits schema t → All (SuitsSlot schema s) (if is_on s t then predicates_of t else [])
+one-suits : (schema : Schema) (s : Slot) (t : Test) → TestSuits schema t → All (SuitsSlot schema s) (if is_on s t then test_predicates t else [])
 one-suits schema s t suits = elim (cases_Bool (is_on s t)) [
-  | inl on ↦ rw on (subst (λ (x : Slot). All (SuitsSlot schema x) (predicates_of t)) (on-slot s t on) (own-suit schema t suits))
+  | inl on ↦ rw on (subst (λ (x : Slot). All (SuitsSlot schema x) (test_predicates t)) (on-slot s t on) (own-suit schema t suits))
   | inr off ↦ rw off (All-nil (SuitsSlot schema s))
 ]
 
 read-suit : (schema : Schema) (s : Slot) (tests : List Test) → All (TestSuits schema) tests → All (SuitsSlot schema s) (read_in s tests)
 read-suit schema s [] suit = All-nil (SuitsSlot schema s)
-read-suit schema s (t ∷ tests) suit = All-append (SuitsSlot schema s) (if is_on s t then predicates_of t else []) (read_in s tests) (one-suits schema s t (All-head (TestSuits schema) t tests suit)) (read-suit schema s tests (All-tail (TestSuits schema) t tests suit))
+read-suit schema s (t ∷ tests) suit = All-append (SuitsSlot schema s) (if is_on s t then test_predicates t else []) (read_in s tests) (one-suits schema s t (All-head (TestSuits schema) t tests suit)) (read-suit schema s tests (All-tail (TestSuits schema) t tests suit))
 
 gathered-all : (P : Predicate → Type 0) (had read got : List Predicate) → Gathers had read got → All P had → All P read → All P got
 gathered-all P had [] got gathers_none have each = have

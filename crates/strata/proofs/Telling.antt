@@ -1,5 +1,5 @@
 -- What the rows of a table tell of the order.
-use Rattle.std.proofs.Common.{◌≡◌, ◌≢◌, ℕ, ◌+◌, ◌<◌, ◌≤◌, List, [], length, get_or, true, false, true≢false, not, nat_eq, nat_lt, IsTrue, ◌↔◌, refl, sym, ap, ◌∙◌, subst, inl, inr, arith}
+use Rattle.std.proofs.Common.{◌≡◌, ◌≢◌, ℕ, ◌+◌, ◌<◌, ◌≤◌, List, [], length, get_or, Bool, true, false, true≢false, not, nat_eq, nat_lt, IsTrue, ◌↔◌, sym, ap, ◌∙◌, subst, inl, inr, arith}
 use Rattle.std.proofs.lemmas.Bool.{and_from, and_parts, cases_Bool, cases_eq, cases_lt}
 use Rattle.std.proofs.lemmas.Bool.Decides.{nat_tests}
 use Rattle.std.proofs.lemmas.List.Elements.{All-contains}
@@ -8,9 +8,10 @@ use Rattle.policy_model.specs.declared.schema.Schema.{Schema}
 use Rattle.policy_model.specs.declared.test.Slot.{Slot}
 use Rattle.strata.specs.declared.predicate.Predicate.{Predicate}
 use Rattle.strata.specs.declared.rows.Row.{Row}
-use Rattle.strata.specs.Covers.{AreMaximalBelow, IsBelowAt, IsDecided, IsMaximalBelow, IsStrictlyBelow, predicate_at}
-use Rattle.strata.specs.Rows.{AreListed, AreSized, AreToldMaximal, IsNothingAmong, IsNothingTold, IsTable, IsToldMaximal, empty_row, tells_below, tells_between, tells_strictly}
+use Rattle.strata.specs.Covers.{AreMaximalBelow, IsBelowAt, OrderIsDecided, IsMaximalBelow, IsStrictlyBelow, predicate_at}
+use Rattle.strata.specs.Rows.{AreListed, AreSized, AreToldMaximal, IsNothingAmong, IsNothingTold, IsTable, IsToldMaximal, TellsBelow, empty_row, tells_below, tells_between, tells_strictly}
 use Rattle.strata.specs.Strata.{IsOrder}
+use Rattle.strata.proofs.Answering.{below-says, says-below}
 use Rattle.strata.proofs.Ordering.{below-self}
 
 eq-true : (a b : ℕ) → a ≡ b → nat_eq a b ≡ true
@@ -30,9 +31,9 @@ pub table-sized : (schema : Schema) (s : Slot) (kept : List Predicate) (rows : L
 table-sized schema s kept rows h i d l = let row = h.each i d l in (row.below.count, row.above.count)
 
 -- the answers of a table are right
-tells-below : (schema : Schema) (s : Slot) (kept : List Predicate) (rows : List Row) (j i : ℕ) → IsTable schema s kept rows → j < length rows → i < length rows → IsTrue (tells_below rows j i) ↔ IsBelowAt schema s kept j i
+tells-below : (schema : Schema) (s : Slot) (kept : List Predicate) (rows : List Row) (j i : ℕ) → IsTable schema s kept rows → j < length rows → i < length rows → TellsBelow schema s (predicate_at kept j) (predicate_at kept i) (tells_below rows j i)
 tells-below schema s kept rows j i h wj wi = elim (cases_eq j i) [
-  | inl same ↦ rw (eq-true j i same) (λ _. subst (λ (m : ℕ). IsBelowAt schema s kept j m) same (below-self schema s (predicate_at kept j)), λ _. refl)
+  | inl same ↦ rw (eq-true j i same) (subst (λ (m : ℕ). IsBelowAt schema s kept j m) same (below-self schema s (predicate_at kept j)))
   | inr differ ↦ elim (cases_lt j i) [
     | inl less ↦ rw (eq-false j i differ, lt-true j i less) ((h.each i empty_row wi).above.each j less)
     | inr more ↦ rw (eq-false j i differ, lt-false j i more) ((h.each j empty_row wj).below.each i (omega arith))
@@ -46,12 +47,12 @@ tells-strictly schema s kept rows j i h wj wi e =
       lower = omega (arith, h.count);
       upper = omega (arith, h.count);
       differ = λ same. let off : not (nat_eq j i) ≡ false = ap not (eq-true j i same) in absurd (cc);
-      below = (tells-below schema s kept rows j i h wj wi).0 both.1;
+      below = says-below schema s (predicate_at kept j) (predicate_at kept i) (tells_below rows j i) (tells-below schema s kept rows j i h wj wi) both.1;
     }
 
 strictly-tells : (schema : Schema) (s : Slot) (kept : List Predicate) (rows : List Row) (j i : ℕ) → IsTable schema s kept rows → IsStrictlyBelow schema s kept j i → tells_strictly rows j i ≡ true
 strictly-tells schema s kept rows j i h below =
-    and_from (not (nat_eq j i)) (tells_below rows j i) (ap not (eq-false j i below.differ)) ((tells-below schema s kept rows j i h (omega (arith, h.count, below.lower)) (omega (arith, h.count, below.upper))).1 below.below)
+    and_from (not (nat_eq j i)) (tells_below rows j i) (ap not (eq-false j i below.differ)) (below-says schema s (predicate_at kept j) (predicate_at kept i) (tells_below rows j i) (tells-below schema s kept rows j i h (omega (arith, h.count, below.lower)) (omega (arith, h.count, below.upper))) below.below)
 
 -- what a table tells of those that are maximal strictly below is right
 told-maximal : (schema : Schema) (s : Slot) (kept : List Predicate) (rows : List Row) (j i : ℕ) → IsTable schema s kept rows → IsToldMaximal rows i j → IsMaximalBelow schema s kept j i
@@ -87,12 +88,12 @@ listed-maximal schema s kept rows i numbers h listed = record {
   );
 }
 
-table-decided : (schema : Schema) (s : Slot) (kept : List Predicate) (rows : List Row) → IsTable schema s kept rows → IsDecided schema s kept
+table-decided : (schema : Schema) (s : Slot) (kept : List Predicate) (rows : List Row) → IsTable schema s kept rows → OrderIsDecided schema s kept
 table-decided schema s kept rows h j i wj wi =
     let says = tells-below schema s kept rows j i h (omega (arith, h.count)) (omega (arith, h.count)) in
     elim (cases_Bool (tells_below rows j i)) [
-      | inl on ↦ inl (says.0 on)
-      | inr off ↦ inr (λ below. let on : tells_below rows j i ≡ true = says.1 below in absurd (cc))
+      | inl on ↦ inl (subst (λ (b : Bool). TellsBelow schema s (predicate_at kept j) (predicate_at kept i) b) on says)
+      | inr off ↦ inr (subst (λ (b : Bool). TellsBelow schema s (predicate_at kept j) (predicate_at kept i) b) off says)
     ]
 
 -- the lists of a table are the order

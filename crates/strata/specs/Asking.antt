@@ -12,7 +12,7 @@ use Rattle.strata.specs.declared.inclusion.Within.{Within}
 use Rattle.strata.specs.declared.inclusion.Within.TheVariants.{Yes, No, TooMany}
 use Rattle.strata.specs.declared.predicate.Predicate.{Predicate}
 use Rattle.strata.specs.declared.predicate.Predicate.TheVariants.{Every}
-use Rattle.strata.specs.Below.{IsBelow, IsMetUnder}
+use Rattle.strata.specs.Below.{IsApart, IsBelow, IsMetUnder}
 use Rattle.strata.specs.Predicates.{test_of}
 
 -- the schema is sound, and requests under it may have a value in the slot
@@ -35,8 +35,8 @@ AnswersMet schema states s p Yes = IsMetUnder schema s p
 AnswersMet schema states s p No = ¬ IsMetUnder schema s p
 AnswersMet schema states s p (TooMany texts) = ShowWider (pair_patterns schema s p Every) states texts
 
--- whether p is below q; or one more text than the number of states, with different product states of the patterns of both
+-- whether p is below q, or a valid request that meets p and not q; or one more text than the number of states, with different product states of the patterns of both
 abbrev pub AnswersWithin : Schema → ℕ → Slot → Predicate → Predicate → Within → Type 0
 AnswersWithin schema states s p q Yes = IsBelow schema s p q
-AnswersWithin schema states s p q No = ¬ IsBelow schema s p q
+AnswersWithin schema states s p q No = IsApart schema s p q
 AnswersWithin schema states s p q (TooMany texts) = ShowWider (pair_patterns schema s p q) states texts

@@ -17,6 +17,13 @@ pub record IsMetUnder (schema : Schema) (s : Slot) (p : Predicate) : Type 0 wher
 abbrev pub IsBelow : Schema → Slot → Predicate → Predicate → Type 0
 IsBelow schema s p q = (r : Request) → IsValid schema r → MeetsPredicate s p r → MeetsPredicate s q r
 
+-- p is not below q: some valid request meets p and not q
+pub record IsApart (schema : Schema) (s : Slot) (p q : Predicate) : Type 0 where
+  pub request : Request
+  pub valid : IsValid schema request
+  pub meets : MeetsPredicate s p request
+  pub misses : ¬ MeetsPredicate s q request
+
 -- the same valid requests meet both
 pub record MeetTheSame (schema : Schema) (s : Slot) (p q : Predicate) : Type 0 where
   pub below : IsBelow schema s p q
@@ -36,5 +43,5 @@ pub data Keeps (schema : Schema) (s : Slot) : List Predicate → List Predicate 
       Keeps schema s (earlier ++ p ∷ []) names kept → Keeps schema s earlier (p ∷ names) kept
 
 -- those that are kept of the predicates that are named
-abbrev pub AreKept : Schema → Slot → List Predicate → List Predicate → Type 0
-AreKept schema s names kept = Keeps schema s [] names kept
+abbrev pub AreKeptAmong : Schema → Slot → List Predicate → List Predicate → Type 0
+AreKeptAmong schema s names kept = Keeps schema s [] names kept

@@ -1,5 +1,5 @@
 -- What making strata comes to: the strata, or why there are none.
-use Rattle.std.specs.Prelude.{◌≡◌, ◌<◌, ⊤, ℕ, List, All, Contains, Some, Result, Ok, Err, length, slice_get}
+use Rattle.std.specs.Prelude.{◌≡◌, ◌≢◌, ◌<◌, ⊤, ℕ, List, All, Contains, Some, Result, Ok, Err, length, slice_get}
 use Rattle.wildcard_lang.specs.Places.{ShowWider}
 use Rattle.policy_model.specs.declared.schema.Schema.{Schema}
 use Rattle.policy_model.specs.declared.test.Slot.{Slot}
@@ -31,13 +31,14 @@ pub record IsFirstTooMany (tests : List Test) (slots : List Slot) (d : ℕ) : Ty
   pub many : NamesTooMany tests slot
   pub first : (e : ℕ) (s : Slot) → e < d → slice_get slots e ≡ Some s → ¬ NamesTooMany tests s
 
--- two of these predicates are wider in the slot than the number of states: one more text than that, with different product states
--- of the patterns of both
+-- two of these predicates, which differ, are wider in the slot than the number of states: one more text than that, with different
+-- product states of the patterns of both
 pub record HaveWidePair (schema : Schema) (states : ℕ) (s : Slot) (names : List Predicate) (texts : List (List ℕ)) : Type 0 where
   pub one : Predicate
   pub other : Predicate
   pub one_named : Contains names one
   pub other_named : Contains names other
+  pub differ : one ≢ other
   pub wider : ShowWider (pair_patterns schema s one other) states texts
 
 -- two predicates that are named in the slot are

@@ -5,7 +5,7 @@ use Rattle.policy_model.specs.declared.schema.Schema.{Schema}
 use Rattle.policy_model.specs.declared.test.Slot.{Slot}
 use Rattle.strata.specs.declared.predicate.Predicate.{Predicate}
 use Rattle.strata.specs.declared.predicate.Predicate.TheVariants.{Every}
-use Rattle.strata.specs.Below.{IsBelow}
+use Rattle.strata.specs.Below.{IsApart, IsBelow}
 
 -- the predicate of a number
 abbrev pub predicate_at : List Predicate → ℕ → Predicate
@@ -14,6 +14,10 @@ predicate_at kept i = slice_index_or kept i Every
 -- number j is below number i
 abbrev pub IsBelowAt : Schema → Slot → List Predicate → ℕ → ℕ → Type 0
 IsBelowAt schema s kept j i = IsBelow schema s (predicate_at kept j) (predicate_at kept i)
+
+-- some valid request meets number j and not number i
+abbrev pub IsApartAt : Schema → Slot → List Predicate → ℕ → ℕ → Type 0
+IsApartAt schema s kept j i = IsApart schema s (predicate_at kept j) (predicate_at kept i)
 
 -- number j is strictly below number i: below it, and another one
 pub record IsStrictlyBelow (schema : Schema) (s : Slot) (kept : List Predicate) (j i : ℕ) : Type 0 where
@@ -32,7 +36,7 @@ pub record AreMaximalBelow (schema : Schema) (s : Slot) (kept : List Predicate) 
   pub rise : rises_from 0 numbers ≡ true
   pub exact : (j : ℕ) → Contains numbers j ↔ IsMaximalBelow schema s kept j i
 
--- of each two numbers it is known whether the one is below the other
-abbrev pub IsDecided : Schema → Slot → List Predicate → Type 0
-IsDecided schema s kept =
-    (j i : ℕ) → j < length kept → i < length kept → IsBelowAt schema s kept j i ⊎ (¬ IsBelowAt schema s kept j i)
+-- of each two numbers the one is below the other, or some valid request meets the one and not the other
+abbrev pub OrderIsDecided : Schema → Slot → List Predicate → Type 0
+OrderIsDecided schema s kept =
+    (j i : ℕ) → j < length kept → i < length kept → IsBelowAt schema s kept j i ⊎ IsApartAt schema s kept j i

@@ -10,7 +10,7 @@ use Rattle.strata.specs.declared.outcome.StrataFault.TheVariants.{TooManyPredica
 use Rattle.strata.specs.declared.predicate.Predicate.{Predicate}
 use Rattle.strata.specs.declared.stratum.Strata.{Strata}
 use Rattle.strata.specs.declared.stratum.Stratum.{Stratum}
-use Rattle.strata.specs.Below.{AreKept}
+use Rattle.strata.specs.Below.{AreKeptAmong}
 use Rattle.strata.specs.Causes.{IsFirstTooMany}
 use Rattle.strata.specs.Predicates.{AreNamed, SuitsSlot}
 use Rattle.strata.specs.Settling.{FailsAmong}
@@ -20,8 +20,8 @@ use Rattle.strata.specs.Strata.{IsOrder}
 abbrev pub slot_at : List Slot → ℕ → Slot
 slot_at slots d = slice_index_or slots d slot.Principal
 
-abbrev pub names_at : List (List Predicate) → ℕ → List Predicate
-names_at all d = slice_index_or all d []
+abbrev pub named_at : List (List Predicate) → ℕ → List Predicate
+named_at all d = slice_index_or all d []
 
 -- the predicates of the slot that are named, which aren't too many
 pub record AreFewNamed (tests : List Test) (s : Slot) (names : List Predicate) : Type 0 where
@@ -31,7 +31,7 @@ pub record AreFewNamed (tests : List Test) (s : Slot) (names : List Predicate) :
 -- for each of the first n slots those that are named in it
 pub record AreAllNamed (tests : List Test) (slots : List Slot) (n : ℕ) (all : List (List Predicate)) : Type 0 where
   pub count : length all ≡ n
-  pub each : (d : ℕ) → d < n → AreFewNamed tests (slot_at slots d) (names_at all d)
+  pub each : (d : ℕ) → d < n → AreFewNamed tests (slot_at slots d) (named_at all d)
 
 -- for each slot those that are named in it, or the first slot in which there are too many
 abbrev pub NamesAll : List Test → List Slot → Result (List (List Predicate)) StrataFault → Type 0
@@ -43,7 +43,7 @@ NamesAll tests slots (Err NoMemory) = ⊤
 -- those that are kept of the predicates that are named in the slot, with their order
 pub record IsStratumOf (schema : Schema) (s : Slot) (names : List Predicate) (x : Stratum) : Type 0 where
   pub slot : x.slot ≡ s
-  pub kept : AreKept schema s names x.predicates
+  pub kept : AreKeptAmong schema s names x.predicates
   pub order : IsOrder schema s x.predicates x.below
 
 abbrev pub MakesStratum : Schema → ℕ → Slot → List Predicate → Result Stratum StrataFault → Type 0
@@ -53,21 +53,21 @@ MakesStratum schema states s names (Err e) = FailsAmong schema states s names e
 -- the predicates of each slot suit it, and aren't too many
 pub record SuitSlots (schema : Schema) (slots : List Slot) (all : List (List Predicate)) : Type 0 where
   pub count : length all ≡ length slots
-  pub suit : (d : ℕ) → d < length slots → All (SuitsSlot schema (slot_at slots d)) (names_at all d)
-  pub few : (d : ℕ) → d < length slots → length (names_at all d) ≤ MOST_PREDICATES
+  pub suit : (d : ℕ) → d < length slots → All (SuitsSlot schema (slot_at slots d)) (named_at all d)
+  pub few : (d : ℕ) → d < length slots → length (named_at all d) ≤ MOST_PREDICATES
 
 -- the strata of the first n slots
 pub record AreStrataAmong (schema : Schema) (slots : List Slot) (all : List (List Predicate)) (n : ℕ) (made : List Stratum)
     : Type 0 where
   pub count : length made ≡ n
-  pub each : (d : ℕ) (x : Stratum) → d < n → IsStratumOf schema (slot_at slots d) (names_at all d) (slice_index_or made d x)
+  pub each : (d : ℕ) (x : Stratum) → d < n → IsStratumOf schema (slot_at slots d) (named_at all d) (slice_index_or made d x)
 
 -- two of the predicates of some slot are too wide in it
 pub record FailsSomewhere (schema : Schema) (states : ℕ) (slots : List Slot) (all : List (List Predicate)) (e : StrataFault)
     : Type 0 where
   pub index : ℕ
   pub within : index < length slots
-  pub fails : FailsAmong schema states (slot_at slots index) (names_at all index) e
+  pub fails : FailsAmong schema states (slot_at slots index) (named_at all index) e
 
 -- a stratum for each slot, or why there is none
 abbrev pub MakesAll : Schema → ℕ → List Slot → List (List Predicate) → Result Strata StrataFault → Type 0

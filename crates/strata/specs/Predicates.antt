@@ -37,17 +37,17 @@ abbrev pub SuitsSlot : Schema → Slot → Predicate → Type 0
 SuitsSlot schema s p = IsAnyOr (TestSuits schema) s p
 
 -- the predicates that a test names in its slot, in the order of its list. Whether a key is present names none
-abbrev pub predicates_of : Test → List Predicate
-predicates_of (test.Principal entry) = Principal entry ∷ []
-predicates_of (test.Action pattern) = Word pattern ∷ []
-predicates_of (test.Resource pattern) = Word pattern ∷ []
-predicates_of (test.Present key) = []
-predicates_of (test.SomeMeets key c) = Meets c ∷ []
-predicates_of (test.SomeMeetsNone key cs) = map Meets cs
+abbrev pub test_predicates : Test → List Predicate
+test_predicates (test.Principal entry) = Principal entry ∷ []
+test_predicates (test.Action pattern) = Word pattern ∷ []
+test_predicates (test.Resource pattern) = Word pattern ∷ []
+test_predicates (test.Present key) = []
+test_predicates (test.SomeMeets key c) = Meets c ∷ []
+test_predicates (test.SomeMeetsNone key cs) = map Meets cs
 
 -- the predicates that the test names, where it is on the slot
 abbrev pub read_of : Slot → Test → List Predicate
-read_of s t = (if is_on s t then predicates_of t else [])
+read_of s t = (if is_on s t then test_predicates t else [])
 
 -- the predicates that the tests name in the slot, read in the order of the tests
 abbrev pub read_in : Slot → List Test → List Predicate

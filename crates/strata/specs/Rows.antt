@@ -1,22 +1,26 @@
 -- Rows of answers: for each predicate that is kept, how it stands to those before it.
-use Rattle.std.specs.Prelude.{◌≡◌, ◌↔◌, ◌<◌, ℕ, Bool, true, false, not, ◌&&◌, nat_eq, nat_lt, if◌then◌else◌, List, [], IsTrue, All, Contains, length, slice_index_or}
+use Rattle.std.specs.Prelude.{◌≡◌, ◌↔◌, ◌<◌, ℕ, Bool, true, false, not, ◌&&◌, nat_eq, nat_lt, if◌then◌else◌, List, [], MatchBool, All, Contains, length, slice_index_or}
 use Rattle.pattern_automata.specs.Closed.{rises_from}
 use Rattle.policy_model.specs.declared.schema.Schema.{Schema}
 use Rattle.policy_model.specs.declared.test.Slot.{Slot}
 use Rattle.strata.specs.declared.predicate.Predicate.{Predicate}
 use Rattle.strata.specs.declared.rows.Row.{Row}
-use Rattle.strata.specs.Below.{IsBelow}
+use Rattle.strata.specs.Below.{IsApart, IsBelow}
 use Rattle.strata.specs.Covers.{predicate_at}
 
--- for each of the first n predicates the answer whether P holds of it
-pub record AreAnswered (P : Predicate → Type 0) (kept : List Predicate) (n : ℕ) (answers : List Bool) : Type 0 where
+-- the answer whether p is below q: true where it is, and false where some valid request meets p and not q
+abbrev pub TellsBelow : Schema → Slot → Predicate → Predicate → Bool → Type 0
+TellsBelow schema s p q b = MatchBool b (IsBelow schema s p q) (IsApart schema s p q)
+
+-- for each of the first n predicates an answer of which P holds
+pub record AreAnswered (P : Predicate → Bool → Type 0) (kept : List Predicate) (n : ℕ) (answers : List Bool) : Type 0 where
   pub count : length answers ≡ n
-  pub each : (j : ℕ) → j < n → IsTrue (slice_index_or answers j false) ↔ P (predicate_at kept j)
+  pub each : (j : ℕ) → j < n → P (predicate_at kept j) (slice_index_or answers j false)
 
 -- whether p is below each of the first n predicates, and whether each is below p
 pub record IsRow (schema : Schema) (s : Slot) (kept : List Predicate) (n : ℕ) (p : Predicate) (row : Row) : Type 0 where
-  pub below : AreAnswered (λ q. IsBelow schema s p q) kept n row.below
-  pub above : AreAnswered (λ q. IsBelow schema s q p) kept n row.above
+  pub below : AreAnswered (λ q b. TellsBelow schema s p q b) kept n row.below
+  pub above : AreAnswered (λ q b. TellsBelow schema s q p b) kept n row.above
 
 -- for each predicate its row with those before it
 pub record IsTable (schema : Schema) (s : Slot) (kept : List Predicate) (rows : List Row) : Type 0 where

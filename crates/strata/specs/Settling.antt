@@ -1,5 +1,5 @@
 -- What questions on predicates come to.
-use Rattle.std.specs.Prelude.{◌≡◌, ◌↔◌, ⊤, ℕ, Bool, true, false, List, ◌∷◌, ◌++◌, [], IsTrue, Any, Contains, length, Option, Some, None, Result, Ok, Err}
+use Rattle.std.specs.Prelude.{◌≡◌, ◌≢◌, ◌↔◌, ⊤, ℕ, Bool, true, false, List, ◌∷◌, ◌++◌, [], IsTrue, Any, Contains, length, Option, Some, None, Result, Ok, Err}
 use Rattle.wildcard_lang.specs.Places.{ShowWider}
 use Rattle.policy_model.specs.declared.schema.Schema.{Schema}
 use Rattle.policy_model.specs.declared.test.Slot.{Slot}
@@ -12,15 +12,20 @@ use Rattle.strata.specs.declared.predicate.Predicate.TheVariants.{Every}
 use Rattle.strata.specs.declared.rows.Row.{Row}
 use Rattle.strata.specs.declared.kept.Kept.{Kept}
 use Rattle.strata.specs.Asking.{pair_patterns}
-use Rattle.strata.specs.Below.{IsBelow, IsMetUnder, MeetTheSame, AreKept}
+use Rattle.strata.specs.Below.{IsMetUnder, MeetTheSame, AreKeptAmong}
 use Rattle.strata.specs.Causes.{HaveWidePair}
-use Rattle.strata.specs.Rows.{IsRow, IsTable}
+use Rattle.strata.specs.Rows.{IsRow, IsTable, TellsBelow}
 
 -- a fault in the slot: W holds of the texts
 abbrev pub FailsWide : (List (List ℕ) → Type 0) → Slot → StrataFault → Type 0
 FailsWide W s (Wide t texts) = (t ≡ s) × W texts
 FailsWide W s (TooManyPredicates d) = ⊥
 FailsWide W s NoMemory = ⊤
+
+-- two predicates, which differ, are wider in the slot than the number of states
+pub record IsWidePair (schema : Schema) (states : ℕ) (s : Slot) (p q : Predicate) (texts : List (List ℕ)) : Type 0 where
+  pub differ : p ≢ q
+  pub wider : ShowWider (pair_patterns schema s p q) states texts
 
 -- yes or no, or a fault of the slot
 abbrev pub SettlesTo : Slot → Within → Result Bool StrataFault → Type 0
@@ -32,12 +37,12 @@ SettlesTo s (within.TooMany texts) r = r ≡ Err (Wide s texts)
 -- whether some valid request meets the predicate
 abbrev pub TellsMet : Schema → ℕ → Slot → Predicate → Result Bool StrataFault → Type 0
 TellsMet schema states s p (Ok b) = IsTrue b ↔ IsMetUnder schema s p
-TellsMet schema states s p (Err e) = FailsWide (ShowWider (pair_patterns schema s p Every) states) s e
+TellsMet schema states s p (Err e) = FailsWide (IsWidePair schema states s p Every) s e
 
 -- whether p is below q
 abbrev pub TellsWithin : Schema → ℕ → Slot → Predicate → Predicate → Result Bool StrataFault → Type 0
-TellsWithin schema states s p q (Ok b) = IsTrue b ↔ IsBelow schema s p q
-TellsWithin schema states s p q (Err e) = FailsWide (ShowWider (pair_patterns schema s p q) states) s e
+TellsWithin schema states s p q (Ok b) = TellsBelow schema s p q b
+TellsWithin schema states s p q (Err e) = FailsWide (IsWidePair schema states s p q) s e
 
 -- two of `any` and these predicates are too wide in the slot
 abbrev pub FailsAmong : Schema → ℕ → Slot → List Predicate → StrataFault → Type 0
@@ -51,7 +56,7 @@ IsRowOf schema states s kept p (Err e) = FailsAmong schema states s (kept ++ p �
 
 -- what is kept of the predicates that are named, and how they stand to one another
 pub record AreKeptSoFar (schema : Schema) (s : Slot) (names : List Predicate) (kept : Kept) : Type 0 where
-  pub keeps : AreKept schema s names kept.predicates
+  pub keeps : AreKeptAmong schema s names kept.predicates
   pub covers : (q : Predicate) → Contains names q → IsMetUnder schema s q → Any (λ k. MeetTheSame schema s k q) kept.predicates
   pub table : IsTable schema s kept.predicates kept.rows
 

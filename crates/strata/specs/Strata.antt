@@ -8,20 +8,20 @@ use Rattle.strata.specs.declared.predicate.Predicate.{Predicate}
 use Rattle.strata.specs.declared.stratum.Stratum.{Stratum}
 use Rattle.strata.specs.declared.stratum.Strata.{Strata}
 use Rattle.strata.specs.Predicates.{AreNamed}
-use Rattle.strata.specs.Below.{AreKept}
-use Rattle.strata.specs.Covers.{AreMaximalBelow, IsDecided}
+use Rattle.strata.specs.Below.{AreKeptAmong}
+use Rattle.strata.specs.Covers.{AreMaximalBelow, OrderIsDecided}
 
 -- the predicates are those that are kept of what the tests name in the slot
 pub record AreKeptOf (schema : Schema) (s : Slot) (tests : List Test) (predicates : List Predicate) : Type 0 where
   pub names : List Predicate
   pub named : AreNamed s tests names
-  pub kept : AreKept schema s names predicates
+  pub kept : AreKeptAmong schema s names predicates
 
 -- the lists hold for each of the predicates which are maximal strictly below it
 pub record IsOrder (schema : Schema) (s : Slot) (kept : List Predicate) (lists : List (List ℕ)) : Type 0 where
   pub count : length lists ≡ length kept
   pub each : (i : ℕ) (numbers : List ℕ) → slice_get lists i ≡ Some numbers → AreMaximalBelow schema s kept i numbers
-  pub decided : IsDecided schema s kept
+  pub decided : OrderIsDecided schema s kept
 
 -- the stratum has the predicates of its slot that are kept, and their order
 pub record IsStratum (schema : Schema) (tests : List Test) (x : Stratum) : Type 0 where

@@ -1,5 +1,5 @@
 //! Questions on the predicates of a slot, and those whose answers are known.
-ghost use Rattle.std.specs.Prelude.{◌≡◌};
+ghost use Rattle.std.specs.Prelude.{◌≡◌, ◌↔◌, IsTrue};
 ghost use Rattle.strata.specs.Asking.{IsAskedIn};
 ghost use Rattle.strata.specs.Predicates.{SuitsSlot};
 ghost use Rattle.strata.specs.Settling.{SettlesTo, TellsMet, TellsWithin};
@@ -45,7 +45,14 @@ pub(crate) fn is_met<I: Inclusion>(
     settled(slot, answer)
 }
 
-// Whether each valid request that meets the one meets the other. Each meets `Every`.
+fn is_equal(one: &Predicate, other: &Predicate) -> bool
+    ensures { IsTrue result ↔ (one.now ≡ other.now) }
+{
+    one == other
+}
+
+// Whether each valid request that meets the one meets the other. Each meets `Every`, and where both are
+// equal nothing is asked.
 pub(crate) fn is_within<I: Inclusion>(
     alloc: Global,
     slot: &Slot,
@@ -62,6 +69,9 @@ pub(crate) fn is_within<I: Inclusion>(
     ensures states { I.states by.new ≡ I.states by.old }
 {
     if let Predicate::Every = other {
+        return Ok(true);
+    }
+    if is_equal(one, other) {
         return Ok(true);
     }
     let answer = by.within(alloc, slot, one, other)?;

@@ -2,7 +2,7 @@
 ghost use Rattle.std.specs.Prelude.{◌≡◌, [], ◌∷◌, IfOk, OnOk, map};
 ghost use Rattle.slot_theory.specs.Slots.{is_on};
 ghost use Rattle.strata.specs.declared.predicate.Predicate.TheVariants.{Every, Meets};
-ghost use Rattle.strata.specs.Predicates.{AreNamed, Gathers, predicates_of, read_of};
+ghost use Rattle.strata.specs.Predicates.{AreNamed, Gathers, test_predicates, read_of};
 
 use crate::predicate::{Predicate, PredicateList};
 use indexmap::IndexSet;
@@ -48,7 +48,7 @@ fn add_conds(names: &mut IndexSet<Predicate>, conds: &[Cond]) -> Result<(), NoMe
 
 // Adds what the test names.
 fn add_all(names: &mut IndexSet<Predicate>, test: &Test) -> Result<(), NoMemory>
-    ensures { OnOk result (Gathers names.old.keys (predicates_of test.now) names.new.keys) }
+    ensures { OnOk result (Gathers names.old.keys (test_predicates test.now) names.new.keys) }
 {
     match test {
         Test::Principal(entry) => add(names, Predicate::Principal(entry.copy()?)),

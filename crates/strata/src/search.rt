@@ -90,10 +90,10 @@ fn all_strata<I: Inclusion>(
     Ok(Strata { dimensions })
 }
 
-/// For each of the slots the predicates that the query's tests name in it, without those that no
-/// valid request meets, and of several that the same valid requests meet the first alone, with their
-/// order. `Every` is the first. Each ordered pair is asked about at most once, and only where both are
-/// met and none before them is met by the same requests.
+/// A stratum for each of the slots: what the query's tests name in it, in their order and behind `Every`,
+/// and how the predicates stand to one another. A predicate is left out where no valid request meets it, or
+/// where one before it says the same of all valid requests. Each ordered pair is asked about at most once,
+/// and only while both are in.
 ///
 /// The schema is sound, the query's tests suit it, each key among the slots is one of the schema's, the
 /// slots are numbered by 32 bits, and `by` answers for the schema. `TooManyPredicates` comes exactly
