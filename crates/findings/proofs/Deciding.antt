@@ -23,7 +23,7 @@ use Rattle.strata.specs.declared.predicate.Predicate.TheVariants.{Every, Princip
 use Rattle.strata.specs.declared.stratum.Stratum.{Stratum}
 use Rattle.strata.specs.Covers.{predicate_at}
 use Rattle.strata.specs.Predicates.{MeetsPredicate}
-use Rattle.findings.specs.Findings.{LiesIn}
+use Rattle.findings.specs.Findings.{LiesInFinding}
 
 Decides-kind : (j k : PrincipalKind) → Decides (is_kind j k) (j ≡ k)
 Decides-kind j k = (same-kind j k, kind-same j k)
@@ -68,7 +68,7 @@ both-or-not (inl p) (inl q) = inl (p, q)
 both-or-not (inl p) (inr never) = inr (λ h. never h.1)
 both-or-not (inr never) q = inr (λ h. never h.0)
 
-pub lies-decided : (r : Request) (ds : List Stratum) (f : List ℕ) → LiesIn r ds f ⊎ ¬ LiesIn r ds f
+pub lies-decided : (r : Request) (ds : List Stratum) (f : List ℕ) → LiesInFinding r ds f ⊎ ¬ LiesInFinding r ds f
 lies-decided r [] f = inl tt
 lies-decided r (d ∷ ds) [] = inl tt
 lies-decided r (d ∷ ds) (n ∷ f) = both-or-not (meets-or-not d.slot (predicate_at d.predicates n) r) (lies-decided r ds f)

@@ -22,9 +22,9 @@ use Rattle.findings.specs.Answers.{tree_asked}
 use Rattle.findings.specs.Asked.{HoldsForOwn}
 use Rattle.findings.specs.Findings.{IsIrreducible, IsOwn}
 use Rattle.findings.specs.Queries.{AreMadeFor}
-use Rattle.findings.specs.Summaries.{IsSummary, IsVisited, VisitsAtLeast, findings_of}
+use Rattle.findings.specs.Summaries.{IsSummary, MustBeVisited, VisitsAtLeast, findings_of}
 use Rattle.findings.specs.Walked.{AddsFound, AddsReducible, IsDue, IsTakenFor, PassesTo, SameBesides, StartsAt, found_by}
-use Rattle.findings.specs.Walks.{AreAboveIn, IsFound, IsWalk, first_finding}
+use Rattle.findings.specs.Walks.{AreAboveIn, IsFoundFinding, IsWalk, first_finding}
 use Rattle.findings.proofs.Entered.{all-entered, entered-kept, entered-there}
 use Rattle.findings.proofs.Orders.{AllHaveSteps, under-finding}
 use Rattle.findings.proofs.Walking.{all-found, found-maximal, taken-visited, walk-irreducible, walk-reducible, walk-skip, walk-start}
@@ -105,10 +105,10 @@ module _ (schema : Schema) (set : PolicySet) (ds : List Stratum) (steps : AllHav
   pub stands-found : (old new : Walk) (f : List ℕ) (r : Request) → IsTakenFor schema set ds old f → IsOwn schema set ds f r → AddsFound old f r new → IsWalk schema set ds new.coming.items new.looked.keys new.reducible.keys (found_by new)
   stands-found old new f r taken own adds =
       let looked_is = adds.looked taken.due.new in
-      let found_in : IsFound schema set ds (old.looked.keys ++ f ∷ []) (f, r) = (Contains-push old.looked.keys f, own) in
-      let before = All-weaker (IsFound schema set ds old.looked.keys) (IsFound schema set ds (old.looked.keys ++ f ∷ [])) (λ p h. (Contains-append_left old.looked.keys (f ∷ []) p.0 h.0, h.1)) (found_by old) taken.walk.own in
+      let found_in : IsFoundFinding schema set ds (old.looked.keys ++ f ∷ []) (f, r) = (Contains-push old.looked.keys f, own) in
+      let before = All-weaker (IsFoundFinding schema set ds old.looked.keys) (IsFoundFinding schema set ds (old.looked.keys ++ f ∷ [])) (λ p h. (Contains-append_left old.looked.keys (f ∷ []) p.0 h.0, h.1)) (found_by old) taken.walk.own in
       let walk = walk-irreducible schema set ds steps old.coming.items old.looked.keys old.reducible.keys (found_by old) f taken.walk taken.due.new taken.due.above (found_by new)
-      (subst (All (IsFound schema set ds (old.looked.keys ++ f ∷ []))) (sym adds.found) (all-entered (IsFound schema set ds (old.looked.keys ++ f ∷ [])) (found_by old) f r before found_in))
+      (subst (All (IsFoundFinding schema set ds (old.looked.keys ++ f ∷ []))) (sym adds.found) (all-entered (IsFoundFinding schema set ds (old.looked.keys ++ f ∷ [])) (found_by old) f r before found_in))
       (λ g h. subst (λ (xs : List (List ℕ × Request)). Contains (findings_of xs) g) (sym adds.found) (entered-kept (found_by old) f r g h))
       (subst (λ (xs : List (List ℕ × Request)). Contains (findings_of xs) f) (sym adds.found) (entered-there (found_by old) f r)) in
       subst (λ (xs : List (List ℕ)). IsWalk schema set ds xs new.looked.keys new.reducible.keys (found_by new)) (sym adds.coming)
@@ -133,7 +133,7 @@ module _ (schema : Schema) (set : PolicySet) (ds : List Stratum) (steps : AllHav
       (subst (IsWalk schema set ds new.coming.items (old.looked.keys ++ f ∷ []) (old.reducible.keys ++ f ∷ [])) (sym found_same) walk))
 
   -- one that is taken must be looked at
-  pub taken-must : (w : Walk) (f : List ℕ) → IsTakenFor schema set ds w f → IsVisited schema set ds f
+  pub taken-must : (w : Walk) (f : List ℕ) → IsTakenFor schema set ds w f → MustBeVisited schema set ds f
   taken-must w f taken = taken-visited schema set ds steps w.coming.items w.looked.keys w.reducible.keys (found_by w) f taken.walk taken.due.new taken.due.above
 
   -- so that with those that were looked at there is one more
@@ -142,7 +142,7 @@ module _ (schema : Schema) (set : PolicySet) (ds : List Stratum) (steps : AllHav
     listed = w.looked.keys ++ f ∷ [];
     count = length-append w.looked.keys (f ∷ []);
     different = all_pairs_push (λ g h. g ≢ h) w.looked.keys f taken.walk.different (λ k d within same. taken.due.new (subst (Contains w.looked.keys) same (Contains-get_or w.looked.keys k d within)));
-    each = All-push (IsVisited schema set ds) w.looked.keys f (λ k d within. taken.walk.visited (get_or w.looked.keys k d) (Contains-get_or w.looked.keys k d within)) (taken-must w f taken);
+    each = All-push (MustBeVisited schema set ds) w.looked.keys f (λ k d within. taken.walk.visited (get_or w.looked.keys k d) (Contains-get_or w.looked.keys k d within)) (taken-must w f taken);
   }
 
   -- at the end what was found is the summary
@@ -152,7 +152,7 @@ module _ (schema : Schema) (set : PolicySet) (ds : List Stratum) (steps : AllHav
       let left = walk-passes old.looked.keys old.reducible.keys (found_by old) [] passes.passed passes.each (subst (λ (xs : List (List ℕ)). IsWalk schema set ds xs old.looked.keys old.reducible.keys (found_by old)) passes.is walk) in
       let end : IsWalk schema set ds [] old.looked.keys old.reducible.keys (found_by new) = subst (IsWalk schema set ds [] old.looked.keys old.reducible.keys) (sym found_same) left in
       record {
-        own = All-weaker (IsFound schema set ds old.looked.keys) (λ p. IsOwn schema set ds p.0 p.1) (λ p h. h.1) (found_by new) end.own;
+        own = All-weaker (IsFoundFinding schema set ds old.looked.keys) (λ p. IsOwn schema set ds p.0 p.1) (λ p h. h.1) (found_by new) end.own;
         maximal = found-maximal schema set ds steps old.looked.keys old.reducible.keys (found_by new) end;
         all = all-found schema set ds steps old.looked.keys old.reducible.keys (found_by new) end;
         order = order;

@@ -27,7 +27,7 @@ use Rattle.strata.specs.Covers.{predicate_at}
 use Rattle.strata.specs.Predicates.{SuitsSlot, test_of}
 use Rattle.strata.specs.Strata.{IsStratum}
 use Rattle.strata.proofs.Laws.{stratum-suits}
-use Rattle.findings.specs.Answers.{IsAskable}
+use Rattle.findings.specs.Answers.{QueryIsAskable}
 use Rattle.findings.specs.Queries.{AreMadeFor, IsFindingQuery, finding_plan, finer_plans, number_plan, numbers_below, own_plans, plan_or_yes}
 use Rattle.findings.specs.Steps.{AreNumberedBelow, IsNumberedBelow}
 use Rattle.findings.proofs.Ordered.{all-have-steps, below-among}
@@ -138,7 +138,7 @@ all-read P had (t ∷ read) got (anew new rest) all =
     All-cons P t read (All-contains P got t all (subst (λ (xs : List Test). Contains xs t) (sym longer.is) (Contains-append_left (had ++ t ∷ []) longer.rest t (Contains-push had t)))) (all-read P (had ++ t ∷ []) read got rest all)
 
 -- the query may be asked of whoever answers for the schema
-pub made-askable : TestsOfSetQueriesSuit → (schema : Schema) (set : PolicySet) (base : Query) (strata : Strata) → AreMadeFor schema set base strata → (f : List ℕ) (q : Query) → IsFindingQuery (set_plan schema set) strata.dimensions f q → length q.tests < 2 ^ 32 → IsAskable schema q
+pub made-askable : TestsOfSetQueriesSuit → (schema : Schema) (set : PolicySet) (base : Query) (strata : Strata) → AreMadeFor schema set base strata → (f : List ℕ) (q : Query) → IsFindingQuery (set_plan schema set) strata.dimensions f q → length q.tests < 2 ^ 32 → QueryIsAskable schema q
 made-askable law schema set base strata made f q asks count =
     let plan = finding_plan (set_plan schema set) strata.dimensions f in
     let read = all-read (TestSuits schema) [] (tests_in (set_plan schema set)) base.tests made.query.tests (base-suits schema set base strata made law) in

@@ -9,7 +9,7 @@ use Rattle.strata.specs.Predicates.{MeetsPredicate}
 use Rattle.strata.specs.declared.stratum.Stratum.{Stratum}
 use Rattle.strata.specs.Covers.{predicate_at, IsBelowAt, IsStrictlyBelow}
 use Rattle.findings.specs.Queries.{numbers_below}
-use Rattle.findings.specs.Findings.{IsFinding, IsFiner, IsStrictlyFiner, LiesIn}
+use Rattle.findings.specs.Findings.{IsFinding, IsFiner, IsStrictlyFiner, LiesInFinding}
 use Rattle.findings.specs.Steps.{IsRightUnder, MeetsFiner}
 use Rattle.findings.specs.Walks.{first_finding}
 
@@ -93,7 +93,7 @@ finer-strictly schema ds steps f g h is_f is_g is_h a b = (
 )
 
 -- a valid request lies in each finding that isn't finer
-pub lies-above : (schema : Schema) (r : Request) → IsValid schema r → (ds : List Stratum) (f g : List ℕ) → IsFinding ds f → IsFiner schema ds f g → LiesIn r ds f → LiesIn r ds g
+pub lies-above : (schema : Schema) (r : Request) → IsValid schema r → (ds : List Stratum) (f g : List ℕ) → IsFinding ds f → IsFiner schema ds f g → LiesInFinding r ds f → LiesInFinding r ds g
 lies-above schema r valid [] f g is a lies = tt
 lies-above schema r valid (d ∷ ds) f [] is a lies = tt
 lies-above schema r valid (d ∷ ds) [] (m ∷ g) is a lies = absurd is
@@ -159,7 +159,7 @@ step-above schema (d ∷ ds) steps (n ∷ f) (m ∷ g) is_f is_g strict = elim (
 ]
 
 -- a request in a strictly finer finding meets one of the predicates right below
-pub meets-finer : (schema : Schema) (r : Request) → IsValid schema r → (ds : List Stratum) → AllHaveSteps schema ds → (g f : List ℕ) → IsFinding ds g → IsFinding ds f → IsStrictlyFiner schema ds g f → LiesIn r ds g → MeetsFiner r ds f
+pub meets-finer : (schema : Schema) (r : Request) → IsValid schema r → (ds : List Stratum) → AllHaveSteps schema ds → (g f : List ℕ) → IsFinding ds g → IsFinding ds f → IsStrictlyFiner schema ds g f → LiesInFinding r ds g → MeetsFiner r ds f
 meets-finer schema r valid [] steps [] [] is_g is_f strict lies = absurd (strict.1 refl)
 meets-finer schema r valid [] steps [] (n ∷ f) is_g is_f strict lies = absurd is_f
 meets-finer schema r valid [] steps (m ∷ g) f is_g is_f strict lies = absurd is_g
@@ -180,9 +180,9 @@ meets-finer schema r valid (d ∷ ds) steps (m ∷ g) (n ∷ f) is_g is_f strict
 pub record LiesFiner (schema : Schema) (r : Request) (ds : List Stratum) (f : List ℕ) : Type 0 where
   pub finer : List ℕ
   pub under : IsRightUnder ds finer f
-  pub lies : LiesIn r ds finer
+  pub lies : LiesInFinding r ds finer
 
-pub lies-finer : (schema : Schema) (r : Request) (ds : List Stratum) (f : List ℕ) → LiesIn r ds f → MeetsFiner r ds f → LiesFiner schema r ds f
+pub lies-finer : (schema : Schema) (r : Request) (ds : List Stratum) (f : List ℕ) → LiesInFinding r ds f → MeetsFiner r ds f → LiesFiner schema r ds f
 lies-finer schema r [] f lies meets = absurd meets
 lies-finer schema r (d ∷ ds) [] lies meets = absurd meets
 lies-finer schema r (d ∷ ds) (n ∷ f) lies (inl h) = record { finer = h.0 ∷ f; under = inl (h.1, refl); lies = (h.2, lies.1) }
@@ -242,7 +242,7 @@ zeros-above schema (d ∷ ds) steps [] = tt
 zeros-above schema (d ∷ ds) steps (n ∷ f) = (steps.0.top n, zeros-above schema ds steps.1 f)
 
 -- every request lies in it
-pub lies-first : (schema : Schema) (r : Request) (ds : List Stratum) → AllHaveSteps schema ds → LiesIn r ds (first_finding ds)
+pub lies-first : (schema : Schema) (r : Request) (ds : List Stratum) → AllHaveSteps schema ds → LiesInFinding r ds (first_finding ds)
 lies-first schema r [] steps = tt
 lies-first schema r (d ∷ ds) steps = (steps.0.every r, lies-first schema r ds steps.1)
 

@@ -21,7 +21,7 @@ use Rattle.strata.specs.declared.predicate.Predicate.TheVariants.{Every, Princip
 use Rattle.strata.specs.declared.stratum.Stratum.{Stratum}
 use Rattle.strata.specs.Covers.{predicate_at}
 use Rattle.strata.specs.Predicates.{MeetsPredicate, SuitsSlot, test_of}
-use Rattle.findings.specs.Findings.{IsFinding, IsOwn, LiesIn}
+use Rattle.findings.specs.Findings.{IsFinding, IsOwn, LiesInFinding}
 use Rattle.findings.specs.Queries.{IsFindingQuery, finding_plan, finer_plans, number_plan, numbers_below, own_plans, plan_or_yes}
 use Rattle.findings.specs.Steps.{MeetsFiner, MeetsOneOf}
 use Rattle.findings.proofs.Orders.{AllHaveSteps, lies-finer, meets-finer, under-finding, under-finer}
@@ -68,7 +68,7 @@ some-append r (p ∷ ps) qs = (
 
 -- ---- the parts of the plan
 
-own-holds : (schema : Schema) (r : Request) (ds : List Stratum) → AllSuit schema ds → (f : List ℕ) → IsFinding ds f → (EachHolds r (of_plans (own_plans ds f)) ↔ LiesIn r ds f)
+own-holds : (schema : Schema) (r : Request) (ds : List Stratum) → AllSuit schema ds → (f : List ℕ) → IsFinding ds f → (EachHolds r (of_plans (own_plans ds f)) ↔ LiesInFinding r ds f)
 own-holds schema r [] suit f is = (λ h. tt, λ h. tt)
 own-holds schema r (d ∷ ds) suit [] is = (λ h. tt, λ h. tt)
 own-holds schema r (d ∷ ds) suit (n ∷ f) is =

@@ -14,11 +14,11 @@ use Rattle.policy_model.specs.declared.request.Request.{Request}
 use Rattle.strata.specs.declared.stratum.Stratum.{Stratum}
 use Rattle.findings.specs.declared.walk.Walk.{Walk}
 use Rattle.findings.specs.Findings.{IsFinding}
-use Rattle.findings.specs.Walked.{AreFindings, IsDue, IsPassed, IsPassing, PassesTo, SameBesides, with_found}
+use Rattle.findings.specs.Walked.{AreFindings, IsDue, IsPassedFinding, IsPassing, PassesTo, SameBesides, with_found}
 use Rattle.findings.specs.Walks.{AreAboveIn}
 use Rattle.findings.proofs.Entered.{seen-entered, seen-sorted}
 
-pub due-or-passed : (ds : List Stratum) (w : Walk) (f : List ℕ) (due among : Bool) → among ≡ false → (IsTrue among ↔ Contains w.looked.keys f) → (IsTrue due ↔ AreAboveIn ds w.reducible.keys f) → MatchBool due (IsDue ds w f) (IsPassed ds w f)
+pub due-or-passed : (ds : List Stratum) (w : Walk) (f : List ℕ) (due among : Bool) → among ≡ false → (IsTrue among ↔ Contains w.looked.keys f) → (IsTrue due ↔ AreAboveIn ds w.reducible.keys f) → MatchBool due (IsDue ds w f) (IsPassedFinding ds w f)
 due-or-passed ds w f true among none seen above = record { new = λ h. (let yes = seen.1 h in absurd (cc)); above = above.0 refl }
 due-or-passed ds w f false among none seen above = inr (λ h. let yes = above.1 h in absurd (cc))
 
@@ -28,7 +28,7 @@ taken-finding ds old now n rest f are passing is =
     are f (subst (λ (xs : List (List ℕ)). Contains xs f) (sym passing.passes.is) (Contains-append_left now.coming.items passing.passes.passed f (subst (λ (xs : List (List ℕ)). Contains xs f) (sym is) (Contains-push rest f))))
 
 -- what holds of walks that differ in what is to come alone
-passed-same : (ds : List Stratum) (old now : Walk) (f : List ℕ) → SameBesides old now → IsPassed ds now f → IsPassed ds old f
+passed-same : (ds : List Stratum) (old now : Walk) (f : List ℕ) → SameBesides old now → IsPassedFinding ds now f → IsPassedFinding ds old f
 passed-same ds old now f same passed = elim passed [
   | inl seen ↦ inl (subst (λ (xs : List (List ℕ)). Contains xs f) same.looked seen)
   | inr missing ↦ inr (subst (λ (xs : List (List ℕ)). ¬ AreAboveIn ds xs f) same.reducible missing)
@@ -45,14 +45,14 @@ pub passes-next : (ds : List Stratum) (old now : Walk) (n : ℕ) (rest : List (L
 passes-next ds old now n rest f passing is = subst (PassesTo ds old) is passing.passes
 
 -- or passed
-pub passing-more : (ds : List Stratum) (old now next : Walk) (n : ℕ) (f : List ℕ) → IsPassing ds old now n → now.coming.items ≡ next.coming.items ++ f ∷ [] → SameBesides now next → IsPassed ds next f → IsPassing ds old next (n + 1)
+pub passing-more : (ds : List Stratum) (old now next : Walk) (n : ℕ) (f : List ℕ) → IsPassing ds old now n → now.coming.items ≡ next.coming.items ++ f ∷ [] → SameBesides now next → IsPassedFinding ds next f → IsPassing ds old next (n + 1)
 passing-more ds old now next n f passing is same passed =
     let whole : SameBesides old next = record { looked = same.looked ∙ passing.same.looked; reducible = same.reducible ∙ passing.same.reducible; found = same.found ∙ passing.same.found } in
     record {
       passes = record {
         passed = f ∷ passing.passes.passed;
         is = passing.passes.is ∙ ap (λ (xs : List (List ℕ)). xs ++ passing.passes.passed) is ∙ append_assoc next.coming.items (f ∷ []) passing.passes.passed;
-        each = All-cons (IsPassed ds old) f passing.passes.passed (passed-same ds old next f whole passed) passing.passes.each;
+        each = All-cons (IsPassedFinding ds old) f passing.passes.passed (passed-same ds old next f whole passed) passing.passes.each;
       };
       same = whole;
       count = (let long = ap length is in let one = length-append next.coming.items (f ∷ []) in omega (arith, passing.count, long, one));
@@ -101,7 +101,7 @@ found-sorted all summary is sorted =
 
 -- ---- what an answer tells
 
-pub passed-by : (ds : List Stratum) (w : Walk) (f : List ℕ) (b : Bool) → b ≡ false → MatchBool b (IsDue ds w f) (IsPassed ds w f) → IsPassed ds w f
+pub passed-by : (ds : List Stratum) (w : Walk) (f : List ℕ) (b : Bool) → b ≡ false → MatchBool b (IsDue ds w f) (IsPassedFinding ds w f) → IsPassedFinding ds w f
 passed-by ds w f true e h = absurd (cc)
 passed-by ds w f false e h = h
 

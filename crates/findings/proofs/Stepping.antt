@@ -9,7 +9,7 @@ use Rattle.policy_compile.specs.Plans.{Plan}
 use Rattle.strata.specs.declared.stratum.Stratum.{Stratum}
 use Rattle.findings.specs.Findings.{IsFinding}
 use Rattle.findings.specs.Queries.{finer_plans, number_plan, numbers_below, own_plans}
-use Rattle.findings.specs.Steps.{AddUnder, AddUpTo, AreAboveAt, AreNumberedBelow, IsNumberedBelow, IsRightUnder, number_at, under_at}
+use Rattle.findings.specs.Steps.{AddUnder, AddUpTo, AreAboveAt, AreNumberedBelow, IsNumberedBelow, IsRightUnder, predicate_number_at, under_at}
 use Rattle.findings.specs.Texts.{number_text, predicate_texts}
 use Rattle.findings.specs.Walks.{AreAboveIn, first_finding}
 
@@ -43,14 +43,14 @@ among-given h (x ∷ xs) y is = elim (Contains-append_cases (h x ∷ []) (map h 
 -- ---- one number changed
 
 -- the lower finding, by the number that it has
-pub set-under : (ds : List Stratum) (f : List ℕ) (j : ℕ) (d : Stratum) (m : ℕ) → slice_get ds j ≡ Some d → j < length f → Contains (numbers_below d (number_at f j)) m → IsRightUnder ds (set f j m) f
+pub set-under : (ds : List Stratum) (f : List ℕ) (j : ℕ) (d : Stratum) (m : ℕ) → slice_get ds j ≡ Some d → j < length f → Contains (numbers_below d (predicate_number_at f j)) m → IsRightUnder ds (set f j m) f
 set-under [] f j d m at within is = absurd (cc)
 set-under (e ∷ ds) [] j d m at within is = absurd (omega (arith, within))
 set-under (e ∷ ds) (n ∷ f) zero d m at within is = let same : d ≡ e = cc in inl (subst (λ (x : Stratum). Contains (numbers_below x n) m) same is, refl)
 set-under (e ∷ ds) (n ∷ f) (suc j) d m at within is = inr (refl, set-under ds f j d m at (omega (arith, within)) is)
 
 -- the upper one
-pub under-set : (ds : List Stratum) (f : List ℕ) (j : ℕ) (d : Stratum) (m : ℕ) → slice_get ds j ≡ Some d → j < length f → Contains (numbers_below d m) (number_at f j) → IsRightUnder ds f (set f j m)
+pub under-set : (ds : List Stratum) (f : List ℕ) (j : ℕ) (d : Stratum) (m : ℕ) → slice_get ds j ≡ Some d → j < length f → Contains (numbers_below d m) (predicate_number_at f j) → IsRightUnder ds f (set f j m)
 under-set [] f j d m at within is = absurd (cc)
 under-set (e ∷ ds) [] j d m at within is = absurd (omega (arith, within))
 under-set (e ∷ ds) (n ∷ f) zero d m at within is = let same : d ≡ e = cc in inl (subst (λ (x : Stratum). Contains (numbers_below x m) n) same is, refl)
@@ -62,9 +62,9 @@ pub record IsStepAt (ds : List Stratum) (g f : List ℕ) : Type 0 where
   pub dimension : Stratum
   pub at : slice_get ds index ≡ Some dimension
   pub within : index < length f
-  pub lower : Contains (numbers_below dimension (number_at f index)) (number_at g index)
-  pub lower_is : g ≡ set f index (number_at g index)
-  pub upper_is : f ≡ set g index (number_at f index)
+  pub lower : Contains (numbers_below dimension (predicate_number_at f index)) (predicate_number_at g index)
+  pub lower_is : g ≡ set f index (predicate_number_at g index)
+  pub upper_is : f ≡ set g index (predicate_number_at f index)
   pub long : length g ≡ length f
 
 pub step-at : (ds : List Stratum) (g f : List ℕ) → IsRightUnder ds g f → IsStepAt ds g f
@@ -98,7 +98,7 @@ step-at (d ∷ ds) (m ∷ g) (n ∷ f) (inr is) =
 pub all-above : (ds : List Stratum) (list : List (List ℕ)) (f : List ℕ) → ((j : ℕ) (d : Stratum) → j < length f → slice_get ds j ≡ Some d → AreAboveAt d list f j) → AreAboveIn ds list f
 all-above ds list f each g is =
     let step = step-at ds f g is in
-    subst (Contains list) (sym step.upper_is) (each step.index step.dimension (omega (arith, step.within, step.long)) step.at (number_at g step.index) step.lower)
+    subst (Contains list) (sym step.upper_is) (each step.index step.dimension (omega (arith, step.within, step.long)) step.at (predicate_number_at g step.index) step.lower)
 
 pub above-at : (ds : List Stratum) (list : List (List ℕ)) (f : List ℕ) → AreAboveIn ds list f → (j : ℕ) (d : Stratum) → j < length f → slice_get ds j ≡ Some d → AreAboveAt d list f j
 above-at ds list f all j d within at m is = all (set f j m) (under-set ds f j d m at within is)
@@ -123,7 +123,7 @@ add-next ds f i d old mid new at within before is =
       only = λ g h. elim (Contains-append_cases mid (under_at d f i) g h) [
         | inl old ↦ before.only g old
         | inr added ↦ (
-            let m = among-given (set f i) (numbers_below d (number_at f i)) g added in
+            let m = among-given (set f i) (numbers_below d (predicate_number_at f i)) g added in
             inr (subst (λ (x : List ℕ). IsRightUnder ds x f) m.is (set-under ds f i d m.item at within m.among)))
       ];
     })
@@ -136,7 +136,7 @@ add-all ds f i old new past all = record {
       all.under step.index g (omega (arith, step.within, past)) (record {
         dimension = step.dimension;
         at = step.at;
-        is = subst (λ (x : List ℕ). Contains (under_at step.dimension f step.index) x) (sym step.lower_is) (given-among (set f step.index) (numbers_below step.dimension (number_at f step.index)) (number_at g step.index) step.lower);
+        is = subst (λ (x : List ℕ). Contains (under_at step.dimension f step.index) x) (sym step.lower_is) (given-among (set f step.index) (numbers_below step.dimension (predicate_number_at f step.index)) (predicate_number_at g step.index) step.lower);
       }));
   only = all.only;
 }
@@ -151,16 +151,16 @@ first-longer (d ∷ ds) (suc i) within = ap (λ (x : List ℕ). 0 ∷ x) (first-
 pub first-next : (ds : List Stratum) (i : ℕ) → i < length ds → first_finding (take (i + 1) ds) ≡ first_finding (take i ds) ++ 0 ∷ []
 first-next ds i within = let e : i + 1 ≡ suc i = omega arith in rw e (first-longer ds i within)
 
-own-longer : (ds : List Stratum) (f : List ℕ) (i : ℕ) (d : Stratum) → slice_get ds i ≡ Some d → i < length f → own_plans (take (suc i) ds) (take (suc i) f) ≡ own_plans (take i ds) (take i f) ++ number_plan d (number_at f i) ∷ []
+own-longer : (ds : List Stratum) (f : List ℕ) (i : ℕ) (d : Stratum) → slice_get ds i ≡ Some d → i < length f → own_plans (take (suc i) ds) (take (suc i) f) ≡ own_plans (take i ds) (take i f) ++ number_plan d (predicate_number_at f i) ∷ []
 own-longer [] f i d at within = absurd (cc)
 own-longer (e ∷ ds) [] i d at within = absurd (omega (arith, within))
 own-longer (e ∷ ds) (n ∷ f) zero d at within = let same : e ≡ d = cc in ap (λ (x : Stratum). number_plan x n ∷ []) same
 own-longer (e ∷ ds) (n ∷ f) (suc i) d at within = ap (λ (x : List Plan). number_plan e n ∷ x) (own-longer ds f i d at (omega (arith, within)))
 
-pub own-next : (ds : List Stratum) (f : List ℕ) (i : ℕ) (d : Stratum) → slice_get ds i ≡ Some d → i < length f → own_plans (take (i + 1) ds) (take (i + 1) f) ≡ own_plans (take i ds) (take i f) ++ number_plan d (number_at f i) ∷ []
+pub own-next : (ds : List Stratum) (f : List ℕ) (i : ℕ) (d : Stratum) → slice_get ds i ≡ Some d → i < length f → own_plans (take (i + 1) ds) (take (i + 1) f) ≡ own_plans (take i ds) (take i f) ++ number_plan d (predicate_number_at f i) ∷ []
 own-next ds f i d at within = let e : i + 1 ≡ suc i = omega arith in rw e (own-longer ds f i d at within)
 
-finer-longer : (ds : List Stratum) (f : List ℕ) (i : ℕ) (d : Stratum) → slice_get ds i ≡ Some d → i < length f → finer_plans (take (suc i) ds) (take (suc i) f) ≡ finer_plans (take i ds) (take i f) ++ map (number_plan d) (numbers_below d (number_at f i))
+finer-longer : (ds : List Stratum) (f : List ℕ) (i : ℕ) (d : Stratum) → slice_get ds i ≡ Some d → i < length f → finer_plans (take (suc i) ds) (take (suc i) f) ≡ finer_plans (take i ds) (take i f) ++ map (number_plan d) (numbers_below d (predicate_number_at f i))
 finer-longer [] f i d at within = absurd (cc)
 finer-longer (e ∷ ds) [] i d at within = absurd (omega (arith, within))
 finer-longer (e ∷ ds) (n ∷ f) zero d at within =
@@ -168,18 +168,18 @@ finer-longer (e ∷ ds) (n ∷ f) zero d at within =
     append-nil (map (number_plan e) (numbers_below e n)) ∙ ap (λ (x : Stratum). map (number_plan x) (numbers_below x n)) same
 finer-longer (e ∷ ds) (n ∷ f) (suc i) d at within =
     ap (λ (x : List Plan). map (number_plan e) (numbers_below e n) ++ x) (finer-longer ds f i d at (omega (arith, within))) ∙
-    sym (append_assoc (map (number_plan e) (numbers_below e n)) (finer_plans (take i ds) (take i f)) (map (number_plan d) (numbers_below d (number_at f i))))
+    sym (append_assoc (map (number_plan e) (numbers_below e n)) (finer_plans (take i ds) (take i f)) (map (number_plan d) (numbers_below d (predicate_number_at f i))))
 
-pub finer-next : (ds : List Stratum) (f : List ℕ) (i : ℕ) (d : Stratum) → slice_get ds i ≡ Some d → i < length f → finer_plans (take (i + 1) ds) (take (i + 1) f) ≡ finer_plans (take i ds) (take i f) ++ map (number_plan d) (numbers_below d (number_at f i))
+pub finer-next : (ds : List Stratum) (f : List ℕ) (i : ℕ) (d : Stratum) → slice_get ds i ≡ Some d → i < length f → finer_plans (take (i + 1) ds) (take (i + 1) f) ≡ finer_plans (take i ds) (take i f) ++ map (number_plan d) (numbers_below d (predicate_number_at f i))
 finer-next ds f i d at within = let e : i + 1 ≡ suc i = omega arith in rw e (finer-longer ds f i d at within)
 
-texts-longer : (ds : List Stratum) (f : List ℕ) (i : ℕ) (d : Stratum) → slice_get ds i ≡ Some d → i < length f → predicate_texts (take (suc i) ds) (take (suc i) f) ≡ predicate_texts (take i ds) (take i f) ++ number_text d (number_at f i) ∷ []
+texts-longer : (ds : List Stratum) (f : List ℕ) (i : ℕ) (d : Stratum) → slice_get ds i ≡ Some d → i < length f → predicate_texts (take (suc i) ds) (take (suc i) f) ≡ predicate_texts (take i ds) (take i f) ++ number_text d (predicate_number_at f i) ∷ []
 texts-longer [] f i d at within = absurd (cc)
 texts-longer (e ∷ ds) [] i d at within = absurd (omega (arith, within))
 texts-longer (e ∷ ds) (n ∷ f) zero d at within = let same : e ≡ d = cc in ap (λ (x : Stratum). number_text x n ∷ []) same
 texts-longer (e ∷ ds) (n ∷ f) (suc i) d at within = ap (λ (x : List (List ℕ)). number_text e n ∷ x) (texts-longer ds f i d at (omega (arith, within)))
 
-pub texts-next : (ds : List Stratum) (f : List ℕ) (i : ℕ) (d : Stratum) → slice_get ds i ≡ Some d → i < length f → predicate_texts (take (i + 1) ds) (take (i + 1) f) ≡ predicate_texts (take i ds) (take i f) ++ number_text d (number_at f i) ∷ []
+pub texts-next : (ds : List Stratum) (f : List ℕ) (i : ℕ) (d : Stratum) → slice_get ds i ≡ Some d → i < length f → predicate_texts (take (i + 1) ds) (take (i + 1) f) ≡ predicate_texts (take i ds) (take i f) ++ number_text d (predicate_number_at f i) ∷ []
 texts-next ds f i d at within = let e : i + 1 ≡ suc i = omega arith in rw e (texts-longer ds f i d at within)
 
 -- ---- shapes
@@ -192,7 +192,7 @@ finding-long (d ∷ ds) [] is = absurd is
 finding-long (d ∷ ds) (n ∷ f) is = ap suc (finding-long ds f is.1)
 
 -- and each of its numbers is in range
-pub number-within : (ds : List Stratum) (f : List ℕ) → IsFinding ds f → (i : ℕ) (d : Stratum) → slice_get ds i ≡ Some d → number_at f i < length d.predicates
+pub number-within : (ds : List Stratum) (f : List ℕ) → IsFinding ds f → (i : ℕ) (d : Stratum) → slice_get ds i ≡ Some d → predicate_number_at f i < length d.predicates
 number-within [] f is i d at = absurd (cc)
 number-within (e ∷ ds) [] is i d at = absurd is
 number-within (e ∷ ds) (n ∷ f) is zero d at = let same : e ≡ d = cc in subst (λ (x : Stratum). n < length x.predicates) same is.0

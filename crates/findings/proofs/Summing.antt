@@ -16,7 +16,7 @@ use Rattle.findings.specs.Answers.{IsSummarised}
 use Rattle.findings.specs.Queries.{AreMadeFor, AreMadeUnder}
 use Rattle.findings.specs.Steps.{AreNumberedBelow}
 use Rattle.findings.specs.Summaries.{IsSummary, VisitsAtLeast, findings_of}
-use Rattle.findings.specs.Walked.{AreFindings, HasLookedAt, IsNext, IsTaken, LookFails, SameBesides, StandsAt, StartsAt, found_by}
+use Rattle.findings.specs.Walked.{AreFindings, HasLookedAt, IsNextFinding, IsTaken, LookFails, SameBesides, StandsAt, StartsAt, found_by}
 use Rattle.findings.proofs.Looking.{ends, one-more, stands-start, takes}
 use Rattle.findings.proofs.Made.{made-numbered, made-steps}
 
@@ -36,7 +36,7 @@ module _ (schema : Schema) (base : Query) (strata : Strata) where
   next-numbered made = made-numbered schema made.0 base strata made.1
 
   -- the next finding is taken
-  pub next-taken : (old new : Walk) (f : List ℕ) → StandsAt schema base strata old → IsNext strata.dimensions old new (Some f) → SameBesides old new → IsTaken schema base strata new f
+  pub next-taken : (old new : Walk) (f : List ℕ) → StandsAt schema base strata old → IsNextFinding strata.dimensions old new (Some f) → SameBesides old new → IsTaken schema base strata new f
   next-taken old new f stands next same = λ set made. takes schema set strata.dimensions (made-steps schema set base strata made) old new f (stands set made) next.0 next.1 same
 
   -- after it was looked at
@@ -47,14 +47,14 @@ module _ (schema : Schema) (base : Query) (strata : Strata) where
   }
 
   -- at the end
-  pub all-summarised : (old new : Walk) (splits states findings : ℕ) (summary : List (List ℕ × Request)) → StandsAt schema base strata old → IsNext strata.dimensions old new None → SameBesides old new → summary ≡ found_by new → IsStrictlySortedBy (slice_cmp nat_cmp) (findings_of summary) →
+  pub all-summarised : (old new : Walk) (splits states findings : ℕ) (summary : List (List ℕ × Request)) → StandsAt schema base strata old → IsNextFinding strata.dimensions old new None → SameBesides old new → summary ≡ found_by new → IsStrictlySortedBy (slice_cmp nat_cmp) (findings_of summary) →
       (set : PolicySet) → AreMadeFor schema set base strata → IsSummarised schema set strata.dimensions splits states findings (Ok summary)
   all-summarised old new splits states findings summary stands next same is order set made =
       let sorted = subst (λ (xs : List (List ℕ × Request)). IsStrictlySortedBy (slice_cmp nat_cmp) (findings_of xs)) is order in
       subst (IsSummary schema set strata.dimensions) (sym is) (ends schema set strata.dimensions (made-steps schema set base strata made) old new (stands set made) next.0 same sorted)
 
   -- where one more would be needed
-  pub one-too-many : (old new : Walk) (f : List ℕ) (n findings splits states : ℕ) → HasLookedAt schema base strata old n → n ≡ findings → IsNext strata.dimensions old new (Some f) → SameBesides old new →
+  pub one-too-many : (old new : Walk) (f : List ℕ) (n findings splits states : ℕ) → HasLookedAt schema base strata old n → n ≡ findings → IsNextFinding strata.dimensions old new (Some f) → SameBesides old new →
       (set : PolicySet) → AreMadeFor schema set base strata → IsSummarised schema set strata.dimensions splits states findings (Err fault.OutOfFindings)
   one-too-many old new f n findings splits states looked all next same set made =
       let taken = next-taken old new f looked.stands next same set made in

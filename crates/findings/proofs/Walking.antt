@@ -11,8 +11,8 @@ use Rattle.strata.specs.declared.stratum.Stratum.{Stratum}
 use Rattle.findings.specs.Queries.{numbers_below}
 use Rattle.findings.specs.Findings.{IsFinding, IsIrreducible, IsStrictlyFiner}
 use Rattle.findings.specs.Steps.{IsRightUnder}
-use Rattle.findings.specs.Summaries.{IsMaximal, IsVisited, findings_of}
-use Rattle.findings.specs.Walks.{AreAboveIn, IsCared, IsFound, IsWalk, first_finding}
+use Rattle.findings.specs.Summaries.{IsMaximal, MustBeVisited, findings_of}
+use Rattle.findings.specs.Walks.{AreAboveIn, IsCared, IsFoundFinding, IsWalk, first_finding}
 use Rattle.findings.proofs.Orders.{AllHaveSteps, above-finding, rank_of, ranks-fall, same-or-not, step-above, strictly-finer, under-finer, zeros-above, zeros-finding}
 
 both-or-not : {P Q : Type 0} → P ⊎ ¬ P → Q ⊎ ¬ Q → (P × Q) ⊎ ¬ (P × Q)
@@ -48,7 +48,7 @@ under-or-not (d ∷ ds) (m ∷ g) (n ∷ f) = either-or-not (both-or-not (among-
 
 module _ (schema : Schema) (set : PolicySet) (ds : List Stratum) (steps : AllHaveSteps schema ds) where
   -- a finding must be looked at where each one that it is right under must be, and has no request of its own
-  pub visited-below : (f : List ℕ) → IsFinding ds f → ((g : List ℕ) → IsRightUnder ds f g → IsVisited schema set ds g × ¬ IsIrreducible schema set ds g) → IsVisited schema set ds f
+  pub visited-below : (f : List ℕ) → IsFinding ds f → ((g : List ℕ) → IsRightUnder ds f g → MustBeVisited schema set ds g × ¬ IsIrreducible schema set ds g) → MustBeVisited schema set ds f
   visited-below f is above = record {
     finding = is;
     none_above = λ g is_g strict irreducible.
@@ -61,14 +61,14 @@ module _ (schema : Schema) (set : PolicySet) (ds : List Stratum) (steps : AllHav
   }
 
   -- and where one must be, each finding above must be, and has none
-  pub visited-above : (f g : List ℕ) → IsVisited schema set ds f → IsFinding ds g → IsStrictlyFiner schema ds f g → IsVisited schema set ds g
+  pub visited-above : (f g : List ℕ) → MustBeVisited schema set ds f → IsFinding ds g → IsStrictlyFiner schema ds f g → MustBeVisited schema set ds g
   visited-above f g v is_g strict = record {
     finding = is_g;
     none_above = λ h is_h more. v.none_above h is_h (strictly-finer schema ds steps f g h v.finding is_g strict more.0);
   }
 
   -- the first finding must be looked at
-  pub visited-first : IsVisited schema set ds (first_finding ds)
+  pub visited-first : MustBeVisited schema set ds (first_finding ds)
   visited-first = visited-below (first_finding ds) (zeros-finding schema ds steps) (λ g at.
       let strict = under-finer schema ds steps (first_finding ds) g at in
       let is_g = above-finding schema ds steps (first_finding ds) g at (zeros-finding schema ds steps) in
@@ -76,22 +76,22 @@ module _ (schema : Schema) (set : PolicySet) (ds : List Stratum) (steps : AllHav
       absurd (back.1 refl))
 
   -- what was found is irreducible
-  pub found-irreducible : (looked : List (List ℕ)) (found : List (List ℕ × Request)) → All (IsFound schema set ds looked) found → All (IsIrreducible schema set ds) (findings_of found)
-  found-irreducible looked found own = All-map (IsIrreducible schema set ds) (λ p. p.0) found (All-weaker (IsFound schema set ds looked) (λ p. IsIrreducible schema set ds p.0) (λ p h. (p.1, h.1)) found own)
+  pub found-irreducible : (looked : List (List ℕ)) (found : List (List ℕ × Request)) → All (IsFoundFinding schema set ds looked) found → All (IsIrreducible schema set ds) (findings_of found)
+  found-irreducible looked found own = All-map (IsIrreducible schema set ds) (λ p. p.0) found (All-weaker (IsFoundFinding schema set ds looked) (λ p. IsIrreducible schema set ds p.0) (λ p h. (p.1, h.1)) found own)
 
   module _ (looked reducible : List (List ℕ)) (found : List (List ℕ × Request)) (walk : IsWalk schema set ds [] looked reducible found) where
     none-coming : (f : List ℕ) → ¬ Contains [] f
     none-coming f h = omega (arith, h.1)
 
     -- a finding that was looked at and that has an irreducible one under it that must be looked at has no request of its own
-    is-reducible : (f g : List ℕ) → IsVisited schema set ds f → IsFinding ds g → IsStrictlyFiner schema ds f g → Contains looked g → Contains reducible g
+    is-reducible : (f g : List ℕ) → MustBeVisited schema set ds f → IsFinding ds g → IsStrictlyFiner schema ds f g → Contains looked g → Contains reducible g
     is-reducible f g v is_g strict seen = elim (walk.either g seen) [
       | inl here ↦ here
       | inr there ↦ absurd (v.none_above g is_g strict (All-contains (IsIrreducible schema set ds) (findings_of found) g (found-irreducible looked found walk.own) there))
     ]
 
     -- at the end of the walk all that must be looked at has been: those that stand no lower than so deep
-    pub all-looked : (deep : ℕ) (f : List ℕ) → rank_of schema ds steps f < deep → IsVisited schema set ds f → Contains looked f
+    pub all-looked : (deep : ℕ) (f : List ℕ) → rank_of schema ds steps f < deep → MustBeVisited schema set ds f → Contains looked f
     all-looked zero f few v = absurd (omega (arith, few))
     all-looked (suc deep) f few v = elim (same-or-not f (first_finding ds)) [
       | inl same ↦ elim walk.start [ inl seen ↦ subst (Contains looked) (sym same) seen | inr coming ↦ absurd (none-coming (first_finding ds) coming) ]
@@ -117,7 +117,7 @@ module _ (schema : Schema) (set : PolicySet) (ds : List Stratum) (steps : AllHav
 
     -- and nothing else
     pub found-maximal : All (IsMaximal schema set ds) (findings_of found)
-    found-maximal = All-map (IsMaximal schema set ds) (λ p. p.0) found (All-weaker (IsFound schema set ds looked) (λ p. IsMaximal schema set ds p.0) (λ p h. (
+    found-maximal = All-map (IsMaximal schema set ds) (λ p. p.0) found (All-weaker (IsFoundFinding schema set ds looked) (λ p. IsMaximal schema set ds p.0) (λ p h. (
         let v = walk.visited p.0 h.0 in
         record { finding = v.finding; irreducible = (p.1, h.1); none_above = v.none_above })) found walk.own)
 
@@ -178,12 +178,12 @@ module _ (schema : Schema) (set : PolicySet) (ds : List Stratum) (steps : AllHav
 
     module _ (new : ¬ Contains looked f) (above : AreAboveIn ds reducible f) where
       -- the finding must be looked at
-      pub taken-visited : IsVisited schema set ds f
+      pub taken-visited : MustBeVisited schema set ds f
       taken-visited = visited-below f (walk.next f (Contains-push rest f)) (λ g at. (walk.visited g (walk.unmet g (above g at)).0, (walk.unmet g (above g at)).1))
 
       -- each that was looked at, and this one, must be
-      looked-visited : (g : List ℕ) → Contains (looked ++ f ∷ []) g → IsVisited schema set ds g
-      looked-visited g h = elim (Contains-push_cases looked f g h) [ inl before ↦ walk.visited g before | inr same ↦ subst (IsVisited schema set ds) same taken-visited ]
+      looked-visited : (g : List ℕ) → Contains (looked ++ f ∷ []) g → MustBeVisited schema set ds g
+      looked-visited g h = elim (Contains-push_cases looked f g h) [ inl before ↦ walk.visited g before | inr same ↦ subst (MustBeVisited schema set ds) same taken-visited ]
 
       looked-different : AllPairs (λ g h. g ≢ h) (looked ++ f ∷ [])
       looked-different = all_pairs_push (λ g h. g ≢ h) looked f walk.different (λ k d within same. new (subst (Contains looked) same (Contains-get_or looked k d within)))
@@ -210,8 +210,8 @@ module _ (schema : Schema) (set : PolicySet) (ds : List Stratum) (steps : AllHav
         ]
       ]
 
-      own-longer : All (IsFound schema set ds (looked ++ f ∷ [])) found
-      own-longer = All-weaker (IsFound schema set ds looked) (IsFound schema set ds (looked ++ f ∷ [])) (λ p h. (Contains-append_left looked (f ∷ []) p.0 h.0, h.1)) found walk.own
+      own-longer : All (IsFoundFinding schema set ds (looked ++ f ∷ [])) found
+      own-longer = All-weaker (IsFoundFinding schema set ds looked) (IsFoundFinding schema set ds (looked ++ f ∷ [])) (λ p h. (Contains-append_left looked (f ∷ []) p.0 h.0, h.1)) found walk.own
 
       -- it has no request of its own: those right under it may come next
       pub walk-reducible : (coming : List (List ℕ)) → ¬ IsIrreducible schema set ds f → ((g : List ℕ) → Contains coming g → IsFinding ds g) → ((g : List ℕ) → Contains rest g → Contains coming g) → ((g : List ℕ) → IsRightUnder ds g f → Contains coming g) →
@@ -243,7 +243,7 @@ module _ (schema : Schema) (set : PolicySet) (ds : List Stratum) (steps : AllHav
       }
 
       -- it has one
-      pub walk-irreducible : (more : List (List ℕ × Request)) → All (IsFound schema set ds (looked ++ f ∷ [])) more → ((g : List ℕ) → Contains (findings_of found) g → Contains (findings_of more) g) → Contains (findings_of more) f → IsWalk schema set ds rest (looked ++ f ∷ []) reducible more
+      pub walk-irreducible : (more : List (List ℕ × Request)) → All (IsFoundFinding schema set ds (looked ++ f ∷ [])) more → ((g : List ℕ) → Contains (findings_of found) g → Contains (findings_of more) g) → Contains (findings_of more) f → IsWalk schema set ds rest (looked ++ f ∷ []) reducible more
       walk-irreducible more own grows there = record {
         next = λ g h. walk.next g (Contains-append_left rest (f ∷ []) g h);
         visited = looked-visited;

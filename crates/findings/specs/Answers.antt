@@ -1,9 +1,10 @@
 -- What may be asked of who decides queries, what is answered, and what a summary comes to.
-use Rattle.std.specs.Prelude.{◌≡◌, ◌<◌, ◌+◌, ◌^◌, ⊤, ℕ, List, [], length, All, true, false, Some, Result, Ok, Err}
+use Rattle.std.specs.Prelude.{◌≡◌, ◌≢◌, ◌<◌, ◌+◌, ◌^◌, ⊤, ℕ, List, [], length, All, true, false, Some, Result, Ok, Err}
 use Rattle.formula_tree.specs.Answers.{Answers}
 use Rattle.formula_tree.specs.Runs.{NeedsMore, Run, answered}
 use Rattle.formula_tree.specs.Trees.{Tree, tree_of}
-use Rattle.formula_tree.specs.Values.{AreBelow, pick}
+use Rattle.formula_tree.specs.Values.{AreBelow, pick, value}
+use Rattle.formula_tree.specs.declared.value.Three.TheVariants.{No}
 use Rattle.wildcard_lang.specs.Places.{ShowWider}
 use Rattle.policy_model.specs.declared.request.Request.{Request}
 use Rattle.policy_model.specs.declared.schema.Schema.{Schema}
@@ -11,6 +12,7 @@ use Rattle.policy_model.specs.declared.set.PolicySet.{PolicySet}
 use Rattle.policy_model.specs.Soundness.{SchemaIsSound, TestSuits}
 use Rattle.policy_compile.specs.declared.outcome.Query.{Query}
 use Rattle.policy_compile.specs.Sets.{set_plan}
+use Rattle.slot_theory.specs.Cores.{HasTest}
 use Rattle.slot_theory.specs.Possible.{IsPossible}
 use Rattle.slot_theory.specs.Slots.{patterns_at}
 use Rattle.refute_check.specs.Laws.{IsMetBy, NoneMeets}
@@ -21,14 +23,14 @@ use Rattle.findings.specs.declared.decide.Wide.{Wide}
 use Rattle.findings.specs.declared.outcome.SummaryFault.{SummaryFault}
 use Rattle.findings.specs.declared.outcome.SummaryFault.TheVariants as fault
 use Rattle.findings.specs.Queries.{IsFindingQuery}
-use Rattle.findings.specs.Summaries.{IsSummary, IsVisited, VisitsAtLeast}
+use Rattle.findings.specs.Summaries.{IsSummary, MustBeVisited, VisitsAtLeast}
 
 -- the tree of the question
 abbrev pub tree_asked : Query → Tree
 tree_asked query = tree_of query.formula.value
 
 -- a question that may be asked: its tests suit the schema and are numbered by 32 bits, and its tree has their numbers alone
-pub record IsAskable (schema : Schema) (query : Query) : Type 0 where
+pub record QueryIsAskable (schema : Schema) (query : Query) : Type 0 where
   pub sound : SchemaIsSound schema
   pub suit : All (TestSuits schema) query.tests
   pub count : length query.tests < 2 ^ 32
@@ -47,21 +49,24 @@ pub data RunsFrom (possible : Answers → Type 0) (tree : Tree) : Answers → Ty
 abbrev pub SplitsFail : Schema → Query → ℕ → Type 0
 SplitsFail schema query splits = NeedsMore (IsPossible schema query.tests) (tree_asked query) [] splits
 
--- the plain run runs from the kept path, and the kept texts show the patterns of the slot there wider than the states
+-- the plain run runs from the kept path, which answers a test of the slot and where the query isn't no, and the kept texts show the
+-- patterns of the slot there wider than the states
 pub record StatesFail (schema : Schema) (query : Query) (states : ℕ) (w : Wide) : Type 0 where
   pub path : RunsFrom (IsPossible schema query.tests) (tree_asked query) w.path
+  pub not_no : value w.path (tree_asked query) ≢ No
+  pub asked : HasTest query.tests w.path w.slot
   pub texts : ShowWider (patterns_at schema query.tests w.path w.slot) states w.texts
 
 -- a valid request that makes the question's tree yes; that there is none; or that a number is too small for the question
-abbrev pub IsAnswerTo : Schema → ℕ → ℕ → Query → Asked → Type 0
-IsAnswerTo schema splits states query (Met r) = IsMetBy schema query.tests (tree_asked query) [] r
-IsAnswerTo schema splits states query Nobody = NoneMeets schema query.tests (tree_asked query) []
-IsAnswerTo schema splits states query OutOfSplits = SplitsFail schema query splits
-IsAnswerTo schema splits states query (OutOfStates w) = StatesFail schema query states w
+abbrev pub AnswersQuery : Schema → ℕ → ℕ → Query → Asked → Type 0
+AnswersQuery schema splits states query (Met r) = IsMetBy schema query.tests (tree_asked query) [] r
+AnswersQuery schema splits states query Nobody = NoneMeets schema query.tests (tree_asked query) []
+AnswersQuery schema splits states query OutOfSplits = SplitsFail schema query splits
+AnswersQuery schema splits states query (OutOfStates w) = StatesFail schema query states w
 
 -- the finding must be looked at, and of its query P holds
 pub record FailsAtFinding (schema : Schema) (set : PolicySet) (ds : List Stratum) (f : List ℕ) (P : Query → Type 0) : Type 0 where
-  pub visited : IsVisited schema set ds f
+  pub visited : MustBeVisited schema set ds f
   pub query : Query
   pub is : IsFindingQuery (set_plan schema set) ds f query
   pub fails : P query

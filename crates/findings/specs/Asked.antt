@@ -17,7 +17,7 @@ use Rattle.policy_compile.specs.Plans.{Plan, not, of_plans, one_of, tests_in, te
 use Rattle.policy_compile.specs.Queries.{IsQuery}
 use Rattle.strata.specs.declared.stratum.Strata.{Strata}
 use Rattle.strata.specs.declared.stratum.Stratum.{Stratum}
-use Rattle.findings.specs.Answers.{IsAskable}
+use Rattle.findings.specs.Answers.{QueryIsAskable}
 use Rattle.findings.specs.Findings.{IsOwn}
 use Rattle.findings.specs.Queries.{AreMadeFor, IsFindingQuery, finer_plans}
 
@@ -66,4 +66,4 @@ HoldsForOwn base strata f q =
 -- the query may be asked of whoever answers for the schema
 abbrev pub IsAskableFor : Query → Strata → Query → Type 0
 IsAskableFor base strata q =
-    (schema : Schema) (set : PolicySet) → AreMadeFor schema set base strata → IsAskable schema q
+    (schema : Schema) (set : PolicySet) → AreMadeFor schema set base strata → QueryIsAskable schema q

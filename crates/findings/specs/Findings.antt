@@ -17,10 +17,10 @@ IsFinding (d ∷ ds) [] = ⊥
 IsFinding (d ∷ ds) (n ∷ f) = (n < length d.predicates) × IsFinding ds f
 
 -- the request meets the predicate of each dimension
-abbrev pub LiesIn : Request → List Stratum → List ℕ → Type 0
-LiesIn r [] f = ⊤
-LiesIn r (d ∷ ds) [] = ⊤
-LiesIn r (d ∷ ds) (n ∷ f) = MeetsPredicate d.slot (predicate_at d.predicates n) r × LiesIn r ds f
+abbrev pub LiesInFinding : Request → List Stratum → List ℕ → Type 0
+LiesInFinding r [] f = ⊤
+LiesInFinding r (d ∷ ds) [] = ⊤
+LiesInFinding r (d ∷ ds) (n ∷ f) = MeetsPredicate d.slot (predicate_at d.predicates n) r × LiesInFinding r ds f
 
 -- each predicate of the first finding is that of the second, or below it
 abbrev pub IsFiner : Schema → List Stratum → List ℕ → List ℕ → Type 0
@@ -37,8 +37,8 @@ IsStrictlyFiner schema ds f g = IsFiner schema ds f g × (f ≢ g)
 pub record IsOwn (schema : Schema) (set : PolicySet) (ds : List Stratum) (f : List ℕ) (r : Request) : Type 0 where
   pub valid : IsValid schema r
   pub allowed : Allows schema set r
-  pub lies : LiesIn r ds f
-  pub no_finer : (g : List ℕ) → IsFinding ds g → IsStrictlyFiner schema ds g f → ¬ LiesIn r ds g
+  pub lies : LiesInFinding r ds f
+  pub no_finer : (g : List ℕ) → IsFinding ds g → IsStrictlyFiner schema ds g f → ¬ LiesInFinding r ds g
 
 -- some request is the finding's own
 abbrev pub IsIrreducible : Schema → PolicySet → List Stratum → List ℕ → Type 0

@@ -7,9 +7,10 @@ use Rattle.policy_model.specs.Requests.{IsValid}
 use Rattle.policy_model.specs.Sets.{Allows}
 use Rattle.policy_compile.specs.declared.outcome.Query.{Query}
 use Rattle.strata.specs.declared.stratum.Strata.{Strata}
-use Rattle.findings.specs.Findings.{IsStrictlyFiner, LiesIn}
+use Rattle.strata.specs.declared.stratum.Stratum.{Stratum}
+use Rattle.findings.specs.Findings.{IsStrictlyFiner, LiesInFinding}
 use Rattle.findings.specs.Queries.{AreMadeFor}
-use Rattle.findings.specs.Summaries.{IsSummary, Visits, VisitsAtLeast, findings_of}
+use Rattle.findings.specs.Summaries.{IsSummary, VisitsExactly, VisitsAtLeast, findings_of}
 
 -- a set with its strata under a schema, and its summary
 pub record HasSummary (schema : Schema) (set : PolicySet) (strata : Strata) (summary : List (List ℕ × Request)) : Type 0 where
@@ -22,7 +23,7 @@ abbrev pub SummariesCover : Type 0
 SummariesCover =
     (schema : Schema) (set : PolicySet) (strata : Strata) (summary : List (List ℕ × Request)) →
     HasSummary schema set strata summary → (r : Request) → IsValid schema r → Allows schema set r →
-    Any (LiesIn r strata.dimensions) (findings_of summary)
+    Any (LiesInFinding r strata.dimensions) (findings_of summary)
 
 -- no finding of the summary is strictly finer than another
 abbrev pub SummariesAreFlat : Type 0
@@ -31,16 +32,22 @@ SummariesAreFlat =
     HasSummary schema set strata summary → (f g : List ℕ) → Contains (findings_of summary) f →
     Contains (findings_of summary) g → ¬ IsStrictlyFiner schema strata.dimensions f g
 
--- of two different findings of it, not every valid request that lies in the first lies in the second
+-- some valid request lies in the first finding and not in the second
+pub record LiesApart (schema : Schema) (ds : List Stratum) (f g : List ℕ) : Type 0 where
+  pub request : Request
+  pub valid : IsValid schema request
+  pub lies : LiesInFinding request ds f
+  pub misses : ¬ LiesInFinding request ds g
+
+-- of two different findings of it, some valid request lies in the first and not in the second
 abbrev pub SummariesAreNeeded : Type 0
 SummariesAreNeeded =
     (schema : Schema) (set : PolicySet) (strata : Strata) (summary : List (List ℕ × Request)) →
     HasSummary schema set strata summary → (f g : List ℕ) → Contains (findings_of summary) f →
-    Contains (findings_of summary) g → f ≢ g →
-    ¬ ((r : Request) → IsValid schema r → LiesIn r strata.dimensions f → LiesIn r strata.dimensions g)
+    Contains (findings_of summary) g → f ≢ g → LiesApart schema strata.dimensions f g
 
 -- where exactly so many findings must be looked at, no more must be
 abbrev pub VisitsAreBounded : Type 0
 VisitsAreBounded =
     (schema : Schema) (set : PolicySet) (strata : Strata) (few many : ℕ) →
-    VisitsAtLeast schema set strata.dimensions few → Visits schema set strata.dimensions many → few ≤ many
+    VisitsAtLeast schema set strata.dimensions few → VisitsExactly schema set strata.dimensions many → few ≤ many

@@ -1,5 +1,5 @@
 -- The query of a finding: whether a request is the finding's own.
-use Rattle.std.specs.Prelude.{◌≢◌, ◌≤◌, ℕ, List, [], ◌∷◌, ◌++◌, length, All, AllPairs, Option, Some, None, map, slice_index_or}
+use Rattle.std.specs.Prelude.{◌≢◌, ℕ, List, [], ◌∷◌, ◌++◌, All, AllPairs, Option, Some, None, map, slice_index_or}
 use Rattle.formula_tree.specs.Trees.{tree_of}
 use Rattle.policy_model.specs.declared.schema.Schema.{Schema}
 use Rattle.policy_model.specs.declared.set.PolicySet.{PolicySet}
@@ -57,19 +57,14 @@ pub record IsFindingQuery (allowed : Plan) (ds : List Stratum) (f : List ℕ) (q
   pub tests : Collects [] (tests_in (finding_plan allowed ds f)) q.tests
   pub tree : IsNumbered q.tests (finding_plan allowed ds f) (tree_of q.formula.value)
 
--- the most dimensions of a summary
-abbrev pub most_dimensions : ℕ
-most_dimensions = 4
-
--- the query is that of the set under the schema, which has a valid request, and the strata are those of the query: of at most four
--- slots that differ, and that requests under the schema have, with at most 128 predicates each
+-- the query is that of the set under the schema, which has a valid request, and the strata are those of the query: of slots that
+-- differ, and that requests under the schema have, with at most 128 predicates each
 pub record AreMadeFor (schema : Schema) (set : PolicySet) (base : Query) (strata : Strata) : Type 0 where
   pub sound : SchemaIsSound schema
   pub fits : SchemaFits schema set
   pub some : HasValidRequest schema
   pub query : IsQuery (set_plan schema set) base
   pub slots : List Slot
-  pub few : length slots ≤ most_dimensions
   pub differ : AllPairs (λ s t. s ≢ t) slots
   pub known : All (SlotIsIn schema) slots
   pub named : AreFew base.tests slots

@@ -33,12 +33,12 @@ abbrev pub AreNumberedBelow : List Stratum → Type 0
 AreNumberedBelow ds = All IsNumberedBelow ds
 
 -- the number that a finding has at an index
-abbrev pub number_at : List ℕ → ℕ → ℕ
-number_at f i = slice_index_or f i 0
+abbrev pub predicate_number_at : List ℕ → ℕ → ℕ
+predicate_number_at f i = slice_index_or f i 0
 
 -- the finding with this number at the index is in the list, where the other is right under it
 abbrev pub IsAboveBy : Stratum → List (List ℕ) → List ℕ → ℕ → ℕ → Type 0
-IsAboveBy d list f i m = Contains (numbers_below d m) (number_at f i) → Contains list (slice_set f i m)
+IsAboveBy d list f i m = Contains (numbers_below d m) (predicate_number_at f i) → Contains list (slice_set f i m)
 
 -- each finding that this one is right under, by the number at the index, is in the list
 abbrev pub AreAboveAt : Stratum → List (List ℕ) → List ℕ → ℕ → Type 0
@@ -46,7 +46,7 @@ AreAboveAt d list f i = (m : ℕ) → IsAboveBy d list f i m
 
 -- the findings that are right under this one by the number at the index, in the order of their numbers
 abbrev pub under_at : Stratum → List ℕ → ℕ → List (List ℕ)
-under_at d f i = map (slice_set f i) (numbers_below d (number_at f i))
+under_at d f i = map (slice_set f i) (numbers_below d (predicate_number_at f i))
 
 -- they were added
 abbrev pub IsAddedAt : Stratum → List ℕ → ℕ → List (List ℕ) → List (List ℕ) → Type 0

@@ -27,7 +27,7 @@ pub record IsSummary (schema : Schema) (set : PolicySet) (ds : List Stratum) (su
   pub order : IsStrictlySortedBy (slice_cmp nat_cmp) (findings_of summary)
 
 -- a finding that must be looked at: no irreducible one is strictly above, whether it is irreducible itself or not
-pub record IsVisited (schema : Schema) (set : PolicySet) (ds : List Stratum) (f : List ℕ) : Type 0 where
+pub record MustBeVisited (schema : Schema) (set : PolicySet) (ds : List Stratum) (f : List ℕ) : Type 0 where
   pub finding : IsFinding ds f
   pub none_above : HasNoneAbove schema set ds f
 
@@ -36,9 +36,9 @@ pub record VisitsAtLeast (schema : Schema) (set : PolicySet) (ds : List Stratum)
   pub listed : List (List ℕ)
   pub count : length listed ≡ n
   pub different : AllPairs (λ f g. f ≢ g) listed
-  pub each : All (IsVisited schema set ds) listed
+  pub each : All (MustBeVisited schema set ds) listed
 
 -- exactly so many
-pub record Visits (schema : Schema) (set : PolicySet) (ds : List Stratum) (n : ℕ) : Type 0 where
+pub record VisitsExactly (schema : Schema) (set : PolicySet) (ds : List Stratum) (n : ℕ) : Type 0 where
   pub least : VisitsAtLeast schema set ds n
   pub most : ¬ VisitsAtLeast schema set ds (n + 1)

@@ -43,19 +43,19 @@ pub record IsDue (ds : List Stratum) (w : Walk) (f : List ℕ) : Type 0 where
   pub above : AreAboveIn ds w.reducible.keys f
 
 -- it isn't: it was looked at, or one that it is right under may have a request of its own
-abbrev pub IsPassed : List Stratum → Walk → List ℕ → Type 0
-IsPassed ds w f = Contains w.looked.keys f ⊎ ¬ AreAboveIn ds w.reducible.keys f
+abbrev pub IsPassedFinding : List Stratum → Walk → List ℕ → Type 0
+IsPassedFinding ds w f = Contains w.looked.keys f ⊎ ¬ AreAboveIn ds w.reducible.keys f
 
 -- the findings to come are those before the passed ones, without the next
 pub record PassesTo (ds : List Stratum) (old : Walk) (left : List (List ℕ)) : Type 0 where
   pub passed : List (List ℕ)
   pub is : old.coming.items ≡ left ++ passed
-  pub each : All (IsPassed ds old) passed
+  pub each : All (IsPassedFinding ds old) passed
 
 -- the next finding is due, and those after it were passed; or all were
-abbrev pub IsNext : List Stratum → Walk → Walk → Option (List ℕ) → Type 0
-IsNext ds old new (Some f) = PassesTo ds old (new.coming.items ++ f ∷ []) × IsDue ds old f
-IsNext ds old new None = PassesTo ds old [] × (new.coming.items ≡ [])
+abbrev pub IsNextFinding : List Stratum → Walk → Walk → Option (List ℕ) → Type 0
+IsNextFinding ds old new (Some f) = PassesTo ds old (new.coming.items ++ f ∷ []) × IsDue ds old f
+IsNextFinding ds old new None = PassesTo ds old [] × (new.coming.items ≡ [])
 
 -- but for what is to come the walks are the same
 pub record SameBesides (old new : Walk) : Type 0 where

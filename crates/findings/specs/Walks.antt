@@ -6,7 +6,7 @@ use Rattle.policy_model.specs.declared.set.PolicySet.{PolicySet}
 use Rattle.strata.specs.declared.stratum.Stratum.{Stratum}
 use Rattle.findings.specs.Findings.{IsFinding, IsIrreducible, IsOwn}
 use Rattle.findings.specs.Steps.{IsRightUnder}
-use Rattle.findings.specs.Summaries.{IsVisited, findings_of}
+use Rattle.findings.specs.Summaries.{MustBeVisited, findings_of}
 
 -- the finding of every request: number 0 in each dimension
 abbrev pub first_finding : List Stratum → List ℕ
@@ -22,18 +22,18 @@ abbrev pub IsCared : List Stratum → (coming looked reducible : List (List ℕ)
 IsCared ds coming looked reducible f = Contains looked f ⊎ (Contains coming f ⊎ ¬ AreAboveIn ds reducible f)
 
 -- the finding was looked at, and the request is its own
-abbrev pub IsFound : Schema → PolicySet → List Stratum → List (List ℕ) → List ℕ × Request → Type 0
-IsFound schema set ds looked p = Contains looked p.0 × IsOwn schema set ds p.0 p.1
+abbrev pub IsFoundFinding : Schema → PolicySet → List Stratum → List (List ℕ) → List ℕ × Request → Type 0
+IsFoundFinding schema set ds looked p = Contains looked p.0 × IsOwn schema set ds p.0 p.1
 
 -- where a walk stands: the findings that may come next, those that were looked at, those of them that have no request of their
 -- own, and the others with a request of their own
 pub record IsWalk (schema : Schema) (set : PolicySet) (ds : List Stratum) (coming looked reducible : List (List ℕ))
     (found : List (List ℕ × Request)) : Type 0 where
   pub next : (f : List ℕ) → Contains coming f → IsFinding ds f
-  pub visited : (f : List ℕ) → Contains looked f → IsVisited schema set ds f
+  pub visited : (f : List ℕ) → Contains looked f → MustBeVisited schema set ds f
   pub different : AllPairs (λ f g. f ≢ g) looked
   pub unmet : (f : List ℕ) → Contains reducible f → Contains looked f × ¬ IsIrreducible schema set ds f
-  pub own : All (IsFound schema set ds looked) found
+  pub own : All (IsFoundFinding schema set ds looked) found
   pub either : (f : List ℕ) → Contains looked f → Contains reducible f ⊎ Contains (findings_of found) f
   pub cared : (f g : List ℕ) → Contains reducible g → IsRightUnder ds f g → IsCared ds coming looked reducible f
   pub start : Contains looked (first_finding ds) ⊎ Contains coming (first_finding ds)

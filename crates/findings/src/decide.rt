@@ -1,7 +1,7 @@
 //! Who decides queries.
 ghost use Rattle.std.specs.Prelude.{◌≡◌, ℕ, IfOk};
 ghost use Rattle.policy_model.specs.declared.schema.Schema.{Schema};
-ghost use Rattle.findings.specs.Answers.{IsAnswerTo, IsAskable};
+ghost use Rattle.findings.specs.Answers.{AnswersQuery, QueryIsAskable};
 
 use formula_tree::Path;
 use plain_lists::NoMemory;
@@ -48,9 +48,9 @@ pub trait Decide {
     /// the query needs more splits than it makes, and `OutOfStates` only where a slot needs more states
     /// than it looks at, at a path of that run. The only error is want of memory.
     fn ask(&mut self, alloc: Global, query: &Query) -> Result<Asked, NoMemory>
-        requires askable { IsAskable (schema self.old) query.now }
+        requires askable { QueryIsAskable (schema self.old) query.now }
         ensures answer { IfOk result
-            (IsAnswerTo (schema self.old) (splits self.old) (states self.old) query.now) }
+            (AnswersQuery (schema self.old) (splits self.old) (states self.old) query.now) }
         ensures schema { schema self.new ≡ schema self.old }
         ensures splits { splits self.new ≡ splits self.old }
         ensures states { states self.new ≡ states self.old };

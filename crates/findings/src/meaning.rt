@@ -11,8 +11,7 @@ pub fn summaries_are_flat()
     ensures { SummariesAreFlat }
 {}
 
-/// Of two different findings of a summary, not every valid request that lies in the first lies in the
-/// second.
+/// Of two different findings of a summary, some valid request lies in the first and not in the second.
 pub fn summaries_are_needed()
     ensures { SummariesAreNeeded }
 {}

@@ -1,12 +1,12 @@
 //! Tests that are numbered in the order in which they are first asked, and the formulas that ask them.
 ghost use Rattle.std.specs.Prelude.{◌≡◌, ◌<◌, ◌^◌, [], IfOk, OnOk, length, map};
-ghost use Rattle.formula_tree.specs.Trees.{children_of, of_list, tree_of, trees_of};
+ghost use Rattle.formula_tree.specs.Trees.{children_of, tree_of, trees_of};
 ghost use Rattle.formula_tree.specs.Values.{AreBelow, EachBelow};
 ghost use Rattle.findings.specs.Findings.{IsFinding};
 ghost use Rattle.findings.specs.Renumbering.{renumbered, renumbered_each};
 
 use crate::outcome::Finding;
-use crate::reading::{dimension_at, number_at};
+use crate::reading::{dimension_at, predicate_number_at};
 use formula_tree::{Branches, Formula};
 use indexmap::IndexSet;
 use plain_lists::{EqualClone, List, NoMemory};
@@ -122,7 +122,7 @@ impl Numbering {
             (trees_of branches.old) (trees_of branches.new)) }
     {
         'dimensions: for i in 0..finding.len() {
-            let number = number_at(finding, i) as usize;
+            let number = predicate_number_at(finding, i) as usize;
             branches.push(self.ask_predicate(dimension_at(strata, i), number)?)?;
         }
         Ok(())
@@ -161,7 +161,7 @@ impl Numbering {
             (trees_of branches.old) (trees_of branches.new)) }
     {
         'dimensions: for i in 0..finding.len() {
-            let number = number_at(finding, i) as usize;
+            let number = predicate_number_at(finding, i) as usize;
             self.add_finer_at(branches, dimension_at(strata, i), number)?;
         }
         Ok(())

@@ -7,8 +7,8 @@ use std::alloc::AllocError;
 /// For each dimension the number of one of its predicates, in the order of the dimensions.
 pub type Finding = List<u32>;
 
-/// Findings, each with a request that lies in it and in no strictly finer finding, in the order of
-/// their numbers.
+/// Findings in the order of their numbers. Beside each stands a request that is its own: a witness that
+/// no finer finding has.
 pub type Summary = List<(Finding, Request)>;
 
 /// Why there is no summary.

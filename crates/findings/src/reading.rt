@@ -1,7 +1,7 @@
 //! Numbers of findings, dimensions of strata, and findings in sets.
 ghost use Rattle.std.specs.Prelude.{◌≡◌, ◌<◌, ◌↔◌, Contains, IsTrue, Some, length, slice_get};
 ghost use Rattle.findings.specs.Queries.{numbers_below};
-ghost use Rattle.findings.specs.Steps.{number_at};
+ghost use Rattle.findings.specs.Steps.{predicate_number_at};
 
 use crate::outcome::Finding;
 use indexmap::IndexSet;
@@ -16,9 +16,9 @@ pub(crate) fn dimension_at(strata: &Strata, i: usize) -> &Stratum
 }
 
 /// The number that the finding has in the dimension of an index.
-pub(crate) fn number_at(finding: &Finding, i: usize) -> u32
+pub(crate) fn predicate_number_at(finding: &Finding, i: usize) -> u32
     requires { i < length finding.now }
-    ensures { result ≡ number_at finding.now i }
+    ensures { result ≡ predicate_number_at finding.now i }
 {
     finding.as_slice()[i]
 }

@@ -1,11 +1,11 @@
 //! The steps from a finding to those right under it and right above it.
 ghost use Rattle.std.specs.Prelude.{◌≡◌, ◌<◌, ◌^◌, ◌↔◌, IfOk, IsTrue, OnOk, length, slice_set};
 ghost use Rattle.findings.specs.Findings.{IsFinding};
-ghost use Rattle.findings.specs.Steps.{AddUnder, AreAboveAt, AreNumberedBelow, IsAboveBy, IsAddedAt, number_at};
+ghost use Rattle.findings.specs.Steps.{AddUnder, AreAboveAt, AreNumberedBelow, IsAboveBy, IsAddedAt, predicate_number_at};
 ghost use Rattle.findings.specs.Walks.{AreAboveIn};
 
 use crate::outcome::Finding;
-use crate::reading::{dimension_at, is_among, is_right_below, number_at};
+use crate::reading::{dimension_at, is_among, is_right_below, predicate_number_at};
 use indexmap::IndexSet;
 use plain_lists::{List, NoMemory};
 use std::alloc::Global;
@@ -42,7 +42,7 @@ fn is_above_in(
     ensures { IfOk result (λ is. IsTrue is ↔
         IsAboveBy stratum.now set.now.keys finding.now i upper) }
 {
-    if !is_right_below(stratum, number_at(finding, i), upper as usize) {
+    if !is_right_below(stratum, predicate_number_at(finding, i), upper as usize) {
         return Ok(true);
     }
     let above = with_number(alloc, finding, i, upper)?;
@@ -99,11 +99,11 @@ fn add_under_at(
     i: usize,
 ) -> Result<(), NoMemory>
     requires index { i < length finding.now }
-    requires within { number_at finding.now i < length stratum.now.below }
+    requires within { predicate_number_at finding.now i < length stratum.now.below }
     ensures { OnOk result (IsAddedAt stratum.now finding.now i
         coming.old.items coming.new.items) }
 {
-    let number = number_at(finding, i) as usize;
+    let number = predicate_number_at(finding, i) as usize;
     'under: for lower in stratum.below.as_slice()[number].as_slice() {
         coming.push(with_number(alloc, finding, i, *lower)?)?;
     }

@@ -8,7 +8,7 @@ ghost use Rattle.findings.specs.Findings.{IsFinding};
 ghost use Rattle.findings.specs.Texts.{compare_word, cond_text, entry_text, finding_data, finding_text, flag_text, number_text, pattern_text, pattern_word, predicate_text, takes_either_case, takes_no_colon};
 
 use crate::outcome::Finding;
-use crate::reading::{dimension_at, number_at};
+use crate::reading::{dimension_at, predicate_number_at};
 use base64::engine::general_purpose::STANDARD;
 use cidr_bits::write_block;
 use intervals::{Compare, write_decimal};
@@ -175,7 +175,7 @@ fn finding_json(alloc: Global, strata: &Strata, finding: &Finding) -> Result<Val
 {
     let mut texts = Vec::new(alloc);
     'dimensions: for i in 0..finding.len() {
-        let number = number_at(finding, i) as usize;
+        let number = predicate_number_at(finding, i) as usize;
         texts.push(number_json(alloc, dimension_at(strata, i), number)?)?;
     }
     Ok(Value::Array(texts))

@@ -46,7 +46,7 @@ fn first_finding(alloc: Global, strata: &Strata) -> Result<Finding, NoMemory>
 }
 
 impl Walk {
-    ghost use Rattle.findings.specs.Walked.{AddsFound, AddsReducible, AreFindings, IsDue, IsNext, IsPassed, IsTaken, LookFails, SameBesides, StandsAt, StartsAt};
+    ghost use Rattle.findings.specs.Walked.{AddsFound, AddsReducible, AreFindings, IsDue, IsNextFinding, IsPassedFinding, IsTaken, LookFails, SameBesides, StandsAt, StartsAt};
 
     /// The walk before anything is looked at.
     pub(crate) fn start(alloc: Global, strata: &Strata) -> Result<Walk, NoMemory>
@@ -67,8 +67,9 @@ impl Walk {
     fn is_due(&self, strata: &Strata, finding: &Finding) -> Result<bool, NoMemory>
         requires finding { IsFinding strata.now.dimensions finding.now }
         requires numbered { AreNumberedBelow strata.now.dimensions }
-        ensures { IfOk result (λ due. MatchBool due (IsDue strata.now.dimensions self.now finding.now)
-            (IsPassed strata.now.dimensions self.now finding.now)) }
+        ensures { IfOk result
+            (λ due. MatchBool due (IsDue strata.now.dimensions self.now finding.now)
+            (IsPassedFinding strata.now.dimensions self.now finding.now)) }
     {
         if is_among(&self.looked, finding) {
             return Ok(false);
@@ -81,7 +82,7 @@ impl Walk {
     pub(crate) fn next(&mut self, strata: &Strata) -> Result<Option<Finding>, NoMemory>
         requires findings { AreFindings strata.now.dimensions self.old.coming.items }
         requires numbered { AreNumberedBelow strata.now.dimensions }
-        ensures next { IfOk result (IsNext strata.now.dimensions self.old self.new) }
+        ensures next { IfOk result (IsNextFinding strata.now.dimensions self.old self.new) }
         ensures same { OnOk result (SameBesides self.old self.new) }
     {
         'coming: for _ in 0..self.coming.len() {

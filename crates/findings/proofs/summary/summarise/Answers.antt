@@ -1,7 +1,7 @@
 use Rattle.std.proofs.Common.{arith, refl, subst, sym, ◌∙◌}
 use Rattle.std.proofs.lemmas.Result.{err_from_is_err_and}
 use Rattle.policy_model.specs.declared.schema.Schema.{Schema}
-use Rattle.findings.specs.Walked.{IsNext, IsTaken, StandsAt}
+use Rattle.findings.specs.Walked.{IsNextFinding, IsTaken, StandsAt}
 use Rattle.findings.proofs.Passing.{none-of}
 use Rattle.findings.proofs.Summing.{all-summarised, fails-summarised, looked-more, looked-start, next-findings, next-numbered, next-taken, one-too-many}
 use Rattle.findings.proofs.summary.summarise.Goals as goal
@@ -22,13 +22,13 @@ next-requires-clause-numbered g c = next-numbered (g.D.Decide.schema c.args.asks
 
 pub returns-in_default-clause-summary : goal.returns-in_default-clause-summary
 returns-in_default-clause-summary g c =
-    let next = subst (IsNext c.args.strata.now.dimensions c.findings.walk c.next.new.self) (none-of c.in_ok-finding.field-0 c.in_default.not-Some) c.in_ok-finding.ensures.next in
+    let next = subst (IsNextFinding c.args.strata.now.dimensions c.findings.walk c.next.new.self) (none-of c.in_ok-finding.field-0 c.in_default.not-Some) c.in_ok-finding.ensures.next in
     all-summarised (g.D.Decide.schema c.args.asks.now) c.args.base.now c.args.strata.now c.findings.walk c.next.new.self (g.D.Decide.splits c.args.asks.now) (g.D.Decide.states c.args.asks.now) c.args.findings c.in_ok-found_in.field-0
     c.findings.invariant.walked.stands next c.in_ok-finding.ensures.same c.in_ok-found_in.ensures.found c.in_ok-found_in.ensures.order
 
 pub look_at-requires-clause-due : goal.look_at-requires-clause-due
 look_at-requires-clause-due g c =
-    let next = subst (IsNext c.args.strata.now.dimensions c.findings.walk c.next.new.self) c.in-Some.is c.in_ok-finding.ensures.next in
+    let next = subst (IsNextFinding c.args.strata.now.dimensions c.findings.walk c.next.new.self) c.in-Some.is c.in_ok-finding.ensures.next in
     subst (λ (s : Schema). IsTaken s c.args.base.now c.args.strata.now c.next.new.self c.in-Some.finding) (sym c.findings.invariant.schema)
     (next-taken (g.D.Decide.schema c.args.asks.now) c.args.base.now c.args.strata.now c.findings.walk c.next.new.self c.in-Some.finding c.findings.invariant.walked.stands next c.in_ok-finding.ensures.same)
 
@@ -55,11 +55,11 @@ returns-in_err-look_at-clause-summary g c =
 
 pub returns-in_ok-found_in-in-None-clause-summary : goal.returns-in_ok-found_in-in-None-clause-summary
 returns-in_ok-found_in-in-None-clause-summary g c =
-    let next = subst (IsNext c.args.strata.now.dimensions c.findings.walk c.next-2.new.self) c.in-None.is c.in_ok-further.ensures.next in
+    let next = subst (IsNextFinding c.args.strata.now.dimensions c.findings.walk c.next-2.new.self) c.in-None.is c.in_ok-further.ensures.next in
     all-summarised (g.D.Decide.schema c.args.asks.now) c.args.base.now c.args.strata.now c.findings.walk c.next-2.new.self (g.D.Decide.splits c.args.asks.now) (g.D.Decide.states c.args.asks.now) c.args.findings c.in_ok-found_in-in-None.field-0
     c.findings.invariant.walked.stands next c.in_ok-further.ensures.same c.in_ok-found_in-in-None.ensures.found c.in_ok-found_in-in-None.ensures.order
 
 pub returns-in-Some-further-clause-summary : goal.returns-in-Some-further-clause-summary
 returns-in-Some-further-clause-summary g c =
-    let next = subst (IsNext c.args.strata.now.dimensions c.findings.walk c.next-2.new.self) c.in-Some-further.is c.in_ok-further.ensures.next in
+    let next = subst (IsNextFinding c.args.strata.now.dimensions c.findings.walk c.next-2.new.self) c.in-Some-further.is c.in_ok-further.ensures.next in
     one-too-many (g.D.Decide.schema c.args.asks.now) c.args.base.now c.args.strata.now c.findings.walk c.next-2.new.self _ c.findings.counter c.args.findings (g.D.Decide.splits c.args.asks.now) (g.D.Decide.states c.args.asks.now) c.findings.invariant.walked (omega arith) next c.in_ok-further.ensures.same

@@ -12,12 +12,12 @@ dimension_at-requires c = omega (arith, finding-long c.args.strata.now.dimension
 pub number_json-requires : goal.number_json-requires
 number_json-requires c =
     let own = number-within c.args.strata.now.dimensions c.args.finding.now c.requires c.dimensions.i _ c.dimension_at.ensures in
-    omega (arith, own, c.number_at-number.ensures)
+    omega (arith, own, c.predicate_number_at-number.ensures)
 
 pub dimensions-preserved : goal.dimensions-preserved
 dimensions-preserved c =
     let within : c.dimensions.i < length c.args.finding.now = omega arith in
-    let number = c.number_at-number.ensures in
+    let number = c.predicate_number_at-number.ensures in
     texts-more c.args.strata.now.dimensions c.args.finding.now c.dimensions.i _ c.dimensions.texts.items c.push.new.self.items _ c.dimension_at.ensures within c.dimensions.invariant (rw number at c.in_ok-number_json.ensures) c.in_ok-push.ensures.items
 
 pub returns : goal.returns

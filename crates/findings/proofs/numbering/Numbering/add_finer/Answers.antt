@@ -16,7 +16,7 @@ pub add_finer_at-requires-clause-within : goal.add_finer_at-requires-clause-with
 add_finer_at-requires-clause-within c =
     let own = number-within c.args.strata.now.dimensions c.args.finding.now c.requires.finding c.dimensions.i _ c.dimension_at.ensures in
     let numbered = numbered-at c.args.strata.now.dimensions c.dimensions.i _ c.requires.numbers c.dimension_at.ensures in
-    omega (arith, own, numbered.count, c.number_at-number.ensures)
+    omega (arith, own, numbered.count, c.predicate_number_at-number.ensures)
 
 pub add_finer_at-requires-clause-numbers : goal.add_finer_at-requires-clause-numbers
 add_finer_at-requires-clause-numbers c = numbered-at c.args.strata.now.dimensions c.dimensions.i _ c.requires.numbers c.dimension_at.ensures
@@ -25,7 +25,7 @@ pub dimensions-preserved : goal.dimensions-preserved
 dimensions-preserved c =
     let within : c.dimensions.i < length c.args.finding.now = omega arith in
     let plans = finer-next c.args.strata.now.dimensions c.args.finding.now c.dimensions.i _ c.dimension_at.ensures within in
-    let number = c.number_at-number.ensures in
+    let number = c.predicate_number_at-number.ensures in
     subst (λ (ps : List Plan). AreAsked c.args.self.now.tests.keys c.add_finer_at.new.self.tests.keys ps (trees_of c.args.branches.now) (trees_of c.add_finer_at.new.branches)) (sym plans)
     (asked-append c.args.self.now.tests.keys c.dimensions.self.tests.keys c.add_finer_at.new.self.tests.keys _ _ (trees_of c.args.branches.now) (trees_of c.dimensions.branches) (trees_of c.add_finer_at.new.branches) c.dimensions.invariant (rw number at c.in_ok-add_finer_at.ensures))
 

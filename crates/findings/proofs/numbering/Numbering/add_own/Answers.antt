@@ -15,13 +15,13 @@ dimension_at-requires c = omega (arith, finding-long c.args.strata.now.dimension
 pub ask_predicate-requires : goal.ask_predicate-requires
 ask_predicate-requires c =
     let own = number-within c.args.strata.now.dimensions c.args.finding.now c.requires c.dimensions.i _ c.dimension_at.ensures in
-    omega (arith, own, c.number_at-number.ensures)
+    omega (arith, own, c.predicate_number_at-number.ensures)
 
 pub dimensions-preserved : goal.dimensions-preserved
 dimensions-preserved c =
     let within : c.dimensions.i < length c.args.finding.now = omega arith in
     let plans = own-next c.args.strata.now.dimensions c.args.finding.now c.dimensions.i _ c.dimension_at.ensures within in
-    let number = c.number_at-number.ensures in
+    let number = c.predicate_number_at-number.ensures in
     subst (λ (ps : List Plan). AreAsked c.args.self.now.tests.keys c.ask_predicate.new.self.tests.keys ps (trees_of c.args.branches.now) (trees_of c.push.new.self)) (sym plans)
     (asked-next c.args.self.now.tests.keys c.dimensions.self.tests.keys c.ask_predicate.new.self.tests.keys _ _ (trees_of c.args.branches.now) (trees_of c.dimensions.branches) (trees_of c.push.new.self) _ c.dimensions.invariant (rw number at c.in_ok-ask_predicate.ensures) c.in_ok-push.ensures.ok)
 

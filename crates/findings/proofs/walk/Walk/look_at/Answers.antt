@@ -1,7 +1,7 @@
 use Rattle.std.proofs.Common.{subst}
 use Rattle.std.proofs.lemmas.List.Elements.{Contains-push}
 use Rattle.policy_compile.specs.Sets.{set_plan}
-use Rattle.findings.specs.Answers.{IsAnswerTo}
+use Rattle.findings.specs.Answers.{AnswersQuery}
 use Rattle.findings.proofs.Looking.{met-own, none-own, stands-found, stands-reducible, taken-must}
 use Rattle.findings.proofs.Made.{made-numbered, made-steps}
 use Rattle.findings.proofs.walk.Walk.look_at.Goals as goal
@@ -30,7 +30,7 @@ returns-in-OutOfSplits-clause-fault g c = λ set made.
       visited = taken-must schema set c.args.strata.now.dimensions steps c.args.self.now c.args.finding (c.requires.due set made);
       query = c.in_ok-query.query;
       is = c.in_ok-query.ensures.plan (set_plan schema set) made.query;
-      fails = subst (IsAnswerTo schema (g.D.Decide.splits c.args.asks.now) (g.D.Decide.states c.args.asks.now) c.in_ok-query.query) c.in-OutOfSplits.is c.in_ok-answer.ensures.answer;
+      fails = subst (AnswersQuery schema (g.D.Decide.splits c.args.asks.now) (g.D.Decide.states c.args.asks.now) c.in_ok-query.query) c.in-OutOfSplits.is c.in_ok-answer.ensures.answer;
     }
 
 pub returns-clause-fault : goal.returns-clause-fault
@@ -41,7 +41,7 @@ returns-clause-fault g c = λ set made.
       visited = taken-must schema set c.args.strata.now.dimensions steps c.args.self.now c.args.finding (c.requires.due set made);
       query = c.in_ok-query.query;
       is = c.in_ok-query.ensures.plan (set_plan schema set) made.query;
-      fails = subst (IsAnswerTo schema (g.D.Decide.splits c.args.asks.now) (g.D.Decide.states c.args.asks.now) c.in_ok-query.query) c.in-OutOfStates.is c.in_ok-answer.ensures.answer;
+      fails = subst (AnswersQuery schema (g.D.Decide.splits c.args.asks.now) (g.D.Decide.states c.args.asks.now) c.in_ok-query.query) c.in-OutOfStates.is c.in_ok-answer.ensures.answer;
     }
 
 pub returns-in-Met-clause-looked : goal.returns-in-Met-clause-looked
@@ -53,7 +53,7 @@ pub returns-in-Met-clause-stands : goal.returns-in-Met-clause-stands
 returns-in-Met-clause-stands g c = λ set made.
     let schema = g.D.Decide.schema c.args.asks.now in
     let steps = made-steps schema set c.args.base.now c.args.strata.now made in
-    let met = subst (IsAnswerTo schema (g.D.Decide.splits c.args.asks.now) (g.D.Decide.states c.args.asks.now) c.in_ok-query.query) c.in-Met.is c.in_ok-answer.ensures.answer in
+    let met = subst (AnswersQuery schema (g.D.Decide.splits c.args.asks.now) (g.D.Decide.states c.args.asks.now) c.in_ok-query.query) c.in-Met.is c.in_ok-answer.ensures.answer in
     let own = met-own schema set c.args.base.now c.args.strata.now c.args.finding c.in_ok-query.query c.in-Met.request made c.in_ok-query.ensures.own met in
     stands-found schema set c.args.strata.now.dimensions steps c.args.self.now c.add_found.new.self c.args.finding c.in-Met.request (c.requires.due set made) own c.in_ok-add_found-in-Met.ensures
 
@@ -66,6 +66,6 @@ pub returns-in-Nobody-clause-stands : goal.returns-in-Nobody-clause-stands
 returns-in-Nobody-clause-stands g c = λ set made.
     let schema = g.D.Decide.schema c.args.asks.now in
     let steps = made-steps schema set c.args.base.now c.args.strata.now made in
-    let nobody = subst (IsAnswerTo schema (g.D.Decide.splits c.args.asks.now) (g.D.Decide.states c.args.asks.now) c.in_ok-query.query) c.in-Nobody.is c.in_ok-answer.ensures.answer in
+    let nobody = subst (AnswersQuery schema (g.D.Decide.splits c.args.asks.now) (g.D.Decide.states c.args.asks.now) c.in_ok-query.query) c.in-Nobody.is c.in_ok-answer.ensures.answer in
     let unmet = none-own schema set c.args.base.now c.args.strata.now c.args.finding c.in_ok-query.query made c.in_ok-query.ensures.own nobody in
     stands-reducible schema set c.args.strata.now.dimensions steps c.args.self.now c.add_reducible.new.self c.args.finding (c.requires.due set made) unmet c.in_ok-add_reducible-in-Nobody.ensures
