@@ -1,6 +1,6 @@
 -- A path of tests of one slot is possible where the slot has a value for it, and what that says of predicates.
-use Rattle.std.proofs.Common.{◌≡◌, ◌<◌, ◌∙◌, ◌⊎◌, ℕ, zero, suc, List, [], ◌∷◌, length, get_or, slice_get, Bool, true, false, IsTrue, ◌↔◌, MatchBool, Option, Some, None, IsSome, All, AllPairs, Any, refl, sym, ap, subst, inl, inr, arith}
-use Rattle.std.specs.Prelude.{MatchOption, IfSome, ⊤}
+use Rattle.std.proofs.Common.{◌≡◌, ◌<◌, ◌∙◌, ◌⊎◌, ℕ, zero, suc, List, [], ◌∷◌, length, slice_get, Bool, true, false, MatchBool, Option, Some, None, IsSome, All, refl, sym, ap, subst, inl, inr, arith}
+use Rattle.std.specs.Prelude.{MatchOption, IfSome}
 use Rattle.std.proofs.lemmas.Bool.{cases_Bool}
 use Rattle.std.proofs.lemmas.List.Elements.{All-nil, All-cons}
 use Rattle.formula_tree.specs.Answers.{Answers, answer_of}
@@ -16,20 +16,17 @@ use Rattle.policy_model.specs.Requests.{IsValid}
 use Rattle.policy_model.specs.Soundness.{SchemaIsSound, TestSuits}
 use Rattle.policy_model.specs.Tests.{TestHolds}
 use Rattle.policy_model.proofs.Laws.{Any-here}
-use Rattle.request_build.specs.Built.{AreSlotValues}
 use Rattle.request_build.proofs.Laws.{joined-possible}
 use Rattle.slot_theory.specs.declared.outcome.SlotValue.{SlotValue}
 use Rattle.slot_theory.specs.Cores.{HasTest}
-use Rattle.slot_theory.specs.Possible.{AnswersPath, IsPossible, PathInRange}
-use Rattle.slot_theory.specs.Slots.{IsSlotValue, slot_of, test_at}
-use Rattle.slot_theory.proofs.Laws.{at-test}
+use Rattle.slot_theory.specs.Possible.{IsPossible, PathInRange}
+use Rattle.slot_theory.specs.Slots.{IsSlotValue, slot_of}
 use Rattle.refute_check.specs.Laws.{MakesYes}
 use Rattle.tree_search.proofs.Laws.{makes-yes}
 use Rattle.strata.specs.declared.predicate.Predicate.{Predicate}
 use Rattle.strata.specs.declared.predicate.Predicate.TheVariants.{Every, Principal, Word, Meets}
-use Rattle.strata.specs.Below.{IsBelow, IsMetUnder}
-use Rattle.strata.specs.Predicates.{IsAnyOr, MeetsPredicate, SuitsSlot, test_of}
-use Rattle.summary_search.specs.Questions.{IsTestOf}
+use Rattle.strata.specs.Predicates.{IsAnyOr, SuitsSlot, test_of}
+use Rattle.summary_search.specs.Questions.{IsTestOnSlot}
 
 -- ---- one slot
 
@@ -68,12 +65,12 @@ not-not r t denied =
 -- ---- one test and two
 
 -- what a path of one answer answers
-one-at : (t u : Test) (answer b : Bool) (n : ℕ) → answer_of ((0, answer) ∷ []) n ≡ Some b → slice_get (t ∷ []) n ≡ Some u → (answer ≡ b) × (t ≡ u)
+pub one-at : (t u : Test) (answer b : Bool) (n : ℕ) → answer_of ((0, answer) ∷ []) n ≡ Some b → slice_get (t ∷ []) n ≡ Some u → (answer ≡ b) × (t ≡ u)
 one-at t u answer b zero e at = (cc, cc)
 one-at t u answer b (suc n) e at = absurd (cc)
 
 -- and of two
-two-at : (t u x : Test) (b : Bool) (n : ℕ) → answer_of ((0, true) ∷ (1, false) ∷ []) n ≡ Some b → slice_get (t ∷ u ∷ []) n ≡ Some x → ((true ≡ b) × (t ≡ x)) ⊎ ((false ≡ b) × (u ≡ x))
+pub two-at : (t u x : Test) (b : Bool) (n : ℕ) → answer_of ((0, true) ∷ (1, false) ∷ []) n ≡ Some b → slice_get (t ∷ u ∷ []) n ≡ Some x → ((true ≡ b) × (t ≡ x)) ⊎ ((false ≡ b) × (u ≡ x))
 two-at t u x b zero e at = inl (cc, cc)
 two-at t u x b (suc zero) e at = inr (cc, cc)
 two-at t u x b (suc (suc n)) e at = absurd (cc)
@@ -154,9 +151,9 @@ test-on (slot.Key key) (Meets c) t e = let same : t ≡ test.SomeMeets key c = c
 test-on _ _ t e = absurd (cc)
 
 -- the test of a predicate that suits the slot
-pub is-test : (schema : Schema) (s : Slot) (p : Predicate) (t : Test) → SuitsSlot schema s p → test_of s p ≡ Some t → IsTestOf schema s t
+pub is-test : (schema : Schema) (s : Slot) (p : Predicate) (t : Test) → SuitsSlot schema s p → test_of s p ≡ Some t → IsTestOnSlot schema s t
 is-test schema s p t suits e = record { suits = of-test (TestSuits schema) s p t e suits; on = test-on s p t e }
 
-pub if-test : (schema : Schema) (s : Slot) (p : Predicate) (o : Option Test) → SuitsSlot schema s p → o ≡ test_of s p → IfSome o (IsTestOf schema s)
+pub if-test : (schema : Schema) (s : Slot) (p : Predicate) (o : Option Test) → SuitsSlot schema s p → o ≡ test_of s p → IfSome o (IsTestOnSlot schema s)
 if-test schema s p None suits e = tt
 if-test schema s p (Some t) suits e = is-test schema s p t suits (sym e)

@@ -28,7 +28,6 @@ made-for schema set query slots strata some askable of within = record {
   some = some;
   query = of.is;
   slots = slots;
-  few = askable.few;
   differ = askable.differ;
   known = askable.known;
   named = within.few;

@@ -5,3 +5,5 @@ mod Runs
 mod Within
 mod Deciding
 mod Coming
+mod Folding
+mod Sampling

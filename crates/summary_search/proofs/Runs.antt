@@ -1,9 +1,8 @@
 -- The nodes of a plain run are the paths that it runs from, and what the search decides answers a query.
-use Rattle.std.proofs.Common.{◌≡◌, ℕ, List, [], ◌∷◌, ◌++◌, true, false, Some, subst}
+use Rattle.std.proofs.Common.{[], true, false}
 use Rattle.formula_tree.specs.Answers.{Answers}
-use Rattle.formula_tree.specs.Runs.{Run, answered}
+use Rattle.formula_tree.specs.Runs.{answered}
 use Rattle.formula_tree.specs.Trees.{Tree}
-use Rattle.formula_tree.specs.Values.{pick}
 use Rattle.tree_search.specs.Nodes.{IsNode, at_start, in_yes, in_no}
 use Rattle.findings.specs.Answers.{RunsFrom, from_start, from_yes, from_no}
 

@@ -1,21 +1,18 @@
 -- What paths of one test or two tell of predicates.
-use Rattle.std.proofs.Common.{◌≡◌, ℕ, List, [], ◌∷◌, Bool, true, false, Option, Some, None, refl, sym, subst}
+use Rattle.std.proofs.Common.{◌≡◌, ℕ, List, [], ◌∷◌, true, false, Option, Some, None, sym, subst}
 use Rattle.wildcard_lang.specs.declared.piece.Piece.{Piece}
 use Rattle.wildcard_lang.specs.Places.{ShowWider}
-use Rattle.policy_model.specs.declared.request.Request.{Request}
 use Rattle.policy_model.specs.declared.schema.Schema.{Schema}
 use Rattle.policy_model.specs.declared.test.Slot.{Slot}
 use Rattle.policy_model.specs.declared.test.Test.{Test}
-use Rattle.policy_model.specs.Requests.{HasValidRequest, IsValid}
+use Rattle.policy_model.specs.Requests.{HasValidRequest}
 use Rattle.policy_model.specs.Tests.{TestHolds}
-use Rattle.slot_theory.specs.Slots.{slot_of}
 use Rattle.strata.specs.declared.inclusion.Within.{Within}
 use Rattle.strata.specs.declared.inclusion.Within.TheVariants as within
 use Rattle.strata.specs.declared.predicate.Predicate.{Predicate}
 use Rattle.strata.specs.declared.predicate.Predicate.TheVariants.{Every}
 use Rattle.strata.specs.Asking.{AnswersMet, AnswersWithin}
-use Rattle.strata.specs.Below.{IsBelow, IsMetUnder}
-use Rattle.strata.specs.Predicates.{MeetsPredicate, SuitsSlot, test_of}
+use Rattle.strata.specs.Predicates.{SuitsSlot, test_of}
 use Rattle.summary_search.specs.Plain.{IsPlainlyBelow}
 use Rattle.summary_search.specs.Questions.{TellsEscape, TellsPossible, opposite}
 use Rattle.summary_search.proofs.Answering.{by-test, no-test, not-not, of-test, one-answered, one-possible, two-no, two-possible, two-yes, test-on}
@@ -49,15 +46,23 @@ module _ (schema : Schema) (states : ℕ) (s : Slot) where
   below-every p q is = subst (λ (x : Predicate). AnswersWithin schema states s p x within.Yes) (sym is) (λ r valid meets. tt)
 
   below-both : (p q : Predicate) (t u : Test) → test_of s p ≡ Some t → test_of s q ≡ Some u → (w : Within) → TellsEscape schema s states (Some t) u w → AnswersWithin schema states s p q (opposite w)
-  below-both p q t u e f within.Yes h = λ below.
-      two-no schema t u h (of-test (TestHolds h.request) s q u f (below h.request h.valid (by-test (TestHolds h.request) s p t e (two-yes schema t u h))))
+  below-both p q t u e f within.Yes h = record {
+    request = h.request;
+    valid = h.valid;
+    meets = by-test (TestHolds h.request) s p t e (two-yes schema t u h);
+    misses = λ meets. two-no schema t u h (of-test (TestHolds h.request) s q u f meets);
+  }
   below-both p q t u e f within.No h = λ r valid meets.
       by-test (TestHolds r) s q u f (not-not r u (λ fails. h (two-possible schema t u r valid (of-test (TestHolds r) s p t e meets) fails)))
   below-both p q t u e f (within.TooMany texts) h = wider-same _ _ states texts (asked-both schema s p q t u e f (test-on s p t e) (test-on s q u f)) h
 
   below-missed : (q : Predicate) (u : Test) → test_of s q ≡ Some u → (w : Within) → TellsEscape schema s states None u w → AnswersWithin schema states s Every q (opposite w)
-  below-missed q u f within.Yes h = λ below.
-      one-answered schema u false h (of-test (TestHolds h.request) s q u f (below h.request h.valid tt))
+  below-missed q u f within.Yes h = record {
+    request = h.request;
+    valid = h.valid;
+    meets = tt;
+    misses = λ meets. one-answered schema u false h (of-test (TestHolds h.request) s q u f meets);
+  }
   below-missed q u f within.No h = λ r valid meets.
       by-test (TestHolds r) s q u f (not-not r u (λ fails. h (one-possible schema u false r valid fails)))
   below-missed q u f (within.TooMany texts) h = wider-same _ _ states texts (asked-missed schema s q u f (test-on s q u f)) h

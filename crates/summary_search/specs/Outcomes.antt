@@ -1,5 +1,5 @@
 -- What a summary comes to within limits.
-use Rattle.std.specs.Prelude.{◌≤◌, ◌+◌, ◌≢◌, ℕ, List, length, All, AllPairs, Contains}
+use Rattle.std.specs.Prelude.{◌≤◌, ◌<◌, ◌+◌, ◌^◌, ◌≢◌, List, length, All, AllPairs, Contains}
 use Rattle.policy_model.specs.declared.schema.Schema.{Schema}
 use Rattle.policy_model.specs.declared.set.PolicySet.{PolicySet}
 use Rattle.policy_model.specs.declared.test.Slot.{Slot}
@@ -13,17 +13,16 @@ use Rattle.strata.specs.declared.stratum.Stratum.{Stratum}
 use Rattle.strata.specs.Causes.{AreFew, IsFirstTooMany, NamesWide}
 use Rattle.strata.specs.Strata.{AreStrata}
 use Rattle.findings.specs.Answers.{FailsAtFinding, SplitsFail, StatesFail}
-use Rattle.findings.specs.Queries.{most_dimensions}
 use Rattle.findings.specs.Summaries.{IsSummary, VisitsAtLeast}
 use Rattle.summary_search.specs.declared.outcome.Limits.{Limits}
 use Rattle.summary_search.specs.declared.outcome.Outcome.{Outcome}
 use Rattle.summary_search.specs.declared.outcome.Outcome.TheVariants.{Found, TooManyPredicates, Wide, OutOfFindings}
 use Rattle.summary_search.specs.declared.outcome.Outcome.TheVariants.{OutOfSplits, OutOfStates}
 
--- the schema is sound, and the slots are at most four that differ and that requests under it have
+-- the schema is sound, and the slots differ, are numbered by 32 bits, and requests under the schema have them
 pub record AreAskable (schema : Schema) (slots : List Slot) : Type 0 where
   pub sound : SchemaIsSound schema
-  pub few : length slots ≤ most_dimensions
+  pub count : length slots < 2 ^ 32
   pub differ : AllPairs (λ s t. s ≢ t) slots
   pub known : All (SlotIsIn schema) slots
 
@@ -55,22 +54,22 @@ pub record OfStrata (schema : Schema) (query : Query) (slots : List Slot) (P : L
 
 -- the summary of the set by the slots; or the first slot in which too many predicates are named; or, where there is none, that
 -- two predicates of a slot, the number of findings or the query of a finding that must be looked at needs more than a limit
-abbrev pub IsOutcome : Schema → PolicySet → Query → List Slot → Limits → Outcome → Type 0
-IsOutcome schema set query slots limits (Found strata summary) =
+abbrev pub IsSummaryOutcome : Schema → PolicySet → Query → List Slot → Limits → Outcome → Type 0
+IsSummaryOutcome schema set query slots limits (Found strata summary) =
     AreStrataWithin schema query slots strata × IsSummary schema set strata.dimensions summary
-IsOutcome schema set query slots limits (TooManyPredicates d) = IsFirstTooMany query.tests slots d
-IsOutcome schema set query slots limits (Wide s texts) =
+IsSummaryOutcome schema set query slots limits (TooManyPredicates d) = IsFirstTooMany query.tests slots d
+IsSummaryOutcome schema set query slots limits (Wide s texts) =
     Contains slots s × AreFew query.tests slots × NamesWide schema query.tests limits.states s texts
-IsOutcome schema set query slots limits OutOfFindings =
+IsSummaryOutcome schema set query slots limits OutOfFindings =
     OfStrata schema query slots (λ ds. VisitsAtLeast schema set ds (limits.findings + 1))
-IsOutcome schema set query slots limits (OutOfSplits strata f) =
+IsSummaryOutcome schema set query slots limits (OutOfSplits strata f) =
     AreStrataWithin schema query slots strata ×
     FailsAtFinding schema set strata.dimensions f (λ q. SplitsFail schema q limits.splits)
-IsOutcome schema set query slots limits (OutOfStates strata f w) =
+IsSummaryOutcome schema set query slots limits (OutOfStates strata f w) =
     AreStrataWithin schema query slots strata ×
     FailsAtFinding schema set strata.dimensions f (λ q. StatesFail schema q limits.states w)
 
 -- the same of whichever set the query is of
 abbrev pub IsOutcomeFor : Schema → Query → List Slot → Limits → Outcome → Type 0
 IsOutcomeFor schema query slots limits outcome =
-    (set : PolicySet) → IsQueryOfSet schema set query → IsOutcome schema set query slots limits outcome
+    (set : PolicySet) → IsQueryOfSet schema set query → IsSummaryOutcome schema set query slots limits outcome

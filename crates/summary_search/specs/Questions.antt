@@ -4,10 +4,13 @@ use Rattle.formula_tree.specs.Answers.{Answers}
 use Rattle.wildcard_lang.specs.Places.{ShowWider}
 use Rattle.policy_model.specs.declared.schema.Schema.{Schema}
 use Rattle.policy_model.specs.declared.test.Slot.{Slot}
+use Rattle.policy_model.specs.declared.cond.Cond.{Cond}
 use Rattle.policy_model.specs.declared.test.Test.{Test}
+use Rattle.policy_model.specs.declared.test.Test.TheVariants.{SomeMeets}
 use Rattle.slot_theory.specs.Possible.{IsPossible}
 use Rattle.policy_model.specs.Soundness.{TestSuits}
-use Rattle.slot_theory.specs.Slots.{patterns_at, slot_of}
+use Rattle.slot_theory.specs.declared.outcome.SlotValue.{SlotValue}
+use Rattle.slot_theory.specs.Slots.{ValueMeets, patterns_at, slot_of}
 use Rattle.strata.specs.declared.inclusion.Within.{Within}
 use Rattle.strata.specs.declared.inclusion.Within.TheVariants.{Yes, No, TooMany}
 
@@ -30,7 +33,11 @@ TellsEscape schema s states None other w = TellsPossible schema (other ∷ []) (
 TellsEscape schema s states (Some one) other w =
     TellsPossible schema (one ∷ other ∷ []) ((0, true) ∷ (1, false) ∷ []) s states w
 
+-- as a value of whichever key it meets the condition
+abbrev pub MeetsOnKeys : Cond → SlotValue → Type 0
+MeetsOnKeys c v = (key : List ℕ) → ValueMeets v (SomeMeets key c)
+
 -- the test is on the slot, and the schema can answer for it
-pub record IsTestOf (schema : Schema) (s : Slot) (t : Test) : Type 0 where
+pub record IsTestOnSlot (schema : Schema) (s : Slot) (t : Test) : Type 0 where
   pub suits : TestSuits schema t
   pub on : slot_of t ≡ s

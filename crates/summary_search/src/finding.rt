@@ -44,8 +44,8 @@ fn summary_of(
 /// The summary of a set, whose query this is, by the slots: the maximal irreducible findings, each with a
 /// request of its own. Or the one cause why there is none, which names a limit that is below the need.
 ///
-/// The schema is sound and fits the set, the query is what `set_query` gave for it, there are at most four
-/// slots, which differ, each key among them is one of the schema's, and each limit is at least 1. The only
+/// The schema is sound and fits the set, the query is what `set_query` gave for it, the slots differ and are
+/// numbered by 32 bits, each key among them is one of the schema's, and each limit is at least 1. The only
 /// error is want of memory.
 pub fn find_summary(
     alloc: Global,

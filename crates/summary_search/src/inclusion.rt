@@ -1,18 +1,20 @@
-//! Which predicates some valid request meets, and which lie below which, by products.
+//! Which predicates some valid request meets, and which lie below which: plainly, by a sample, or by a
+//! product.
 ghost use Rattle.std.specs.Prelude.{◌≡◌, ◌≤◌, IfOk, IfSome};
 ghost use Rattle.policy_model.specs.Soundness.{SchemaIsSound};
 ghost use Rattle.slot_theory.specs.Slots.{SlotIsIn};
-ghost use Rattle.summary_search.specs.Questions.{IsTestOf, TellsEscape, opposite};
+ghost use Rattle.summary_search.specs.Questions.{IsTestOnSlot, TellsEscape, opposite};
 
 use crate::plain::is_plainly_below;
-use crate::questions::{ask_one, ask_two};
+use crate::questions::{ask_escape, ask_missed, ask_passed};
 use plain_lists::NoMemory;
 use policy_model::{Schema, Slot, Test};
 use request_build::sound_schemas_have_requests;
 use std::alloc::Global;
 use strata::{Inclusion, Predicate, Within, test_of};
 
-/// Answers questions on predicates by products of patterns, of so many states at most.
+/// Answers questions on predicates, where nothing else tells by products of patterns, of so many states at
+/// most.
 #[derive(Drop)]
 pub struct ByProducts<'a> {
     schema: &'a Schema,
@@ -53,14 +55,14 @@ fn escapes(
 ) -> Result<Within, NoMemory>
     requires sound { SchemaIsSound schema.now }
     requires slot { SlotIsIn schema.now slot.now }
-    requires one_suits { IfSome one (IsTestOf schema.now slot.now) }
-    requires other_suits { IsTestOf schema.now slot.now other }
+    requires one_suits { IfSome one (IsTestOnSlot schema.now slot.now) }
+    requires other_suits { IsTestOnSlot schema.now slot.now other }
     requires some { 1 ≤ states }
     ensures { IfOk result (TellsEscape schema.now slot.now states one other) }
 {
     match one {
-        Some(test) => ask_two(alloc, schema, slot, test, other, states),
-        None => ask_one(alloc, schema, slot, other, false, states),
+        Some(test) => ask_escape(alloc, schema, slot, test, other, states),
+        None => ask_missed(alloc, schema, slot, other, states),
     }
 }
 
@@ -72,7 +74,7 @@ impl<'a> Inclusion for ByProducts<'a> {
     fn met(&mut self, alloc: Global, slot: &Slot, one: &Predicate) -> Result<Within, NoMemory> {
         sound_schemas_have_requests();
         match test_of(alloc, slot, one)? {
-            Some(test) => ask_one(alloc, self.schema, slot, test, true, self.states),
+            Some(test) => ask_passed(alloc, self.schema, slot, test, self.states),
             None => Ok(Within::Yes),
         }
     }
@@ -84,7 +86,7 @@ impl<'a> Inclusion for ByProducts<'a> {
         one: &Predicate,
         other: &Predicate,
     ) -> Result<Within, NoMemory> {
-        if is_plainly_below(one, other) {
+        if is_plainly_below(alloc, one, other)? {
             return Ok(Within::Yes);
         }
         let Some(test) = test_of(alloc, slot, other)? else {

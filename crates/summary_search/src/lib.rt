@@ -5,9 +5,11 @@
 mod asking;
 mod finding;
 mod inclusion;
+mod literals;
 mod outcome;
 mod plain;
 mod questions;
+mod samples;
 
 pub use finding::find_summary;
 pub use outcome::{Limits, Outcome};

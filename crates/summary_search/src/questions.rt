@@ -1,11 +1,13 @@
-//! Whether a valid request answers one test or two of a slot as wanted.
+//! Whether a valid request answers one test or two of a slot as wanted: by a sample, or by a search of the
+//! slot's values.
 ghost use Rattle.std.specs.Prelude.{◌≡◌, ◌≤◌, ◌<◌, ◌^◌, ◌∷◌, [], true, false, IfOk, All, length};
 ghost use Rattle.policy_model.specs.Soundness.{SchemaIsSound, TestSuits};
 ghost use Rattle.slot_theory.specs.Cores.{HasTest};
 ghost use Rattle.slot_theory.specs.Possible.{PathInRange};
 ghost use Rattle.slot_theory.specs.Slots.{SlotIsIn, slot_of};
-ghost use Rattle.summary_search.specs.Questions.{IsTestOf, TellsPossible};
+ghost use Rattle.summary_search.specs.Questions.{IsTestOnSlot, TellsPossible};
 
+use crate::samples::{sample_escapes, sample_passes, stated_misses};
 use formula_tree::Path;
 use plain_lists::NoMemory;
 use policy_model::{Schema, Slot, Test, TestList};
@@ -41,8 +43,8 @@ fn is_possible(
     }
 }
 
-/// Whether a valid request answers the test so.
-pub fn ask_one(
+// Whether a valid request answers the test so.
+fn ask_one(
     alloc: Global,
     schema: &Schema,
     slot: &Slot,
@@ -52,7 +54,7 @@ pub fn ask_one(
 ) -> Result<Within, NoMemory>
     requires sound { SchemaIsSound schema.now }
     requires slot { SlotIsIn schema.now slot.now }
-    requires suits { IsTestOf schema.now slot.now test }
+    requires suits { IsTestOnSlot schema.now slot.now test }
     requires some { 1 ≤ states }
     ensures { IfOk result
         (TellsPossible schema.now (test ∷ []) ((0, answer) ∷ []) slot.now states) }
@@ -64,8 +66,8 @@ pub fn ask_one(
     is_possible(alloc, schema, &tests, &path, slot, states)
 }
 
-/// Whether a valid request answers the one test yes and the other no.
-pub fn ask_two(
+// Whether a valid request answers the one test yes and the other no.
+fn ask_two(
     alloc: Global,
     schema: &Schema,
     slot: &Slot,
@@ -75,8 +77,8 @@ pub fn ask_two(
 ) -> Result<Within, NoMemory>
     requires sound { SchemaIsSound schema.now }
     requires slot { SlotIsIn schema.now slot.now }
-    requires yes_suits { IsTestOf schema.now slot.now yes }
-    requires no_suits { IsTestOf schema.now slot.now no }
+    requires yes_suits { IsTestOnSlot schema.now slot.now yes }
+    requires no_suits { IsTestOnSlot schema.now slot.now no }
     requires some { 1 ≤ states }
     ensures { IfOk result (TellsPossible schema.now
         (yes ∷ no ∷ []) ((0, true) ∷ (1, false) ∷ []) slot.now states) }
@@ -88,4 +90,69 @@ pub fn ask_two(
     path.push(0, true)?;
     path.push(1, false)?;
     is_possible(alloc, schema, &tests, &path, slot, states)
+}
+
+/// Whether a valid request passes the test. A sample is tried first.
+pub fn ask_passed(
+    alloc: Global,
+    schema: &Schema,
+    slot: &Slot,
+    test: Test,
+    states: u32,
+) -> Result<Within, NoMemory>
+    requires sound { SchemaIsSound schema.now }
+    requires slot { SlotIsIn schema.now slot.now }
+    requires suits { IsTestOnSlot schema.now slot.now test }
+    requires some { 1 ≤ states }
+    ensures { IfOk result
+        (TellsPossible schema.now (test ∷ []) ((0, true) ∷ []) slot.now states) }
+{
+    if sample_passes(alloc, schema, slot, &test)? {
+        return Ok(Within::Yes);
+    }
+    ask_one(alloc, schema, slot, test, true, states)
+}
+
+/// Whether a valid request misses the test. The value of a slot that nothing is asked of is tried first.
+pub fn ask_missed(
+    alloc: Global,
+    schema: &Schema,
+    slot: &Slot,
+    test: Test,
+    states: u32,
+) -> Result<Within, NoMemory>
+    requires sound { SchemaIsSound schema.now }
+    requires slot { SlotIsIn schema.now slot.now }
+    requires suits { IsTestOnSlot schema.now slot.now test }
+    requires some { 1 ≤ states }
+    ensures { IfOk result
+        (TellsPossible schema.now (test ∷ []) ((0, false) ∷ []) slot.now states) }
+{
+    if stated_misses(alloc, schema, slot, &test)? {
+        return Ok(Within::Yes);
+    }
+    ask_one(alloc, schema, slot, test, false, states)
+}
+
+/// Whether a valid request passes the one test and misses the other. A sample of the one is tried first.
+pub fn ask_escape(
+    alloc: Global,
+    schema: &Schema,
+    slot: &Slot,
+    yes: Test,
+    no: Test,
+    states: u32,
+) -> Result<Within, NoMemory>
+    requires sound { SchemaIsSound schema.now }
+    requires slot { SlotIsIn schema.now slot.now }
+    requires yes_suits { IsTestOnSlot schema.now slot.now yes }
+    requires no_suits { IsTestOnSlot schema.now slot.now no }
+    requires some { 1 ≤ states }
+    ensures { IfOk result (TellsPossible schema.now
+        (yes ∷ no ∷ []) ((0, true) ∷ (1, false) ∷ []) slot.now states) }
+{
+    if sample_escapes(alloc, schema, slot, &yes, &no)? {
+        return Ok(Within::Yes);
+    }
+    ask_two(alloc, schema, slot, yes, no, states)
 }

@@ -1,12 +1,9 @@
 use Rattle.std.proofs.Common.{◌≡◌, ℕ, List, Ok, Err, rules}
 use Rattle.std.specs.Prelude.{Result}
 use Rattle.policy_model.specs.declared.request.Request.{Request}
-use Rattle.policy_model.specs.declared.set.PolicySet.{PolicySet}
 use Rattle.findings.specs.declared.outcome.SummaryFault.{SummaryFault}
 use Rattle.findings.specs.declared.outcome.SummaryFault.TheVariants as fault
-use Rattle.findings.specs.Answers.{IsSummarised}
 use Rattle.findings.specs.Queries.{AreMadeFor}
-use Rattle.summary_search.specs.Outcomes.{IsQueryOfSet}
 use Rattle.summary_search.proofs.Coming.{come, come-to, made-for}
 use Rattle.summary_search.proofs.finding.summary_of.Goals as goal
 

@@ -8,4 +8,4 @@ pub returns-in-Some-clause-answer : goal.returns-in-Some-clause-answer
 returns-in-Some-clause-answer c =
     let by = c.args.self.now in
     let e : test_of c.args.slot.now c.args.one.now ≡ Some c.in-Some.test = sym c.in_ok-test.ensures ∙ c.in-Some.is in
-    IfOk-weaker c.ask_one.result _ _ (λ w v. met-by-test by.schema.now by.states c.args.slot.now c.args.one.now c.in-Some.test e w v) c.ask_one.ensures
+    IfOk-weaker c.ask_passed.result _ _ (λ w v. met-by-test by.schema.now by.states c.args.slot.now c.args.one.now c.in-Some.test e w v) c.ask_passed.ensures
