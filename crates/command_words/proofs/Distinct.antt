@@ -1,5 +1,5 @@
 -- Texts of which none is another one, one by one.
-use Rattle.std.proofs.Common.{◌≡◌, ◌∙◌, ◌&&◌, ◌<◌, ◌≤◌, ◌+◌, ◌-◌, ℕ, Bool, true, false, not, length, drop, take, get_or, ap, sym, arith, List, []}
+use Rattle.std.proofs.Common.{◌≡◌, ◌∙◌, ◌&&◌, ◌<◌, ◌≤◌, ◌+◌, ◌-◌, ℕ, Bool, true, false, not, length, drop, take, get_or, ap, sym, arith, List}
 use Rattle.std.specs.Prelude.{String, string_bytes}
 use Rattle.std.proofs.lemmas.List.{at_drop_more, drop_all, length-drop, take_all}
 use Rattle.command_words.specs.Asked.{are_distinct, is_one_of, texts_in}

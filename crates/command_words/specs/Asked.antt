@@ -167,8 +167,8 @@ number_or default id rows = option_map_or written_number (one_of id rows) defaul
 abbrev pub has_flag : Text → List Row → Bool
 has_flag id rows = option_map_or (λ text. bytes_eq text (codes "true")) (one_of id rows) false
 
-abbrev pub names_of : List Row → Names
-names_of rows = record {
+abbrev pub pair_names : List Row → Names
+pair_names rows = record {
   first = name_at (codes "first") rows;
   second = name_at (codes "second") rows;
   schema = first_of (codes "schema") rows;
@@ -176,14 +176,14 @@ names_of rows = record {
 
 abbrev pub comparison_of : List Row → Asked
 comparison_of rows = a_comparison (record {
-  names = names_of rows;
+  names = pair_names rows;
   splits = number_or DEFAULT_SPLITS (codes "splits") rows;
   states = number_or DEFAULT_STATES (codes "states") rows;
   certified = has_flag (codes "proof") rows;
 })
 
 abbrev pub check_of : List Row → Asked
-check_of rows = a_check (record { names = names_of rows; proof = name_at (codes "proof") rows })
+check_of rows = a_check (record { names = pair_names rows; proof = name_at (codes "proof") rows })
 
 abbrev pub summarising_of : List Row → Summarising
 summarising_of rows = record {

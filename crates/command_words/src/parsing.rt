@@ -51,7 +51,8 @@ pub(crate) fn names_at(
     matches: &ArgMatches,
     id: &str,
 ) -> Result<Vec<String>, NoMemory>
-    ensures { IfOk result (λ all. texts_in all.items ≡ names_at id.now (rows_of (found_of matches.now))) }
+    ensures { IfOk result
+        (λ all. texts_in all.items ≡ names_at id.now (rows_of (found_of matches.now))) }
 {
     match matches.get_strs(id) {
         Some(texts) => owned(alloc, texts),

@@ -5,7 +5,7 @@ ghost use Rattle.command_words.specs.Asked.{HasBudgetsInRange, HasNumbersInRange
 ghost use Rattle.command_words.specs.Asked.{a_check, a_comparison, a_load, an_evaluation};
 ghost use Rattle.command_words.specs.Asked.{asked_by, asked_in, asked_of, check_command, check_of, checking_in};
 ghost use Rattle.command_words.specs.Asked.{command_of, compare_command, comparing_in, comparison_of, eval_command};
-ghost use Rattle.command_words.specs.Asked.{evaluating_in, evaluation_of, load_command, load_of, names_in, names_of};
+ghost use Rattle.command_words.specs.Asked.{evaluating_in, evaluation_of, load_command, load_of, names_in, pair_names};
 ghost use Rattle.command_words.specs.Asked.{summarising_in, summarising_of, summary_command, summary_of, texts_in};
 ghost use Rattle.command_words.specs.Parsing.{HasNumberUpTo};
 
@@ -22,7 +22,7 @@ use plain_lists::NoMemory;
 use std::alloc::Global;
 
 fn names_in(alloc: Global, matches: &ArgMatches) -> Result<FileNames, NoMemory>
-    ensures { IfOk result (λ n. names_in n ≡ names_of (rows_of (found_of matches.now))) }
+    ensures { IfOk result (λ n. names_in n ≡ pair_names (rows_of (found_of matches.now))) }
 {
     Ok(FileNames {
         first: name_at(alloc, matches, "first")?,
@@ -61,7 +61,8 @@ fn read_compare(alloc: Global, words: &[String]) -> Result<Option<Command>, NoMe
 
 // What the matches of `check` ask.
 fn check_in(alloc: Global, matches: &ArgMatches) -> Result<CheckWords, NoMemory>
-    ensures { IfOk result (λ c. a_check (checking_in c) ≡ check_of (rows_of (found_of matches.now))) }
+    ensures { IfOk result
+        (λ c. a_check (checking_in c) ≡ check_of (rows_of (found_of matches.now))) }
 {
     Ok(CheckWords {
         names: names_in(alloc, matches)?,
@@ -86,7 +87,8 @@ fn summary_words(alloc: Global, matches: &ArgMatches) -> Result<SummaryWords, No
     requires splits { HasNumberUpTo (found_of matches.now) (codes "splits") MOST_SPLITS }
     requires states { HasNumberUpTo (found_of matches.now) (codes "states") MOST_STATES }
     requires findings { HasNumberUpTo (found_of matches.now) (codes "findings") MOST_FINDINGS }
-    ensures value { IfOk result (λ s. summarising_in s ≡ summarising_of (rows_of (found_of matches.now))) }
+    ensures value { IfOk result
+        (λ s. summarising_in s ≡ summarising_of (rows_of (found_of matches.now))) }
     ensures within { IfOk result HasBudgetsInRange }
 {
     Ok(SummaryWords {
