@@ -45,7 +45,7 @@ use Rattle.compare_cli.specs.declared.answer.Answer.TheVariants as answer
 use Rattle.compare_cli.specs.declared.pair.Pair.{Pair}
 use Rattle.compare_cli.specs.Certified.{Certifies, ClosesAll, ClosesBy, FailsAtLine}
 use Rattle.compare_cli.specs.Comparison.{Covers, FewTestsAreDecided, IsFitting, IsWitness, paired, plan_of}
-use Rattle.compare_cli.specs.Decided.{IsChecked, IsComparison, IsDecisionAnswer, IsRefutedAnswer, IsVerdict, IsVerdictAnswer, IsVerdictIn}
+use Rattle.compare_cli.specs.Decided.{IsChecked, IsComparison, IsDecisionAnswer, IsRefutedAnswer, IsVerdictOn, IsVerdictAnswer, IsVerdictIn}
 
 pub query_tests : (pair : Pair) (q : Query) → IsFitting pair → IsQuery (plan_of pair) q → All (TestSuits pair.schema) q.tests
 query_tests pair q fitting is = All-collects (TestSuits pair.schema) [] (tests_in (plan_of pair)) q.tests is.tests (All-nil (TestSuits pair.schema)) (suit-query pair.schema pair.first pair.second fitting.first fitting.second)
@@ -104,23 +104,23 @@ pub comparison_if_decided : ClosedQueriesAreNo → ClosingProofsAreSmall → Clo
 comparison_if_decided law sizes read pair q certified budgets (decided.Refuted r) fitting is h a v = refuted_if_closed law sizes read pair q certified budgets (proof_of r.value) fitting is h a v
 comparison_if_decided law sizes read pair q certified budgets (decided.Met r) fitting is h a v = subst (λ (x : Answer). IsComparison certified budgets pair x) (sym v) ((q, is), witness_if_met pair q r fitting is h.valid h.meets)
 comparison_if_decided law sizes read pair q certified budgets decided.OutOfSplits fitting is h a v = subst (λ (x : Answer). IsComparison certified budgets pair x) (sym v) (refl, record { query = q; is = is; plain = h.plain; propagated = h.propagated })
-comparison_if_decided law sizes read pair q certified budgets (decided.OutOfStates w) fitting is h a v = subst (λ (x : Answer). IsComparison certified budgets pair x) (sym v) (refl, record { query = q; is = is; path = w.path; node = h.node; wider = (w.texts, h.texts) })
+comparison_if_decided law sizes read pair q certified budgets (decided.OutOfStates w) fitting is h a v = subst (λ (x : Answer). IsComparison certified budgets pair x) (sym v) (refl, record { query = q; is = is; path = w.path; node = h.node; not_no = h.not_no; asked = h.asked; wider = (w.texts, h.texts) })
 
 -- a first set that asks the same is covered, so the pair's first set is
 covers-too : (pair : Pair) (first : PolicySet) → AskTheSame pair.first first pair.second → Covers (paired pair.schema first pair.second) → Covers pair
 covers-too pair first same covers r valid allowed = elim (same.split pair.schema r allowed) [ inl second ↦ second | inr left ↦ covers r valid left ]
 
-pub verdict_if_decided : ClosedQueriesAreNo → (pair : Pair) (first : PolicySet) (q : Query) (budgets : Budgets) (d : Decided) → IsFitting (paired pair.schema first pair.second) → AskTheSame pair.first first pair.second → IsQuery (plan_of (paired pair.schema first pair.second)) q → IsDecision pair.schema q budgets d → (o : Option Answer) → IsVerdictIn d o → IfSome o (IsVerdict pair)
+pub verdict_if_decided : ClosedQueriesAreNo → (pair : Pair) (first : PolicySet) (q : Query) (budgets : Budgets) (d : Decided) → IsFitting (paired pair.schema first pair.second) → AskTheSame pair.first first pair.second → IsQuery (plan_of (paired pair.schema first pair.second)) q → IsDecision pair.schema q budgets d → (o : Option Answer) → IsVerdictIn d o → IfSome o (IsVerdictOn pair)
 verdict_if_decided law pair first q budgets (decided.Refuted r) fitting same is h o v =
-    subst (λ (x : Option Answer). IfSome x (IsVerdict pair)) (sym v) (covers-too pair first same (covers_if_closed law (paired pair.schema first pair.second) q (proof_of r.value) fitting is h.closes))
+    subst (λ (x : Option Answer). IfSome x (IsVerdictOn pair)) (sym v) (covers-too pair first same (covers_if_closed law (paired pair.schema first pair.second) q (proof_of r.value) fitting is h.closes))
 verdict_if_decided law pair first q budgets (decided.Met r) fitting same is h o v =
     let found = witness_if_met (paired pair.schema first pair.second) q r fitting is h.valid h.meets in
-    subst (λ (x : Option Answer). IfSome x (IsVerdict pair)) (sym v) (record { valid = found.valid; allowed = same.within pair.schema r found.allowed; refused = found.refused })
-verdict_if_decided law pair first q budgets decided.OutOfSplits fitting same is h o v = subst (λ (x : Option Answer). IfSome x (IsVerdict pair)) (sym v) tt
-verdict_if_decided law pair first q budgets (decided.OutOfStates w) fitting same is h o v = subst (λ (x : Option Answer). IfSome x (IsVerdict pair)) (sym v) tt
+    subst (λ (x : Option Answer). IfSome x (IsVerdictOn pair)) (sym v) (record { valid = found.valid; allowed = same.within pair.schema r found.allowed; refused = found.refused })
+verdict_if_decided law pair first q budgets decided.OutOfSplits fitting same is h o v = subst (λ (x : Option Answer). IfSome x (IsVerdictOn pair)) (sym v) tt
+verdict_if_decided law pair first q budgets (decided.OutOfStates w) fitting same is h o v = subst (λ (x : Option Answer). IfSome x (IsVerdictOn pair)) (sym v) tt
 
 -- a verdict is a comparison, where the pair has a query
-pub comparison_if_verdict : (pair : Pair) (q : Query) (budgets : Budgets) → IsQuery (plan_of pair) q → (a : Answer) → IsVerdict pair a → IsComparison false budgets pair a
+pub comparison_if_verdict : (pair : Pair) (q : Query) (budgets : Budgets) → IsQuery (plan_of pair) q → (a : Answer) → IsVerdictOn pair a → IsComparison false budgets pair a
 comparison_if_verdict pair q budgets is answer.NotMore v = (refl, (q, is), v)
 comparison_if_verdict pair q budgets is (answer.More r) v = ((q, is), v)
 comparison_if_verdict pair q budgets is _ v = absurd v

@@ -21,18 +21,17 @@ use Rattle.compare_cli.specs.declared.answer.Shortage.TheVariants as shortage
 use Rattle.compare_cli.specs.declared.pair.Pair.{Pair}
 use Rattle.compare_cli.specs.Answers.{AllRead, SummaryIsRead, AnswersCheck, AnswersComparison, Contents, EvaluationIsRead, IsAnswer, IsCause, IsNoPair, OfFiles, OfPair, ProofIsRead, Reading, TellsFault, budgets_of, contents, pair_of}
 use Rattle.compare_cli.specs.Comparison.{NeedsSplits, NeedsStates, TooManyPieces, TooManyTests}
-use Rattle.compare_cli.specs.Complete.{FitsFindings, FitsLimits, IsSummarisable, IsSummaryAccepted, IsAccepted, IsAcceptedBy, IsDecidable, IsDecided, IsEvaluable, IsQueriable}
+use Rattle.compare_cli.specs.Complete.{FitsLimits, IsSummaryAccepted, IsAccepted, IsAcceptedBy, IsDecidable, IsDecided, IsEvaluable, IsQueriable}
 use Rattle.compare_cli.specs.Decided.{IsPastLimit}
 use Rattle.compare_cli.specs.Loaded.{AnswersLoad}
 use Rattle.compare_cli.specs.Evaluated.{Evaluates, EvaluationContents, evaluation_contents}
 use Rattle.compare_cli.specs.SetRun.{OfSet, one_schema}
-use Rattle.compare_cli.specs.Dimensions.{AreKnown, IsFirstUnknown, IsKnown, dimension_slots}
-use Rattle.compare_cli.specs.Summarised.{IsFailingText, IsShortOf, NamesTooManyOf, StatesFailAt, Summarises, SummaryContents, WidePredicates, limits_in, summary_contents}
+use Rattle.compare_cli.specs.Dimensions.{NameSlots, IsFirstUnknown, NamesSlot, dimension_slots}
+use Rattle.compare_cli.specs.Summarised.{IsShortOf, NamesTooManyOf, StatesFailAt, AnswersSummary, SummaryContents, WidePredicates, limits_in, summary_contents}
 use Rattle.findings.specs.Answers.{FailsAtFinding, SplitsFail}
 use Rattle.findings.specs.Summaries.{VisitsAtLeast}
 use Rattle.policy_compile.specs.declared.outcome.Query.{Query}
 use Rattle.strata.specs.Causes.{AreFew, NamesTooMany}
-use Rattle.strata.specs.declared.stratum.Stratum.{Stratum}
 use Rattle.summary_search.specs.declared.outcome.Limits.{Limits}
 use Rattle.compare_cli.specs.Files.{IsLong, IsShort, IsShortIfNamed, limit_of}
 use Rattle.compare_cli.specs.Standing.{NamesSchema, SchemaFails}
@@ -247,10 +246,10 @@ all_at : {X : Type 0} (P : X → Type 0) (xs : List X) (i : ℕ) (v : X) → All
 all_at P xs i v all e = let at = slice_get-at xs i v v e in subst P at.1 (all i v at.0)
 
 -- a word that names no dimension isn't among words that do
-unknown_fails : (schema : Schema) (words : List (List ℕ)) (element : List ℕ) → AreKnown schema words → IsFirstUnknown schema words element → ⊥
+unknown_fails : (schema : Schema) (words : List (List ℕ)) (element : List ℕ) → NameSlots schema words → IsFirstUnknown schema words element → ⊥
 unknown_fails schema words element known first =
-    let all : All (IsKnown schema) (first.before ++ first.word ∷ first.behind) = subst (λ (ws : List (List ℕ)). All (IsKnown schema) ws) first.is known in
-    first.unknown (All-contains (IsKnown schema) (first.before ++ first.word ∷ first.behind) first.word all (Contains-append_right first.before (first.word ∷ first.behind) first.word (first_in first.word first.behind)))
+    let all : All (NamesSlot schema) (first.before ++ first.word ∷ first.behind) = subst (λ (ws : List (List ℕ)). All (NamesSlot schema) ws) first.is known in
+    first.unknown (All-contains (NamesSlot schema) (first.before ++ first.word ∷ first.behind) first.word all (Contains-append_right first.before (first.word ∷ first.behind) first.word (first_in first.word first.behind)))
 
 -- no dimension of which too many predicates are named is among those of which few are
 many_fails : (words : List (List ℕ)) (q : Query) (element : List ℕ) → AreFew q.tests (dimension_slots words) → NamesTooManyOf words q element → ⊥
@@ -276,7 +275,7 @@ short_fails words limits schema set q fits (shortage.StatesIn n s text) v =
     (fits.strata made.strata made.are).states failing.finding s (subst (λ (k : ℕ). FailsAtFinding schema set made.strata.dimensions failing.finding (StatesFailAt schema k s)) v.0 failing.fails)
 
 -- what files of a set within its limits and budgets are answered is a summary
-summary_decided : (s : Summarising) (f : SummaryContents) (a : Answer) → IsSummaryAccepted s f → Summarises s f a → IsDecided (Some (a_summary s)) (status_of a)
+summary_decided : (s : Summarising) (f : SummaryContents) (a : Answer) → IsSummaryAccepted s f → AnswersSummary s f a → IsDecided (Some (a_summary s)) (status_of a)
 summary_decided s f (answer.Refused (refusal.NoSchema fault)) d v = no_schema_fault f.schema d.named fault d.schema_stands v
 summary_decided s f (answer.Refused (refusal.NoSet file fault)) d (is, schema, refused) = let stands = d.set_stands in cc
 summary_decided s f (answer.Refused (refusal.NoRun file fault)) d v =
@@ -345,10 +344,10 @@ evaluated files e a accepted read =
     let same = same_evaluation files e _ _ read accepted in
     evaluation_decided e accepted.contents a accepted.holds (subst (λ (f : EvaluationContents). Evaluates f a) same read.holds)
 
-summarised : (files : Files) (s : Summarising) (a : Answer) → IsAcceptedBy (Some files) (a_summary s) → SummaryIsRead (Some files) s (λ f. Summarises s f a) → IsDecided (Some (a_summary s)) (status_of a)
+summarised : (files : Files) (s : Summarising) (a : Answer) → IsAcceptedBy (Some files) (a_summary s) → SummaryIsRead (Some files) s (λ f. AnswersSummary s f a) → IsDecided (Some (a_summary s)) (status_of a)
 summarised files s a accepted read =
     let same = same_summary files s _ _ read accepted in
-    summary_decided s accepted.contents a accepted.holds (subst (λ (f : SummaryContents). Summarises s f a) same read.holds)
+    summary_decided s accepted.contents a accepted.holds (subst (λ (f : SummaryContents). AnswersSummary s f a) same read.holds)
 
 -- what the names of accepted files are answered without a fault of reading is an answer of the command
 names_decided : (files : Files) (asked : Asked) (a : Answer) → IsAcceptedBy (Some files) asked → IsCause asked (Some files) a → (IsReadFault a → ⊥) → IsDecided (Some asked) (status_of a)

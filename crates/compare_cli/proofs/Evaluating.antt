@@ -6,7 +6,6 @@ use Rattle.policy_model.specs.declared.set.PolicySet.{PolicySet}
 use Rattle.policy_model.specs.declared.set.StatementName.{StatementName}
 use Rattle.policy_model.specs.Requests.{IsValid}
 use Rattle.policy_model.specs.Sets.{Allows}
-use Rattle.policy_eval.specs.declared.outcome.Decider.{Decider}
 use Rattle.policy_eval.specs.declared.outcome.Decider.TheVariants as by
 use Rattle.policy_eval.specs.Deciding.{IsDecider}
 use Rattle.policy_eval.specs.Laws.{DecidersTellWhatIsAllowed}

@@ -1,5 +1,5 @@
 -- The first line of a text.
-use Rattle.std.proofs.Common.{◌≡◌, ◌∙◌, ◌≢◌, ◌<◌, ◌++◌, ◌+◌, ℕ, zero, suc, List, [], ◌∷◌, length, get_or, ap, sym, refl, arith, ne_eqb}
+use Rattle.std.proofs.Common.{◌≡◌, ◌≢◌, ◌<◌, ◌++◌, ℕ, suc, List, [], ◌∷◌, length, get_or, ap, refl, arith, ne_eqb}
 use Rattle.compare_cli.specs.Loaded.{line_of}
 
 -- the text in front of the first line feed

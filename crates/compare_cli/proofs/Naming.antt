@@ -1,9 +1,9 @@
 -- The slots that words name: which are known, and that words that differ in more than the case of letters name different slots.
-use Rattle.std.proofs.Common.{◌≡◌, ◌≢◌, ◌∙◌, ◌⊎◌, ◌<◌, ◌≤◌, ◌+◌, ◌&&◌, ◌||◌, ◌==◌, ℕ, zero, suc, List, [], ◌∷◌, ◌++◌, map, length, get_or, take, drop, Bool, true, false, not, All, AllPairs, codes, add-one, drop-cons, arith, refl, sym, ap, subst, inl, inr}
+use Rattle.std.proofs.Common.{◌≡◌, ◌≢◌, ◌∙◌, ◌⊎◌, ◌<◌, ◌≤◌, ◌+◌, ◌&&◌, ◌||◌, ℕ, zero, suc, List, [], ◌∷◌, ◌++◌, map, length, get_or, take, drop, Bool, true, false, not, All, AllPairs, codes, drop-cons, arith, refl, sym, ap, subst, inl, inr}
 use Rattle.std.specs.Prelude.{if◌then◌else◌, nat_lt, String, string_bytes}
 use Rattle.std.specs.Char.{to_ascii_lowercase}
 use Rattle.std.specs.Str.{IsUtf8, bytes_eq, chars, encode_utf8_all}
-use Rattle.std.proofs.lemmas.Bool.{cases_Bool, cases_lt}
+use Rattle.std.proofs.lemmas.Bool.{cases_Bool}
 use Rattle.std.proofs.lemmas.Bool.Decides.{nat_tests}
 use Rattle.std.proofs.lemmas.List.{get_or-map, length-map, map-append, map_more, take-append-drop}
 use Rattle.std.proofs.lemmas.List.Elements.{All-map, All-more}
@@ -18,7 +18,7 @@ use Rattle.policy_model.specs.declared.test.Slot.{Slot}
 use Rattle.policy_model.specs.declared.test.Slot.TheVariants.{Principal, Action, Resource, Key}
 use Rattle.request_schema.specs.BuiltIn.{folded_name}
 use Rattle.slot_theory.specs.Slots.{SlotIsIn}
-use Rattle.compare_cli.specs.Dimensions.{AreKnown, IsFirstUnknown, IsKnown, dimension_slot, dimension_slots}
+use Rattle.compare_cli.specs.Dimensions.{NameSlots, IsFirstUnknown, NamesSlot, dimension_slot, dimension_slots}
 
 -- ---- one word more
 
@@ -33,7 +33,7 @@ pub past-texts : {Z : Type 0} (words : List (String Z)) (i : ℕ) → length wor
 past-texts {Z} words i past = subst (λ (n : ℕ). n ≤ i) (sym (length-map words (λ (s : String Z). string_bytes s))) past
 
 -- the slots of known words are known
-pub known-slots : (schema : Schema) (words : List (List ℕ)) → AreKnown schema words → All (SlotIsIn schema) (dimension_slots words)
+pub known-slots : (schema : Schema) (words : List (List ℕ)) → NameSlots schema words → All (SlotIsIn schema) (dimension_slots words)
 known-slots schema words known = All-map (SlotIsIn schema) dimension_slot words known
 
 pub slots-more : (words : List (List ℕ)) (i : ℕ) (w : List ℕ) (slots : List Slot) (slot : Slot) → i < length words → w ≡ get_or words i w → slots ≡ dimension_slots (take i words) → slot ≡ dimension_slot w → slots ++ slot ∷ [] ≡ dimension_slots (take (i + 1) words)
@@ -42,14 +42,14 @@ slots-more words i w slots slot within at before is =
     ∙ ap (λ (x : Slot). dimension_slots (take i words) ++ x ∷ []) (is ∙ ap dimension_slot at)
     ∙ sym (map_more dimension_slot words i w within)
 
-pub known-more : (schema : Schema) (words : List (List ℕ)) (i : ℕ) (w : List ℕ) → i < length words → w ≡ get_or words i w → AreKnown schema (take i words) → IsKnown schema w → AreKnown schema (take (i + 1) words)
-known-more schema words i w within at before is = All-more (IsKnown schema) words i w within before (subst (IsKnown schema) at is)
+pub known-more : (schema : Schema) (words : List (List ℕ)) (i : ℕ) (w : List ℕ) → i < length words → w ≡ get_or words i w → NameSlots schema (take i words) → NamesSlot schema w → NameSlots schema (take (i + 1) words)
+known-more schema words i w within at before is = All-more (NamesSlot schema) words i w within before (subst (NamesSlot schema) at is)
 
 pub utf8-more : (words : List (List ℕ)) (i : ℕ) (w : List ℕ) → i < length words → w ≡ get_or words i w → All IsUtf8 (take i words) → IsUtf8 w → All IsUtf8 (take (i + 1) words)
 utf8-more words i w within at before is = All-more IsUtf8 words i w within before (subst IsUtf8 at is)
 
 -- the first word that isn't known
-pub unknown-at : (schema : Schema) (words : List (List ℕ)) (i : ℕ) (w : List ℕ) → i < length words → w ≡ get_or words i w → AreKnown schema (take i words) → ¬ IsKnown schema w → IsFirstUnknown schema words (chars w)
+pub unknown-at : (schema : Schema) (words : List (List ℕ)) (i : ℕ) (w : List ℕ) → i < length words → w ≡ get_or words i w → NameSlots schema (take i words) → ¬ NamesSlot schema w → IsFirstUnknown schema words (chars w)
 unknown-at schema words i w within at before unknown = record {
   before = take i words;
   word = w;

@@ -1,6 +1,5 @@
 -- What is said of two sets under the schema of their run.
 use Rattle.std.proofs.Common.{◌≡◌, Err, false, subst, sym}
-use Rattle.std.specs.Prelude.{Result}
 use Rattle.policy_model.specs.declared.schema.Schema.{Schema}
 use Rattle.policy_model.specs.declared.set.PolicySet.{PolicySet}
 use Rattle.compare_cli.specs.declared.answer.Answer.{Answer}

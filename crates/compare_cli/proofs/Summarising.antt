@@ -1,5 +1,5 @@
 -- What a summary came to says what is answered.
-use Rattle.std.proofs.Common.{◌≡◌, ◌<◌, ◌∙◌, ℕ, List, [], length, map, get_or, slice_get, All, Option, Some, None, refl, sym, subst, arith}
+use Rattle.std.proofs.Common.{◌≡◌, ◌<◌, ℕ, List, length, map, All, None, refl, sym, subst}
 use Rattle.std.proofs.lemmas.List.{get_or-map, length-map}
 use Rattle.std.proofs.lemmas.Option.{slice_get_within}
 use Rattle.policy_compile.specs.declared.outcome.Query.{Query}
@@ -8,24 +8,23 @@ use Rattle.policy_compile.specs.Sets.{set_plan}
 use Rattle.policy_model.specs.declared.request.Request.{Request}
 use Rattle.policy_model.specs.declared.schema.Schema.{Schema}
 use Rattle.policy_model.specs.declared.set.PolicySet.{PolicySet}
-use Rattle.policy_model.specs.declared.test.Slot.{Slot}
 use Rattle.request_schema.specs.RunSchemas.{infer_fault}
 use Rattle.findings.specs.Answers.{FailsAtFinding, StatesFail}
 use Rattle.findings.specs.Findings.{IsFinding}
-use Rattle.findings.specs.Summaries.{IsMaximal, IsSummary, findings_of}
+use Rattle.findings.specs.Summaries.{findings_of}
 use Rattle.findings.specs.declared.decide.Wide.{Wide as WideSlot}
 use Rattle.strata.specs.declared.stratum.Stratum.{Stratum}
-use Rattle.summary_search.specs.Outcomes.{IsOutcome}
+use Rattle.summary_search.specs.Outcomes.{IsSummaryOutcome}
 use Rattle.summary_search.specs.declared.outcome.Limits.{Limits}
 use Rattle.summary_search.specs.declared.outcome.Outcome.{Outcome}
 use Rattle.summary_search.specs.declared.outcome.Outcome.TheVariants as outcome
 use Rattle.compare_cli.specs.declared.answer.Answer.{Answer}
 use Rattle.compare_cli.specs.declared.answer.Answer.TheVariants as answer
 use Rattle.compare_cli.specs.declared.answer.Refusal.TheVariants as refusal
-use Rattle.compare_cli.specs.Dimensions.{AreKnown, dimension_slot, dimension_slots}
-use Rattle.compare_cli.specs.SetRun.{OfSetRun, one_schema}
+use Rattle.compare_cli.specs.Dimensions.{NameSlots, dimension_slot, dimension_slots}
+use Rattle.compare_cli.specs.SetRun.{one_schema}
 use Rattle.compare_cli.specs.Standing.{NamesSchema, StandsFor}
-use Rattle.compare_cli.specs.Summarised.{HasTexts, IsOutcomeAnswer, IsSummaryAnswer, StatesFailAt, Summarises, SummarisesKnown, SummarisesSet, SummarisesUnder, SummaryContents, limits_in}
+use Rattle.compare_cli.specs.Summarised.{HasTexts, IsOutcomeAnswer, IsSummaryAnswer, StatesFailAt, AnswersSummary, SummarisesKnown, SummarisesSet, SummarisesUnder, SummaryContents, limits_in}
 use Rattle.command_words.specs.Asked.{Summarising}
 
 -- ---- texts
@@ -35,7 +34,7 @@ all-of-map : {X Y : Type 0} (P : Y → Type 0) (f : X → Y) (xs : List X) → A
 all-of-map P f xs all k d l = subst P (get_or-map f xs k d (f d) l) (all k (f d) (subst (λ (n : ℕ). k < n) (sym (length-map xs f)) l))
 
 -- what a summary came to has texts
-pub texts-of : (words : List (List ℕ)) (limits : Limits) (schema : Schema) (set : PolicySet) (q : Query) (o : Outcome) → IsOutcome schema set q (dimension_slots words) limits o → HasTexts words o
+pub texts-of : (words : List (List ℕ)) (limits : Limits) (schema : Schema) (set : PolicySet) (q : Query) (o : Outcome) → IsSummaryOutcome schema set q (dimension_slots words) limits o → HasTexts words o
 texts-of words limits schema set q (outcome.Found strata summary) is =
     let finding : All (IsFinding strata.dimensions) (findings_of summary) = λ k d l. (is.1.maximal k d l).finding in
     all-of-map (IsFinding strata.dimensions) (λ (p : List ℕ × Request). p.0) summary finding
@@ -59,7 +58,7 @@ wide-at schema set ds f states w fails = record {
 }
 
 -- the answer to what a summary came to is what may be said of the query
-pub said-of-outcome : (words : List (List ℕ)) (limits : Limits) (schema : Schema) (set : PolicySet) (q : Query) (o : Outcome) → IsOutcome schema set q (dimension_slots words) limits o → (a : Answer) → IsOutcomeAnswer words limits o a → IsSummaryAnswer words limits schema set q a
+pub said-of-outcome : (words : List (List ℕ)) (limits : Limits) (schema : Schema) (set : PolicySet) (q : Query) (o : Outcome) → IsSummaryOutcome schema set q (dimension_slots words) limits o → (a : Answer) → IsOutcomeAnswer words limits o a → IsSummaryAnswer words limits schema set q a
 said-of-outcome words limits schema set q (outcome.Found strata summary) is a v =
     subst (λ (x : Answer). IsSummaryAnswer words limits schema set q x) (sym v.is)
     (record { strata = strata; are = is.0; holds = record { summary = summary; is = is.1; lines = v.lines } })
@@ -83,7 +82,7 @@ known-of-query words limits schema set q is (answer.Refused refusal.TooManyPiece
 known-of-query words limits schema set q is a v = record { query = q; is = is; holds = v }
 
 -- of which each dimension is known
-pub under-known : (words : List (List ℕ)) (limits : Limits) (schema : Schema) (set : PolicySet) → AreKnown schema words → (a : Answer) → SummarisesKnown words limits schema set a → SummarisesUnder words limits set a schema
+pub under-known : (words : List (List ℕ)) (limits : Limits) (schema : Schema) (set : PolicySet) → NameSlots schema words → (a : Answer) → SummarisesKnown words limits schema set a → SummarisesUnder words limits set a schema
 under-known words limits schema set known (answer.Refused (refusal.NoDimension element)) v = absurd v.holds
 under-known words limits schema set known a v = (known, v)
 
@@ -92,12 +91,12 @@ pub set-under : (words : List (List ℕ)) (limits : Limits) (named : Schema) (se
 set-under words limits named set schema answered run (answer.Refused (refusal.NoRun role fault)) v = absurd v.1.holds
 set-under words limits named set schema answered run a v = record { answered = answered; holds = subst (SummarisesUnder words limits set a) run v }
 
-files-same : (s : Summarising) (c : SummaryContents) (named : Schema) (set : PolicySet) → NamesSchema c.schema named → StandsFor c.set set → (a : Answer) → SummarisesSet s.dimensions (limits_in s) a named set → Summarises s c a
+files-same : (s : Summarising) (c : SummaryContents) (named : Schema) (set : PolicySet) → NamesSchema c.schema named → StandsFor c.set set → (a : Answer) → SummarisesSet s.dimensions (limits_in s) a named set → AnswersSummary s c a
 files-same s c named set schema_stands set_stands (answer.Refused (refusal.NoSchema fault)) v = absurd v.holds.1.holds
 files-same s c named set schema_stands set_stands (answer.Refused (refusal.NoSet role fault)) v = absurd v.holds.1.holds
 files-same s c named set schema_stands set_stands a v = record { named = named; set = set; schema_stands = schema_stands; set_stands = set_stands; holds = v }
 
 -- which files stand for
-pub files-set : (s : Summarising) (c : SummaryContents) (named : Schema) (set : PolicySet) (words : List (List ℕ)) (limits : Limits) → words ≡ s.dimensions → limits ≡ limits_in s → NamesSchema c.schema named → StandsFor c.set set → (a : Answer) → SummarisesSet words limits a named set → Summarises s c a
+pub files-set : (s : Summarising) (c : SummaryContents) (named : Schema) (set : PolicySet) (words : List (List ℕ)) (limits : Limits) → words ≡ s.dimensions → limits ≡ limits_in s → NamesSchema c.schema named → StandsFor c.set set → (a : Answer) → SummarisesSet words limits a named set → AnswersSummary s c a
 files-set s c named set words limits same range schema_stands set_stands a v =
     files-same s c named set schema_stands set_stands a (subst (λ (ws : List (List ℕ)). SummarisesSet ws (limits_in s) a named set) same (subst (λ (l : Limits). SummarisesSet words l a named set) range v))

@@ -27,7 +27,7 @@ use Rattle.compare_cli.specs.Evaluated.{Evaluates, EvaluationContents}
 use Rattle.compare_cli.specs.Files.{IsShort, IsShortIfNamed, IsLong}
 use Rattle.compare_cli.specs.Loaded.{AnswersLoad}
 use Rattle.compare_cli.specs.Standing.{HasSchema, HasSet, NamesSchema, SchemaFails, StandsFor}
-use Rattle.compare_cli.specs.Summarised.{Summarises, SummaryContents}
+use Rattle.compare_cli.specs.Summarised.{AnswersSummary, SummaryContents}
 
 -- the folder of a run: what it holds, and how many faults it had and the name of the last, before the run and now
 pub record Reading : Type 0 where
@@ -176,7 +176,7 @@ abbrev pub IsAnsweredFrom : Option Files → Asked → Answer → Type 0
 IsAnsweredFrom held (a_comparison c) answer = AllRead held c.names (λ f. AnswersComparison c f answer)
 IsAnsweredFrom held (a_check c) answer =
     AllRead held c.names (λ f. ProofIsRead held c.proof (λ bytes. AnswersCheck bytes f answer))
-IsAnsweredFrom held (a_summary s) answer = SummaryIsRead held s (λ f. Summarises s f answer)
+IsAnsweredFrom held (a_summary s) answer = SummaryIsRead held s (λ f. AnswersSummary s f answer)
 IsAnsweredFrom held (an_evaluation e) answer = EvaluationIsRead held e (λ f. Evaluates f answer)
 IsAnsweredFrom held (a_load keys) answer = AnswersLoad keys answer
 

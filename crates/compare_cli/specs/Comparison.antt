@@ -1,7 +1,9 @@
 -- What a comparison of two sets says: the question whether a first set of policies allows a request that a second doesn't.
-use Rattle.std.specs.Prelude.{◌≡◌, ◌≤◌, ℕ, [], length}
+use Rattle.std.specs.Prelude.{◌≡◌, ◌≢◌, ◌≤◌, ℕ, [], length}
 use Rattle.formula_tree.specs.Answers.{Answers}
 use Rattle.formula_tree.specs.Runs.{NeedsMore}
+use Rattle.formula_tree.specs.Values.{value}
+use Rattle.formula_tree.specs.declared.value.Three.TheVariants.{No}
 use Rattle.wildcard_lang.specs.Places.{IsWider}
 use Rattle.policy_model.specs.declared.request.Request.{Request}
 use Rattle.policy_model.specs.declared.schema.Schema.{Schema}
@@ -17,6 +19,7 @@ use Rattle.policy_compile.specs.Queries.{HasTooManyPieces, IsQuery}
 use Rattle.policy_compile.specs.Sets.{query_plan}
 use Rattle.slot_theory.specs.Possible.{IsPossible}
 use Rattle.refute_check.specs.Propagated.{PropagatedNeedsMore}
+use Rattle.slot_theory.specs.Cores.{HasTest}
 use Rattle.slot_theory.specs.Slots.{patterns_at}
 use Rattle.tree_search.specs.Decisions.{asked_tree}
 use Rattle.tree_search.specs.Nodes.{IsNode}
@@ -78,12 +81,15 @@ pub record NeedsSplits (pair : Pair) (splits : ℕ) : Type 0 where
   pub plain : NeedsMore (IsPossible pair.schema query.tests) (asked_tree query) [] splits
   pub propagated : PropagatedNeedsMore pair.schema query.tests (asked_tree query) [] splits
 
--- at a node of the plain run the patterns of the slot have more product states
+-- at a node of the plain run where the query isn't no, and whose path answers a test of the slot, the slot's patterns have more
+-- product states
 pub record NeedsStates (pair : Pair) (states : ℕ) (s : Slot) : Type 0 where
   pub query : Query
   pub is : IsQuery (plan_of pair) query
   pub path : Answers
   pub node : IsNode (IsPossible pair.schema query.tests) (asked_tree query) [] path
+  pub not_no : value path (asked_tree query) ≢ No
+  pub asked : HasTest query.tests path s
   pub wider : IsWider (patterns_at pair.schema query.tests path s) states
 
 -- with at most 19 tests the plain run needs no more splits than there may be at most, which are 2 ^ 19 - 1 or more
@@ -92,7 +98,7 @@ FewTestsAreDecided schema query =
     (pair : Pair) → pair.schema ≡ schema → IsQuery (plan_of pair) query → length query.tests ≤ 19 →
     ¬ NeedsPlainSplits pair MOST_SPLITS
 
--- at no node of the plain run a slot's patterns have more product states
+-- at no node of the plain run where the query isn't no has a slot that the path asks about more product states
 abbrev pub FitsStates : Pair → ℕ → Type 0
 FitsStates pair states = (s : Slot) → ¬ NeedsStates pair states s
 

@@ -25,7 +25,7 @@ use Rattle.compare_cli.specs.declared.top.Status.TheVariants.{Holds, Fails, NoMe
 use Rattle.compare_cli.specs.Answers.{AllRead, EvaluationIsRead, OfPair, ProofIsRead, SummaryIsRead, budgets_of}
 use Rattle.compare_cli.specs.Comparison.{FitsStates, NeedsSplits, TooManyPieces, TooManyTests}
 use Rattle.compare_cli.specs.Evaluated.{EvaluationContents, OfRequest}
-use Rattle.compare_cli.specs.Dimensions.{AreKnown, dimension_slots}
+use Rattle.compare_cli.specs.Dimensions.{NameSlots, dimension_slots}
 use Rattle.compare_cli.specs.SetRun.{OfSet, OfSetRun}
 use Rattle.compare_cli.specs.Summarised.{StatesFailAt, SummaryContents, WidePredicates, limits_in}
 
@@ -65,7 +65,7 @@ pub record FitsLimits (words : List (List ℕ)) (limits : Limits) (schema : Sche
 
 -- the query of the set is within its limits
 pub record IsSummarisable (words : List (List ℕ)) (limits : Limits) (set : PolicySet) (schema : Schema) : Type 0 where
-  pub known : AreKnown schema words
+  pub known : NameSlots schema words
   pub tests : ¬ HasTooMany [] (tests_in (set_plan schema set))
   pub pieces : ¬ HasTooManyPieces (set_plan schema set)
   pub fits : (q : Query) → IsQuery (set_plan schema set) q → FitsLimits words limits schema set q

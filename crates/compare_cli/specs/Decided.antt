@@ -70,10 +70,10 @@ IsDecisionAnswer certified version budgets decided.OutOfSplits answer = answer �
 IsDecisionAnswer certified version budgets (decided.OutOfStates w) answer = answer ≡ Undecided (States budgets.states w.slot)
 
 -- the verdict on two sets
-abbrev pub IsVerdict : Pair → Answer → Type 0
-IsVerdict pair NotMore = Covers pair
-IsVerdict pair (More q) = IsWitness pair q
-IsVerdict pair _ = ⊥
+abbrev pub IsVerdictOn : Pair → Answer → Type 0
+IsVerdictOn pair NotMore = Covers pair
+IsVerdictOn pair (More q) = IsWitness pair q
+IsVerdictOn pair _ = ⊥
 
 -- the verdict in what a search decided, where there is one
 abbrev pub IsVerdictIn : Decided → Option Answer → Type 0

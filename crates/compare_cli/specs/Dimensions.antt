@@ -21,12 +21,12 @@ abbrev pub dimension_slots : List (List ℕ) → List Slot
 dimension_slots words = map dimension_slot words
 
 -- the word names a slot of the requests under the schema
-abbrev pub IsKnown : Schema → List ℕ → Type 0
-IsKnown schema word = SlotIsIn schema (dimension_slot word)
+abbrev pub NamesSlot : Schema → List ℕ → Type 0
+NamesSlot schema word = SlotIsIn schema (dimension_slot word)
 
 -- each word does
-abbrev pub AreKnown : Schema → List (List ℕ) → Type 0
-AreKnown schema words = All (IsKnown schema) words
+abbrev pub NameSlots : Schema → List (List ℕ) → Type 0
+NameSlots schema words = All (NamesSlot schema) words
 
 -- the word, given by its characters, is the first that doesn't
 pub record IsFirstUnknown (schema : Schema) (words : List (List ℕ)) (element : List ℕ) : Type 0 where
@@ -34,12 +34,12 @@ pub record IsFirstUnknown (schema : Schema) (words : List (List ℕ)) (element :
   pub word : List ℕ
   pub behind : List (List ℕ)
   pub is : words ≡ before ++ word ∷ behind
-  pub known : AreKnown schema before
-  pub unknown : ¬ IsKnown schema word
+  pub known : NameSlots schema before
+  pub unknown : ¬ NamesSlot schema word
   pub written : element ≡ chars word
 
 -- the slots of words that are known, or the first that isn't
 abbrev pub AreSlotsOf : Schema → List (List ℕ) → Result (List Slot) Refusal → Type 0
-AreSlotsOf schema words (Ok slots) = AreKnown schema words × (slots ≡ dimension_slots words)
+AreSlotsOf schema words (Ok slots) = NameSlots schema words × (slots ≡ dimension_slots words)
 AreSlotsOf schema words (Err (NoDimension element)) = IsFirstUnknown schema words element
 AreSlotsOf schema words (Err _) = ⊥

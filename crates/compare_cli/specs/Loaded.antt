@@ -1,5 +1,5 @@
 -- What the jobs on two sets of a size that is asked for may print.
-use Rattle.std.specs.Prelude.{◌≡◌, ◌==◌, ℕ, List, [], ◌∷◌, Bool, false, None, Some, String, string_bytes, if◌then◌else◌, codes}
+use Rattle.std.specs.Prelude.{◌≡◌, ◌==◌, ℕ, List, [], ◌∷◌, false, Some, String, string_bytes, if◌then◌else◌, codes}
 use Rattle.command_words.specs.declared.limits.TheConstants.{DEFAULT_SPLITS, DEFAULT_STATES, DEFAULT_FINDINGS}
 use Rattle.policy_load.specs.Loads.{first_load, second_load}
 use Rattle.policy_model.specs.declared.schema.Schema.{Schema}

@@ -36,7 +36,7 @@ use Rattle.compare_cli.specs.declared.answer.Refusal.TheVariants.{TooManyTests, 
 use Rattle.compare_cli.specs.declared.answer.Role.TheVariants.{Set as set_file}
 use Rattle.compare_cli.specs.declared.answer.Shortage.{Shortage}
 use Rattle.compare_cli.specs.declared.answer.Shortage.TheVariants.{Splits, States, Findings, SplitsIn, StatesIn}
-use Rattle.compare_cli.specs.Dimensions.{AreKnown, IsFirstUnknown, dimension_slots}
+use Rattle.compare_cli.specs.Dimensions.{NameSlots, IsFirstUnknown, dimension_slots}
 use Rattle.compare_cli.specs.SetRun.{OfSet, OfSetRun}
 use Rattle.compare_cli.specs.Standing.{HasSchema, SchemaFails}
 
@@ -130,7 +130,7 @@ SummarisesKnown words limits schema set answer =
 -- what a set may be answered under the schema of its run: the first word that names no dimension, or what else is said
 abbrev pub SummarisesUnder : List (List ℕ) → Limits → PolicySet → Answer → Schema → Type 0
 SummarisesUnder words limits set (Refused (NoDimension element)) schema = IsFirstUnknown schema words element
-SummarisesUnder words limits set answer schema = AreKnown schema words × SummarisesKnown words limits schema set answer
+SummarisesUnder words limits set answer schema = NameSlots schema words × SummarisesKnown words limits schema set answer
 
 -- what a set under named keys may be answered: the first condition that the run has no schema for, or what is said under that
 abbrev pub SummarisesSet : List (List ℕ) → Limits → Answer → Schema → PolicySet → Type 0
@@ -200,7 +200,7 @@ abbrev pub limits_in : Summarising → Limits
 limits_in s = record { splits = s.splits; states = s.states; findings = s.findings }
 
 -- what the files of a summary may be answered: the schema's first fault, then the set's, then what they say together
-abbrev pub Summarises : Summarising → SummaryContents → Answer → Type 0
-Summarises s c (Refused (NoSchema fault)) = SchemaFails c.schema fault
-Summarises s c (Refused (NoSet role fault)) = (role ≡ set_file) × HasSchema c.schema × (set_from c.set ≡ Err fault)
-Summarises s c answer = OfSet c.set c.schema (SummarisesSet s.dimensions (limits_in s) answer)
+abbrev pub AnswersSummary : Summarising → SummaryContents → Answer → Type 0
+AnswersSummary s c (Refused (NoSchema fault)) = SchemaFails c.schema fault
+AnswersSummary s c (Refused (NoSet role fault)) = (role ≡ set_file) × HasSchema c.schema × (set_from c.set ≡ Err fault)
+AnswersSummary s c answer = OfSet c.set c.schema (SummarisesSet s.dimensions (limits_in s) answer)

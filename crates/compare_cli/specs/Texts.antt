@@ -81,12 +81,12 @@ unfoldable pub document_end : StatementName → List ℕ → List ℕ
 document_end name element = codes ": document " ++ decimal name.document ++ statement_end name element
 
 -- the location of a fault of a set
-abbrev pub place_of : PolicyFault → StatementName
-place_of fault = record { document = fault.document; statement = fault.statement }
+abbrev pub location_of : PolicyFault → StatementName
+location_of fault = record { document = fault.document; statement = fault.statement }
 
 -- a fault of a set with its location
 abbrev pub fault_text : PolicyFault → List ℕ
-fault_text fault = code_word fault.code ++ document_end (place_of fault) fault.element
+fault_text fault = code_word fault.code ++ document_end (location_of fault) fault.element
 
 -- a condition that the run has no schema for: why, and its location
 abbrev pub infer_word : InferFault → List ℕ
@@ -132,8 +132,8 @@ unfoldable pub too_long_end : Role → List ℕ
 too_long_end role = codes ": file longer than " ++ decimal (limit_of role) ++ codes " bytes\n"
 
 -- the element of a dimension of which too many predicates are named
-abbrev pub predicates_of : List ℕ → List ℕ
-predicates_of word = codes "predicates of " ++ word
+abbrev pub predicates_element : List ℕ → List ℕ
+predicates_element word = codes "predicates of " ++ word
 
 -- the line of a refusal
 unfoldable pub refusal_text : Refusal → List ℕ
@@ -146,7 +146,7 @@ refusal_text TooManyTests = codes "refused: query: P17 Limit: document 0, statem
 refusal_text TooManyPieces = codes "refused: query: P17 Limit: document 0, statement 0, \"pieces\"\n"
 refusal_text (NoDimension word) = codes "refused: schema: S5 UnknownDimension: " ++ element_text word ++ codes "\n"
 refusal_text (TooManyPredicates word) =
-    codes "refused: query: P17 Limit: document 0, statement 0, " ++ element_text (predicates_of word) ++ codes "\n"
+    codes "refused: query: P17 Limit: document 0, statement 0, " ++ element_text (predicates_element word) ++ codes "\n"
 
 -- the end of a line on a finding's query
 unfoldable pub finding_end : {A : Type 0} → String A → List ℕ

@@ -8,7 +8,7 @@ ghost use Rattle.refute_check.specs.Proofs.{proof_of, size};
 ghost use Rattle.policy_compile.specs.Queries.{IsQuery};
 ghost use Rattle.policy_difference.specs.Differences.{AskTheSame};
 ghost use Rattle.compare_cli.specs.Comparison.{FewTestsAreDecided, IsFitting, paired, plan_of};
-ghost use Rattle.compare_cli.specs.Decided.{IsChecked, IsComparison, IsDecisionAnswer, IsQueried, IsRefutedAnswer, IsVerdict, IsVerdictAnswer, IsVerdictIn};
+ghost use Rattle.compare_cli.specs.Decided.{IsChecked, IsComparison, IsDecisionAnswer, IsQueried, IsRefutedAnswer, IsVerdictOn, IsVerdictAnswer, IsVerdictIn};
 
 use crate::answer::{Answer, Refusal, Shortage};
 use crate::pair::Pair;
@@ -111,7 +111,7 @@ fn difference_answer(
     requires fitting { IsFitting pair.now }
     requires splits { 1 ≤ budgets.splits }
     requires states { 1 ≤ budgets.states }
-    ensures { IfOk result (λ answer. IfSome answer (IsVerdict pair.now)) }
+    ensures { IfOk result (λ answer. IfSome answer (IsVerdictOn pair.now)) }
 {
     let Some(first) = without_shared(alloc, &pair.first, &pair.second)? else {
         return Ok(None);
@@ -135,10 +135,11 @@ fn verdict_on(
 ) -> Result<Option<Answer>, AllocError>
     requires fitting { IsFitting (paired pair.now.schema first.now pair.now.second) }
     requires same { AskTheSame pair.now.first first.now pair.now.second }
-    requires query { IsQuery (plan_of (paired pair.now.schema first.now pair.now.second)) query.now }
+    requires query { IsQuery (plan_of (paired pair.now.schema first.now pair.now.second))
+        query.now }
     requires splits { 1 ≤ budgets.splits }
     requires states { 1 ≤ budgets.states }
-    ensures { IfOk result (λ answer. IfSome answer (IsVerdict pair.now)) }
+    ensures { IfOk result (λ answer. IfSome answer (IsVerdictOn pair.now)) }
 {
     let decided = decide(alloc, &pair.schema, query, budgets)?;
     closed_queries_are_no();

@@ -1,13 +1,13 @@
-//! Summarises a set of policies by dimensions.
+//! AnswersSummary a set of policies by dimensions.
 ghost use Rattle.std.specs.Prelude.{◌≡◌, ◌≤◌, ◌<◌, true, All, IfOk, length, option_map};
 ghost use Rattle.std.specs.Str.{IsUtf8};
 ghost use Rattle.command_words.specs.Asked.{HasBudgetsInRange, are_dimensions, summarising_in, texts_in};
 ghost use Rattle.policy_model.specs.Soundness.{IsSound, SchemaFits, SchemaIsSound};
 ghost use Rattle.findings.specs.Findings.{IsFinding};
 ghost use Rattle.summary_search.specs.Outcomes.{AreInRange};
-ghost use Rattle.compare_cli.specs.Dimensions.{AreKnown, dimension_slots};
+ghost use Rattle.compare_cli.specs.Dimensions.{NameSlots, dimension_slots};
 ghost use Rattle.compare_cli.specs.Summarised.{AreLinesOf, HasTexts, IsOutcomeAnswer, IsSetQueried, IsTooManyAnswer};
-ghost use Rattle.compare_cli.specs.Summarised.{Summarises, SummarisesKnown, SummarisesSet, SummarisesUnder};
+ghost use Rattle.compare_cli.specs.Summarised.{AnswersSummary, SummarisesKnown, SummarisesSet, SummarisesUnder};
 ghost use Rattle.compare_cli.specs.Summarised.{limits_in, summary_contents, told, told_by};
 
 use crate::answer::{Answer, FoundLines, FoundList, Refusal, Role, Shortage};
@@ -125,7 +125,7 @@ fn known_answer(
     requires fits { SchemaFits schema.now set.now }
     requires dimensions { are_dimensions (texts_in words.now) ≡ true }
     requires texts { All IsUtf8 (texts_in words.now) }
-    requires known { AreKnown schema.now (texts_in words.now) }
+    requires known { NameSlots schema.now (texts_in words.now) }
     requires slots { slots.now ≡ dimension_slots (texts_in words.now) }
     requires limits { AreInRange limits }
     ensures { IfOk result (SummarisesKnown (texts_in words.now) limits schema.now set.now) }
@@ -204,7 +204,7 @@ pub fn summary_of(
 ) -> Result<Answer, AllocError>
     requires budgets { HasBudgetsInRange words.now }
     requires dimensions { are_dimensions (texts_in words.now.dimensions.items) ≡ true }
-    ensures { IfOk result (Summarises (summarising_in words.now)
+    ensures { IfOk result (AnswersSummary (summarising_in words.now)
         (summary_contents set.now (option_map (λ f. f.now) schema.entry))) }
 {
     let named = match named_schema(alloc, schema) {

@@ -2,7 +2,7 @@
 ghost use Rattle.std.specs.Prelude.{◌≡◌, ◌++◌, IfOk, codes, decimal, string_bytes};
 ghost use Rattle.std.specs.Prelude.{OnOk, flat_map, length};
 ghost use Rattle.compare_cli.specs.Texts.{back_line, finding_end, forth_line, keys_line, load_text, request_end};
-ghost use Rattle.compare_cli.specs.Texts.{answer_text, code_word, count_line, denial_text, document_end, element_text, fault_text, found_text, infer_text, infer_word, number_end, place_of, predicates_of, proof_fault_text, proof_word, refusal_text, request_fault_text, request_word, role_word, schema_text, schema_word, shortage_text, slot_word, states_end, statement_end, statement_line, summary_text, too_long_end};
+ghost use Rattle.compare_cli.specs.Texts.{answer_text, code_word, count_line, denial_text, document_end, element_text, fault_text, found_text, infer_text, infer_word, number_end, location_of, predicates_element, proof_fault_text, proof_word, refusal_text, request_fault_text, request_word, role_word, schema_text, schema_word, shortage_text, slot_word, states_end, statement_end, statement_line, summary_text, too_long_end};
 
 use crate::answer::{Answer, Denial, FoundLines, LoadLines, Refusal, Role, Shortage};
 use crate::files::limit_of;
@@ -181,8 +181,8 @@ fn document_end(alloc: Global, name: StatementName, element: &Text) -> Result<St
     format!(in alloc; ": document {document}{end}")
 }
 
-fn place_of(fault: &PolicyFault) -> StatementName
-    ensures { result ≡ place_of fault.now }
+fn location_of(fault: &PolicyFault) -> StatementName
+    ensures { result ≡ location_of fault.now }
 {
     StatementName {
         document: fault.document,
@@ -195,7 +195,7 @@ fn fault_text(alloc: Global, fault: &PolicyFault) -> Result<String, AllocError>
     ensures { IfOk result (λ s. string_bytes s ≡ fault_text fault.now) }
 {
     let code = code_word(fault.code);
-    let end = document_end(alloc, place_of(fault), &fault.element)?;
+    let end = document_end(alloc, location_of(fault), &fault.element)?;
     let end = end.as_str();
     format!(in alloc; "{code}{end}")
 }
@@ -241,7 +241,7 @@ fn too_long_end(alloc: Global, role: Role) -> Result<String, AllocError>
 
 // What is refused where too many predicates are named of a dimension, as JSON.
 fn predicates_text(alloc: Global, word: &Text) -> Result<String, AllocError>
-    ensures { IfOk result (λ s. string_bytes s ≡ element_text (predicates_of word.now)) }
+    ensures { IfOk result (λ s. string_bytes s ≡ element_text (predicates_element word.now)) }
 {
     let word = word.to_utf8()?;
     let element = format!(in alloc; "predicates of {word}")?;
@@ -313,7 +313,8 @@ fn finding_end(alloc: Global, finding: &String) -> Result<String, AllocError>
 
 #[tactic(auto, unfolding(crate::specs::Texts::shortage_text))]
 fn splits_in_text(alloc: Global, splits: u32, finding: &String) -> Result<String, AllocError>
-    ensures { IfOk result (λ s. string_bytes s ≡ shortage_text (Shortage.SplitsIn splits finding.now)) }
+    ensures { IfOk result
+        (λ s. string_bytes s ≡ shortage_text (Shortage.SplitsIn splits finding.now)) }
 {
     let end = finding_end(alloc, finding)?;
     let splits = number_text(alloc, splits)?;

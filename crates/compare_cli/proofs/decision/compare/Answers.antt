@@ -2,7 +2,7 @@ use Rattle.std.proofs.Common.{rules, ◌≡◌, Bool, false, subst, sym}
 use Rattle.std.proofs.lemmas.Result.{IfOk-weaker}
 use Rattle.policy_compile.specs.Queries.{IsQuery}
 use Rattle.compare_cli.specs.Comparison.{plan_of}
-use Rattle.compare_cli.specs.Decided.{IsComparison, IsVerdict}
+use Rattle.compare_cli.specs.Decided.{IsComparison, IsVerdictOn}
 use Rattle.compare_cli.proofs.Comparing.{comparison_if_decided, comparison_if_verdict, query_below, query_tests}
 use Rattle.compare_cli.proofs.decision.compare.Goals as goal
 
@@ -19,7 +19,7 @@ decide-requires-clause-below c =
 pub returns-in-Some : goal.returns-in-Some
 returns-in-Some c =
     let is : IsQuery (plan_of c.args.pair.now) c.in-Ok.query = search rules in
-    let verdict : IsVerdict c.args.pair.now c.in-Some.answer = search rules in
+    let verdict : IsVerdictOn c.args.pair.now c.in-Some.answer = search rules in
     let plain : c.args.certified ≡ false = search rules in
     subst (λ (b : Bool). IsComparison b c.args.budgets c.args.pair.now c.in-Some.answer) (sym plain) (comparison_if_verdict c.args.pair.now c.in-Ok.query c.args.budgets is c.in-Some.answer verdict)
 

@@ -1,5 +1,3 @@
-use Rattle.std.proofs.Common.{rules}
-use Rattle.std.proofs.lemmas.Result.{IfOk-weaker}
 use Rattle.compare_cli.specs.Comparison.{paired}
 use Rattle.compare_cli.proofs.Comparing.{query_below, query_tests, verdict_if_decided}
 use Rattle.compare_cli.proofs.decision.verdict_on.Goals as goal

@@ -4,7 +4,7 @@ use Rattle.std.specs.Str.{IsUtf8, chars}
 use Rattle.command_words.specs.Asked.{texts_in}
 use Rattle.policy_model.proofs.Laws.{All-done}
 use Rattle.slot_theory.specs.Slots.{SlotIsIn}
-use Rattle.compare_cli.specs.Dimensions.{IsFirstUnknown, IsKnown, dimension_slot}
+use Rattle.compare_cli.specs.Dimensions.{IsFirstUnknown, NamesSlot, dimension_slot}
 use Rattle.compare_cli.proofs.Naming.{known-more, past-texts, slots-more, unknown-at, utf8-more, within-texts, word-at}
 use Rattle.compare_cli.proofs.dimensions.slots_of.Goals as goal
 
@@ -16,7 +16,7 @@ returns-then-not-is_in-clause-slots c =
     let item = c.word-item.result in
     let within : i < length words = omega arith in
     let slot_is : c.in_ok-slot.slot ≡ dimension_slot (string_bytes item) = search rules in
-    let unknown : ¬ IsKnown schema (string_bytes item) = λ known.
+    let unknown : ¬ NamesSlot schema (string_bytes item) = λ known.
     let there = c.is_in.ensures.1 (subst (SlotIsIn schema) (sym slot_is) known) in
     let off = c.if-not-is_in.true in
     absurd (cc) in

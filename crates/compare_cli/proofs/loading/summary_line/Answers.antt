@@ -2,7 +2,7 @@ use Rattle.std.proofs.Common.{◌≡◌, ℕ, List, refl, rules, subst, sym, tru
 use Rattle.std.proofs.lemmas.Result.{IfOk-weaker}
 use Rattle.command_words.specs.Asked.{are_dimensions, texts_in}
 use Rattle.summary_search.specs.declared.outcome.Limits.{Limits}
-use Rattle.compare_cli.specs.Loaded.{SummarisesFirst, default_limits, first_key}
+use Rattle.compare_cli.specs.Loaded.{SummarisesFirst, first_key}
 use Rattle.compare_cli.specs.Summarised.{SummarisesSet}
 use Rattle.compare_cli.proofs.loading.summary_line.Goals as goal
 

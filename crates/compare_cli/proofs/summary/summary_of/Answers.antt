@@ -2,7 +2,7 @@ use Rattle.std.proofs.Common.{◌≡◌, option_map, rules}
 use Rattle.std.proofs.lemmas.Result.{IfOk-weaker}
 use Rattle.command_words.specs.Asked.{Summarising, summarising_in, texts_in}
 use Rattle.compare_cli.specs.Standing.{NamesSchema, StandsFor}
-use Rattle.compare_cli.specs.Summarised.{SummaryContents, limits_in, summary_contents}
+use Rattle.compare_cli.specs.Summarised.{SummaryContents, summary_contents}
 use Rattle.compare_cli.proofs.Summarising.{files-set}
 use Rattle.compare_cli.proofs.summary.summary_of.Goals as goal
 
