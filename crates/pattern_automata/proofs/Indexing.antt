@@ -1,5 +1,5 @@
 -- The loops of the check of a closed set.
-use Rattle.std.proofs.Common.{◌≡◌, ℕ, ◌+◌, ◌<◌, ◌≤◌, ◌↔◌, ◌⊎◌, List, [], ◌∷◌, ◌++◌, length, get_or, true, All, Contains, refl, sym, ap, ◌∙◌, subst, inl, inr, arith, take}
+use Rattle.std.proofs.Common.{◌≡◌, ℕ, ◌+◌, ◌<◌, ◌≤◌, ◌↔◌, ◌⊎◌, List, [], ◌∷◌, ◌++◌, length, get_or, Bool, true, All, Contains, refl, sym, ap, ◌∙◌, subst, inl, inr, arith, take}
 use Rattle.std.proofs.lemmas.Bool.{cases_lt}
 use Rattle.std.proofs.lemmas.List.{take_more, get_or_default, length-append}
 use Rattle.std.proofs.lemmas.List.Elements.{All-push, Contains-push, Contains-push_cases, Contains-append_left}
@@ -56,3 +56,9 @@ length-marks_from (p ∷ ps) (l ∷ ls) n =
 pub size-at : (patterns : List (List Piece)) (closed : List (List (List ℕ))) (i : ℕ) (lists view : List (List ℕ)) → All (IsShaped patterns) closed → i < length closed →
     lists ≡ get_or closed i lists → view ≡ lists → length view ≡ length patterns
 size-at patterns closed i lists view all h read v = ap length (v ∙ read) ∙ (all i lists h).0
+
+-- marks of words that passed, and of one more
+pub passed-more : {P : List Bool → Type 0} (n : ℕ) (old new : List (List ℕ)) (words : List ℕ) → new ≡ old ++ words ∷ [] → ((marks : List Bool) → length marks ≡ n → words ≡ pack marks → P marks) →
+    ((marks : List Bool) → length marks ≡ n → Contains old (pack marks) → P marks) → (marks : List Bool) → length marks ≡ n → Contains new (pack marks) → P marks
+passed-more n old new words is one all marks size there =
+    elim (Contains-push_cases old words (pack marks) (rw is at there)) [ inl c ↦ all marks size c | inr e ↦ one marks size e ]

@@ -22,3 +22,4 @@ mod Fronting
 mod Telling
 mod Patching
 mod Standing
+mod Cutting

@@ -132,22 +132,22 @@ filled-alike : (set more leads : ℕ → Bool) (n : ℕ) → ((i : ℕ) → i < 
 filled-alike set more leads n same zero h = rw (same 0 h) refl
 filled-alike set more leads n same (suc i) h = rw (same (suc i) h, filled-alike set more leads n same i (omega arith)) refl
 
-module _ (m : Masks) (patches : List Patch) (list : List ℕ) (one stay : ℕ → Bool) (masks : AreMasksOf m patches one stay) where
+module _ (m : Masks) (patches : List Patch) (state : List ℕ) (one stay : ℕ → Bool) (masks : AreMasksOf m patches one stay) where
   -- the moved words of a patch, and where there is none
-  moved-patch : (k : ℕ) (p : Patch) → k < length patches → get_or patches k p ≡ p → (b : ℕ) → b < 64 → moved_at p.one p.stay list p.index b ≡ moved one stay (word_mark list) false (64 * p.index + b)
-  moved-patch k p h e = moved-word one stay (word_mark list) p.index (on p.one) (on p.stay) (on (get_or list p.index 0)) (before false (word_mark list) (64 * p.index))
-      (λ i l. (masks.here k p h e i l).0) (λ i l. (masks.here k p h e i l).1) (λ i l. sym (mark-at list p.index i l)) refl
+  moved-patch : (k : ℕ) (p : Patch) → k < length patches → get_or patches k p ≡ p → (b : ℕ) → b < 64 → moved_at p.one p.stay state p.index b ≡ moved one stay (word_mark state) false (64 * p.index + b)
+  moved-patch k p h e = moved-word one stay (word_mark state) p.index (on p.one) (on p.stay) (on (get_or state p.index 0)) (before false (word_mark state) (64 * p.index))
+      (λ i l. (masks.here k p h e i l).0) (λ i l. (masks.here k p h e i l).1) (λ i l. sym (mark-at state p.index i l)) refl
 
-  moved-other : (k : ℕ) → (HasPatch patches k → ⊥) → (b : ℕ) → b < 64 → moved_at (get_or m.one.items k 0) (get_or m.many.items k 0) list k b ≡ moved one stay (word_mark list) false (64 * k + b)
-  moved-other k none = moved-word one stay (word_mark list) k (on (get_or m.one.items k 0)) (on (get_or m.many.items k 0)) (on (get_or list k 0)) (before false (word_mark list) (64 * k))
-      (λ i l. sym (mark-at m.one.items k i l) ∙ (masks.elsewhere k none i l).0) (λ i l. sym (mark-at m.many.items k i l) ∙ (masks.elsewhere k none i l).1) (λ i l. sym (mark-at list k i l)) refl
+  moved-other : (k : ℕ) → (HasPatch patches k → ⊥) → (b : ℕ) → b < 64 → moved_at (get_or m.one.items k 0) (get_or m.many.items k 0) state k b ≡ moved one stay (word_mark state) false (64 * k + b)
+  moved-other k none = moved-word one stay (word_mark state) k (on (get_or m.one.items k 0)) (on (get_or m.many.items k 0)) (on (get_or state k 0)) (before false (word_mark state) (64 * k))
+      (λ i l. sym (mark-at m.one.items k i l) ∙ (masks.elsewhere k none i l).0) (λ i l. sym (mark-at m.many.items k i l) ∙ (masks.elsewhere k none i l).1) (λ i l. sym (mark-at state k i l)) refl
 
-  moved-masks : (k b : ℕ) → b < 64 → moved_at (get_or m.one.items k 0) (get_or m.many.items k 0) list k b ≡ moved (word_mark m.one.items) (word_mark m.many.items) (word_mark list) false (64 * k + b)
-  moved-masks k = moved-word (word_mark m.one.items) (word_mark m.many.items) (word_mark list) k (on (get_or m.one.items k 0)) (on (get_or m.many.items k 0)) (on (get_or list k 0)) (before false (word_mark list) (64 * k))
-      (λ i l. sym (mark-at m.one.items k i l)) (λ i l. sym (mark-at m.many.items k i l)) (λ i l. sym (mark-at list k i l)) refl
+  moved-masks : (k b : ℕ) → b < 64 → moved_at (get_or m.one.items k 0) (get_or m.many.items k 0) state k b ≡ moved (word_mark m.one.items) (word_mark m.many.items) (word_mark state) false (64 * k + b)
+  moved-masks k = moved-word (word_mark m.one.items) (word_mark m.many.items) (word_mark state) k (on (get_or m.one.items k 0)) (on (get_or m.many.items k 0)) (on (get_or state k 0)) (before false (word_mark state) (64 * k))
+      (λ i l. sym (mark-at m.one.items k i l)) (λ i l. sym (mark-at m.many.items k i l)) (λ i l. sym (mark-at state k i l)) refl
 
-  module _ (old words : List ℕ) (base : AreMoved m list old) (patched : (k : ℕ) → k < length list → IsPatched list patches old words k) where
-    word-moved : (k b : ℕ) → k < length list → b < 64 → word_mark words (64 * k + b) ≡ moved one stay (word_mark list) false (64 * k + b)
+  module _ (old words : List ℕ) (base : AreMoved m state old) (patched : (k : ℕ) → k < length state → IsPatched state patches old words k) where
+    word-moved : (k b : ℕ) → k < length state → b < 64 → word_mark words (64 * k + b) ≡ moved one stay (word_mark state) false (64 * k + b)
     word-moved k b h l =
         mark-at words k b l
         ∙ elim (patched k h) [
@@ -158,29 +158,29 @@ module _ (m : Masks) (patches : List Patch) (list : List ℕ) (one stay : ℕ �
           | inr w ↦ ap (λ x. on x b) w.0 ∙ (base.marks k b h l ∙ moved-other k w.1 b l)
         ]
 
-    pub all-moved : (j : ℕ) → j < 64 * length list → word_mark words j ≡ moved one stay (word_mark list) false j
+    pub all-moved : (j : ℕ) → j < 64 * length state → word_mark words j ≡ moved one stay (word_mark state) false j
     all-moved j h =
         let e : 64 * (j / 64) + j % 64 ≡ j = omega arith in
         rw e at (word-moved (j / 64) (j % 64) (omega arith) (omega arith))
 
-    pub all-filled : (filled-words : List ℕ) → ((j : ℕ) → j < 64 * length list → word_mark filled-words j ≡ filled (word_mark words) (word_mark m.many.items) false j) →
-        (j : ℕ) → j < 64 * length list → word_mark filled-words j ≡ stepped one stay (word_mark m.many.items) (word_mark list) j
-    all-filled filled-words are j h = are j h ∙ filled-alike (word_mark words) (moved one stay (word_mark list) false) (word_mark m.many.items) (64 * length list) all-moved j h
+    pub all-filled : (filled-words : List ℕ) → ((j : ℕ) → j < 64 * length state → word_mark filled-words j ≡ filled (word_mark words) (word_mark m.many.items) false j) →
+        (j : ℕ) → j < 64 * length state → word_mark filled-words j ≡ stepped one stay (word_mark m.many.items) (word_mark state) j
+    all-filled filled-words are j h = are j h ∙ filled-alike (word_mark words) (moved one stay (word_mark state) false) (word_mark m.many.items) (64 * length state) all-moved j h
 
   -- where each patch moves as the masks do, so does the character
-  module _ (alike : All (IsAlike m list) patches) where
-    word-alike : (k b : ℕ) → b < 64 → moved one stay (word_mark list) false (64 * k + b) ≡ moved (word_mark m.one.items) (word_mark m.many.items) (word_mark list) false (64 * k + b)
+  module _ (alike : All (IsAlike m state) patches) where
+    word-alike : (k b : ℕ) → b < 64 → moved one stay (word_mark state) false (64 * k + b) ≡ moved (word_mark m.one.items) (word_mark m.many.items) (word_mark state) false (64 * k + b)
     word-alike k b l =
         elim (has-patch patches k) [
           | inl w ↦
               let p : Patch = w.1 in
               let at : p.index ≡ k = w.4 in
-              let same : IsAlike m list p = subst (IsAlike m list) w.3 (alike w.0 p w.2) in
+              let same : IsAlike m state p = subst (IsAlike m state) w.3 (alike w.0 p w.2) in
               rw at at (sym (moved-patch w.0 p w.2 w.3 b l) ∙ (same b l ∙ moved-masks p.index b l))
           | inr none ↦ sym (moved-other k none b l) ∙ moved-masks k b l
         ]
 
-    pub moved-alike : (j : ℕ) → moved one stay (word_mark list) false j ≡ moved (word_mark m.one.items) (word_mark m.many.items) (word_mark list) false j
+    pub moved-alike : (j : ℕ) → moved one stay (word_mark state) false j ≡ moved (word_mark m.one.items) (word_mark m.many.items) (word_mark state) false j
     moved-alike j =
         let e : 64 * (j / 64) + j % 64 ≡ j = omega arith in
         rw e at (word-alike (j / 64) (j % 64) (omega arith))
@@ -191,35 +191,35 @@ module _ (ps : List (List Piece)) (m : Masks) (masks : IsMasks (fronts ps) m) wh
   abbrev F : List (Option Piece)
   F = fronts ps
 
-  to-marks : (c : ℕ) (list : List ℕ) (marks : List Bool) → length marks ≡ total ps → list ≡ pack marks → (j : ℕ) →
-      stepped (does (Passes c) F) (does (Keeps c) F) (word_mark m.many.items) (word_mark list) j ≡ get_or (all_reached ps marks c) j false
-  to-marks c list marks size is j =
+  to-marks : (c : ℕ) (state : List ℕ) (marks : List Bool) → length marks ≡ total ps → state ≡ pack marks → (j : ℕ) →
+      stepped (does (Passes c) F) (does (Keeps c) F) (word_mark m.many.items) (word_mark state) j ≡ get_or (all_reached ps marks c) j false
+  to-marks c state marks size is j =
       stepped-same _ _ _ _ (λ i. get_or (marks_by (piece_test (Passes c)) ps) i false) (λ i. get_or (marks_by (piece_test (Keeps c)) ps) i false) (λ i. get_or (marks_by (piece_test Leads) ps) i false) (λ i. get_or marks i false) (j + 1)
       (λ i l. sym (marks-fronts (piece_test (Passes c)) ps i)) (λ i l. sym (marks-fronts (piece_test (Keeps c)) ps i))
       (λ i l. masks.many i ∙ sym (marks-fronts (piece_test Leads) ps i)) (λ i l. ap (λ x. word_mark x i) is ∙ mark-pack marks i) j (omega arith)
       ∙ sym (reached-stepped ps marks c size j)
 
   -- the words of a step are those of the step of the marks
-  pub leads : (s : Move) → IsMove F s → (list next : List ℕ) → length next ≡ length list → ((k : ℕ) → k < length next → get_or next k 0 < 18446744073709551616) →
-      AreStepped m s.patches.items list next → LeadsByWords ps list s.character next
-  leads s move list next count small are marks size is =
+  pub leads : (s : Move) → IsMove F s → (state next : List ℕ) → length next ≡ length state → ((k : ℕ) → k < length next → get_or next k 0 < 18446744073709551616) →
+      AreStepped m s.patches.items state next → LeadsByWords ps state s.character next
+  leads s move state next count small are marks size is =
       let c : ℕ = s.character in
       let n : ℕ = words_for (length (all_reached ps marks c)) in
-      let k : length list ≡ n = ap length is ∙ (length-pack marks ∙ ap words_for (size ∙ sym (length-all_reached ps marks c))) in
+      let k : length state ≡ n = ap length is ∙ (length-pack marks ∙ ap words_for (size ∙ sym (length-all_reached ps marks c))) in
       packed-from n (all_reached ps marks c) next (count ∙ k) (λ w h. small w (omega (arith, count, k))) (λ j h.
-      are (does (Passes c) F) (does (Keeps c) F) (masks-of F m masks c s.patches.items move.told) j (omega (arith, k)) ∙ to-marks c list marks size is j)
+      are (does (Passes c) F) (does (Keeps c) F) (masks-of F m masks c s.patches.items move.told) j (omega (arith, k)) ∙ to-marks c state marks size is j)
 
   -- where each patch moves as the masks do, the step is that of a character that isn't named
-  pub leads-alike : (s : Move) → IsMove F s → (x : ℕ) → named ps x ≡ false → (list : List ℕ) → All (IsAlike m list) s.patches.items →
-      (marks : List Bool) → length marks ≡ total ps → list ≡ pack marks → pack (all_reached ps marks s.character) ≡ pack (all_reached ps marks x)
-  leads-alike s move x new list alike marks size is =
+  pub leads-alike : (s : Move) → IsMove F s → (x : ℕ) → named ps x ≡ false → (state : List ℕ) → All (IsAlike m state) s.patches.items →
+      (marks : List Bool) → length marks ≡ total ps → state ≡ pack marks → pack (all_reached ps marks s.character) ≡ pack (all_reached ps marks x)
+  leads-alike s move x new state alike marks size is =
       let c : ℕ = s.character in
       let same : (j : ℕ) → get_or (all_reached ps marks c) j false ≡ get_or (all_reached ps marks x) j false =
       λ j.
-      sym (to-marks c list marks size is j)
-      ∙ (filled-alike (moved (does (Passes c) F) (does (Keeps c) F) (word_mark list) false) (moved (word_mark m.one.items) (word_mark m.many.items) (word_mark list) false) (word_mark m.many.items) (j + 1)
-      (λ i l. moved-alike m s.patches.items list (does (Passes c) F) (does (Keeps c) F) (masks-of F m masks c s.patches.items move.told) alike i) j (omega arith)
-      ∙ (stepped-same (word_mark m.one.items) (word_mark m.many.items) (word_mark m.many.items) (word_mark list) (does (Passes x) F) (does (Keeps x) F) (word_mark m.many.items) (word_mark list) (j + 1)
+      sym (to-marks c state marks size is j)
+      ∙ (filled-alike (moved (does (Passes c) F) (does (Keeps c) F) (word_mark state) false) (moved (word_mark m.one.items) (word_mark m.many.items) (word_mark state) false) (word_mark m.many.items) (j + 1)
+      (λ i l. moved-alike m s.patches.items state (does (Passes c) F) (does (Keeps c) F) (masks-of F m masks c s.patches.items move.told) alike i) j (omega arith)
+      ∙ (stepped-same (word_mark m.one.items) (word_mark m.many.items) (word_mark m.many.items) (word_mark state) (does (Passes x) F) (does (Keeps x) F) (word_mark m.many.items) (word_mark state) (j + 1)
       (λ i l. masks.one i ∙ passes-alike x (get_or F i None) (untold ps x new i)) (λ i l. masks.many i ∙ keeps-alike x (get_or F i None) (untold ps x new i)) (λ i l. refl) (λ i l. refl) j (omega arith)
-      ∙ to-marks x list marks size is j)) in
+      ∙ to-marks x state marks size is j)) in
       ap pack (ext_get_or false (all_reached ps marks c) (all_reached ps marks x) (length-all_reached ps marks c ∙ sym (length-all_reached ps marks x)) (λ j h. same j))

@@ -38,8 +38,8 @@ none-more (q ∷ qs) p k none ne w =
       | suc n ↦ λ h e. none-more qs p k (λ v. none (suc v.0, v.1, omega (arith, v.2), v.3, v.4)) ne (n, w.1, omega arith, e, w.4)
     ] w.2 w.3
 
-moved-kept : (list old new : List ℕ) (xs ys : List Patch) (k : ℕ) → get_or new k 0 ≡ get_or old k 0 → Any (IsMovedBy list old k) xs → Any (IsMovedBy list new k) (xs ++ ys)
-moved-kept list old new xs ys k same w = (
+moved-kept : (state old new : List ℕ) (xs ys : List Patch) (k : ℕ) → get_or new k 0 ≡ get_or old k 0 → Any (IsMovedBy state old k) xs → Any (IsMovedBy state new k) (xs ++ ys)
+moved-kept state old new xs ys k same w = (
   w.0,
   w.1,
   omega (arith, w.2, length-append xs ys),
@@ -47,43 +47,43 @@ moved-kept list old new xs ys k same w = (
   (w.4.0, λ b l. ap (λ x. on x b) same ∙ w.4.1 b l),
 )
 
-module _ (list : List ℕ) (patches : List Patch) (i : ℕ) (p : Patch) (old mid new : List ℕ) (word : ℕ) (h : i < length patches) (read : p ≡ get_or patches i p)
-    (is : new ≡ set mid p.index word) (room : p.index < length mid) (made : (b : ℕ) → b < 64 → on word b ≡ moved_at p.one p.stay list p.index b) where
+module _ (state : List ℕ) (patches : List Patch) (i : ℕ) (p : Patch) (old mid new : List ℕ) (word : ℕ) (h : i < length patches) (read : p ≡ get_or patches i p)
+    (is : new ≡ set mid p.index word) (room : p.index < length mid) (made : (b : ℕ) → b < 64 → on word b ≡ moved_at p.one p.stay state p.index b) where
   one-more : take (i + 1) patches ≡ take i patches ++ p ∷ []
   one-more = take_more patches i p h ∙ ap (λ x. take i patches ++ x ∷ []) (sym read)
 
-  pub patched-more : (k : ℕ) → IsPatched list (take i patches) old mid k → IsPatched list (take (i + 1) patches) old new k
+  pub patched-more : (k : ℕ) → IsPatched state (take i patches) old mid k → IsPatched state (take (i + 1) patches) old new k
   patched-more k before =
       rw one-more (elim (cases_eq k p.index) [
         | inl e ↦
             let at : get_or new k 0 ≡ word = rw (is, e) (get_or-set_same mid p.index word 0 room) in
-            inl (Any-push (IsMovedBy list new k) (take i patches) p (sym e, λ b l. ap (λ x. on x b) at ∙ (made b l ∙ ap (λ x. moved_at p.one p.stay list x b) (sym e))))
+            inl (Any-push (IsMovedBy state new k) (take i patches) p (sym e, λ b l. ap (λ x. on x b) at ∙ (made b l ∙ ap (λ x. moved_at p.one p.stay state x b) (sym e))))
         | inr ne ↦
             let same : get_or new k 0 ≡ get_or mid k 0 = rw is (get_or-set_other mid p.index k word 0 ne) in
             elim before [
-              | inl w ↦ inl (moved-kept list mid new (take i patches) (p ∷ []) k same w)
+              | inl w ↦ inl (moved-kept state mid new (take i patches) (p ∷ []) k same w)
               | inr w ↦ inr (same ∙ w.0, none-more (take i patches) p k w.1 ne)
             ]
       ])
 
-pub patched-none : (list : List ℕ) (words : List ℕ) (k : ℕ) → IsPatched list [] words words k
-patched-none list words k = inr (refl, λ w. absurd (omega (arith, w.2)))
+pub patched-none : (state : List ℕ) (words : List ℕ) (k : ℕ) → IsPatched state [] words words k
+patched-none state words k = inr (refl, λ w. absurd (omega (arith, w.2)))
 
-pub patched-end : (list : List ℕ) (patches : List Patch) (i : ℕ) (old words : List ℕ) → length patches ≤ i → ((k : ℕ) → k < length list → IsPatched list (take i patches) old words k) →
-    (k : ℕ) → k < length list → IsPatched list patches old words k
-patched-end list patches i old words h are = let e : take i patches ≡ patches = take_all i patches h in rw e at are
+pub patched-end : (state : List ℕ) (patches : List Patch) (i : ℕ) (old words : List ℕ) → length patches ≤ i → ((k : ℕ) → k < length state → IsPatched state (take i patches) old words k) →
+    (k : ℕ) → k < length state → IsPatched state patches old words k
+patched-end state patches i old words h are = let e : take i patches ≡ patches = take_all i patches h in rw e at are
 
-pub alike-of : (m : Masks) (list : List ℕ) (p : Patch) (own other : ℕ) → own ≡ other → ((b : ℕ) → b < 64 → on own b ≡ moved_at p.one p.stay list p.index b) →
-    ((b : ℕ) → b < 64 → on other b ≡ moved_at (get_or m.one.items p.index 0) (get_or m.many.items p.index 0) list p.index b) → IsAlike m list p
-alike-of m list p own other same a d b l = sym (a b l) ∙ (ap (λ x. on x b) same ∙ d b l)
+pub alike-of : (m : Masks) (state : List ℕ) (p : Patch) (own other : ℕ) → own ≡ other → ((b : ℕ) → b < 64 → on own b ≡ moved_at p.one p.stay state p.index b) →
+    ((b : ℕ) → b < 64 → on other b ≡ moved_at (get_or m.one.items p.index 0) (get_or m.many.items p.index 0) state p.index b) → IsAlike m state p
+alike-of m state p own other same a d b l = sym (a b l) ∙ (ap (λ x. on x b) same ∙ d b l)
 
 -- the whole step
-pub step-ok : {E : Type 0} (result : Result (Unit {0}) E) (m : Masks) (patches : List Patch) (list base moved words : List ℕ) → AreMoved m list base →
-    ((k : ℕ) → k < length list → IsPatched list patches base moved k) → length moved ≡ length list →
-    OnOk result ((j : ℕ) → j < 64 * length moved → word_mark words j ≡ filled (word_mark moved) (word_mark m.many.items) false j) → OnOk result (AreStepped m patches list words)
-step-ok (Ok u) m patches list base moved words are patched count fills = λ one stay masks j h.
-    all-filled m patches list one stay masks base moved are patched words (λ i l. fills i (rw count l)) j h
-step-ok (Err e) m patches list base moved words are patched count fills = fills
+pub step-ok : {E : Type 0} (result : Result (Unit {0}) E) (m : Masks) (patches : List Patch) (state base moved words : List ℕ) → AreMoved m state base →
+    ((k : ℕ) → k < length state → IsPatched state patches base moved k) → length moved ≡ length state →
+    OnOk result ((j : ℕ) → j < 64 * length moved → word_mark words j ≡ filled (word_mark moved) (word_mark m.many.items) false j) → OnOk result (AreStepped m patches state words)
+step-ok (Ok u) m patches state base moved words are patched count fills = λ one stay masks j h.
+    all-filled m patches state one stay masks base moved are patched words (λ i l. fills i (rw count l)) j h
+step-ok (Err e) m patches state base moved words are patched count fills = fills
 
 -- sizes
 pub masks-size : (ps : List (List Piece)) (m : Masks) (n : ℕ) → IsMasks (fronts ps) m → n ≡ words_for (total ps) → HaveSize m n
@@ -92,8 +92,8 @@ masks-size ps m n masks is = (masks.size ∙ omega (arith, length-fronts ps, is)
 pub patches-within : (ps : List (List Piece)) (s : Move) (n : ℕ) → IsMove (fronts ps) s → n ≡ words_for (total ps) → All (λ (p : Patch). p.index < n) s.patches.items
 patches-within ps s n move is k d h = let r = move.told.right k d h in omega (arith, r.within, length-fronts ps, is)
 
-pub leads-ok : {E : Type 0} (result : Result (Unit {0}) E) (ps : List (List Piece)) (m : Masks) (s : Move) (patches : List Patch) (list next : List ℕ) → IsMasks (fronts ps) m → IsMove (fronts ps) s →
-    patches ≡ s.patches.items → OnOk result (length next ≡ length list) → OnOk result ((k : ℕ) → k < length next → get_or next k 0 < 18446744073709551616) →
-    OnOk result (AreStepped m patches list next) → OnOk result (LeadsByWords ps list s.character next)
-leads-ok (Ok u) ps m s patches list next masks move same count small are = leads ps m masks s move list next count small (rw same at are)
-leads-ok (Err e) ps m s patches list next masks move same count small are = count
+pub leads-ok : {E : Type 0} (result : Result (Unit {0}) E) (ps : List (List Piece)) (m : Masks) (s : Move) (patches : List Patch) (state next : List ℕ) → IsMasks (fronts ps) m → IsMove (fronts ps) s →
+    patches ≡ s.patches.items → OnOk result (length next ≡ length state) → OnOk result ((k : ℕ) → k < length next → get_or next k 0 < 18446744073709551616) →
+    OnOk result (AreStepped m patches state next) → OnOk result (LeadsByWords ps state s.character next)
+leads-ok (Ok u) ps m s patches state next masks move same count small are = leads ps m masks s move state next count small (rw same at are)
+leads-ok (Err e) ps m s patches state next masks move same count small are = count

@@ -1,4 +1,4 @@
--- Each list of a tree is that of some text, and a tree stays one when a list is added.
+-- Each state of a tree is that of some text, and a tree stays one when a state is added.
 use Rattle.std.proofs.Common.{◌≡◌, ℕ, zero, suc, ◌<◌, List, [], ◌∷◌, ◌++◌, length, get_or, true, false, All, Contains, refl, sym, ap, ◌∙◌, inl, inr, arith}
 use Rattle.std.proofs.lemmas.Bool.{cases_lt}
 use Rattle.std.proofs.lemmas.List.{length_push, get_or_append_left, get_or_push}
@@ -12,9 +12,9 @@ use Rattle.pattern_automata.specs.Tree.{IsChild, IsTree, IsRooted, LeadsTo, IsTu
 use Rattle.pattern_automata.proofs.Packing.{length-all_words}
 
 some_parent : Parent
-some_parent = record { list = 0; character = 0 }
+some_parent = record { state = 0; character = 0 }
 
--- a text of a list
+-- a text of a state
 pub record HasText (patterns : List (List Piece)) (marks : List ℕ) : Type 0 where
   pub text : List ℕ
   pub is : marks ≡ all_words patterns text
@@ -26,7 +26,7 @@ module _ (patterns : List (List Piece)) (found : List (List ℕ)) (parents : Lis
   text-below (suc n) zero h l = record { text = []; is = tree.first; scalars = All-nil IsScalar }
   text-below (suc n) (suc i) h l =
       let child = tree.next (suc i) some_parent (omega arith) (omega (arith, tree.count)) in
-      let below = text-below n (get_or parents (suc i) some_parent).list (omega (arith, child.earlier)) (omega (arith, child.earlier)) in
+      let below = text-below n (get_or parents (suc i) some_parent).state (omega (arith, child.earlier)) (omega (arith, child.earlier)) in
       record {
         text = below.text ++ (get_or parents (suc i) some_parent).character ∷ [];
         is = child.leads below.text below.is;
@@ -46,7 +46,7 @@ module _ (patterns : List (List Piece)) (found : List (List ℕ)) (parents : Lis
   turn-old i c marks leads there = record { tree = tree; leads = leads; there = there; grows = refl }
 
   module _ (i c : ℕ) (marks : List ℕ) (grown : List (List ℕ)) (more : List Parent) (within : i < length found) (scalar : IsScalar c)
-      (leads : LeadsTo patterns (get_or found i []) c marks) (is : grown ≡ found ++ marks ∷ []) (are : more ≡ parents ++ record { list = i; character = c } ∷ []) where
+      (leads : LeadsTo patterns (get_or found i []) c marks) (is : grown ≡ found ++ marks ∷ []) (are : more ≡ parents ++ record { state = i; character = c } ∷ []) where
     kept : (j : ℕ) → j < length found → get_or grown j [] ≡ get_or found j []
     kept j h = ap (λ x. get_or x j []) is ∙ get_or_append_left found (marks ∷ []) [] j h
 
@@ -54,10 +54,10 @@ module _ (patterns : List (List Piece)) (found : List (List ℕ)) (parents : Lis
     child-kept j p h child = record {
       earlier = child.earlier;
       scalar = child.scalar;
-      leads = λ t e. kept j h ∙ child.leads t (sym (kept p.list (omega (arith, child.earlier))) ∙ e);
+      leads = λ t e. kept j h ∙ child.leads t (sym (kept p.state (omega (arith, child.earlier))) ∙ e);
     }
 
-    child-new : (j : ℕ) → j ≡ length found → IsChild patterns grown j (record { list = i; character = c })
+    child-new : (j : ℕ) → j ≡ length found → IsChild patterns grown j (record { state = i; character = c })
     child-new j e = record {
       earlier = omega arith;
       scalar = scalar;
@@ -66,7 +66,7 @@ module _ (patterns : List (List Piece)) (found : List (List ℕ)) (parents : Lis
 
     pub tree-push : IsTree patterns grown more
     tree-push = record {
-      count = omega (arith, ap length are, ap length is, length_push parents (record { list = i; character = c }), length_push found marks, tree.count);
+      count = omega (arith, ap length are, ap length is, length_push parents (record { state = i; character = c }), length_push found marks, tree.count);
       some = omega (arith, ap length is, length_push found marks);
       first = kept 0 tree.some ∙ tree.first;
       next = λ j d h l.
@@ -75,8 +75,8 @@ module _ (patterns : List (List Piece)) (found : List (List ℕ)) (parents : Lis
                 let e : get_or more j d ≡ get_or parents j d = ap (λ x. get_or x j d) are ∙ get_or_append_left parents _ d j s in
                 rw e (child-kept j _ (omega (arith, tree.count)) (tree.next j d h s))
             | inr g ↦
-                let n : j ≡ length parents = omega (arith, ap length are, length_push parents (record { list = i; character = c })) in
-                let e : get_or more j d ≡ record { list = i; character = c } = ap (λ x. get_or x j d) are ∙ get_or_push parents (record { list = i; character = c }) d j (sym n) in
+                let n : j ≡ length parents = omega (arith, ap length are, length_push parents (record { state = i; character = c })) in
+                let e : get_or more j d ≡ record { state = i; character = c } = ap (λ x. get_or x j d) are ∙ get_or_push parents (record { state = i; character = c }) d j (sym n) in
                 rw e (child-new j (n ∙ tree.count))
           ];
     }

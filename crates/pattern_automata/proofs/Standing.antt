@@ -75,13 +75,13 @@ first-there moves zero h l = absurd (omega arith)
 first-there [] (suc k) h l = absurd (omega arith)
 first-there (m ∷ ms) (suc k) h l = or_left _ _ (eq-eqb m.character m.character refl)
 
-module _ (patterns : List (List Piece)) (c x : ℕ) (list : List ℕ)
-    (same : (marks : List Bool) → length marks ≡ total patterns → list ≡ pack marks → pack (all_reached patterns marks c) ≡ pack (all_reached patterns marks x)) where
-  words-same : (t : List ℕ) → list ≡ all_words patterns t → all_words patterns (t ++ x ∷ []) ≡ all_words patterns (t ++ c ∷ [])
+module _ (patterns : List (List Piece)) (c x : ℕ) (state : List ℕ)
+    (same : (marks : List Bool) → length marks ≡ total patterns → state ≡ pack marks → pack (all_reached patterns marks c) ≡ pack (all_reached patterns marks x)) where
+  words-same : (t : List ℕ) → state ≡ all_words patterns t → all_words patterns (t ++ x ∷ []) ≡ all_words patterns (t ++ c ∷ [])
   words-same t e =
       ap pack (sym (reached-marks patterns t x)) ∙ (sym (same (all_marks patterns t) (length-all_marks patterns t) e) ∙ ap pack (reached-marks patterns t c))
 
-  pub search-skipped : (ends : List ℕ) (clauses : List (List Literal)) (characters here more : List ℕ) (found : List (List ℕ)) (i : ℕ) → get_or found i [] ≡ list → has here x ≡ true →
+  pub search-skipped : (ends : List ℕ) (clauses : List (List Literal)) (characters here more : List ℕ) (found : List (List ℕ)) (i : ℕ) → get_or found i [] ≡ state → has here x ≡ true →
       more ≡ here ++ c ∷ [] → IsSearch patterns ends clauses characters found i here → IsSearch patterns ends clauses characters found i more
   search-skipped ends clauses characters here more found i at there is before = record {
     none = before.none;
@@ -128,9 +128,9 @@ module _ (patterns : List (List Piece)) (ends : List ℕ) (clauses : List (List 
     rw (characters-more moves k step within read) (visited.goes (characters_of moves) (characters_of (take k moves)) search),
   )
 
-  pub skipped-next : (found : List (List ℕ)) (list : List ℕ) (i : ℕ) → list ≡ get_or found i [] → 0 < k →
-      ((marks : List Bool) → length marks ≡ total patterns → list ≡ pack marks → pack (all_reached patterns marks step.character) ≡ pack (all_reached patterns marks (get_or (characters_of moves) 0 0))) →
+  pub skipped-next : (found : List (List ℕ)) (state : List ℕ) (i : ℕ) → state ≡ get_or found i [] → 0 < k →
+      ((marks : List Bool) → length marks ≡ total patterns → state ≡ pack marks → pack (all_reached patterns marks step.character) ≡ pack (all_reached patterns marks (get_or (characters_of moves) 0 0))) →
       IsSearch patterns ends clauses (characters_of moves) found i (characters_of (take k moves)) → IsSearch patterns ends clauses (characters_of moves) found i (characters_of (take (k + 1) moves))
-  skipped-next found list i is later same search =
-      search-skipped patterns step.character (get_or (characters_of moves) 0 0) list same ends clauses (characters_of moves) (characters_of (take k moves)) (characters_of (take (k + 1) moves)) found i (sym is)
+  skipped-next found state i is later same search =
+      search-skipped patterns step.character (get_or (characters_of moves) 0 0) state same ends clauses (characters_of moves) (characters_of (take k moves)) (characters_of (take (k + 1) moves)) found i (sym is)
       (first-there moves k later (omega arith)) (characters-more moves k step within read) search

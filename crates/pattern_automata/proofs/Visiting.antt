@@ -115,7 +115,7 @@ module _ (patterns : List (List Piece)) (ends : List ℕ) (clauses : List (List 
         goes = search-more patterns old found (marks ∷ []) grows.0 ends clauses i c marks within (none-of-one none) turn.there turn.leads;
       }
 
--- the next list
+-- the next state
 pub left : (patterns : List (List Piece)) (ends : List ℕ) (clauses : List (List Literal)) (characters here : List ℕ) (found : List (List ℕ)) (parents : List Parent) (i limit : ℕ) →
     here ≡ characters → IsBase patterns ends clauses found parents limit → IsSearch patterns ends clauses characters found i here →
     IsLeft patterns ends clauses characters found parents (i + 1) limit

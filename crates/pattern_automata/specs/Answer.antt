@@ -21,7 +21,7 @@ IsProduct patterns clauses limit (Found t) = Meets patterns clauses t × IsText 
 IsProduct patterns clauses limit (Empty closed) = IsClosed patterns clauses closed × (length closed ≤ limit)
 IsProduct patterns clauses limit (TooMany texts) = ShowWider patterns limit texts
 
--- each list has a word for each 64 marks
+-- each state has a word for each 64 marks
 abbrev pub HaveWords : List (List Piece) → List (List ℕ) → Type 0
 HaveWords patterns found = (k : ℕ) → k < length found → length (slice_index_or found k []) ≡ words_for (total patterns)
 
@@ -34,7 +34,7 @@ AreStatesOf patterns found closed =
     (k : ℕ) (t : List ℕ) → k < length closed → slice_index_or found k [] ≡ all_words patterns t →
     slice_index_or closed k [] ≡ lists_of patterns t
 
--- each list of the closed set is that of the text of a list that was found
+-- each state of the closed set is that of the text of a state that was found
 pub record AreLists (patterns : List (List Piece)) (found : List (List ℕ)) (closed : List (List (List ℕ))) : Type 0 where
   pub count : length closed ≡ length found
   pub each : AreStatesOf patterns found closed
@@ -42,7 +42,7 @@ pub record AreLists (patterns : List (List Piece)) (found : List (List ℕ)) (cl
 abbrev pub SpellEach : List Parent → List (List ℕ) → Type 0
 SpellEach parents texts = (k : ℕ) → k < length texts → Spells parents k (slice_index_or texts k [])
 
--- each text is the one that leads to a list
+-- each text is the one that leads to a state
 pub record AreTexts (parents : List Parent) (texts : List (List ℕ)) : Type 0 where
   pub count : length texts ≡ length parents
   pub each : SpellEach parents texts

@@ -19,34 +19,39 @@ fits [] lists = true
 fits (p ∷ ps) [] = true
 fits (p ∷ ps) (l ∷ ls) = list_all (λ j. nat_le j (length p)) l && fits ps ls
 
--- m are the words of the marks of a list below i whose places fit
+-- m are the words of the marks of a state below i whose places fit
 pub record IsIndexed (patterns : List (List Piece)) (closed : List (List (List ℕ))) (i : ℕ) (m : List ℕ) : Type 0 where
   pub at : ℕ
   pub below : at < i
   pub fit : fits patterns (slice_index_or closed at []) ≡ true
   pub words : pack (marks_from patterns (slice_index_or closed at [])) ≡ m
 
--- the index has exactly the words of the lists below i whose places fit
+-- the index has exactly the words of the states below i whose places fit
 abbrev pub IsIndex : List (List Piece) → List (List (List ℕ)) → ℕ → List (List ℕ) → Type 0
 IsIndex patterns closed i index =
     (m : List ℕ) → (Contains index m → IsIndexed patterns closed i m) × (IsIndexed patterns closed i m → Contains index m)
 
--- the list passes: its marks meet no clauses, and each character leads to marks of the index
+-- the state passes: its marks meet no clauses, and each character leads to marks of the index
 pub record Passes (patterns : List (List Piece)) (ends : List ℕ) (clauses : List (List Literal))
     (characters : List ℕ) (index : List (List ℕ)) (marks : List Bool) : Type 0 where
   pub none : words_meet ends clauses (pack marks) ≡ false
   pub steps : (c : ℕ) → IsScalar c → has characters c ≡ true → Contains index (pack (all_reached patterns marks c))
 
--- the places of the lists fit, and m are the words of their marks
+-- the places of the state fit, and m are the words of their marks
 abbrev pub IsMarked : List (List Piece) → List (List ℕ) → List ℕ → Type 0
 IsMarked patterns lists m = (fits patterns lists ≡ true) × (pack (marks_from patterns lists) ≡ m)
 
--- the index has the words of the lists too, where their places fit
+-- the index has the words of the state too, where its places fit
 abbrev pub HasAlso : List (List ℕ) → List (List Piece) → List (List ℕ) → List (List ℕ) → Type 0
 HasAlso old patterns lists new = (m : List ℕ) → Contains new m ↔ (Contains old m ⊎ IsMarked patterns lists m)
 
 abbrev pub PassesBy : Wants → Machine → List (List ℕ) → List Bool → Type 0
 PassesBy w m index marks = Passes w.patterns m.ends.items w.clauses (characters_of m.moves.items) index marks
+
+-- marks with one of these words pass
+abbrev pub HavePassed : Wants → Machine → List (List ℕ) → List (List ℕ) → Type 0
+HavePassed w m index passed =
+    (marks : List Bool) → length marks ≡ total w.patterns → Contains passed (pack marks) → PassesBy w m index marks
 
 abbrev pub PassesIn : Wants → Machine → List (List ℕ) → List (List ℕ) → Type 0
 PassesIn w m index lists = PassesBy w m index (marks_from w.patterns lists)

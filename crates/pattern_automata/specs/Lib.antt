@@ -9,3 +9,4 @@ pub mod Steps
 pub mod Spare
 pub mod Machine
 pub mod Search
+pub mod Cuts

@@ -12,21 +12,21 @@ use Rattle.pattern_automata.specs.Moves.{characters_of}
 use Rattle.pattern_automata.specs.Packed.{pack}
 use Rattle.pattern_automata.specs.Tree.{IsTurn, IsBase, IsVisit, IsLeft, IsExpansion, IsOutcome}
 
--- the words are those to which c leads from the list
+-- the words are those to which c leads from the state
 abbrev pub LeadsByWords : List (List Piece) → List ℕ → ℕ → List ℕ → Type 0
-LeadsByWords patterns list c words =
-    (marks : List Bool) → length marks ≡ total patterns → list ≡ pack marks → words ≡ pack (all_reached patterns marks c)
+LeadsByWords patterns state c words =
+    (marks : List Bool) → length marks ≡ total patterns → state ≡ pack marks → words ≡ pack (all_reached patterns marks c)
 
--- the move leads from the list where the first one does, which is of a spare character and isn't that at k
+-- the move leads from the state where the first one does, which is of a spare character and isn't that at k
 abbrev pub StepsAsFirst : Wants → Machine → ℕ → Move → List ℕ → Type 0
-StepsAsFirst w m k step list =
+StepsAsFirst w m k step state =
     (0 < k)
-    × ((marks : List Bool) → length marks ≡ total w.patterns → list ≡ pack marks →
+    × ((marks : List Bool) → length marks ≡ total w.patterns → state ≡ pack marks →
     pack (all_reached w.patterns marks step.character)
     ≡ pack (all_reached w.patterns marks (slice_index_or (characters_of m.moves.items) 0 0)))
 
 abbrev pub LeadsInto : Wants → List ℕ → Move → Room → Type 0
-LeadsInto w list step room = LeadsByWords w.patterns list step.character room.words.items
+LeadsInto w state step room = LeadsByWords w.patterns state step.character room.words.items
 
 abbrev pub Turns : Wants → Search → Search → ℕ → Move → Bool → Type 0
 Turns w old new i step = IsTurn w.patterns old.found new.found new.parents.items new.room.words.items i step.character

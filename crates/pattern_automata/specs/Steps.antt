@@ -7,32 +7,32 @@ use Rattle.pattern_automata.specs.Moves.{HasPatch}
 
 -- the bit of the word at k after a step by `one` and `stay`, without what is led to
 abbrev pub moved_at : ℕ → ℕ → List ℕ → ℕ → ℕ → Bool
-moved_at one stay list k b = moved (on one) (on stay) (on (slice_index_or list k 0)) (before false (word_mark list) (64 * k)) b
+moved_at one stay state k b = moved (on one) (on stay) (on (slice_index_or state k 0)) (before false (word_mark state) (64 * k)) b
 
 -- the same by the masks
 abbrev pub masked_at : Masks → List ℕ → ℕ → ℕ → Bool
-masked_at masks list k b = moved_at (slice_index_or masks.one.items k 0) (slice_index_or masks.many.items k 0) list k b
+masked_at masks state k b = moved_at (slice_index_or masks.one.items k 0) (slice_index_or masks.many.items k 0) state k b
 
 abbrev pub HaveSize : Masks → ℕ → Type 0
 HaveSize masks n = (length masks.one.items ≡ n) × (length masks.many.items ≡ n)
 
 -- the words of a step by the masks
-pub record AreMoved (masks : Masks) (list words : List ℕ) : Type 0 where
-  pub count : length words ≡ length list
-  pub marks : (k b : ℕ) → k < length list → b < 64 → on (slice_index_or words k 0) b ≡ masked_at masks list k b
+pub record AreMoved (masks : Masks) (state words : List ℕ) : Type 0 where
+  pub count : length words ≡ length state
+  pub marks : (k b : ℕ) → k < length state → b < 64 → on (slice_index_or words k 0) b ≡ masked_at masks state k b
 
 abbrev pub IsMovedBy : List ℕ → List ℕ → ℕ → Patch → Type 0
-IsMovedBy list words k p =
-    (p.index ≡ k) × ((b : ℕ) → b < 64 → on (slice_index_or words k 0) b ≡ moved_at p.one p.stay list k b)
+IsMovedBy state words k p =
+    (p.index ≡ k) × ((b : ℕ) → b < 64 → on (slice_index_or words k 0) b ≡ moved_at p.one p.stay state k b)
 
 -- the word at k is moved by one of the patches, where they have one, and else it is the old one
 abbrev pub IsPatched : List ℕ → List Patch → List ℕ → List ℕ → ℕ → Type 0
-IsPatched list patches old words k =
-    Any (IsMovedBy list words k) patches
+IsPatched state patches old words k =
+    Any (IsMovedBy state words k) patches
     ⊎ ((slice_index_or words k 0 ≡ slice_index_or old k 0) × (HasPatch patches k → ⊥))
 
 abbrev pub ArePatched : List ℕ → List Patch → List ℕ → List ℕ → Type 0
-ArePatched list patches old words = (k : ℕ) → k < length list → IsPatched list patches old words k
+ArePatched state patches old words = (k : ℕ) → k < length state → IsPatched state patches old words k
 
 -- numbers of 64 bits
 abbrev pub AreWords : List ℕ → Type 0
@@ -44,7 +44,7 @@ AreFilled set leads words = (j : ℕ) → j < 64 * length set → word_mark word
 
 -- the patch moves as the masks do
 abbrev pub IsAlike : Masks → List ℕ → Patch → Type 0
-IsAlike masks list p = (b : ℕ) → b < 64 → moved_at p.one p.stay list p.index b ≡ masked_at masks list p.index b
+IsAlike masks state p = (b : ℕ) → b < 64 → moved_at p.one p.stay state p.index b ≡ masked_at masks state p.index b
 
 -- the masks with the patches in their place say what a character does
 pub record AreMasksOf (masks : Masks) (patches : List Patch) (one stay : ℕ → Bool) : Type 0 where
@@ -56,6 +56,6 @@ pub record AreMasksOf (masks : Masks) (patches : List Patch) (one stay : ℕ →
 
 -- the words of a step
 abbrev pub AreStepped : Masks → List Patch → List ℕ → List ℕ → Type 0
-AreStepped masks patches list words =
-    (one stay : ℕ → Bool) → AreMasksOf masks patches one stay → (j : ℕ) → j < 64 * length list →
-    word_mark words j ≡ stepped one stay (word_mark masks.many.items) (word_mark list) j
+AreStepped masks patches state words =
+    (one stay : ℕ → Bool) → AreMasksOf masks patches one stay → (j : ℕ) → j < 64 * length state →
+    word_mark words j ≡ stepped one stay (word_mark masks.many.items) (word_mark state) j

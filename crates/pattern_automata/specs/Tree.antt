@@ -17,11 +17,11 @@ use Rattle.pattern_automata.specs.Packed.{all_words, word_mark}
 abbrev pub LeadsTo : List (List Piece) → List ℕ → ℕ → List ℕ → Type 0
 LeadsTo patterns from c to = (t : List ℕ) → from ≡ all_words patterns t → to ≡ all_words patterns (t ++ c ∷ [])
 
--- the list at i was found from that of the parent
+-- the state at i was found from that of the parent
 pub record IsChild (patterns : List (List Piece)) (found : List (List ℕ)) (i : ℕ) (parent : Parent) : Type 0 where
-  pub earlier : parent.list < i
+  pub earlier : parent.state < i
   pub scalar : IsScalar parent.character
-  pub leads : LeadsTo patterns (slice_index_or found parent.list []) parent.character (slice_index_or found i [])
+  pub leads : LeadsTo patterns (slice_index_or found parent.state []) parent.character (slice_index_or found i [])
 
 pub record IsTree (patterns : List (List Piece)) (found : List (List ℕ)) (parents : List Parent) : Type 0 where
   pub count : length parents ≡ length found
@@ -33,13 +33,13 @@ pub record IsTree (patterns : List (List Piece)) (found : List (List ℕ)) (pare
 abbrev pub IsRooted : List Parent → Type 0
 IsRooted parents =
     (i : ℕ) (d : Parent) → 0 < i → i < length parents →
-    ((slice_index_or parents i d).list < i) × IsScalar (slice_index_or parents i d).character
+    ((slice_index_or parents i d).state < i) × IsScalar (slice_index_or parents i d).character
 
--- the text that leads to the list at i of the tree
+-- the text that leads to the state at i of the tree
 pub data Spells : List Parent → ℕ → List ℕ → Type 0 where
   at_first : {parents : List Parent} → Spells parents 0 []
   at_next : {parents : List Parent} {i : ℕ} {p : Parent} {t : List ℕ} → 0 < i → i < length parents →
-      slice_index_or parents i p ≡ p → Spells parents p.list t → Spells parents i (t ++ p.character ∷ [])
+      slice_index_or parents i p ≡ p → Spells parents p.state t → Spells parents i (t ++ p.character ∷ [])
 
 -- the last mark of each pattern
 pub record IsEnds (patterns : List (List Piece)) (ends : List ℕ) : Type 0 where
@@ -54,22 +54,22 @@ words_meet ends clauses words = clauses_hold (λ i. word_mark words (slice_index
 abbrev pub words_meet_clause : List ℕ → List Literal → List ℕ → Bool
 words_meet_clause ends clause words = clause_holds (λ i. word_mark words (slice_index ends i)) clause
 
--- some list that was found is the one to which c leads from the list at j
+-- some state that was found is the one to which c leads from the state at j
 abbrev pub IsLed : List (List Piece) → List (List ℕ) → ℕ → ℕ → Type 0
 IsLed patterns found j c = (m : List ℕ) × Contains found m × LeadsTo patterns (slice_index_or found j []) c m
 
--- no two of the lists are one
+-- no two of the states are one
 abbrev pub AreDifferent : List (List ℕ) → Type 0
 AreDifferent found = (j k : ℕ) → j < k → k < length found → slice_index_or found j [] ≢ slice_index_or found k []
 
--- a search that goes on: the lists below i were left by each character, that at i by those of `here`
+-- a search that goes on: the states below i were left by each character, that at i by those of `here`
 pub record IsSearch (patterns : List (List Piece)) (ends : List ℕ) (clauses : List (List Literal))
     (characters : List ℕ) (found : List (List ℕ)) (i : ℕ) (here : List ℕ) : Type 0 where
   pub none : (j : ℕ) → j < length found → words_meet ends clauses (slice_index_or found j []) ≡ false
   pub done : (j c : ℕ) → j < i → has characters c ≡ true → IsLed patterns found j c
   pub now : (c : ℕ) → has here c ≡ true → IsLed patterns found i c
 
--- what a turn of the search leaves, where it stepped the list at i by c: `new` says whether the marks were new
+-- what a turn of the search leaves, where it stepped the state at i by c: `new` says whether the marks were new
 pub record IsTurn (patterns : List (List Piece)) (old found : List (List ℕ)) (parents : List Parent)
     (words : List ℕ) (i c : ℕ) (new : Bool) : Type 0 where
   pub tree : IsTree patterns found parents
@@ -86,13 +86,13 @@ pub record IsBase (patterns : List (List Piece)) (ends : List ℕ) (clauses : Li
   pub range : InRange (length ends) clauses
   pub within : All (λ e. e < total patterns) ends
 
--- the clauses hold of the last list
+-- the clauses hold of the last state
 pub record IsMet (patterns : List (List Piece)) (ends : List ℕ) (clauses : List (List Literal))
     (found : List (List ℕ)) (parents : List Parent) : Type 0 where
   pub tree : IsTree patterns found parents
   pub meets : words_meet ends clauses (slice_index_or found (length found - 1) []) ≡ true
 
--- there is one list more than the limit
+-- there is one state more than the limit
 pub record IsFull (patterns : List (List Piece)) (found : List (List ℕ)) (parents : List Parent) (limit : ℕ) : Type 0 where
   pub tree : IsTree patterns found parents
   pub different : AreDifferent found
@@ -113,7 +113,7 @@ IsVisit patterns ends clauses old found parents i c limit Left = IsVisited patte
 IsVisit patterns ends clauses old found parents i c limit Met = IsMet patterns ends clauses found parents
 IsVisit patterns ends clauses old found parents i c limit Full = IsFull patterns found parents limit
 
--- the list at i was left by each character
+-- the state at i was left by each character
 pub record IsLeft (patterns : List (List Piece)) (ends : List ℕ) (clauses : List (List Literal))
     (characters : List ℕ) (found : List (List ℕ)) (parents : List Parent) (i limit : ℕ) : Type 0 where
   pub base : IsBase patterns ends clauses found parents limit
@@ -127,7 +127,7 @@ IsExpansion patterns ends clauses characters found parents i limit Left =
 IsExpansion patterns ends clauses characters found parents i limit Met = IsMet patterns ends clauses found parents
 IsExpansion patterns ends clauses characters found parents i limit Full = IsFull patterns found parents limit
 
--- each list was left by each character
+-- each state was left by each character
 pub record IsOver (patterns : List (List Piece)) (ends : List ℕ) (clauses : List (List Literal))
     (characters : List ℕ) (found : List (List ℕ)) (parents : List Parent) (limit : ℕ) : Type 0 where
   pub last : ℕ

@@ -11,8 +11,8 @@ ghost use Rattle.pattern_automata.specs.Checked.{fits, AllPass, HasAlso, IsIndex
 
 use crate::found::Found;
 use crate::machine::{Machine, machine_of};
-use crate::places::{Closed, PlaceList, PlaceLists};
 use crate::search::{Room, is_met, leads_as_first, start_words, step_into};
+use crate::states::{Closed, State};
 use crate::wants::Wants;
 use crate::words::pack;
 use plain_lists::NoMemory;
@@ -34,12 +34,12 @@ pub fn rises(numbers: &[u32]) -> bool
     true
 }
 
-/// Whether each list rises.
-fn all_rise(lists: &[PlaceList]) -> bool
-    ensures { result ≡ all_rise lists.now }
+/// Whether each list of the state rises.
+fn all_rise(state: &State<'_>) -> bool
+    ensures { result ≡ all_rise state.now }
 {
-    for list in lists {
-        if !rises(list.as_slice()) {
+    for i in 0..state.len() {
+        if !rises(state.get(i)) {
             return false;
         }
     }
@@ -47,10 +47,10 @@ fn all_rise(lists: &[PlaceList]) -> bool
 }
 
 /// Whether there is one list per pattern, each rising.
-fn is_shaped(patterns: &[Pattern], lists: &[PlaceList]) -> bool
-    ensures { IsTrue result ↔ IsShaped patterns.now lists.now }
+fn is_shaped(patterns: &[Pattern], state: &State<'_>) -> bool
+    ensures { IsTrue result ↔ IsShaped patterns.now state.now }
 {
-    lists.len() == patterns.len() && all_rise(lists)
+    state.len() == patterns.len() && all_rise(state)
 }
 
 /// Whether each place is at most `most`.
@@ -66,12 +66,12 @@ fn at_most(places: &[u32], most: usize) -> bool
 }
 
 /// Whether each place is at most the number of its pattern's pieces.
-fn all_fit(patterns: &[Pattern], lists: &[PlaceList]) -> bool
-    requires { length lists.now ≡ length patterns.now }
-    ensures { result ≡ fits patterns.now lists.now }
+fn all_fit(patterns: &[Pattern], state: &State<'_>) -> bool
+    requires { length state.now ≡ length patterns.now }
+    ensures { result ≡ fits patterns.now state.now }
 {
     for i in 0..patterns.len() {
-        if !at_most(lists[i].as_slice(), patterns[i].len()) {
+        if !at_most(state.get(i), patterns[i].len()) {
             return false;
         }
     }
@@ -102,53 +102,54 @@ fn push_marks(list: &[u32], count: usize, marks: &mut Vec<bool>) -> Result<(), N
     Ok(())
 }
 
-/// The marks of the lists.
-fn marks_of(alloc: Global, patterns: &[Pattern], lists: &[PlaceList]) -> Result<Vec<bool>, NoMemory>
-    requires { IsShaped patterns.now lists.now }
-    ensures { IfOk result (λ v. v.items ≡ marks_from patterns.now lists.now) }
+/// The marks of the state.
+fn marks_of(alloc: Global, patterns: &[Pattern], state: &State<'_>) -> Result<Vec<bool>, NoMemory>
+    requires { IsShaped patterns.now state.now }
+    ensures { IfOk result (λ v. v.items ≡ marks_from patterns.now state.now) }
 {
     let mut marks = Vec::new(alloc);
     for i in 0..patterns.len() {
-        push_marks(lists[i].as_slice(), patterns[i].len() + 1, &mut marks)?;
+        push_marks(state.get(i), patterns[i].len() + 1, &mut marks)?;
     }
     Ok(marks)
 }
 
-/// The words of the marks of the lists.
-fn words_of(alloc: Global, patterns: &[Pattern], lists: &[PlaceList]) -> Result<Vec<u64>, NoMemory>
-    requires { IsShaped patterns.now lists.now }
-    ensures { IfOk result (λ v. v.items ≡ pack (marks_from patterns.now lists.now)) }
+/// The words of the marks of the state.
+fn words_of(alloc: Global, patterns: &[Pattern], state: &State<'_>) -> Result<Vec<u64>, NoMemory>
+    requires { IsShaped patterns.now state.now }
+    ensures { IfOk result (λ v. v.items ≡ pack (marks_from patterns.now state.now)) }
 {
-    let marks = marks_of(alloc, patterns, lists)?;
+    let marks = marks_of(alloc, patterns, state)?;
     pack(alloc, marks.as_slice())
 }
 
 /// Whether each member is shaped.
-fn all_shaped(patterns: &[Pattern], closed: &[PlaceLists]) -> bool
+fn all_shaped(patterns: &[Pattern], closed: &Closed) -> bool
     ensures { IsTrue result ↔ All (IsShaped patterns.now) closed.now }
 {
-    for lists in closed {
-        if !is_shaped(patterns, lists.as_slice()) {
+    for i in 0..closed.len() {
+        let state = closed.get(i);
+        if !is_shaped(patterns, &state) {
             return false;
         }
     }
     true
 }
 
-/// Adds the words of the lists to the index, if their places fit.
-fn index_lists(
+/// Adds the words of the state to the index, if its places fit.
+fn index_state(
     alloc: Global,
     patterns: &[Pattern],
-    lists: &[PlaceList],
+    state: &State<'_>,
     index: &mut Found,
 ) -> Result<(), NoMemory>
-    requires { IsShaped patterns.now lists.now }
-    ensures { OnOk result (HasAlso index.old patterns.now lists.now index.new) }
+    requires { IsShaped patterns.now state.now }
+    ensures { OnOk result (HasAlso index.old patterns.now state.now index.new) }
 {
-    if !all_fit(patterns, lists) {
+    if !all_fit(patterns, state) {
         return Ok(());
     }
-    let words = words_of(alloc, patterns, lists)?;
+    let words = words_of(alloc, patterns, state)?;
     if index.has(words.as_slice()) {
         return Ok(());
     }
@@ -157,13 +158,14 @@ fn index_lists(
 }
 
 /// The index of the set.
-fn index_of(alloc: Global, patterns: &[Pattern], closed: &[PlaceLists]) -> Result<Found, NoMemory>
+fn index_of(alloc: Global, patterns: &[Pattern], closed: &Closed) -> Result<Found, NoMemory>
     requires { All (IsShaped patterns.now) closed.now }
     ensures { IfOk result (IsIndex patterns.now closed.now (length closed.now)) }
 {
     let mut index = Found::new(alloc);
-    for lists in closed {
-        index_lists(alloc, patterns, lists.as_slice(), &mut index)?;
+    for i in 0..closed.len() {
+        let state = closed.get(i);
+        index_state(alloc, patterns, &state, &mut index)?;
     }
     Ok(index)
 }
@@ -197,13 +199,13 @@ fn passes(
     Ok(true)
 }
 
-/// Whether each member passes.
+/// Whether each member passes. One that stands many times is stepped once.
 fn all_pass(
     alloc: Global,
     wants: &Wants,
     machine: &Machine,
     index: &Found,
-    closed: &[PlaceLists],
+    closed: &Closed,
 ) -> Result<bool, NoMemory>
     requires range { InRange (length wants.now.patterns) wants.now.clauses }
     requires machine { IsMachine wants.now.patterns machine.now }
@@ -214,22 +216,24 @@ fn all_pass(
         moved: Vec::new(alloc),
         words: Vec::new(alloc),
     };
-    for lists in closed {
-        let words = words_of(alloc, wants.patterns.as_slice(), lists.as_slice())?;
+    let mut passed = Found::new(alloc);
+    let patterns = wants.patterns.as_slice();
+    for i in 0..closed.len() {
+        let state = closed.get(i);
+        let words = words_of(alloc, patterns, &state)?;
+        if passed.has(words.as_slice()) {
+            continue;
+        }
         if !passes(wants, machine, index, words.as_slice(), &mut room)? {
             return Ok(false);
         }
+        passed.push(words)?;
     }
     Ok(true)
 }
 
 /// The check of a shaped set, from what there is to know of the patterns.
-fn check(
-    alloc: Global,
-    wants: &Wants,
-    machine: &Machine,
-    closed: &[PlaceLists],
-) -> Result<bool, NoMemory>
+fn check(alloc: Global, wants: &Wants, machine: &Machine, closed: &Closed) -> Result<bool, NoMemory>
     requires range { InRange (length wants.now.patterns) wants.now.clauses }
     requires machine { IsMachine wants.now.patterns machine.now }
     requires shaped { All (IsShaped wants.now.patterns) closed.now }
@@ -256,9 +260,9 @@ pub fn is_closed(alloc: Global, wants: &Wants, closed: &Closed) -> Result<bool, 
     ensures { IfOk result (λ yes. IsTrue yes ↔ IsClosedUnder wants.now closed.now) }
 {
     let patterns = wants.patterns.as_slice();
-    if !all_shaped(patterns, closed.as_slice()) {
+    if !all_shaped(patterns, closed) {
         return Ok(false);
     }
     let machine = machine_of(alloc, patterns)?;
-    check(alloc, wants, &machine, closed.as_slice())
+    check(alloc, wants, &machine, closed)
 }

@@ -13,6 +13,7 @@ mod names;
 mod outcome;
 mod places;
 mod search;
+mod states;
 mod theorems;
 mod tree;
 mod wants;
@@ -20,8 +21,8 @@ mod words;
 
 pub use check::{is_closed, rises};
 pub use outcome::Product;
-pub use places::{Closed, PlaceList, PlaceLists};
 pub use search::product;
+pub use states::{Closed, PlaceList, PlaceLists, State};
 pub use theorems::{
     closed_sets_are_empty, lists_meet_as_texts, meets_is_tested, scalars_step_as_representatives,
 };

@@ -1,5 +1,5 @@
 //! What a product answers.
-use crate::places::Closed;
+use crate::states::Closed;
 use wildcard_lang::{Text, TextList};
 
 /// What a product finds.

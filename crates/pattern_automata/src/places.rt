@@ -1,4 +1,4 @@
-//! Product states, as lists of places.
+//! Product states, as lists of places, from words of marks.
 ghost use Rattle.std.specs.Prelude.{◌≡◌, ◌*◌, ◌+◌, ◌<◌, ◌≤◌, ◌^◌, ◌++◌, ◌∷◌, ℕ, List, [], false, length, slice_index_or, IfOk, OnOk, OnErr};
 ghost use Rattle.wildcard_lang.specs.Places.{rising};
 ghost use Rattle.pattern_automata.specs.Marks.{total};
@@ -6,19 +6,11 @@ ghost use Rattle.pattern_automata.specs.Packed.{word_mark, words_for};
 ghost use Rattle.pattern_automata.specs.Answer.{AreStatesOf, HaveWords, IsStateOf};
 
 use crate::found::Found;
+use crate::states::{Closed, PlaceList, PlaceLists};
 use crate::words::has_mark;
-use plain_lists::{List, NoMemory};
+use plain_lists::NoMemory;
 use std::alloc::Global;
 use wildcard_lang::Pattern;
-
-/// Places of one pattern: numbers of first pieces.
-pub type PlaceList = List<u32>;
-
-/// A product state: a list of places for each pattern.
-pub type PlaceLists = List<PlaceList>;
-
-/// A set of product states.
-pub type Closed = List<PlaceLists>;
 
 /// The places that are marked among so many from a place on.
 fn places_in(alloc: Global, words: &[u64], at: usize, count: usize) -> Result<PlaceList, NoMemory>
@@ -46,7 +38,8 @@ fn lists_in(alloc: Global, patterns: &[Pattern], words: &[u64]) -> Result<PlaceL
     let mut at = 0;
     for pattern in patterns {
         let count = pattern.len() + 1;
-        lists.push(places_in(alloc, words, at, count)?)?;
+        let places = places_in(alloc, words, at, count)?;
+        lists.push(places.as_slice())?;
         at += count;
     }
     Ok(lists)
@@ -61,7 +54,8 @@ pub fn closed_of(alloc: Global, patterns: &[Pattern], found: &Found) -> Result<C
 {
     let mut closed = Closed::new(alloc);
     for i in 0..found.len() {
-        closed.push(lists_in(alloc, patterns, found.get(i))?)?;
+        let state = lists_in(alloc, patterns, found.get(i))?;
+        closed.push(&state)?;
     }
     Ok(closed)
 }

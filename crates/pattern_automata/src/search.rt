@@ -50,21 +50,21 @@ pub fn is_met(wants: &Wants, machine: &Machine, words: &[u64]) -> bool
     clauses_met(machine.ends.as_slice(), wants.clauses.as_slice(), words)
 }
 
-/// Makes the room's words those to which the move leads from the list.
+/// Makes the room's words those to which the move leads from the state.
 pub fn step_into(
     wants: &Wants,
     machine: &Machine,
     step: &Move,
-    list: &[u64],
+    state: &[u64],
     room: &mut Room,
 ) -> Result<(), NoMemory>
     requires machine { IsMachine wants.now.patterns machine.now }
     requires does { IsMove (fronts wants.now.patterns) step.now }
-    requires size { length list.now ≡ words_for (total wants.now.patterns) }
-    ensures { OnOk result (LeadsInto wants.now list.now step.now room.new) }
+    requires size { length state.now ≡ words_for (total wants.now.patterns) }
+    ensures { OnOk result (LeadsInto wants.now state.now step.now room.new) }
 {
     step_words(
-        list,
+        state,
         &machine.masks,
         step.patches.as_slice(),
         &mut room.moved,
@@ -72,13 +72,19 @@ pub fn step_into(
     )
 }
 
-/// Whether the move leads from the list where the first one does, which is that of a spare character.
-pub fn leads_as_first(wants: &Wants, machine: &Machine, k: usize, step: &Move, list: &[u64]) -> bool
+/// Whether the move leads from the state where the first one does, which is that of a spare character.
+pub fn leads_as_first(
+    wants: &Wants,
+    machine: &Machine,
+    k: usize,
+    step: &Move,
+    state: &[u64],
+) -> bool
     requires machine { IsMachine wants.now.patterns machine.now }
     requires within { k < length machine.now.moves.items }
     requires does { IsMove (fronts wants.now.patterns) step.now }
-    requires size { length list.now ≡ words_for (total wants.now.patterns) }
-    ensures { IsTrue result → StepsAsFirst wants.now machine.now k step.now list.now }
+    requires size { length state.now ≡ words_for (total wants.now.patterns) }
+    ensures { IsTrue result → StepsAsFirst wants.now machine.now k step.now state.now }
 {
     if k == 0 {
         return false;
@@ -86,7 +92,7 @@ pub fn leads_as_first(wants: &Wants, machine: &Machine, k: usize, step: &Move, l
     if !machine.spared {
         return false;
     }
-    leads_alike(list, &machine.masks, step.patches.as_slice())
+    leads_alike(state, &machine.masks, step.patches.as_slice())
 }
 
 /// Steps the product state at i by the move, and keeps what is new.
@@ -108,10 +114,10 @@ fn turn(
         return Ok(false);
     }
     let alloc = *search.parents.allocator();
-    let list = Vec::from_slice(alloc, search.room.words.as_slice())?;
-    search.found.push(list)?;
+    let state = Vec::from_slice(alloc, search.room.words.as_slice())?;
+    search.found.push(state)?;
     search.parents.push(Parent {
-        list: i,
+        state: i,
         character: step.character,
     })?;
     Ok(true)
@@ -206,7 +212,7 @@ fn begin(alloc: Global, patterns: &[Pattern], count: usize) -> Result<Search, No
     found.push(Vec::from_slice(alloc, words.as_slice())?)?;
     let mut parents = Vec::new(alloc);
     parents.push(Parent {
-        list: 0,
+        state: 0,
         character: ' ',
     })?;
     Ok(Search {

@@ -10,7 +10,7 @@ use wildcard_lang::{Text, TextList};
 /// From which product state, and by which character, one was found.
 #[derive(Clone, Copy)]
 pub struct Parent {
-    pub list: usize,
+    pub state: usize,
     pub character: char,
 }
 
@@ -36,7 +36,7 @@ pub fn text_of(alloc: Global, parents: &[Parent], i: usize) -> Result<Text, NoMe
     while at > 0 {
         let parent = parents[at];
         chars.push(parent.character)?;
-        at = parent.list;
+        at = parent.state;
     }
     chars.reverse();
     Ok(Text::from_chars(chars))

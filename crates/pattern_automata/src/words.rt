@@ -76,54 +76,54 @@ fn fill(set: u64, leads: u64, first: bool) -> u64
 }
 
 /// What stands before the first bit of the word at an index: the last bit of the word before it.
-fn carry(list: &[u64], index: usize) -> bool
-    requires { index ≤ length list.now }
-    ensures { result ≡ before false (word_mark list.now) (64 * index) }
+fn carry(state: &[u64], index: usize) -> bool
+    requires { index ≤ length state.now }
+    ensures { result ≡ before false (word_mark state.now) (64 * index) }
 {
     if index == 0 {
         return false;
     }
-    is_on(list[index - 1], 63)
+    is_on(state[index - 1], 63)
 }
 
 /// The word at an index after a step, without what is led to.
-fn moved_word(list: &[u64], index: usize, one: u64, stay: u64) -> u64
-    requires { index < length list.now }
-    ensures { (b : ℕ) → b < 64 → on result b ≡ moved_at one stay list.now index b }
+fn moved_word(state: &[u64], index: usize, one: u64, stay: u64) -> u64
+    requires { index < length state.now }
+    ensures { (b : ℕ) → b < 64 → on result b ≡ moved_at one stay state.now index b }
 {
-    (shifted(list[index], carry(list, index)) & one) | (list[index] & stay)
+    (shifted(state[index], carry(state, index)) & one) | (state[index] & stay)
 }
 
 /// The same by a character that no piece names.
-fn masked_word(list: &[u64], index: usize, masks: &Masks) -> u64
-    requires size { HaveSize masks.now (length list.now) }
-    requires within { index < length list.now }
-    ensures { (b : ℕ) → b < 64 → on result b ≡ masked_at masks.now list.now index b }
+fn masked_word(state: &[u64], index: usize, masks: &Masks) -> u64
+    requires size { HaveSize masks.now (length state.now) }
+    requires within { index < length state.now }
+    ensures { (b : ℕ) → b < 64 → on result b ≡ masked_at masks.now state.now index b }
 {
-    moved_word(list, index, masks.one[index], masks.many[index])
+    moved_word(state, index, masks.one[index], masks.many[index])
 }
 
 /// The words after a step by a character that no piece names, without what is led to.
-fn moved_words(list: &[u64], masks: &Masks, moved: &mut Vec<u64>) -> Result<(), NoMemory>
-    requires { HaveSize masks.now (length list.now) }
-    ensures { OnOk result (AreMoved masks.now list.now moved.new.items) }
+fn moved_words(state: &[u64], masks: &Masks, moved: &mut Vec<u64>) -> Result<(), NoMemory>
+    requires { HaveSize masks.now (length state.now) }
+    ensures { OnOk result (AreMoved masks.now state.now moved.new.items) }
 {
     moved.clear();
-    for index in 0..list.len() {
-        moved.push(masked_word(list, index, masks))?;
+    for index in 0..state.len() {
+        moved.push(masked_word(state, index, masks))?;
     }
     Ok(())
 }
 
 /// The same by a character that has these patches.
-fn patch_words(list: &[u64], patches: &[Patch], moved: &mut Vec<u64>)
-    requires within { All (λ p. p.index < length list.now) patches.now }
-    requires count { length moved.old.items ≡ length list.now }
-    ensures count { length moved.new.items ≡ length list.now }
-    ensures patched { ArePatched list.now patches.now moved.old.items moved.new.items }
+fn patch_words(state: &[u64], patches: &[Patch], moved: &mut Vec<u64>)
+    requires within { All (λ p. p.index < length state.now) patches.now }
+    requires count { length moved.old.items ≡ length state.now }
+    ensures count { length moved.new.items ≡ length state.now }
+    ensures patched { ArePatched state.now patches.now moved.old.items moved.new.items }
 {
     for patch in patches {
-        moved[patch.index] = moved_word(list, patch.index, patch.one, patch.stay);
+        moved[patch.index] = moved_word(state, patch.index, patch.one, patch.stay);
     }
 }
 
@@ -144,37 +144,37 @@ fn fill_words(moved: &[u64], leads: &[u64], words: &mut Vec<u64>) -> Result<(), 
     Ok(())
 }
 
-/// Whether a character with these patches leads from the list where one that no piece names does. Only
+/// Whether a character with these patches leads from the state where one that no piece names does. Only
 /// where it doesn't it is worth a step.
-pub fn leads_alike(list: &[u64], masks: &Masks, patches: &[Patch]) -> bool
-    requires size { HaveSize masks.now (length list.now) }
-    requires within { All (λ p. p.index < length list.now) patches.now }
-    ensures { IsTrue result → All (IsAlike masks.now list.now) patches.now }
+pub fn leads_alike(state: &[u64], masks: &Masks, patches: &[Patch]) -> bool
+    requires size { HaveSize masks.now (length state.now) }
+    requires within { All (λ p. p.index < length state.now) patches.now }
+    ensures { IsTrue result → All (IsAlike masks.now state.now) patches.now }
 {
     for patch in patches {
-        let own = moved_word(list, patch.index, patch.one, patch.stay);
-        if own != masked_word(list, patch.index, masks) {
+        let own = moved_word(state, patch.index, patch.one, patch.stay);
+        if own != masked_word(state, patch.index, masks) {
             return false;
         }
     }
     true
 }
 
-/// Makes the words those to which a character with these patches leads from the list.
+/// Makes the words those to which a character with these patches leads from the state.
 pub fn step_words(
-    list: &[u64],
+    state: &[u64],
     masks: &Masks,
     patches: &[Patch],
     moved: &mut Vec<u64>,
     words: &mut Vec<u64>,
 ) -> Result<(), NoMemory>
-    requires size { HaveSize masks.now (length list.now) }
-    requires within { All (λ p. p.index < length list.now) patches.now }
-    ensures count { OnOk result (length words.new.items ≡ length list.now) }
+    requires size { HaveSize masks.now (length state.now) }
+    requires within { All (λ p. p.index < length state.now) patches.now }
+    ensures count { OnOk result (length words.new.items ≡ length state.now) }
     ensures small { OnOk result (AreWords words.new.items) }
-    ensures marks { OnOk result (AreStepped masks.now patches.now list.now words.new.items) }
+    ensures marks { OnOk result (AreStepped masks.now patches.now state.now words.new.items) }
 {
-    moved_words(list, masks, moved)?;
-    patch_words(list, patches, moved);
+    moved_words(state, masks, moved)?;
+    patch_words(state, patches, moved);
     fill_words(moved.as_slice(), masks.many.as_slice(), words)
 }

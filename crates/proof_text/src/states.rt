@@ -39,7 +39,7 @@ pub(crate) fn lists_in(
     while let Some(text) = rest {
         let (part, more) = cut(text, b' ');
         match places_in(alloc, part)? {
-            Some(places) => lists.push(places)?,
+            Some(places) => lists.push(places.as_slice())?,
             None => large = true,
         }
         rest = more;
@@ -54,8 +54,8 @@ pub(crate) fn lists_in(
 pub(crate) fn all_rise(lists: &PlaceLists) -> bool
     ensures { result ≡ all_rise lists.now }
 {
-    for places in lists.as_slice() {
-        if !rises(places.as_slice()) {
+    for i in 0..lists.len() {
+        if !rises(lists.get(i)) {
             return false;
         }
     }
@@ -134,7 +134,7 @@ pub(crate) fn read_states<'a>(
     let mut at = location;
     for done in 0..count {
         let (state, behind) = read_state(alloc, limits, at)?;
-        set.push(state)?;
+        set.push(&state)?;
         at = behind;
     }
     Ok((set, at))

@@ -7,7 +7,7 @@ ghost use Rattle.proof_text.specs.Lines.{answer_part, label_line, line_text, pla
 ghost use Rattle.proof_text.specs.Spelling.{closed_lines, kind_lines, node_lines, slot_lines, spell};
 
 use itoa::Buffer;
-use pattern_automata::{Closed, PlaceList, PlaceLists};
+use pattern_automata::{Closed, State};
 use plain_lists::NoMemory;
 use refute_check::Refutation;
 use slot_theory::{KindProof, SlotProof};
@@ -80,38 +80,39 @@ fn put_places(text: &mut String, places: &[u32]) -> Result<(), NoMemory>
 }
 
 // The places of each pattern, behind a space each.
-fn put_parts(text: &mut String, lists: &[PlaceList]) -> Result<(), NoMemory>
+fn put_parts(text: &mut String, state: &State<'_>) -> Result<(), NoMemory>
     ensures text { OnOk result (string_bytes text.new ≡
-        string_bytes text.old ++ flat_map (λ places. 32 ∷ places_part places) lists.now) }
-    ensures small { OnOk result (AreListsSmall lists.now) }
+        string_bytes text.old ++ flat_map (λ places. 32 ∷ places_part places) state.now) }
+    ensures small { OnOk result (AreListsSmall state.now) }
 {
-    for places in lists {
+    for i in 0..state.len() {
         text.push_str(" ")?;
-        put_places(text, places.as_slice())?;
+        put_places(text, state.get(i))?;
     }
     Ok(())
 }
 
 // A product state.
-fn put_state(text: &mut String, lists: &PlaceLists) -> Result<(), NoMemory>
+fn put_state(text: &mut String, state: &State<'_>) -> Result<(), NoMemory>
     ensures text { OnOk result (string_bytes text.new ≡
-        string_bytes text.old ++ line_text (places_line lists.now)) }
-    ensures small { OnOk result (AreListsSmall lists.now) }
+        string_bytes text.old ++ line_text (places_line state.now)) }
+    ensures small { OnOk result (AreListsSmall state.now) }
 {
     text.push_str("places")?;
-    put_parts(text, lists.as_slice())?;
+    put_parts(text, state)?;
     text.push_str("\n")?;
     Ok(())
 }
 
 // The product states, a line each.
-fn put_states(text: &mut String, states: &[PlaceLists]) -> Result<(), NoMemory>
+fn put_states(text: &mut String, closed: &Closed) -> Result<(), NoMemory>
     ensures text { OnOk result (string_bytes text.new ≡
-        string_bytes text.old ++ flat_map (λ lists. line_text (places_line lists)) states.now) }
-    ensures small { OnOk result (ArePlacesSmall states.now) }
+        string_bytes text.old ++ flat_map (λ lists. line_text (places_line lists)) closed.now) }
+    ensures small { OnOk result (ArePlacesSmall closed.now) }
 {
-    for lists in states {
-        put_state(text, lists)?;
+    for i in 0..closed.len() {
+        let state = closed.get(i);
+        put_state(text, &state)?;
     }
     Ok(())
 }
@@ -123,7 +124,7 @@ fn put_closed(text: &mut String, closed: &Closed) -> Result<(), NoMemory>
     ensures small { OnOk result (ArePlacesSmall closed.now) }
 {
     put_with_number(text, "closed", closed.len() as u64)?;
-    put_states(text, closed.as_slice())?;
+    put_states(text, closed)?;
     Ok(())
 }
 

@@ -11,11 +11,11 @@ leads_alike-requires-clause-size c = masks-size c.args.wants.now.patterns c.args
 
 pub leads_alike-requires-clause-within : goal.leads_alike-requires-clause-within
 leads_alike-requires-clause-within c =
-    subst (λ (x : List Patch). All (λ (p : Patch). p.index < length c.args.list.now) x) (sym c.as_slice.ensures.value) (patches-within c.args.wants.now.patterns c.args.step.now _ c.requires.does c.requires.size)
+    subst (λ (x : List Patch). All (λ (p : Patch). p.index < length c.args.state.now) x) (sym c.as_slice.ensures.value) (patches-within c.args.wants.now.patterns c.args.step.now _ c.requires.does c.requires.size)
 
 pub returns : goal.returns
 returns c = λ h. (
   omega (arith, c.if-k-eq0.false),
-  leads-alike c.args.wants.now.patterns c.args.machine.now.masks c.requires.machine.masks c.args.step.now c.requires.does _ (MatchBool-at_true _ _ c.if-not-machine.false c.requires.machine.alphabet.first).2 c.args.list.now
-      (subst (λ (x : List Patch). All (IsAlike c.args.machine.now.masks c.args.list.now) x) c.as_slice.ensures.value (c.leads_alike.ensures h)),
+  leads-alike c.args.wants.now.patterns c.args.machine.now.masks c.requires.machine.masks c.args.step.now c.requires.does _ (MatchBool-at_true _ _ c.if-not-machine.false c.requires.machine.alphabet.first).2 c.args.state.now
+      (subst (λ (x : List Patch). All (IsAlike c.args.machine.now.masks c.args.state.now) x) c.as_slice.ensures.value (c.leads_alike.ensures h)),
 )

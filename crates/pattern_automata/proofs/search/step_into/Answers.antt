@@ -8,9 +8,9 @@ step_words-requires-clause-size c = masks-size c.args.wants.now.patterns c.args.
 
 pub step_words-requires-clause-within : goal.step_words-requires-clause-within
 step_words-requires-clause-within c =
-    subst (λ (x : List Patch). All (λ (p : Patch). p.index < length c.args.list.now) x) (sym c.as_slice.ensures.value) (patches-within c.args.wants.now.patterns c.args.step.now _ c.requires.does c.requires.size)
+    subst (λ (x : List Patch). All (λ (p : Patch). p.index < length c.args.state.now) x) (sym c.as_slice.ensures.value) (patches-within c.args.wants.now.patterns c.args.step.now _ c.requires.does c.requires.size)
 
 pub returns : goal.returns
 returns c =
-    leads-ok c.step_words.result c.args.wants.now.patterns c.args.machine.now.masks c.args.step.now _ c.args.list.now _ c.requires.machine.masks c.requires.does c.as_slice.ensures.value
+    leads-ok c.step_words.result c.args.wants.now.patterns c.args.machine.now.masks c.args.step.now _ c.args.state.now _ c.requires.machine.masks c.requires.does c.as_slice.ensures.value
     c.step_words.ensures.count c.step_words.ensures.small c.step_words.ensures.marks

@@ -11,8 +11,8 @@ pub loop-patch-preserved : goal.loop-patch-preserved
 loop-patch-preserved c =
     let d : Patch = record { index = 0; one = 0; stay = 0 } in
     let p : Patch = get_or c.args.patches.now c.loop-patch.patch-index d in
-    all-more (IsAlike c.args.masks.now c.args.list.now) c.args.patches.now c.loop-patch.patch-index p c.loop-patch-test.true (sym (get_or_default c.args.patches.now c.loop-patch.patch-index p d c.loop-patch-test.true))
-    (alike-of c.args.masks.now c.args.list.now p c.moved_word-own.result c.masked_word.result c.if-own-masked_word.false c.moved_word-own.ensures c.masked_word.ensures) c.loop-patch.invariant
+    all-more (IsAlike c.args.masks.now c.args.state.now) c.args.patches.now c.loop-patch.patch-index p c.loop-patch-test.true (sym (get_or_default c.args.patches.now c.loop-patch.patch-index p d c.loop-patch-test.true))
+    (alike-of c.args.masks.now c.args.state.now p c.moved_word-own.result c.masked_word.result c.if-own-masked_word.false c.moved_word-own.ensures c.masked_word.ensures) c.loop-patch.invariant
 
 pub returns : goal.returns
-returns c = λ _. all-end (IsAlike c.args.masks.now c.args.list.now) c.args.patches.now _ c.loop-patch-test.false c.loop-patch.invariant
+returns c = λ _. all-end (IsAlike c.args.masks.now c.args.state.now) c.args.patches.now _ c.loop-patch-test.false c.loop-patch.invariant

@@ -5,5 +5,5 @@ use Rattle.pattern_automata.proofs.words.moved_word.Goals as goal
 
 pub returns : goal.returns
 returns c = λ b h.
-    on-moved c.shifted.result c.args.one (get_or c.args.list.now c.args.index 0) c.args.stay c.carry.result c.shifted.ensures b h
-    ∙ ap (λ f. moved (on c.args.one) (on c.args.stay) (on (get_or c.args.list.now c.args.index 0)) f b) c.carry.ensures
+    on-moved c.shifted.result c.args.one (get_or c.args.state.now c.args.index 0) c.args.stay c.carry.result c.shifted.ensures b h
+    ∙ ap (λ f. moved (on c.args.one) (on c.args.stay) (on (get_or c.args.state.now c.args.index 0)) f b) c.carry.ensures

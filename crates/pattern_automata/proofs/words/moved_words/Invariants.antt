@@ -6,4 +6,4 @@ use Rattle.pattern_automata.proofs.words.moved_words.Given as goal
 abbrev pub invariant-loop-index : goal.invariant-loop-index
 invariant-loop-index l =
     (length l.moved.items ≡ l.index)
-    × ((k b : ℕ) → k < l.index → b < 64 → on (get_or l.moved.items k 0) b ≡ masked_at l.masks l.list k b)
+    × ((k b : ℕ) → k < l.index → b < 64 → on (get_or l.moved.items k 0) b ≡ masked_at l.masks l.state k b)

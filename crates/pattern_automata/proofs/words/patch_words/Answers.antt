@@ -12,8 +12,8 @@ loop-patch-preserved c =
     let w = c.loop-patch.invariant in
     let room : p.index < length c.loop-patch.moved.items = omega (arith, w.0, c.requires.within i d c.loop-patch-test.true) in (
       length-set c.loop-patch.moved.items p.index c.moved_word.result ∙ w.0,
-      λ k h. patched-more c.args.list.now c.args.patches.now i p c.args.moved.now.items c.loop-patch.moved.items _ c.moved_word.result c.loop-patch-test.true (sym (get_or_default c.args.patches.now i p d c.loop-patch-test.true)) refl room c.moved_word.ensures k (w.1 k h),
+      λ k h. patched-more c.args.state.now c.args.patches.now i p c.args.moved.now.items c.loop-patch.moved.items _ c.moved_word.result c.loop-patch-test.true (sym (get_or_default c.args.patches.now i p d c.loop-patch-test.true)) refl room c.moved_word.ensures k (w.1 k h),
     )
 
 pub returns-clause-patched : goal.returns-clause-patched
-returns-clause-patched c = patched-end c.args.list.now c.args.patches.now c.loop-patch.patch-index c.args.moved.now.items c.loop-patch.moved.items c.loop-patch-test.false c.loop-patch.invariant.1
+returns-clause-patched c = patched-end c.args.state.now c.args.patches.now c.loop-patch.patch-index c.args.moved.now.items c.loop-patch.moved.items c.loop-patch-test.false c.loop-patch.invariant.1

@@ -10,7 +10,7 @@ returns-clause-text c =
     let set = c.args.closed.now in
     let count : string_bytes c.put_with_number.new.text ≡ string_bytes c.args.text.now ++ line_text (closed_line (length set)) = rw (← c.len.ensures) c.in_ok-put_with_number.ensures in
     let states : string_bytes c.put_states.new.text ≡ string_bytes c.put_with_number.new.text ++ flat_map (λ lists. line_text (places_line lists)) set =
-    rw (← c.as_slice.ensures) c.in_ok-put_states.ensures.text in
+    c.in_ok-put_states.ensures.text in
     grown-two (string_bytes c.args.text.now) (string_bytes c.put_with_number.new.text) (string_bytes c.put_states.new.text)
     (line_text (closed_line (length set))) (flat_map (λ lists. line_text (places_line lists)) set) (flat_map line_text (closed_lines set))
     count states (ap (λ r. line_text (closed_line (length set)) ++ r) (sym (flat_map-map line_text places_line set)))
