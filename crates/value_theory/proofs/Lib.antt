@@ -7,3 +7,4 @@ mod BytePoints
 mod Points
 mod Pushing
 mod SameTests
+mod Screening

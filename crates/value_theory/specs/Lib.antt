@@ -2,3 +2,4 @@ pub mod Clauses
 pub mod Meaning
 pub mod Solutions
 pub mod Samples
+pub mod Screens

@@ -5,6 +5,7 @@ mod clause;
 mod kinds;
 mod meaning;
 mod samples;
+mod screen;
 mod search;
 
 pub use clause::{ClauseList, Literal, LiteralList};

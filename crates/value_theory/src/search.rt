@@ -2,12 +2,14 @@
 ghost use Rattle.std.specs.Prelude.{◌≡◌, ◌<◌, ◌↔◌, length, All, IfOk, IsTrue};
 ghost use Rattle.value_theory.specs.Clauses.{OnConditions};
 ghost use Rattle.value_theory.specs.Meaning.{plain_kind};
+ghost use Rattle.value_theory.specs.Screens.{IsScreen};
 ghost use Rattle.value_theory.specs.Solutions.{IsProper, IsSolution, PrefersZero, IsFirstMeeting, meets_clause, meets_clauses};
 
 use crate::clause::{ClauseList, Literal, LiteralList, are_in_range, literal_holds};
 use crate::kinds::{PlainCond, PlainCondList, PlainKind, PlainValue};
 use crate::meaning::meets_condition;
 use crate::samples::samples_of;
+use crate::screen::{Screen, is_out, screen_of};
 use plain_lists::NoMemory;
 use std::alloc::Global;
 
@@ -79,7 +81,8 @@ fn find(
     ensures zero { IfOk result (PrefersZero kind conds.now clauses.now) }
 {
     let points = samples_of(alloc, kind, conds)?;
-    match first_meeting(points.as_slice(), conds, clauses) {
+    let screen = screen_of(alloc, conds, clauses)?;
+    match first_meeting(points.as_slice(), &screen, conds, clauses) {
         Some(index) => Ok(Solved::Found(points.into_vec().remove(index))),
         None => Ok(Solved::Empty),
     }
@@ -88,18 +91,32 @@ fn find(
 // The index of the first point that meets the clauses.
 fn first_meeting(
     points: &[PlainValue],
+    screen: &Screen,
     conds: &[PlainCond],
     clauses: &[LiteralList],
 ) -> Option<usize>
-    requires { OnConditions (length conds.now) clauses.now }
+    requires range { OnConditions (length conds.now) clauses.now }
+    requires screen { IsScreen conds.now clauses.now screen.now }
     ensures { IsFirstMeeting points.now conds.now clauses.now result }
 {
     for (index, point) in points.iter().enumerate() {
-        if point_meets(point, conds, clauses) {
+        if passes(point, screen, conds, clauses) {
             return Some(index);
         }
     }
     None
+}
+
+// Whether the point meets the clauses, which most points of long lists are known not to.
+fn passes(point: &PlainValue, screen: &Screen, conds: &[PlainCond], clauses: &[LiteralList]) -> bool
+    requires range { OnConditions (length conds.now) clauses.now }
+    requires screen { IsScreen conds.now clauses.now screen.now }
+    ensures { result ≡ meets_clauses conds.now clauses.now point.now }
+{
+    if is_out(screen, point) {
+        return false;
+    }
+    point_meets(point, conds, clauses)
 }
 
 fn point_meets(point: &PlainValue, conds: &[PlainCond], clauses: &[LiteralList]) -> bool

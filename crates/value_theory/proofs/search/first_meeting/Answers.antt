@@ -7,5 +7,5 @@ use Rattle.value_theory.proofs.search.first_meeting.Goals as goal
 pub loop-index-preserved : goal.loop-index-preserved
 loop-index-preserved c =
     let P : PlainValue → Type 0 = λ p. meets_clauses c.args.conds.now c.args.clauses.now p ≡ false in
-    let here = subst P c.index-points-index.is (sym c.point_meets.ensures ∙ c.if-point_meets.false) in
+    let here = subst P c.index-points-index.is (sym c.passes.ensures ∙ c.if-passes.false) in
     All-more P c.args.points.now c.loop-index.index c.index-points-index.result c.loop-index-test.true c.loop-index.invariant here
