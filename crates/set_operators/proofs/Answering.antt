@@ -12,7 +12,7 @@ use Rattle.policy_model.specs.declared.value.Kind.TheVariants.{Text}
 use Rattle.policy_model.specs.declared.value.Value.{Value}
 use Rattle.policy_model.specs.declared.value.Value.TheVariants as value
 use Rattle.policy_model.specs.Requests.{IsListed, IsOfKind, ValueFits}
-use Rattle.policy_model.specs.Soundness.{ListIsSound, RuleIsSound}
+use Rattle.policy_model.specs.Soundness.{ListIsSound, RuleIsSound, ShapeIsSound}
 use Rattle.value_theory.specs.declared.clause.Literal.{Literal}
 use Rattle.value_theory.specs.declared.kinds.PlainCond.{PlainCond}
 use Rattle.value_theory.specs.declared.kinds.PlainKind.{PlainKind}
@@ -27,7 +27,8 @@ use Rattle.set_operators.specs.Answers.{IsKeyAnswer}
 use Rattle.set_operators.specs.Asks.{AnswerAll, AreValuesOf, AskIsOf, Asks, HaveNone}
 use Rattle.set_operators.specs.Clauses.{asks_clauses, asks_items}
 use Rattle.set_operators.specs.Members.{AnswersEach, HasMember, IsMemberFor, MeetsAsk, NeedsValue, denied, member_asks}
-use Rattle.set_operators.specs.Plain.{IsListedFound, IsMemberFound, IsPlainFor, IsPlainFound, as_kind, plain_conds, plain_literal_at}
+use Rattle.set_operators.specs.Listed.{IsListedFound, IsListedMember}
+use Rattle.set_operators.specs.Plain.{IsMemberFound, IsPlainFor, IsPlainFound, as_kind, plain_conds, plain_literal_at}
 use Rattle.set_operators.specs.Shown.{AbsentIsWanted, ShowsAbsent, ShowsRequired}
 use Rattle.set_operators.specs.Wants.{IsClosedForValue, value_patterns}
 use Rattle.set_operators.specs.Steps.{AnswersAt, AnswersPicked, AreMembersUpTo, IsChoiceIn, IsOne, IsPosed, IsProductOf, chosen, is_chosen, picked}
@@ -168,16 +169,34 @@ list-in : (among : Option (List Value)) (listed : List Value) (v : Value) → am
 list-in None listed v e c = absurd (cc)
 list-in (Some more) listed v e c = let own : more ≡ listed = cc in subst (λ (vs : List Value). Contains vs v) own c
 
+fits-any : (v : Value) → ValueFits None v
+fits-any (value.Word t) = tt
+fits-any (value.Truth b) = tt
+fits-any (value.Number n) = tt
+fits-any (value.Address a) = tt
+fits-any (value.Bytes bs) = tt
+
+-- a rule with a list has no shape
+listed-fits : (rule : KeyRule) (shape : Option (List Piece)) (listed : List Value) (v : Value) → ShapeIsSound shape rule → rule.among ≡ Some listed → ValueFits shape v
+listed-fits rule None listed v sound some = fits-any v
+listed-fits rule (Some shape) listed v sound some = absurd (let none : rule.among ≡ None = sound.2 in cc)
+
 -- with one it is one of the list
-pub listed-member : (rule : KeyRule) (k : PlainKind) (asks : Asks) (listed : List Value) (found : Option Value) → RuleIsSound rule → as_kind k ≡ rule.kind → rule.among ≡ Some listed →
-    IsListedFound listed asks found → IsMemberFound rule asks found
-listed-member rule k asks listed None sound is some found = λ m. All-contains (λ v. AnswersEach v asks → ⊥) listed m.0 found (list-in rule.among listed m.0 some m.1.permitted.listed) m.1.answers
-listed-member rule k asks listed (Some v) sound is some found =
-    let of : IsOfKind rule.kind v = All-contains (IsOfKind rule.kind) listed v (list-kinds rule rule.among listed sound.listed some) found.0 in
-    record {
-      permitted = record { kind = of; fits = other-fits k rule.shape v (kind-own k rule v is of); listed = in-list rule.among listed v some found.0 };
-      answers = found.1;
-    }
+pub listed-member : (rule : KeyRule) (asks : Asks) (listed : List Value) (found : Option Value) → RuleIsSound rule → rule.among ≡ Some listed →
+    IsListedFound listed asks found → IsListedMember rule asks found
+listed-member rule asks listed None sound some found = λ there m. All-contains (λ v. AnswersEach v asks → ⊥) listed m.0 found (list-in rule.among listed m.0 some m.1.permitted.listed) m.1.answers
+listed-member rule asks listed (Some v) sound some found = record {
+  permitted = record {
+    kind = All-contains (IsOfKind rule.kind) listed v (list-kinds rule rule.among listed sound.listed some) found.0;
+    fits = listed-fits rule rule.shape listed v sound.shape some;
+    listed = in-list rule.among listed v some found.0;
+  };
+  answers = found.1;
+}
+
+pub member-listed : (rule : KeyRule) (asks : Asks) (listed : List Value) (found : Option Value) → rule.among ≡ Some listed → IsListedMember rule asks found → IsMemberFound rule asks found
+member-listed rule asks listed None some found = found (λ none. cc)
+member-listed rule asks listed (Some v) some found = found
 
 not-text : (k : PlainKind) → as_kind k ≡ Text → ⊥
 not-text plain_kind.Truth e = cc

@@ -6,4 +6,5 @@ pub mod Shown
 pub mod Answers
 pub mod Laws
 pub mod Steps
+pub mod Listed
 pub mod Plain

@@ -1,5 +1,5 @@
 -- Values and conditions of the kinds other than texts, as the theory of plain values has them, and what asks want there.
-use Rattle.std.specs.Prelude.{◌≡◌, ℕ, List, [], ◌∷◌, Bool, Option, Some, None, All, Contains}
+use Rattle.std.specs.Prelude.{◌≡◌, ℕ, List, [], ◌∷◌, Bool, Option, Some, None}
 use Rattle.policy_model.specs.declared.cond.Cond.{Cond}
 use Rattle.policy_model.specs.declared.cond.Cond.TheVariants as cond
 use Rattle.policy_model.specs.declared.schema.KeyRule.{KeyRule}
@@ -46,11 +46,6 @@ plain_conds (cond.Equals bytes) = Equals bytes ∷ []
 abbrev pub IsPlainFound : PlainKind → Asks → Option Value → Type 0
 IsPlainFound k asks None = (v : Value) → IsOfKind (as_kind k) v → ¬ AnswersEach v asks
 IsPlainFound k asks (Some v) = IsOfKind (as_kind k) v × AnswersEach v asks
-
--- one of the listed values that answers each of these asks, or none where there is none
-abbrev pub IsListedFound : List Value → Asks → Option Value → Type 0
-IsListedFound listed asks None = All (λ v. ¬ AnswersEach v asks) listed
-IsListedFound listed asks (Some v) = Contains listed v × AnswersEach v asks
 
 -- a member for these asks, or none where there is none
 abbrev pub IsMemberFound : KeyRule → Asks → Option Value → Type 0

@@ -4,6 +4,7 @@
 
 mod answer;
 mod ask;
+mod listed;
 mod numbered;
 mod one;
 mod plain;

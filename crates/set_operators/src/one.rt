@@ -5,6 +5,7 @@ ghost use Rattle.set_operators.specs.Plain.{as_kind};
 ghost use Rattle.set_operators.specs.Steps.{IsChoiceIn, IsOne, IsPosed, chosen};
 
 use crate::ask::KeyAsk;
+use crate::listed::listed_member;
 use crate::plain::{plain_kind, value_for};
 use crate::steps::{Choice, One};
 use crate::wants::text_for;
@@ -14,7 +15,8 @@ use policy_model::{KeyRule, Value};
 use std::alloc::Global;
 use value_theory::PlainKind;
 
-// The same of a text key.
+// The same of a text key. A product has the listed texts among its patterns, and walks through what they
+// have in common, so it is made only where none of them is found by itself.
 fn one_text(
     alloc: Global,
     rule: &KeyRule,
@@ -28,6 +30,9 @@ fn one_text(
     requires some { 1 ≤ states }
     ensures { IfOk result (IsOne rule.now (chosen asks.now choice) states) }
 {
+    if let Some(value) = listed_member(rule, asks, choice)? {
+        return Ok(One::Found(value));
+    }
     match text_for(alloc, rule, asks, choice, states)? {
         Product::Found(text) => Ok(One::Found(Value::Word(text))),
         Product::Empty(closed) => Ok(One::Closed(closed)),

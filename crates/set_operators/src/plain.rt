@@ -1,17 +1,17 @@
 //! One value of a key whose values aren't texts.
-ghost use Rattle.std.specs.Prelude.{◌≡◌, ◌↔◌, All, IfOk, IsTrue, MatchOption};
+ghost use Rattle.std.specs.Prelude.{◌≡◌, All, IfOk, MatchOption};
 ghost use Rattle.policy_model.specs.declared.value.Kind.TheVariants.{Text};
 ghost use Rattle.set_operators.specs.Asks.{AskIsOf};
-ghost use Rattle.set_operators.specs.Members.{MeetsAsk};
-ghost use Rattle.set_operators.specs.Plain.{IsListedFound, IsMemberFound, IsPlainFor, IsPlainFound, as_kind, as_value};
+ghost use Rattle.set_operators.specs.Plain.{IsMemberFound, IsPlainFor, IsPlainFound, as_kind, as_value};
 ghost use Rattle.set_operators.specs.Shown.{AbsentIsWanted};
-ghost use Rattle.set_operators.specs.Steps.{AnswersAt, AnswersPicked, IsChoiceIn, IsPosed, chosen};
+ghost use Rattle.set_operators.specs.Steps.{IsChoiceIn, IsPosed, chosen};
 
 use crate::ask::KeyAsk;
+use crate::listed::listed_member;
 use crate::numbered::{Item, Numbered, asked_of};
-use crate::steps::{Choice, is_chosen};
+use crate::steps::Choice;
 use plain_lists::{EqualClone, NoMemory};
-use policy_model::{Cond, KeyRule, Kind, Value, cond_meets, meets_some};
+use policy_model::{Cond, KeyRule, Kind, Value};
 use std::alloc::Global;
 use value_theory::{
     Literal, PlainCond, PlainKind, PlainValue, PlainWants, Solved, meets_is_meaning, solve,
@@ -71,57 +71,6 @@ fn value_of(value: PlainValue) -> Value
     }
 }
 
-/// Whether the value meets the ask: it alone makes the ask hold.
-pub fn meets_ask(value: &Value, ask: &KeyAsk) -> bool
-    ensures { IsTrue result ↔ MeetsAsk value.now ask.now }
-{
-    match ask {
-        KeyAsk::Present => true,
-        KeyAsk::SomeMeets(cond) => cond_meets(value, cond),
-        KeyAsk::SomeMeetsNone(conds) => !meets_some(value, conds),
-    }
-}
-
-// Whether the value answers the ask of this number, if it is chosen.
-fn answers_at(value: &Value, choice: Choice, index: usize, asked: &(KeyAsk, bool)) -> bool
-    ensures { IsTrue result ↔ AnswersAt value.now choice index asked.now }
-{
-    if !is_chosen(choice, index, asked.1) {
-        return true;
-    }
-    meets_ask(value, &asked.0) == asked.1
-}
-
-// Whether the value answers each of the asks that are chosen.
-fn answers_each(value: &Value, asks: &[(KeyAsk, bool)], choice: Choice) -> bool
-    ensures { IsTrue result ↔ AnswersPicked value.now choice asks.now }
-{
-    for i in 0..asks.len() {
-        if !answers_at(value, choice, i, &asks[i]) {
-            return false;
-        }
-    }
-    true
-}
-
-// The first of the listed values that answers the chosen asks. There are at most 100, so none is looked
-// for by points.
-fn listed_for(
-    listed: &[Value],
-    asks: &[(KeyAsk, bool)],
-    choice: Choice,
-) -> Result<Option<Value>, NoMemory>
-    requires { IsChoiceIn asks.now choice }
-    ensures { IfOk result (IsListedFound listed.now (chosen asks.now choice)) }
-{
-    for value in listed {
-        if answers_each(value, asks, choice) {
-            return Ok(Some(value.copy()?));
-        }
-    }
-    Ok(None)
-}
-
 // What the chosen asks want of a value of the kind.
 fn plain_wants(
     alloc: Global,
@@ -174,7 +123,7 @@ pub fn value_for(
     ensures { IfOk result (IsMemberFound rule.now (chosen asks.now choice)) }
 {
     match &rule.among {
-        Some(listed) => listed_for(listed.as_slice(), asks, choice),
+        Some(_) => listed_member(rule, asks, choice),
         None => point_for(alloc, kind, asks, choice),
     }
 }

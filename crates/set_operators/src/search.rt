@@ -9,8 +9,8 @@ ghost use Rattle.set_operators.specs.Steps.{AreMembersUpTo, IsPosed};
 
 use crate::answer::KeyAnswer;
 use crate::ask::{KeyAsk, KeyAsks, wants_some};
+use crate::listed::meets_ask;
 use crate::one::one;
-use crate::plain::meets_ask;
 use crate::shown::{shows_absent, shows_required};
 use crate::steps::{Choice, One};
 use plain_lists::NoMemory;

@@ -1,5 +1,5 @@
 use Rattle.set_operators.proofs.Answering.{listed-found, listed-more, listed-none}
-use Rattle.set_operators.proofs.plain.listed_for.Goals as goal
+use Rattle.set_operators.proofs.listed.listed_for.Goals as goal
 
 pub returns-then-answers_each : goal.returns-then-answers_each
 returns-then-answers_each c =
