@@ -6,6 +6,7 @@ use Rattle.std.proofs.lemmas.Option.{same_Some}
 use Rattle.std.specs.List.{list_all}
 use Rattle.std.specs.Char.{is_ascii_digit}
 use Rattle.std.proofs.lemmas.Grind.{common_steps}
+use Rattle.intervals.specs.declared.units.TheConstants.{UNITS}
 use Rattle.intervals.specs.Digits.{is_digits, digits_number, fraction_units, number_of, digit_run}
 use Rattle.intervals.specs.Decimals.{WritesSize, WritesDecimal}
 use Rattle.intervals.specs.Decimals.{whole, with_fraction, unsigned, negated}
@@ -15,11 +16,11 @@ use Rattle.intervals.proofs.Steps.{by_bool, both, same_of, mapped, chained, guar
 number_is : (most : ℕ) (text : List ℕ) → is_digits most text ≡ true → number_of most text ≡ Some (digits_number text)
 number_is most text h = rw h refl
 
-size_at : (text digits rest : List ℕ) (units : ℕ) → take (digit_run text) text ≡ digits → drop (digit_run text) text ≡ rest → is_digits 18 digits ≡ true → tail_of rest ≡ Some units → size_of text ≡ Some (digits_number digits * 1_000_000_000 + units)
+size_at : (text digits rest : List ℕ) (units : ℕ) → take (digit_run text) text ≡ digits → drop (digit_run text) text ≡ rest → is_digits 18 digits ≡ true → tail_of rest ≡ Some units → size_of text ≡ Some (digits_number digits * UNITS + units)
 unfolding size_of
 size_at text digits rest units front behind h tail = rw (front, behind, number_is 18 digits h, tail) refl
 
-forth_whole : (text : List ℕ) → is_digits 18 text ≡ true → size_of text ≡ Some (digits_number text * 1_000_000_000 + 0)
+forth_whole : (text : List ℕ) → is_digits 18 text ≡ true → size_of text ≡ Some (digits_number text * UNITS + 0)
 forth_whole text h =
     let e : text ++ [] ≡ text = append-nil text in
     let all = only_digits 18 text h in
@@ -30,7 +31,7 @@ forth_whole text h =
 fraction_is : (digits : List ℕ) → is_digits 9 digits ≡ true → fraction_of digits ≡ Some (fraction_units digits)
 fraction_is digits h = rw h refl
 
-forth_fraction : (digits fraction : List ℕ) → is_digits 18 digits ≡ true → is_digits 9 fraction ≡ true → size_of (digits ++ 46 ∷ fraction) ≡ Some (digits_number digits * 1_000_000_000 + fraction_units fraction)
+forth_fraction : (digits fraction : List ℕ) → is_digits 18 digits ≡ true → is_digits 9 fraction ≡ true → size_of (digits ++ 46 ∷ fraction) ≡ Some (digits_number digits * UNITS + fraction_units fraction)
 forth_fraction digits fraction h k =
     let all = only_digits 18 digits h in
     size_at (digits ++ 46 ∷ fraction) digits (46 ∷ fraction) (fraction_units fraction) (front_digits digits (46 ∷ fraction) all refl) (behind_digits digits (46 ∷ fraction) all refl) h (fraction_is fraction k)
@@ -39,7 +40,7 @@ pub size_forth : (text : List ℕ) (units : ℕ) → WritesSize text units → s
 size_forth text units (whole h e) = forth_whole text h ∙ ap (λ (n : ℕ). Some n) (omega arith)
 size_forth text units (with_fraction digits fraction t h k e) = rw t (forth_fraction digits fraction h k ∙ ap (λ (n : ℕ). Some n) (sym e))
 
-back_rest : (text digits rest : List ℕ) (tail units : ℕ) → digits ++ rest ≡ text → is_digits 18 digits ≡ true → tail_of rest ≡ Some tail → digits_number digits * 1_000_000_000 + tail ≡ units → WritesSize text units
+back_rest : (text digits rest : List ℕ) (tail units : ℕ) → digits ++ rest ≡ text → is_digits 18 digits ≡ true → tail_of rest ≡ Some tail → digits_number digits * UNITS + tail ≡ units → WritesSize text units
 back_rest text digits [] tail units t h k e =
     let here : digits ≡ text = sym (append-nil digits) ∙ t in
     let P : List ℕ → Type 0 = λ ds. is_digits 18 ds ≡ true in
@@ -51,7 +52,7 @@ back_rest text digits (c ∷ fraction) tail units t h k e =
     let behind = guarded (is_digits 9 fraction) (Some (fraction_units fraction)) tail point.1 in
     let mark : digits ++ c ∷ fraction ≡ digits ++ 46 ∷ fraction = ap (λ (b : ℕ). digits ++ b ∷ fraction) (same_of c 46 point.0) in
     let value : fraction_units fraction ≡ tail = same_Some _ _ behind.1 in
-    with_fraction digits fraction (sym t ∙ mark) h behind.0 (sym e ∙ ap (λ n. digits_number digits * 1_000_000_000 + n) (sym value))
+    with_fraction digits fraction (sym t ∙ mark) h behind.0 (sym e ∙ ap (λ n. digits_number digits * UNITS + n) (sym value))
 
 back_at : (text digits rest : List ℕ) (units : ℕ) → digits ++ rest ≡ text → join_units (number_of 18 digits) (tail_of rest) ≡ Some units → WritesSize text units
 back_at text digits rest units t h =
@@ -59,7 +60,7 @@ back_at text digits rest units t h =
     let g = guarded (is_digits 18 digits) (Some (digits_number digits)) a.0 a.1 in
     let m = mapped _ (tail_of rest) units a.2 in
     let value : digits_number digits ≡ a.0 = same_Some _ _ g.1 in
-    back_rest text digits rest m.0 units t g.0 m.1 (ap (λ n. n * 1_000_000_000 + m.0) value ∙ m.2)
+    back_rest text digits rest m.0 units t g.0 m.1 (ap (λ n. n * UNITS + m.0) value ∙ m.2)
 
 pub size_back : (text : List ℕ) (units : ℕ) → size_of text ≡ Some units → WritesSize text units
 unfolding size_of

@@ -5,6 +5,7 @@ use Rattle.std.proofs.lemmas.Nat.{pow-add}
 use Rattle.std.proofs.lemmas.Grind.{common_steps}
 use Rattle.std.specs.List.{list_all}
 use Rattle.std.specs.Char.{is_ascii_digit}
+use Rattle.intervals.specs.declared.units.TheConstants.{UNITS}
 use Rattle.intervals.specs.Digits.{digits_number}
 
 -- the first i digits of the text were read as n
@@ -49,7 +50,7 @@ ReadSoFar-room text i n h within short =
     omega (arith, h.small)
 
 -- a fraction's units are less than a whole
-pub fraction_below : (n k : ℕ) → n < 10 ^ k → k ≤ 9 → n * 10 ^ (9 - k) < 1_000_000_000
+pub fraction_below : (n k : ℕ) → n < 10 ^ k → k ≤ 9 → n * 10 ^ (9 - k) < UNITS
 fraction_below n k small fits =
     let nine : k + (9 - k) ≡ 9 = omega arith in
     let e : 10 ^ k * 10 ^ (9 - k) ≡ 10 ^ 9 = sym (pow-add 10 k (9 - k)) ∙ ap (λ i. 10 ^ i) nine in

@@ -9,6 +9,7 @@ use Rattle.std.specs.Fmt.{decimal}
 use Rattle.std.specs.List.{list_all}
 use Rattle.std.specs.Char.{is_ascii_digit, digit_value}
 use Rattle.std.specs.Str.Parse.{AllDigits, digits_value, digits_value_after}
+use Rattle.intervals.specs.declared.units.TheConstants.{SIZE_LIMIT, UNITS, WHOLE_LIMIT}
 use Rattle.intervals.specs.Scaled.{IsScaled}
 use Rattle.intervals.specs.Digits.{is_digits, digits_number, fraction_units}
 use Rattle.intervals.specs.Decimals.{WritesSize}
@@ -41,7 +42,7 @@ value_after n (d ∷ ds) h =
 is_digits_by : (most : ℕ) (ds : List ℕ) → 0 < length ds → length ds ≤ most → list_all is_ascii_digit ds ≡ true → is_digits most ds ≡ true
 is_digits_by most ds some fits all = rw all (grind (arith, common_steps))
 
-pub whole_digits : (w : ℕ) → w < 1_000_000_000_000_000_000 → (is_digits 18 (decimal w) ≡ true) × (digits_number (decimal w) ≡ w)
+pub whole_digits : (w : ℕ) → w < WHOLE_LIMIT → (is_digits 18 (decimal w) ≡ true) × (digits_number (decimal w) ≡ w)
 whole_digits w small =
     let n = decimal_is_IsNumeral w (omega arith) in
     let length_in : length (decimal w) ≤ 18 = length-decimal-le 18 w (omega arith) small (omega arith) in
@@ -110,11 +111,11 @@ some_digits k n some small =
 otherwise : (b : Bool) (xs ys : List ℕ) → b ≡ false → (if b then xs else ys) ≡ ys
 otherwise b xs ys h = rw h refl
 
-with_digits : (w f n : ℕ) (tail ds : List ℕ) → tail ≡ 46 ∷ ds → is_digits 18 (decimal w) ≡ true → digits_number (decimal w) ≡ w → is_digits 9 ds ≡ true → fraction_units ds ≡ f → w * 1_000_000_000 + f ≡ n → WritesSize (decimal w ++ tail) n
+with_digits : (w f n : ℕ) (tail ds : List ℕ) → tail ≡ 46 ∷ ds → is_digits 18 (decimal w) ≡ true → digits_number (decimal w) ≡ w → is_digits 9 ds ≡ true → fraction_units ds ≡ f → w * UNITS + f ≡ n → WritesSize (decimal w ++ tail) n
 with_digits w f n tail ds t d value h k e =
     rw t (with_fraction (decimal w) ds refl d h (rw (value, k) (sym e)))
 
-with_tail : (w f n : ℕ) → w < 1_000_000_000_000_000_000 → f < 1_000_000_000 → w * 1_000_000_000 + f ≡ n → WritesSize (decimal w ++ fraction_text f) n
+with_tail : (w f n : ℕ) → w < WHOLE_LIMIT → f < UNITS → w * UNITS + f ≡ n → WritesSize (decimal w ++ fraction_text f) n
 with_tail w f n small below e =
     let d = whole_digits w small in
     by_bool (f == 0)
@@ -126,8 +127,8 @@ with_tail w f n small below e =
     let some : 0 < f = grind (arith, common_steps) in
     with_digits w f n (fraction_text f) (fraction_digits 9 f) (otherwise (f == 0) [] (46 ∷ fraction_digits 9 f) h) d.0 d.1 (some_digits 8 f some below) (fraction_is 9 f below).value e)
 
-size_written : (n : ℕ) → n < 1_000_000_000_000_000_000_000_000_000 → WritesSize (decimal (n / 1_000_000_000) ++ fraction_text (n % 1_000_000_000)) n
-size_written n small = with_tail (n / 1_000_000_000) (n % 1_000_000_000) n (omega arith) (omega arith) (omega arith)
+size_written : (n : ℕ) → n < SIZE_LIMIT → WritesSize (decimal (n / UNITS) ++ fraction_text (n % UNITS)) n
+size_written n small = with_tail (n / UNITS) (n % UNITS) n (omega arith) (omega arith) (omega arith)
 
 pub read_again : (units : ℤ) → IsScaled units → decimal_of (written_decimal units) ≡ Some units
 read_again (pos n) small = decimal_forth _ _ (unsigned n (size_written n small) refl)

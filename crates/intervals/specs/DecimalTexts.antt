@@ -2,6 +2,7 @@
 use Rattle.std.specs.Fmt.{decimal}
 use Rattle.std.specs.Prelude.{ℕ, zero, suc, ◌+◌, ◌*◌, ◌/◌, ◌%◌, ◌^◌, ◌++◌, negsuc, unsigned_abs, Bool, false, List, [], ◌∷◌, take, drop, ◌==◌, if◌then◌else◌, ℤ, pos, neg_ℤ, Option, Some, None, option_and_then}
 use Rattle.std.specs.Option.{option_map}
+use Rattle.intervals.specs.declared.units.TheConstants.{UNITS}
 use Rattle.intervals.specs.Digits.{number_of, fraction_units, is_digits, digit_run}
 
 -- the units of digits behind a point
@@ -15,7 +16,7 @@ tail_of (c ∷ rest) = (if c == 46 then fraction_of rest else None)
 
 -- a number and what stands behind it as units
 abbrev pub join_units : Option ℕ → Option ℕ → Option ℕ
-join_units whole tail = option_and_then (λ n. option_map (λ units. n * 1_000_000_000 + units) tail) whole
+join_units whole tail = option_and_then (λ n. option_map (λ units. n * UNITS + units) tail) whole
 
 -- the form without a sign
 unfoldable pub size_of : List ℕ → Option ℕ
@@ -55,4 +56,4 @@ sign_text (negsuc n) = 45 ∷ []
 -- fraction without last zeros
 abbrev pub written_decimal : ℤ → List ℕ
 written_decimal units =
-    sign_text units ++ (decimal (unsigned_abs units / 1_000_000_000) ++ fraction_text (unsigned_abs units % 1_000_000_000))
+    sign_text units ++ (decimal (unsigned_abs units / UNITS) ++ fraction_text (unsigned_abs units % UNITS))

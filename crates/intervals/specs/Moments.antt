@@ -4,6 +4,7 @@
 -- this project's own choice. 43 is `+`, 45 `-`, 46 the point, 58 the colon, 84 `T` and 90 `Z`.
 use Rattle.std.specs.Prelude.{◌≡◌, ℕ, ◌+◌, ◌*◌, ◌/◌, ◌%◌, ◌<◌, List, [], ◌∷◌, ◌++◌, true, ℤ, pos, neg_ℤ, ◌+ℤ◌, ◌-ℤ◌, ◌*ℤ◌}
 use Rattle.jiff_core.specs.Calendar.{IsCivilDate, days_from_civil}
+use Rattle.intervals.specs.declared.units.TheConstants.{UNITS, UNITS_OF_MINUTE, UNITS_OF_DAY}
 use Rattle.intervals.specs.Digits.{is_digits, digits_number, fraction_units}
 
 -- a number below 100 in two digits, and one below 10,000 in four
@@ -15,13 +16,13 @@ four n = two (n / 100) ++ two (n % 100)
 
 -- a second, a minute and a day in units of 10^-9 s
 abbrev pub units_of_second : ℕ
-units_of_second = 1_000_000_000
+units_of_second = UNITS
 
 abbrev pub units_of_minute : ℕ
-units_of_minute = 60_000_000_000
+units_of_minute = UNITS_OF_MINUTE
 
 abbrev pub units_of_day : ℕ
-units_of_day = 86_400_000_000_000
+units_of_day = UNITS_OF_DAY
 
 -- the first instant in UTC of a civil date, in units of 10^-9 s since 1970-01-01T00:00:00Z: its day number counts the days of the
 -- years, the months and the days before it

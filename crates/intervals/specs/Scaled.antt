@@ -1,14 +1,15 @@
 -- Scaled numbers: whole numbers of units of 10^-9. That they are less than 10^27 in size is this project's own choice: eighteen
 -- digits before the point, nine behind it.
 use Rattle.std.specs.Prelude.{ℕ, ℤ, pos, ◌*ℤ◌, ◌<◌, ◌≤◌, nat_lt, unsigned_abs, Option, Some, None, Result, MatchResult, if◌then◌else◌}
+use Rattle.intervals.specs.declared.units.TheConstants.{SIZE_LIMIT, UNITS, WHOLE_LIMIT}
 
 -- 10^27, which the number of units is less than in size
 abbrev pub size_limit : ℕ
-size_limit = 1_000_000_000_000_000_000_000_000_000
+size_limit = SIZE_LIMIT
 
 -- 10^18, which a whole number is less than in size
 abbrev pub whole_limit : ℕ
-whole_limit = 1_000_000_000_000_000_000
+whole_limit = WHOLE_LIMIT
 
 -- the number of units of a scaled number
 abbrev pub IsScaled : ℤ → Type 0
@@ -16,7 +17,7 @@ IsScaled units = unsigned_abs units < size_limit
 
 -- the units of the whole number n
 abbrev pub units_of_whole : ℤ → ℤ
-units_of_whole n = n *ℤ pos 1_000_000_000
+units_of_whole n = n *ℤ pos UNITS
 
 -- the same of a whole number less than 10^18 in size, and none of any other
 abbrev pub whole_units : ℤ → Option ℤ

@@ -6,10 +6,8 @@ ghost use Rattle.intervals.specs.MomentTexts.{midnight_of, behind_day, behind_mo
 
 use crate::clock::time;
 use crate::fields::{field, four_digits};
+use crate::units::UNITS_OF_DAY;
 use jiff_core::civil::Date;
-
-/// Units of 10^-9 s in a day.
-const UNITS_OF_DAY: i128 = 86_400_000_000_000;
 
 /// The units of a text with a date since 1970-01-01T00:00:00Z.
 #[tactic(auto, unfolding(crate::specs::MomentTexts::civil_of))]
@@ -71,5 +69,5 @@ fn first_instant(day: i32) -> i128
     ensures value { result ≡ day *ℤ pos units_of_day }
     ensures small { unsigned_abs result < 1_000_000_000_000_000_000_000 }
 {
-    i128::from(day) * UNITS_OF_DAY
+    i128::from(day) * i128::from(UNITS_OF_DAY)
 }

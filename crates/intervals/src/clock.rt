@@ -1,15 +1,12 @@
 //! The time of day in a moment's text.
 ghost use Rattle.std.specs.Prelude.{◌≡◌, ◌<◌, IfSome, pos, ◌-ℤ◌, ◌*ℤ◌, unsigned_abs};
+ghost use Rattle.intervals.specs.declared.units.TheConstants.{UNITS_OF_MINUTE};
 ghost use Rattle.intervals.specs.Moments.{units_of_minute};
 ghost use Rattle.intervals.specs.MomentTexts.{read_view, fraction_behind, behind_second, second_of, seconds_of, whole_clock, offset_of, time_of};
 
 use crate::digits::{fraction, leading_digits};
 use crate::fields::{clock, two_digits};
-
-/// Units of 10^-9 in a second and in a minute.
-const UNITS_OF_SECOND: u64 = 1_000_000_000;
-
-const UNITS_OF_MINUTE: u64 = 60_000_000_000;
+use crate::units::{UNITS, UNITS_OF_MINUTE};
 
 /// The units of a time of day, with its mark and its offset, since the day's first instant in UTC.
 #[tactic(auto, unfolding(crate::specs::MomentTexts::time_of))]
@@ -37,7 +34,7 @@ fn offset_taken_off(local: u64, ahead: i32) -> i128
 #[tactic(auto, unfolding(crate::specs::MomentTexts::seconds_of))]
 fn seconds(text: &[u8]) -> Option<(u64, &[u8])>
     ensures value { read_view result ≡ seconds_of text.now }
-    ensures small { IfSome result (λ p. p.0 < 60_000_000_000) }
+    ensures small { IfSome result (λ p. p.0 < UNITS_OF_MINUTE) }
 {
     match text {
         [b':', rest @ ..] => {
@@ -54,9 +51,9 @@ fn seconds(text: &[u8]) -> Option<(u64, &[u8])>
 fn behind_second(second: u8, text: &[u8]) -> Option<(u64, &[u8])>
     requires { second < 60 }
     ensures value { read_view result ≡ behind_second second text.now }
-    ensures small { IfSome result (λ p. p.0 < 60_000_000_000) }
+    ensures small { IfSome result (λ p. p.0 < UNITS_OF_MINUTE) }
 {
-    let units = u64::from(second) * UNITS_OF_SECOND;
+    let units = u64::from(second) * UNITS;
     match text {
         [b'.', rest @ ..] => {
             let (digits, rest) = rest.split_at(leading_digits(rest));

@@ -1,11 +1,13 @@
 //! Decimals read from text.
 ghost use Rattle.std.specs.Prelude.{◌≡◌, ◌<◌, ℤ, IfSome, IfOk, OnErr};
 ghost use Rattle.std.specs.Result.{result_ok};
+ghost use Rattle.intervals.specs.declared.units.TheConstants.{SIZE_LIMIT, UNITS};
 ghost use Rattle.intervals.specs.Decimals.{WritesDecimal};
 ghost use Rattle.intervals.specs.DecimalTexts.{has_sign, after_sign, size_of, tail_of, decimal_of};
 
 use crate::digits::{fraction, leading_digits, number};
 use crate::scaled::{BadNumber, Scaled};
+use crate::units::UNITS;
 
 /// The number that the text stands for. `BadNumber` exactly where the text isn't of the decimal form:
 /// an optional `-`, one to eighteen digits, and optionally a point with one to nine digits. It takes
@@ -44,18 +46,18 @@ fn split_sign(text: &[u8]) -> (bool, &[u8])
 #[tactic(auto, unfolding(crate::specs::DecimalTexts::size_of))]
 fn size(text: &[u8]) -> Option<u128>
     ensures value { result ≡ size_of text.now }
-    ensures small { IfSome result (λ n. n < 1_000_000_000_000_000_000_000_000_000) }
+    ensures small { IfSome result (λ n. n < SIZE_LIMIT) }
 {
     let (digits, rest) = text.split_at(leading_digits(text));
     let whole = number(digits, 18)?;
     let units = tail(rest)?;
-    Some(u128::from(whole) * 1_000_000_000 + u128::from(units))
+    Some(u128::from(whole) * u128::from(UNITS) + u128::from(units))
 }
 
 // The units of what stands behind the whole digits.
 fn tail(text: &[u8]) -> Option<u64>
     ensures value { result ≡ tail_of text.now }
-    ensures small { IfSome result (λ n. n < 1_000_000_000) }
+    ensures small { IfSome result (λ n. n < UNITS) }
 {
     match text {
         [] => Some(0),

@@ -1,5 +1,6 @@
 //! Numbers written in decimal digits.
 ghost use Rattle.std.specs.Prelude.{◌≡◌, ◌<◌, ◌≤◌, ◌^◌, length, IfSome};
+ghost use Rattle.intervals.specs.declared.units.TheConstants.{UNITS};
 ghost use Rattle.intervals.specs.Digits.{number_of, digit_run};
 ghost use Rattle.intervals.specs.DecimalTexts.{fraction_of};
 
@@ -27,7 +28,7 @@ pub(crate) fn number(text: &[u8], most: usize) -> Option<u64>
 /// The units of 10^-9 that one to nine digits behind a point write, and none for any other text.
 pub(crate) fn fraction(text: &[u8]) -> Option<u64>
     ensures value { result ≡ fraction_of text.now }
-    ensures small { IfSome result (λ n. n < 1_000_000_000) }
+    ensures small { IfSome result (λ n. n < UNITS) }
 {
     let digits = number(text, 9)?;
     Some(digits * 10u64.pow(9 - text.len() as u32))

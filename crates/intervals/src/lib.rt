@@ -10,6 +10,7 @@ mod fields;
 mod meanings;
 mod moment;
 mod scaled;
+mod units;
 mod write;
 
 pub use compare::{Compare, satisfies};
@@ -21,6 +22,7 @@ pub use moment::{BadDate, read_moment};
 use plain_lists::List;
 pub use plain_lists::NoMemory;
 pub use scaled::{BadNumber, Scaled, from_whole};
+pub use units::UNITS;
 pub use write::write_decimal;
 
 /// A list of bytes, as a binary value has.

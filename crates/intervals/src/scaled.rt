@@ -5,6 +5,7 @@ ghost use Rattle.std.proofs.Common.{rules};
 ghost use Rattle.intervals.specs.Scaled.{IsScaled, IsOkBelow, size_limit, whole_limit, units_of_whole, whole_units};
 ghost use Rattle.intervals.specs.DecimalTexts.{signed};
 
+use crate::units::{SIZE_LIMIT, UNITS, WHOLE_LIMIT};
 use plain_lists::EqualClone;
 use std::marker::Model;
 
@@ -42,7 +43,7 @@ impl Scaled {
         ensures value { IfOk result (λ s. s ≡ units) }
         ensures bounded { IsOkBelow size_limit units result }
     {
-        if units.unsigned_abs() < 1_000_000_000_000_000_000_000_000_000 {
+        if units.unsigned_abs() < SIZE_LIMIT {
             Ok(Scaled { units })
         } else {
             Err(BadNumber)
@@ -76,9 +77,9 @@ pub fn from_whole(n: i128) -> Result<Scaled, BadNumber>
     ensures bounded { IsOkBelow whole_limit n result }
     ensures computed { result_ok result ≡ whole_units n }
 {
-    if n.unsigned_abs() < 1_000_000_000_000_000_000 {
+    if n.unsigned_abs() < WHOLE_LIMIT {
         Ok(Scaled {
-            units: n * 1_000_000_000,
+            units: n * i128::from(UNITS),
         })
     } else {
         Err(BadNumber)

@@ -1,14 +1,13 @@
 //! Decimals written as text.
 ghost use Rattle.std.specs.Prelude.{◌≡◌, ◌<◌, ◌+◌, ◌-◌, ◌*◌, ◌/◌, ◌^◌, ◌++◌, IfOk, OnOk, string_bytes};
+ghost use Rattle.intervals.specs.declared.units.TheConstants.{UNITS};
 ghost use Rattle.intervals.specs.Decimals.{WritesDecimal};
 ghost use Rattle.intervals.specs.DecimalTexts.{fraction_text, fraction_digits, sign_text, written_decimal};
 
 use crate::scaled::Scaled;
+use crate::units::UNITS;
 use plain_lists::NoMemory;
 use std::alloc::Global;
-
-/// Units of 10^-9 in a whole.
-const WHOLE: u128 = 1_000_000_000;
 
 /// The text of the number: `-` in front of a negative one, digits without leading zeros, and where the
 /// fraction isn't zero a point and its digits without last zeros. Zero is `0`.
@@ -18,9 +17,9 @@ pub fn write_decimal(alloc: Global, value: Scaled) -> Result<String, NoMemory>
 {
     let size = value.units().unsigned_abs();
     let sign = sign(value);
-    let whole = size / WHOLE;
+    let whole = size / u128::from(UNITS);
     let mut text = format!(in alloc; "{sign}{whole}")?;
-    push_fraction(&mut text, (size % WHOLE) as u32)?;
+    push_fraction(&mut text, (size % u128::from(UNITS)) as u32)?;
     Ok(text)
 }
 
@@ -32,7 +31,7 @@ fn sign(value: Scaled) -> &'static str
 
 // Adds a point and the digits of a fraction that isn't zero.
 fn push_fraction(text: &mut String, units: u32) -> Result<(), NoMemory>
-    requires { units < 1_000_000_000 }
+    requires { units < UNITS }
     ensures { OnOk result (string_bytes text.new ≡ string_bytes text.old ++ fraction_text units) }
 {
     if units == 0 {

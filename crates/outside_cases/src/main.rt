@@ -4,10 +4,11 @@
 #![tactic(auto)]
 
 ghost use Rattle.std.specs.Prelude.{◌≤◌};
+ghost use Rattle.pol_outside.specs.declared.folder.TheConstants.{MOST_TAKEN};
 
 use pol_outside::{
-    DiskFolder, Folder, MemoryFolder, MemorySink, NoMemory, SafeFolder, SinkFault, StdSink,
-    TakeFault, put_all,
+    DiskFolder, Folder, MOST_TAKEN, MemoryFolder, MemorySink, NoMemory, SafeFolder, SinkFault,
+    StdSink, TakeFault, put_all,
 };
 use std::alloc::Global;
 use std::io;
@@ -44,7 +45,7 @@ const ON_DISK: [(&str, u64); 30] = [
     ("long", 20000),
     ("long", 20001),
     ("long", 4095),
-    ("long", 67108864),
+    ("long", MOST_TAKEN),
     ("no such file", 8),
     (".", 8),
 ];
@@ -98,7 +99,7 @@ fn take<F: Folder>(
     name: &str,
     limit: u64,
 ) -> io::Result<()>
-    requires { limit ≤ 67108864 }
+    requires { limit ≤ MOST_TAKEN }
 {
     let mut into = Vec::new(rt.alloc());
     let word = taken_word(folder.take(rt.alloc(), name, limit, &mut into));
@@ -112,7 +113,7 @@ fn take_each<F: Folder>(
     cases: &[(&str, u64)],
 ) -> io::Result<()> {
     for (name, limit) in cases {
-        take(rt, folder, name, *limit.min(&67108864))?;
+        take(rt, folder, name, *limit.min(&MOST_TAKEN))?;
     }
     Ok(())
 }

@@ -1,5 +1,6 @@
 // Real files. What they hold is not told.
 ghost use Rattle.std.specs.Prelude.{◌≡◌, ◌≤◌, [], Some, None};
+ghost use Rattle.pol_outside.specs.declared.folder.TheConstants.{MOST_TAKEN};
 ghost use Rattle.pol_outside.specs.Faults.{one_more};
 ghost use Rattle.pol_outside.specs.Folder.{Takes, NamesFault, CountsFault, one_file, name_bytes};
 
@@ -61,7 +62,7 @@ impl<'a, R: Files> Folder for DiskFolder<'a, R> {
         limit: u64,
         into: &mut Vec<u8>,
     ) -> Result<(), TakeFault>
-        requires { limit ≤ 67108864 }
+        requires { limit ≤ MOST_TAKEN }
         ensures given { Takes None name.now limit result into.old.items into.new.items }
         ensures later { self.old.faults ≤ self.new.faults }
         ensures cause { NamesFault result name.now self.old.faults self.new.faults
@@ -87,7 +88,7 @@ const CHUNK: usize = 4096;
 // Reads to the end, or one byte more than the limit. A read that gives no byte is the end; an error is
 // `Failed`, and the first bytes stay in `into`.
 fn read_up_to<F: Read>(file: &mut F, limit: u64, into: &mut Vec<u8>) -> Result<(), TakeFault>
-    requires { limit ≤ 67108864 }
+    requires { limit ≤ MOST_TAKEN }
     ensures { Takes (one_file (F.remaining file.old)) [] limit result into.old.items
         into.new.items }
 {

@@ -1,8 +1,12 @@
 // A folder of files, by their names.
 ghost use Rattle.std.specs.Prelude.{◌≡◌, ◌≤◌, List, ℕ, Option};
+ghost use Rattle.pol_outside.specs.declared.folder.TheConstants.{MOST_TAKEN};
 ghost use Rattle.pol_outside.specs.Folder.{Files, Takes, NamesFault};
 
 use std::alloc::Global;
+
+/// The most bytes that a call may ask a folder for.
+pub const MOST_TAKEN: u64 = 67_108_864;
 
 /// Why a file was not given.
 #[derive(Clone, Copy, Debug, PartialEq, Eq)]
@@ -38,7 +42,7 @@ pub trait Folder {
         limit: u64,
         into: &mut Vec<u8>,
     ) -> Result<(), TakeFault>
-        requires { limit ≤ 67108864 }
+        requires { limit ≤ MOST_TAKEN }
         ensures given { Takes (held self.old) name.now limit result into.old.items into.new.items }
         ensures held { held self.new ≡ held self.old }
         ensures later { faults self.old ≤ faults self.new }

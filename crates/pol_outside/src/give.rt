@@ -1,12 +1,13 @@
 // Bytes in memory, given up to a limit.
 ghost use Rattle.std.specs.Prelude.{◌≢◌, ◌≤◌, [], Some, Err};
+ghost use Rattle.pol_outside.specs.declared.folder.TheConstants.{MOST_TAKEN};
 ghost use Rattle.pol_outside.specs.Folder.{Takes, one_file};
 
 use crate::TakeFault;
 
 /// Adds the bytes of a file to `into`, up to the limit. A file in memory never fails.
 pub(crate) fn give(bytes: &[u8], limit: u64, into: &mut Vec<u8>) -> Result<(), TakeFault>
-    requires { limit ≤ 67108864 }
+    requires { limit ≤ MOST_TAKEN }
     ensures given { Takes (one_file (Some bytes.now)) [] limit result into.old.items
         into.new.items }
     ensures not_failed { result ≢ Err TakeFault.Failed }

@@ -14,7 +14,7 @@ mod sink;
 mod std_sink;
 
 pub use disk_folder::DiskFolder;
-pub use folder::{Folder, TakeFault};
+pub use folder::{Folder, MOST_TAKEN, TakeFault};
 pub use memory_folder::MemoryFolder;
 pub use memory_sink::MemorySink;
 pub use plain_lists::NoMemory;

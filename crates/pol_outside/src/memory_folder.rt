@@ -1,5 +1,6 @@
 // A folder in memory, whose calls fail where they are told to.
 ghost use Rattle.std.specs.Prelude.{◌≡◌, ◌≤◌, ℕ, List, [], Some, None, OnOk, OnErr, option_map, string_bytes};
+ghost use Rattle.pol_outside.specs.declared.folder.TheConstants.{MOST_TAKEN};
 ghost use Rattle.pol_outside.specs.Faults.{one_more};
 ghost use Rattle.pol_outside.specs.Folder.{Takes, NamesFault, CountsFault, Replaces, SameFiles};
 
@@ -97,7 +98,7 @@ impl Folder for MemoryFolder {
         limit: u64,
         into: &mut Vec<u8>,
     ) -> Result<(), TakeFault>
-        requires { limit ≤ 67108864 }
+        requires { limit ≤ MOST_TAKEN }
         ensures given { Takes (Some (files_of self.old)) name.now limit result
             into.old.items into.new.items }
         ensures held { Some (files_of self.new) ≡ Some (files_of self.old) }

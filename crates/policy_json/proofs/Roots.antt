@@ -9,6 +9,7 @@ use lib.Utf8.{low_scalar}
 use Rattle.std.specs.Char.{IsAsciiDigit, is_ascii_digit}
 use Rattle.std.specs.List.{list_all}
 use Rattle.wildcard_lang.specs.Text.{IsText}
+use Rattle.policy_model.specs.declared.principal.TheConstants.{ACCOUNT_DIGITS}
 use Rattle.policy_model.proofs.Laws.{behind_colon-is, behind_colon-append, behind_prefix-is}
 use Rattle.policy_model.specs.Principals.{behind_colon, behind_prefix, has_colon}
 use Rattle.policy_model.specs.Soundness.{IsAccount}
@@ -27,10 +28,10 @@ both false b e = cc
 -- the test for twelve digits
 pub is_account-is : (text : List ℕ) → is_account text ≡ true → IsAccount text
 is_account-is text e =
-    let parts = both (list_all is_ascii_digit text) (length text == 12) e in
+    let parts = both (list_all is_ascii_digit text) (length text == ACCOUNT_DIGITS) e in
     record {
       digits = All-weaker (λ (c : ℕ). is_ascii_digit c ≡ true) IsAsciiDigit digit-is text (AllPass-from_list_all is_ascii_digit text parts.0);
-      count = (Decides-eqb (length text) 12).0 parts.1;
+      count = (Decides-eqb (length text) ACCOUNT_DIGITS).0 parts.1;
     }
 
 pub is_account-of : (text : List ℕ) → IsAccount text → is_account text ≡ true
@@ -67,16 +68,16 @@ if_found false x y e = absurd cc
 
 before_root : (text account : List ℕ) → account_before_root text ≡ Some account → BeforeRoot text account
 before_root text account e =
-    let found = if_found (is_account (take 12 text) && bytes_eq (drop 12 text) (codes ":root")) (take 12 text) account e in
-    let parts = both (is_account (take 12 text)) (bytes_eq (drop 12 text) (codes ":root")) found.0 in
-    let rest = (bytes_eq-Decides (drop 12 text) (codes ":root")).0 parts.1 in
+    let found = if_found (is_account (take ACCOUNT_DIGITS text) && bytes_eq (drop ACCOUNT_DIGITS text) (codes ":root")) (take ACCOUNT_DIGITS text) account e in
+    let parts = both (is_account (take ACCOUNT_DIGITS text)) (bytes_eq (drop ACCOUNT_DIGITS text) (codes ":root")) found.0 in
+    let rest = (bytes_eq-Decides (drop ACCOUNT_DIGITS text) (codes ":root")).0 parts.1 in
     record {
-      account_is = subst IsAccount found.1 (is_account-is (take 12 text) parts.0);
-      is = sym (take-append-drop 12 text) ∙ ap (λ (t : List ℕ). t ++ drop 12 text) found.1 ∙ ap (λ (t : List ℕ). account ++ t) rest;
+      account_is = subst IsAccount found.1 (is_account-is (take ACCOUNT_DIGITS text) parts.0);
+      is = sym (take-append-drop ACCOUNT_DIGITS text) ∙ ap (λ (t : List ℕ). t ++ drop ACCOUNT_DIGITS text) found.1 ∙ ap (λ (t : List ℕ). account ++ t) rest;
     }
 
 before_root-of : (account : List ℕ) → IsAccount account → account_before_root (account ++ codes ":root") ≡ Some account
-before_root-of account h = rw (take_at account (codes ":root") 12 h.count, drop_at account (codes ":root") 12 h.count, is_account-of account h) refl
+before_root-of account h = rw (take_at account (codes ":root") ACCOUNT_DIGITS h.count, drop_at account (codes ":root") ACCOUNT_DIGITS h.count, is_account-of account h) refl
 
 unless_found : {X : Type 0} (b : Bool) (x y : X) → (if b then None else Some x) ≡ Some y → x ≡ y
 unless_found true x y e = absurd cc

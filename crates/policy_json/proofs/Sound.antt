@@ -4,6 +4,7 @@ use Rattle.std.proofs.lemmas.Bool.{leb-true}
 use Rattle.std.proofs.lemmas.List.Elements.{All-append, All-cons, All-head, All-map, All-nil, All-tail}
 use Rattle.std.specs.List.{flat_map}
 use Rattle.serde_json.specs.Data.{Data}
+use Rattle.wildcard_lang.specs.declared.pattern.TheConstants.{MOST_PIECES}
 use Rattle.policy_model.specs.declared.principal.PrincipalKind.{PrincipalKind}
 use Rattle.policy_model.specs.declared.principal.PrincipalKind.TheVariants.{Aws, Service, Federated, CanonicalUser}
 use Rattle.policy_model.specs.declared.principal.Entry.{Entry}
@@ -48,11 +49,11 @@ either_sound : (b : Bool) (x y : Entry) → EntryIsSound x → EntryIsSound y �
 either_sound true x y h k = h
 either_sound false x y h k = k
 
-account_sound : (id : List ℕ) (o : Option (List ℕ)) → ((account : List ℕ) → o ≡ Some account → IsAccount account) → length id ≤ 2048 → EntryIsSound (account_or_exact id o)
+account_sound : (id : List ℕ) (o : Option (List ℕ)) → ((account : List ℕ) → o ≡ Some account → IsAccount account) → length id ≤ MOST_PIECES → EntryIsSound (account_or_exact id o)
 account_sound id None is short = short
 account_sound id (Some account) is short = is account refl
 
-entry_sound : (kind : PrincipalKind) (id : List ℕ) → length id ≤ 2048 → EntryIsSound (entry_of kind id)
+entry_sound : (kind : PrincipalKind) (id : List ℕ) → length id ≤ MOST_PIECES → EntryIsSound (entry_of kind id)
 entry_sound Aws id short = either_sound (is_star_id id) All (account_or_exact id (account_of id)) tt (account_sound id (account_of id) (account_of-is id) short)
 entry_sound Service id short = either_sound (is_star_id id) (Kind Service) (Exact Service id) tt short
 entry_sound Federated id short = either_sound (is_star_id id) (Kind Federated) (Exact Federated id) tt short
@@ -65,7 +66,7 @@ third_passes true false c x y z e = cc
 third_passes false b c x y z e = cc
 
 id_sound : (location : Location) (name : List ℕ) (kind : PrincipalKind) (d : Data) → first_fault (id_checks location name d) ≡ None → EntryIsSound (entry_of kind (text_of d))
-id_sound location name kind d e = entry_sound kind (text_of d) (leb-true (length (text_of d)) 2048 (third_passes _ _ _ _ _ _ e))
+id_sound location name kind d e = entry_sound kind (text_of d) (leb-true (length (text_of d)) MOST_PIECES (third_passes _ _ _ _ _ _ e))
 
 pub second_passes : (a b : Bool) (x y : PolicyFault) (rest : Option PolicyFault) → (if a then (if b then rest else Some y) else Some x) ≡ None → rest ≡ None
 second_passes true true x y rest e = e

@@ -8,6 +8,8 @@ use Rattle.policy_model.specs.declared.principal.PrincipalKind.{PrincipalKind}
 use Rattle.policy_model.specs.declared.principal.PrincipalKind.TheVariants.{Aws, Service, Federated, CanonicalUser}
 use Rattle.policy_model.specs.declared.principal.Entry.{Entry}
 use Rattle.policy_model.specs.declared.principal.Entry.TheVariants.{All, Kind, Account, Exact}
+use Rattle.wildcard_lang.specs.declared.pattern.TheConstants.{MOST_PIECES}
+use Rattle.policy_model.specs.declared.principal.TheConstants.{ACCOUNT_DIGITS}
 use Rattle.policy_model.specs.Principals.{behind_colon, behind_prefix, has_colon}
 use Rattle.policy_model.specs.Soundness.{IsAccount}
 use Rattle.policy_json.specs.declared.fault.PolicyCode.TheVariants.{P4WrongShape, P9PrincipalKind, P10PrincipalWildcard, P17Limit}
@@ -16,7 +18,6 @@ use Rattle.policy_json.specs.declared.fault.PolicyAnswer.{PolicyAnswer}
 use Rattle.policy_json.specs.Checks.{PolicyCheck, IsReadOf, check}
 use Rattle.json_shapes.specs.Json.{one_or_more, pairs_in, text_of}
 use Rattle.json_shapes.specs.Shapes.{are_strings, is_among, is_object, is_text}
-use Rattle.policy_json.specs.declared.principals.TheConstants.{MOST_CHARACTERS}
 
 -- ---- what is checked
 
@@ -32,12 +33,12 @@ has_wildcard text = list_any (λ c. (c == 42) || (c == 63)) text
 abbrev pub is_star_id : List ℕ → Bool
 is_star_id text = bytes_eq text (codes "*")
 
--- an id isn't empty, has no wildcard unless it is `*` alone, and has at most 2,048 characters
+-- an id isn't empty, has no wildcard unless it is `*` alone, and has at most as many characters as a pattern has pieces
 abbrev pub id_checks : Location → List ℕ → Data → List PolicyCheck
 id_checks location name d =
     check location (not (nat_le (length (text_of d)) 0)) P4WrongShape name ∷
     check location (is_star_id (text_of d) || not (has_wildcard (text_of d))) P10PrincipalWildcard name ∷
-    check location (nat_le (length (text_of d)) MOST_CHARACTERS) P17Limit name ∷ []
+    check location (nat_le (length (text_of d)) MOST_PIECES) P17Limit name ∷ []
 
 -- a member of a principal element has the name of a kind, its value is a string or a list of strings, and each is an id
 abbrev pub kind_checks : Location → List ℕ → List ℕ × Data → List PolicyCheck
@@ -65,12 +66,12 @@ pub record IsRootOf (account id : List ℕ) : Type 0 where
 
 -- the text is twelve digits
 abbrev pub is_account : List ℕ → Bool
-is_account text = list_all is_ascii_digit text && (length text == 12)
+is_account text = list_all is_ascii_digit text && (length text == ACCOUNT_DIGITS)
 
 -- the account at the front of a text that is `:root` behind it
 abbrev pub account_before_root : List ℕ → Option (List ℕ)
 account_before_root text =
-    (if is_account (take 12 text) && bytes_eq (drop 12 text) (codes ":root") then Some (take 12 text) else None)
+    (if is_account (take ACCOUNT_DIGITS text) && bytes_eq (drop ACCOUNT_DIGITS text) (codes ":root") then Some (take ACCOUNT_DIGITS text) else None)
 
 -- the text, where it isn't empty and doesn't begin with a colon
 abbrev pub nonempty_part : List ℕ → Option (List ℕ)

@@ -35,7 +35,7 @@ granting d = list_under (get (codes "Grants") d)
 abbrev pub guards_in : Data → List Data
 guards_in d = list_under (get (codes "Guards") d)
 
--- both names of a guarded set are there, both are lists, and there are at most 16 guards, each a list
+-- both names of a guarded set are there, both are lists, and there are few guards, each a list
 abbrev pub list_checks : Data → List PolicyCheck
 list_checks d =
     check nowhere (has_name (codes "Grants") d) P5MissingElement (codes "Grants") ∷

@@ -4,6 +4,8 @@ ghost use Rattle.serde_json.specs.Find.{get};
 ghost use Rattle.json_shapes.specs.Shapes.{where_there};
 ghost use Rattle.serde_json.specs.View.{view};
 ghost use Rattle.policy_model.specs.Soundness.{DocumentIsSound, StatementIsSound};
+ghost use Rattle.policy_json.specs.declared.document.TheConstants.{MOST_DOCUMENTS};
+ghost use Rattle.policy_json.specs.declared.statement.TheConstants.{MOST_STATEMENTS};
 ghost use Rattle.policy_json.specs.Checks.{IsReadOf};
 ghost use Rattle.policy_json.specs.Documents.{AreStatementsRead, IsDocumentRead, element_checks, has_escapes, head_checks, is_version, object_checks, statements_in};
 ghost use Rattle.json_shapes.specs.Json.{views};
@@ -108,9 +110,9 @@ fn read_statements(
     escapes: bool,
     values: &[Value],
 ) -> Result<StatementList, PolicyAnswer>
-    requires { before ≤ 2000 }
+    requires { before ≤ MOST_STATEMENTS }
     ensures read { AreStatementsRead document before escapes (views values.now) result }
-    ensures few { IfOk result (λ s. before + length s ≤ 2000) }
+    ensures few { IfOk result (λ s. before + length s ≤ MOST_STATEMENTS) }
     ensures sound { IfOk result (All StatementIsSound) }
 {
     let mut statements = List::new(alloc);
@@ -133,9 +135,10 @@ pub(crate) fn read_document(
     before: usize,
     document: &Value,
 ) -> Result<Document, PolicyAnswer>
-    requires { before ≤ 2000 }
+    requires { before ≤ MOST_STATEMENTS }
     ensures read { IsDocumentRead number before (view document.now) result }
-    ensures few { IfOk result (λ d. (number ≤ 32) × (before + length d.statements ≤ 2000)) }
+    ensures few { IfOk result (λ d. (number ≤ MOST_DOCUMENTS)
+        × (before + length d.statements ≤ MOST_STATEMENTS)) }
     ensures sound { IfOk result DocumentIsSound }
 {
     let location = Location {

@@ -41,8 +41,8 @@ pub enum PolicyCode {
     P13BadValue,
     /// A value of a condition on ARNs that has fewer than six parts.
     P14ArnParts,
-    /// More than a limit: 32 documents, 2,000 statements and 16 guards in a set, 2,048 pieces in a
-    /// pattern, 2,048 characters in a principal's id.
+    /// More than a limit: `MOST_DOCUMENTS`, `MOST_STATEMENTS` or `MOST_GUARDS` of a set, or `MOST_PIECES` of a
+    /// pattern or of the characters of a principal's id.
     P17Limit,
 }
 

@@ -18,10 +18,7 @@ use plain_lists::List;
 use policy_model::{Entry, EntryList, Matcher, PrincipalKind};
 use serde_json::{Map, Value};
 use std::alloc::{AllocError, Global};
-use wildcard_lang::Text;
-
-// The most characters that an id has.
-const MOST_CHARACTERS: usize = 2048;
+use wildcard_lang::{MOST_PIECES, Text};
 
 // The kind of a name, or none where the language has no such kind.
 fn kind_of(name: &str) -> Option<PrincipalKind>
@@ -96,7 +93,7 @@ fn read_id(
     if !is_star(id.as_slice()) && has_wildcard(id.as_slice()) {
         return Err(refusal(alloc, location, PolicyCode::P10PrincipalWildcard, name));
     }
-    if id.len() > MOST_CHARACTERS {
+    if id.len() > MOST_PIECES {
         return Err(refusal(alloc, location, PolicyCode::P17Limit, name));
     }
     let entry = entry_of(alloc, kind, id)?;

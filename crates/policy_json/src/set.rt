@@ -4,6 +4,7 @@ ghost use Rattle.std.specs.List.{list_all};
 ghost use Rattle.serde_json.specs.Find.{get};
 ghost use Rattle.serde_json.specs.View.{view};
 ghost use Rattle.policy_model.specs.Soundness.{DocumentIsSound, IsSound};
+ghost use Rattle.policy_json.specs.declared.set.TheConstants.{MOST_GUARDS};
 ghost use Rattle.policy_json.specs.Checks.{IsReadOf};
 ghost use Rattle.json_shapes.specs.Json.{json_of, values_in, views, list_under};
 ghost use Rattle.json_shapes.specs.Shapes.{is_list};
@@ -46,7 +47,7 @@ fn is_guarded(value: &Value) -> bool
 // The grants and the guards are there, and both are lists, the guards few and lists themselves.
 fn check_lists(alloc: Global, value: &Value) -> Result<(), PolicyAnswer>
     ensures read { IsReadOf (list_checks (view value.now)) tt result }
-    ensures few { OnOk result (length (guards_in (view value.now)) ≤ 16) }
+    ensures few { OnOk result (length (guards_in (view value.now)) ≤ MOST_GUARDS) }
 {
     let is_there = has(value, "Grants");
     require(
@@ -78,7 +79,7 @@ fn check_lists(alloc: Global, value: &Value) -> Result<(), PolicyAnswer>
 // A guarded set has no other name than these two, and then its lists are as they must be.
 fn check_guarded(alloc: Global, value: &Value) -> Result<(), PolicyAnswer>
     ensures read { IsReadOf (guarded_checks (view value.now)) tt result }
-    ensures few { OnOk result (length (guards_in (view value.now)) ≤ 16) }
+    ensures few { OnOk result (length (guards_in (view value.now)) ≤ MOST_GUARDS) }
 {
     let names = ["Grants", "Guards"];
     check_names(alloc, NOWHERE, &names, value)?;
@@ -126,7 +127,7 @@ fn read_guards(
 
 // Reads the documents of the grants, and then those of the guards.
 fn read_parts(alloc: Global, grants: &[Value], guards: &[Value]) -> Result<PolicySet, PolicyAnswer>
-    requires { length guards.now ≤ 16 }
+    requires { length guards.now ≤ MOST_GUARDS }
     ensures read { AreSetPartsRead (views grants.now) (views guards.now) result }
     ensures sound { IfOk result IsSound }
 {

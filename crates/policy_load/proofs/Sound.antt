@@ -11,6 +11,7 @@ use Rattle.wildcard_lang.specs.Reading.{literals}
 use Rattle.policy_model.specs.Operators.{IsOperandOf}
 use Rattle.policy_model.specs.Soundness.{ConditionIsSound, DocumentIsSound, EntryIsSound, IsSound, StatementIsSound}
 use Rattle.policy_load.proofs.Names.{key_is_folded}
+use Rattle.policy_load.specs.declared.keys.TheConstants.{KEY_NUMBERS}
 use Rattle.policy_load.specs.Loads.{first_load, load_condition, load_conditions, load_statement, of_one, second_load}
 
 none_sound : {X : Type 0} (P : X → Type 0) → All P []
@@ -26,14 +27,14 @@ IsTextOperand o = IsOperandOf Text o
 abbrev text_value : List ℕ → Operand
 text_value text = Pattern (literals false (chars text))
 
-condition_sound : (n : ℕ) → n < 1000 → ConditionIsSound (load_condition n)
+condition_sound : (n : ℕ) → n < KEY_NUMBERS → ConditionIsSound (load_condition n)
 condition_sound n lt = record {
   key = key_is_folded n lt;
   operator = λ e. (refl, refl);
   values = All-cons IsTextOperand (text_value (codes "a")) (text_value (codes "b") ∷ []) tt (one_sound IsTextOperand (text_value (codes "b")) tt);
 }
 
-conditions_sound : (n : ℕ) → n < 1000 → All ConditionIsSound (load_conditions n)
+conditions_sound : (n : ℕ) → n < KEY_NUMBERS → All ConditionIsSound (load_conditions n)
 conditions_sound zero lt = none_sound ConditionIsSound
 conditions_sound (suc n) lt =
     All-append ConditionIsSound _ _ (conditions_sound n (omega arith)) (one_sound ConditionIsSound (load_condition (suc n)) (condition_sound (suc n) lt))
@@ -46,7 +47,7 @@ statement_sound resource conditions sound = record {
   guarding = none_sound (All DocumentIsSound);
 }
 
-pub first_sound : (n : ℕ) → n < 1000 → IsSound (first_load n)
+pub first_sound : (n : ℕ) → n < KEY_NUMBERS → IsSound (first_load n)
 first_sound n lt = statement_sound _ (load_conditions n) (conditions_sound n lt)
 
 pub second_sound : IsSound second_load

@@ -13,7 +13,7 @@ use Rattle.policy_model.specs.declared.principal.Entry.TheVariants.{All}
 use Rattle.policy_model.specs.declared.set.Statement.{Statement}
 use Rattle.policy_model.specs.declared.set.PolicySet.{PolicySet}
 
--- the three decimal digits of a number below 1,000
+-- the decimal digits of a number of at most three
 abbrev pub three_digits : ℕ → List ℕ
 three_digits n = (48 + n / 100) ∷ (48 + n / 10 % 10) ∷ (48 + n % 10) ∷ []
 

@@ -1,5 +1,6 @@
 //! The keys, and what the first set asks of them.
 ghost use Rattle.std.specs.Prelude.{◌≡◌, ◌+◌, ◌++◌, ◌<◌, chars, IfOk, OnOk};
+ghost use Rattle.policy_load.specs.declared.keys.TheConstants.{KEY_NUMBERS};
 ghost use Rattle.policy_load.specs.Loads.{load_condition, load_conditions, load_key, load_values, three_digits};
 
 use crate::patterns::literal;
@@ -7,6 +8,9 @@ use plain_lists::{List, NoMemory};
 use policy_model::{Base, Condition, ConditionList, Operand, OperandList, Operator, Quantifier};
 use std::alloc::Global;
 use wildcard_lang::Text;
+
+/// How many numbers three digits write. The name of a key has three, so its number is below this.
+pub const KEY_NUMBERS: u32 = 1_000;
 
 // The decimal digit of a number below ten.
 fn digit(number: u32) -> char
@@ -27,7 +31,7 @@ fn chars_of(alloc: Global, text: &str) -> Result<Vec<char>, NoMemory>
 // Adds the three decimal digits of a number.
 #[tactic(auto, using(crate::proofs::Names::three_more))]
 fn push_digits(name: &mut Vec<char>, number: u32) -> Result<(), NoMemory>
-    requires { number < 1000 }
+    requires { number < KEY_NUMBERS }
     ensures { OnOk result (name.new.items ≡ name.old.items ++ three_digits number) }
 {
     name.push(digit(number / 100))?;
@@ -39,7 +43,7 @@ fn push_digits(name: &mut Vec<char>, number: u32) -> Result<(), NoMemory>
 // The name of the key of this number.
 #[tactic(auto, using(crate::proofs::Names::key_is_text))]
 fn load_key(alloc: Global, number: u32) -> Result<Text, NoMemory>
-    requires { number < 1000 }
+    requires { number < KEY_NUMBERS }
     ensures { IfOk result (λ key. key ≡ load_key number) }
 {
     let mut name = chars_of(alloc, "load:k")?;
@@ -59,7 +63,7 @@ fn load_values(alloc: Global) -> Result<OperandList, NoMemory>
 
 // The condition on the key of this number.
 fn load_condition(alloc: Global, number: u32) -> Result<Condition, NoMemory>
-    requires { number < 1000 }
+    requires { number < KEY_NUMBERS }
     ensures { IfOk result (λ condition. condition ≡ load_condition number) }
 {
     Ok(Condition {
@@ -76,7 +80,7 @@ fn load_condition(alloc: Global, number: u32) -> Result<Condition, NoMemory>
 
 /// The conditions on the keys of the numbers from 1 on, so many of them.
 pub(crate) fn load_conditions(alloc: Global, count: u32) -> Result<ConditionList, NoMemory>
-    requires { count < 1000 }
+    requires { count < KEY_NUMBERS }
     ensures { IfOk result (λ conditions. conditions ≡ load_conditions count) }
 {
     let mut conditions = List::new(alloc);

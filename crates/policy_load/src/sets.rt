@@ -1,6 +1,7 @@
 //! The two sets.
 ghost use Rattle.std.specs.Prelude.{◌≡◌, ◌<◌, List, [], ◌∷◌, IfOk};
 ghost use Rattle.policy_model.specs.Soundness.{IsSound};
+ghost use Rattle.policy_load.specs.declared.keys.TheConstants.{KEY_NUMBERS};
 ghost use Rattle.policy_load.specs.Loads.{any_of, first_load, load_statement, loads, of_one, second_load};
 
 use crate::keys::load_conditions;
@@ -53,7 +54,7 @@ fn of_one(alloc: Global, statement: Statement) -> Result<PolicySet, NoMemory>
 
 // The set with conditions.
 fn first_load(alloc: Global, count: u32) -> Result<PolicySet, NoMemory>
-    requires { count < 1000 }
+    requires { count < KEY_NUMBERS }
     ensures { IfOk result (λ set. set ≡ first_load count) }
 {
     let resource = glob(alloc, "arn:aws:s3:::load/x", false)?;
@@ -74,7 +75,7 @@ fn second_load(alloc: Global) -> Result<PolicySet, NoMemory>
 /// many keys, `load:k001`, `load:k002` and so on, each with the values `a` and `b`. That of the second
 /// allows it on each resource `arn:aws:s3:::load/*`, without a condition.
 pub fn load_pair(alloc: Global, count: u32) -> Result<(PolicySet, PolicySet), NoMemory>
-    requires { count < 1000 }
+    requires { count < KEY_NUMBERS }
     ensures value { IfOk result (λ pair. pair ≡ loads count) }
     ensures sound { IfOk result (λ pair. IsSound pair.0 × IsSound pair.1) }
 {

@@ -9,6 +9,7 @@ use Rattle.policy_model.specs.declared.principal.Entry.{Entry}
 use Rattle.policy_model.specs.declared.principal.Entry.TheVariants.{All, Kind, Account, Exact}
 use Rattle.policy_model.specs.declared.matcher.Matcher.{Matcher}
 use Rattle.wildcard_lang.specs.Patterns.{IsPattern}
+use Rattle.wildcard_lang.specs.declared.pattern.TheConstants.{MOST_PIECES}
 use Rattle.wildcard_lang.specs.declared.piece.Piece.{Piece}
 use Rattle.policy_model.specs.declared.value.Kind.TheVariants.{Text}
 use Rattle.policy_model.specs.declared.value.Value.{Value}
@@ -35,12 +36,12 @@ pub record IsAccount (account : List ℕ) : Type 0 where
   pub digits : Each IsAsciiDigit account
   pub count : length account ≡ ACCOUNT_DIGITS
 
--- an account is twelve digits, and an exact id has at most 2,048 characters
+-- an account is twelve digits, and an exact id has at most as many characters as a pattern has pieces
 abbrev pub EntryIsSound : Entry → Type 0
 EntryIsSound All = ⊤
 EntryIsSound (Kind kind) = ⊤
 EntryIsSound (Account account) = IsAccount account
-EntryIsSound (Exact kind id) = length id ≤ 2048
+EntryIsSound (Exact kind id) = length id ≤ MOST_PIECES
 
 abbrev pub PrincipalIsSound : Option (Matcher Entry) → Type 0
 PrincipalIsSound None = ⊤
@@ -72,9 +73,9 @@ pub record IsSound (set : PolicySet) : Type 0 where
   pub granting : Each DocumentIsSound set.grants
   pub guarding : Each (λ g. Each DocumentIsSound g) set.guards
 
--- a listed text has at most 2,048 characters
+-- a listed text has at most as many characters as a pattern has pieces
 abbrev pub IsShortValue : Value → Type 0
-IsShortValue (Word t) = length t ≤ 2048
+IsShortValue (Word t) = length t ≤ MOST_PIECES
 IsShortValue v = ⊤
 
 -- listed values: there is one, and each is of the kind

@@ -13,8 +13,6 @@ mod request;
 mod schema;
 mod set;
 mod test;
-#[cfg(test)]
-mod tests;
 mod validity;
 mod value;
 
@@ -37,5 +35,5 @@ pub use set::{
     Document, DocumentList, GuardList, PolicySet, Statement, StatementList, StatementName,
 };
 pub use test::{Slot, SlotList, Test, TestList, test_holds};
-pub use validity::{is_value_of, permits_values, shape_of, valid};
+pub use validity::{is_value_of, is_word, permits_values, shape_of, valid};
 pub use value::{Kind, Value, ValueList};

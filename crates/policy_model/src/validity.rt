@@ -23,7 +23,9 @@ fn fits_shape(shape: &Option<Pattern>, text: &Text) -> bool
     }
 }
 
-fn is_word(shape: &Option<Pattern>, text: &Text) -> bool
+/// Whether the text is a word of the shape: it isn't empty, and the shape, where one is given, accepts it.
+/// It takes no memory.
+pub fn is_word(shape: &Option<Pattern>, text: &Text) -> bool
     ensures { IsTrue result ↔ IsWord shape.now text.now }
 {
     !text.is_empty() && fits_shape(shape, text)

@@ -13,6 +13,7 @@ use Rattle.policy_model.specs.Soundness.{IsShortValue}
 use Rattle.request_schema.specs.SchemaRules.{are_few, are_of_kind, is_short, is_text_kind, value_of_kind, values_of_kind}
 use Rattle.request_schema.specs.ValueTexts.{value_written}
 use Rattle.request_schema.specs.declared.rules.TheConstants.{MOST_VALUES}
+use Rattle.wildcard_lang.specs.declared.pattern.TheConstants.{MOST_PIECES}
 
 pub and-both : (a b : Bool) → (a && b) ≡ true → (a ≡ true) × (b ≡ true)
 and-both true b e = (refl, e)
@@ -65,7 +66,7 @@ texts-short : (listed : List (List ℕ)) → list_all is_short listed ≡ true �
 texts-short [] short = All-nil IsShortValue
 texts-short (s ∷ rest) short =
     let both = and-both (is_short s) (list_all is_short rest) short in
-    All-cons IsShortValue (value.Word (chars s)) (values_of_kind kind.Text rest) (leb-true (length (chars s)) 2048 both.0) (texts-short rest both.1)
+    All-cons IsShortValue (value.Word (chars s)) (values_of_kind kind.Text rest) (leb-true (length (chars s)) MOST_PIECES both.0) (texts-short rest both.1)
 
 pub few-short : (k : Kind) (listed : List (List ℕ)) → are_few k listed ≡ true → All (IsOfKind k) (values_of_kind k listed) → All IsShortValue (values_of_kind k listed)
 few-short kind.Text listed few all = texts-short listed (and-both (nat_le (length listed) MOST_VALUES) (list_all is_short listed) few).1

@@ -6,6 +6,7 @@ use Rattle.serde_json.specs.Data.{Data}
 use Rattle.serde_json.specs.View.{view}
 use Rattle.policy_model.specs.Soundness.{StatementIsSound}
 use Rattle.policy_model.specs.declared.set.Statement.{Statement}
+use Rattle.policy_json.specs.declared.statement.TheConstants.{MOST_STATEMENTS}
 use Rattle.policy_json.specs.declared.location.Location.{Location}
 use Rattle.json_shapes.specs.Checks.{first_fault}
 use Rattle.policy_json.specs.Checks.{PolicyCheck}
@@ -27,9 +28,9 @@ next_of document statement in_set n m escapes all whole done left d ds is same_n
       values = split.values;
     }
 
--- a statement that passes its checks is one of the first 2,000
-statement_within : (location : Location) (in_set : ℕ) (escapes : Bool) (d : Data) → first_fault (statement_checks location in_set escapes d) ≡ None → in_set ≤ 2000
-statement_within location in_set escapes d e = leb-true in_set 2000 (front_passes-none (statement_checks location in_set escapes d) e)
+-- a statement that passes its checks is one of the first that a set may have
+statement_within : (location : Location) (in_set : ℕ) (escapes : Bool) (d : Data) → first_fault (statement_checks location in_set escapes d) ≡ None → in_set ≤ MOST_STATEMENTS
+statement_within location in_set escapes d e = leb-true in_set MOST_STATEMENTS (front_passes-none (statement_checks location in_set escapes d) e)
 
 pub returns-in_err-statement-clause-read : goal.returns-in_err-statement-clause-read
 returns-in_err-statement-clause-read c =
@@ -45,7 +46,7 @@ loop-value-preserved c =
     let here = next_of _ _ _ (c.len.result + 1) (c.args.before + c.len-in-loop-value.result + 1) _ _ _ _ _ _ _ left (omega arith) (omega arith) c.loop-value.invariant.reading in
     let pushed : c.push.new.self ≡ c.loop-value.statements ++ c.in_ok-statement.statement ∷ [] = c.in_ok-push.ensures.ok in
     let read = reads-next _ _ here c.in_ok-statement.ensures.read.0 c.in_ok-statement.ensures.read.1 pushed in
-    let few : c.args.before + c.len-in-loop-value.result + 1 ≤ 2000 = statement_within (record { document = c.args.document; statement = c.len.result + 1 }) _ c.args.escapes (view c.value-item.result) c.in_ok-statement.ensures.read.0 in
+    let few : c.args.before + c.len-in-loop-value.result + 1 ≤ MOST_STATEMENTS = statement_within (record { document = c.args.document; statement = c.len.result + 1 }) _ c.args.escapes (view c.value-item.result) c.in_ok-statement.ensures.read.0 in
     record {
       reading = subst (λ (k : ℕ). Reading (numbered_checks c.args.document 1 (c.args.before + 1) c.args.escapes (map view c.args.values.now)) (numbered_checks c.args.document (i + 1 + 1) k c.args.escapes (map view (drop (i + 1) c.args.values.now))) (map (statement_of c.args.escapes) (map view c.args.values.now)) c.push.new.self (map (statement_of c.args.escapes) (map view (drop (i + 1) c.args.values.now)))) (omega arith) read;
       count = ap length pushed ∙ length_push c.loop-value.statements c.in_ok-statement.statement ∙ omega arith;

@@ -1,6 +1,7 @@
 use Rattle.std.proofs.Common.{◌≡◌, ◌+◌, ◌≤◌, All, drop, length, map}
 use Rattle.serde_json.specs.View.{view}
 use Rattle.policy_model.specs.Soundness.{StatementIsSound}
+use Rattle.policy_json.specs.declared.statement.TheConstants.{MOST_STATEMENTS}
 use Rattle.policy_json.specs.Documents.{numbered_checks}
 use Rattle.policy_json.specs.Statements.{statement_of}
 use Rattle.policy_json.proofs.Lists.{Reading}
@@ -15,6 +16,6 @@ invariant-loop-value l = record {
       l.statements
       (map (statement_of l.fn.escapes) (map view (drop l.value-index l.values)));
   count : length l.statements ≡ l.value-index;
-  few : l.fn.before + length l.statements ≤ 2000;
+  few : l.fn.before + length l.statements ≤ MOST_STATEMENTS;
   sound : All StatementIsSound l.statements;
 }
