@@ -62,21 +62,21 @@ contradicted-reason cs path before test b r reason here none =
     let there : answer_of path test ≡ Some (not b) = subst (λ (x : Option ℕ). IsReason cs path before (test, not b) x) none reason in
     not-itself b (same_some b (not b) (sym here ∙ there))
 
-pub opposite-clause : (cs : List Clause) (path d : Answers) (r : List (Option ℕ)) (test place : ℕ) (found : Option ℕ) → HaveReasons cs path [] d r → IsOpposite test path d → IsAnsweredAt test place d →
-    found ≡ get_or r place None → found ≡ None → ⊥
-opposite-clause cs path d r test place found reasons (b, here, decided) answered read none =
-    contradicted-reason cs path (take place d) test b (get_or r place None) (reasons-at cs path [] d r place (test, not b) reasons (answered (not b) decided)) here (sym read ∙ none)
+pub opposite-clause : (cs : List Clause) (path d : Answers) (r : List (Option ℕ)) (test index : ℕ) (found : Option ℕ) → HaveReasons cs path [] d r → IsOpposite test path d → IsAnsweredAt test index d →
+    found ≡ get_or r index None → found ≡ None → ⊥
+opposite-clause cs path d r test index found reasons (b, here, decided) answered read none =
+    contradicted-reason cs path (take index d) test b (get_or r index None) (reasons-at cs path [] d r index (test, not b) reasons (answered (not b) decided)) here (sym read ∙ none)
 
-pub opposite-within : (path d : Answers) (test place : ℕ) → IsOpposite test path d → IsAnsweredAt test place d → place ≤ length d
-opposite-within path d test place (b, here, decided) answered =
-    let inside : place < length d = slice_get_within d place (test, not b) (answered (not b) decided) in omega arith
+pub opposite-within : (path d : Answers) (test index : ℕ) → IsOpposite test path d → IsAnsweredAt test index d → index ≤ length d
+opposite-within path d test index (b, here, decided) answered =
+    let inside : index < length d = slice_get_within d index (test, not b) (answered (not b) decided) in omega arith
 
 -- what was decided before it agrees with the path
-pub opposite-agrees : (path d : Answers) (test place : ℕ) → HasOthers test path d → answer_of (take place d) test ≡ None → Agree path (take place d)
-opposite-agrees path d test place others before v b c p q =
+pub opposite-agrees : (path d : Answers) (test index : ℕ) → HasOthers test path d → answer_of (take index d) test ≡ None → Agree path (take index d)
+opposite-agrees path d test index others before v b c p q =
     elim (cases_eq v test) [
-      | inl e ↦ let bad : None ≡ Some c = sym before ∙ sym (ap (λ (x : ℕ). answer_of (take place d) x) e) ∙ q in absurd (cc)
-      | inr ne ↦ same_some b c (sym (others v b ne p) ∙ take-answer d place v c q)
+      | inl e ↦ let bad : None ≡ Some c = sym before ∙ sym (ap (λ (x : ℕ). answer_of (take index d) x) e) ∙ q in absurd (cc)
+      | inr ne ↦ same_some b c (sym (others v b ne p) ∙ take-answer d index v c q)
     ]
 
 unit-refuted : (path before : Answers) (c : Clause) (test : ℕ) (b : Bool) → Agree path before → answer_of path test ≡ Some b → IsUnit before c (test, not b) → IsRefuted (path ++ before) c
@@ -86,13 +86,13 @@ unit-refuted path before c test b agree here u m k =
       | inr f ↦ false-behind path before m agree f
     ]
 
-pub opposite-refuted : (cs : List Clause) (path d : Answers) (r : List (Option ℕ)) (test place : ℕ) (found : Option ℕ) (n : ℕ) → HaveReasons cs path [] d r → HasOthers test path d → IsOpposite test path d →
-    answer_of (take place d) test ≡ None → IsAnsweredAt test place d → found ≡ get_or r place None → found ≡ Some n → IsRefutedAt cs (path ++ take place d) n
-opposite-refuted cs path d r test place found n reasons others (b, here, decided) before answered read some =
-    let reason : IsReason cs path (take place d) (test, not b) (Some n) =
-    subst (λ (x : Option ℕ). IsReason cs path (take place d) (test, not b) x) (sym read ∙ some) (reasons-at cs path [] d r place (test, not b) reasons (answered (not b) decided)) in
+pub opposite-refuted : (cs : List Clause) (path d : Answers) (r : List (Option ℕ)) (test index : ℕ) (found : Option ℕ) (n : ℕ) → HaveReasons cs path [] d r → HasOthers test path d → IsOpposite test path d →
+    answer_of (take index d) test ≡ None → IsAnsweredAt test index d → found ≡ get_or r index None → found ≡ Some n → IsRefutedAt cs (path ++ take index d) n
+opposite-refuted cs path d r test index found n reasons others (b, here, decided) before answered read some =
+    let reason : IsReason cs path (take index d) (test, not b) (Some n) =
+    subst (λ (x : Option ℕ). IsReason cs path (take index d) (test, not b) x) (sym read ∙ some) (reasons-at cs path [] d r index (test, not b) reasons (answered (not b) decided)) in
     let (c, there, u) = reason in
-    (c, there, unit-refuted path (take place d) c test b (opposite-agrees path d test place others before) here u)
+    (c, there, unit-refuted path (take index d) c test b (opposite-agrees path d test index others before) here u)
 
 -- ---- an answer that is followed
 

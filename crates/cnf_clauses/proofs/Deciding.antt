@@ -29,9 +29,9 @@ first-answer l rest v e = grind (arith, nat_tests)
 same_pair : (l : Literal) (v : ℕ) (b : Bool) → l.0 ≡ v → Some l.1 ≡ Some b → Some l ≡ Some (v, b)
 same_pair (n, c) v b e f = cc
 
--- a place where the variable stands, and stands nowhere before
-pub place-there : (d : Answers) (k v : ℕ) (dflt : Literal) → k < length d → answer_of (take k d) v ≡ None → (get_or d k dflt).0 ≡ v → IsAnsweredAt v k d
-place-there d k v dflt h before here b known =
+-- an index where the variable stands, and stands nowhere before
+pub index-there : (d : Answers) (k v : ℕ) (dflt : Literal) → k < length d → answer_of (take k d) v ≡ None → (get_or d k dflt).0 ≡ v → IsAnsweredAt v k d
+index-there d k v dflt h before here b known =
     let whole : d ≡ take k d ++ get_or d k dflt ∷ drop (k + 1) d = sym (take-append-drop k d) ∙ ap (λ (x : Answers). take k d ++ x) (drop_more d k dflt h) in
     let at : answer_of d v ≡ Some (get_or d k dflt).1 =
     ap (λ (x : Answers). answer_of x v) whole ∙ answer_of-rest (take k d) (get_or d k dflt ∷ drop (k + 1) d) v before ∙ first-answer (get_or d k dflt) (drop (k + 1) d) v here in
@@ -40,6 +40,6 @@ place-there d k v dflt h before here b known =
 single-none : (l : Literal) (v : ℕ) → (l.0 ≡ v → ⊥) → answer_of (l ∷ []) v ≡ None
 single-none l v ne = grind (arith, nat_tests)
 
-pub place-more : (d : Answers) (k v : ℕ) (dflt : Literal) → k < length d → answer_of (take k d) v ≡ None → ((get_or d k dflt).0 ≡ v → ⊥) → answer_of (take (k + 1) d) v ≡ None
-place-more d k v dflt h before apart =
+pub index-more : (d : Answers) (k v : ℕ) (dflt : Literal) → k < length d → answer_of (take k d) v ≡ None → ((get_or d k dflt).0 ≡ v → ⊥) → answer_of (take (k + 1) d) v ≡ None
+index-more d k v dflt h before apart =
     ap (λ (x : Answers). answer_of x v) (take_more d k dflt h) ∙ answer_of-rest (take k d) (get_or d k dflt ∷ []) v before ∙ single-none (get_or d k dflt) v apart

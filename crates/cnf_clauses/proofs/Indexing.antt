@@ -9,20 +9,20 @@ use Rattle.formula_tree.proofs.Laws.{cases_eq}
 use Rattle.cnf_clauses.specs.declared.index.Index.{Index}
 use Rattle.cnf_clauses.specs.Literals.{Clause, Literal}
 use Rattle.cnf_clauses.specs.Found.{IsOpen}
-use Rattle.cnf_clauses.specs.Indexes.{table_of, held_at, HasTwoLiterals, AreIndexed}
+use Rattle.cnf_clauses.specs.Indexes.{lists_at, held_at, HasTwoLiterals, AreIndexed}
 use Rattle.cnf_clauses.proofs.Scanning.{in_more}
 
--- a list with one more number, put back into its table
-pub number-kept : (old table : List (List ℕ)) (v : ℕ) (ns : List ℕ) (n : ℕ) → v < length table → ((w : ℕ) → get_or table w [] ≡ get_or old w []) → ns ≡ get_or table v ns →
-    (w i : ℕ) → Contains (get_or old w []) i → Contains (get_or (set table v (ns ++ n ∷ [])) w []) i
-number-kept old table v ns n room same read w i stands =
+-- a list with one more number, put back among its lists
+pub number-kept : (old lists : List (List ℕ)) (v : ℕ) (ns : List ℕ) (n : ℕ) → v < length lists → ((w : ℕ) → get_or lists w [] ≡ get_or old w []) → ns ≡ get_or lists v ns →
+    (w i : ℕ) → Contains (get_or old w []) i → Contains (get_or (set lists v (ns ++ n ∷ [])) w []) i
+number-kept old lists v ns n room same read w i stands =
     elim (cases_eq w v) [
       | inl here_now ↦
-          let held : get_or old w [] ≡ ns = sym (same w) ∙ ap (λ (x : ℕ). get_or table x []) here_now ∙ get_or_default table v [] ns room ∙ sym read in
+          let held : get_or old w [] ≡ ns = sym (same w) ∙ ap (λ (x : ℕ). get_or lists x []) here_now ∙ get_or_default lists v [] ns room ∙ sym read in
           let here : Contains ns i = subst (λ (x : List ℕ). Contains x i) held stands in
-          rw (here_now, get_or-set_same table v (ns ++ n ∷ []) [] room) (Contains-append_left ns (n ∷ []) i here)
+          rw (here_now, get_or-set_same lists v (ns ++ n ∷ []) [] room) (Contains-append_left ns (n ∷ []) i here)
       | inr ne ↦
-          let held : get_or old w [] ≡ get_or (set table v (ns ++ n ∷ [])) w [] = sym (same w) ∙ sym (get_or-set_other table v w (ns ++ n ∷ []) [] ne) in
+          let held : get_or old w [] ≡ get_or (set lists v (ns ++ n ∷ [])) w [] = sym (same w) ∙ sym (get_or-set_other lists v w (ns ++ n ∷ []) [] ne) in
           subst (λ (x : List ℕ). Contains x i) held stands
     ]
 
@@ -65,29 +65,29 @@ pub on_ok : {X E : Type 0} (r : Result X E) (P Q : Type 0) → (P → Q) → OnO
 on_ok (Ok x) P Q f h = f h
 on_ok (Err e) P Q f h = tt
 
--- one of two tables has changed
-yes-kept : (at_yes at_no more : List (List ℕ)) → ((v i : ℕ) → Contains (get_or at_yes v []) i → Contains (get_or more v []) i) → (b : Bool) (v i : ℕ) → Contains (get_or (table_of at_yes at_no b) v []) i → Contains (get_or (table_of more at_no b) v []) i
+-- the lists have changed at one of the two values
+yes-kept : (at_yes at_no more : List (List ℕ)) → ((v i : ℕ) → Contains (get_or at_yes v []) i → Contains (get_or more v []) i) → (b : Bool) (v i : ℕ) → Contains (get_or (lists_at at_yes at_no b) v []) i → Contains (get_or (lists_at more at_no b) v []) i
 yes-kept at_yes at_no more kept true v i h = kept v i h
 yes-kept at_yes at_no more kept false v i h = h
 
-no-kept : (at_yes at_no more : List (List ℕ)) → ((v i : ℕ) → Contains (get_or at_no v []) i → Contains (get_or more v []) i) → (b : Bool) (v i : ℕ) → Contains (get_or (table_of at_yes at_no b) v []) i → Contains (get_or (table_of at_yes more b) v []) i
+no-kept : (at_yes at_no more : List (List ℕ)) → ((v i : ℕ) → Contains (get_or at_no v []) i → Contains (get_or more v []) i) → (b : Bool) (v i : ℕ) → Contains (get_or (lists_at at_yes at_no b) v []) i → Contains (get_or (lists_at at_yes more b) v []) i
 no-kept at_yes at_no more kept true v i h = h
 no-kept at_yes at_no more kept false v i h = kept v i h
 
 pub literal-yes : {X E : Type 0} (r : Result X E) (at_yes at_no more : List (List ℕ)) → OnOk r ((v i : ℕ) → Contains (get_or at_yes v []) i → Contains (get_or more v []) i) →
-    OnOk r ((l : Literal) (i : ℕ) → Contains (get_or (table_of at_yes at_no l.1) l.0 []) i → Contains (get_or (table_of more at_no l.1) l.0 []) i)
+    OnOk r ((l : Literal) (i : ℕ) → Contains (get_or (lists_at at_yes at_no l.1) l.0 []) i → Contains (get_or (lists_at more at_no l.1) l.0 []) i)
 literal-yes r at_yes at_no more h = on_ok r _ _ (λ (kept : (v i : ℕ) → Contains (get_or at_yes v []) i → Contains (get_or more v []) i). λ l i n. yes-kept at_yes at_no more kept l.1 l.0 i n) h
 
 pub literal-no : {X E : Type 0} (r : Result X E) (at_yes at_no more : List (List ℕ)) → OnOk r ((v i : ℕ) → Contains (get_or at_no v []) i → Contains (get_or more v []) i) →
-    OnOk r ((l : Literal) (i : ℕ) → Contains (get_or (table_of at_yes at_no l.1) l.0 []) i → Contains (get_or (table_of at_yes more l.1) l.0 []) i)
+    OnOk r ((l : Literal) (i : ℕ) → Contains (get_or (lists_at at_yes at_no l.1) l.0 []) i → Contains (get_or (lists_at at_yes more l.1) l.0 []) i)
 literal-no r at_yes at_no more h = on_ok r _ _ (λ (kept : (v i : ℕ) → Contains (get_or at_no v []) i → Contains (get_or more v []) i). λ l i n. no-kept at_yes at_no more kept l.1 l.0 i n) h
 
-pub named-at : {X E : Type 0} (r : Result X E) (at_yes at_no : List (List ℕ)) (l : Literal) (b : Bool) (i : ℕ) → l.1 ≡ b → OnOk r (Contains (get_or (table_of at_yes at_no b) l.0 []) i) → OnOk r (Contains (get_or (table_of at_yes at_no l.1) l.0 []) i)
-named-at r at_yes at_no l b i e h = subst (λ (x : Bool). OnOk r (Contains (get_or (table_of at_yes at_no x) l.0 []) i)) (sym e) h
+pub named-at : {X E : Type 0} (r : Result X E) (at_yes at_no : List (List ℕ)) (l : Literal) (b : Bool) (i : ℕ) → l.1 ≡ b → OnOk r (Contains (get_or (lists_at at_yes at_no b) l.0 []) i) → OnOk r (Contains (get_or (lists_at at_yes at_no l.1) l.0 []) i)
+named-at r at_yes at_no l b i e h = subst (λ (x : Bool). OnOk r (Contains (get_or (lists_at at_yes at_no x) l.0 []) i)) (sym e) h
 
-pub names-at : (at_yes at_no : List (List ℕ)) (l : Literal) (b : Bool) (i : ℕ) (ps : List ℕ) → l.1 ≡ b → ps ≡ get_or (table_of at_yes at_no b) l.0 [] → Contains (get_or (table_of at_yes at_no l.1) l.0 []) i → Contains ps i
+pub names-at : (at_yes at_no : List (List ℕ)) (l : Literal) (b : Bool) (i : ℕ) (ps : List ℕ) → l.1 ≡ b → ps ≡ get_or (lists_at at_yes at_no b) l.0 [] → Contains (get_or (lists_at at_yes at_no l.1) l.0 []) i → Contains ps i
 names-at at_yes at_no l b i ps e f h =
-    let here : Contains (get_or (table_of at_yes at_no b) l.0 []) i = subst (λ (x : Bool). Contains (get_or (table_of at_yes at_no x) l.0 []) i) e h in
+    let here : Contains (get_or (lists_at at_yes at_no b) l.0 []) i = subst (λ (x : Bool). Contains (get_or (lists_at at_yes at_no x) l.0 []) i) e h in
     subst (λ (x : List ℕ). Contains x i) (sym f) here
 
 pub indexed-none : (clauses : List Clause) (index : Index) → AreIndexed clauses index 0
@@ -96,7 +96,7 @@ indexed-none clauses index = record { held = λ i c l h found stands. absurd (om
 pub indexed-step : (clauses : List Clause) (before mid after : Index) (k : ℕ) (c lits : Clause) → c ≡ get_or clauses k c → lits ≡ c → AreIndexed clauses before k →
     ((m : Literal) → Contains lits m → Contains (held_at mid m) k) → ((m : Literal) (i : ℕ) → Contains (held_at before m) i → Contains (held_at mid m) i) → mid.short ≡ before.short →
     HasTwoLiterals lits ⊎ Contains after.short k → ((i : ℕ) → Contains mid.short i → Contains after.short i) → ((l : Literal) → held_at after l ≡ held_at mid l) → AreIndexed clauses after (k + 1)
-indexed-step clauses before mid after k c lits read same old named kept kept_short short more_short tables =
+indexed-step clauses before mid after k c lits read same old named kept kept_short short more_short lists =
     indexed-more clauses before after k c read old
-    (λ m h. rw (tables m) (named m (rw same h))) (λ m i h. rw (tables m) (kept m i h))
+    (λ m h. rw (lists m) (named m (rw same h))) (λ m i h. rw (lists m) (kept m i h))
     (rw same at short) (λ i h. more_short i (rw kept_short h))

@@ -13,7 +13,7 @@ use Rattle.cnf_clauses.proofs.Extending.{take-answer}
 use Rattle.cnf_clauses.proofs.Reasons.{reasons-at}
 use Rattle.cnf_clauses.proofs.Settling.{cases_option}
 
--- the literal at the place comes last
+-- the literal at the index comes last
 pub known-more : (path d : Answers) (i : ℕ) (l : Literal) → slice_get d i ≡ Some l → path ++ take (i + 1) d ≡ (path ++ take i d) ++ l ∷ []
 known-more path d i l there =
     let room : i < length d = slice_get_within d i l there in

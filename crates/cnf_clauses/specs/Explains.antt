@@ -5,7 +5,7 @@ use Rattle.cnf_clauses.specs.Literals.{Clause, Literal, IsRefuted}
 use Rattle.cnf_clauses.specs.Replays.{Replays}
 use Rattle.cnf_clauses.specs.declared.explaining.Traced.{Traced}
 
--- a table marks the variable
+-- the variable is marked
 abbrev pub IsNeeded : List Bool → ℕ → Type 0
 IsNeeded needed v = slice_index_or needed v false ≡ true
 
@@ -47,7 +47,7 @@ pub record IsTraced (clauses : List Clause) (old : Traced) (n : ℕ) (new : Trac
   pub hints : new.hints.items ≡ old.hints.items ++ n ∷ []
   pub needs : (c : Clause) → slice_get clauses n ≡ Some c → NeedsAlso c old.needed.items new.needed.items
 
--- the tables mark the same variables
+-- the same variables are marked
 abbrev pub HasSameMarks : List Bool → List Bool → Type 0
 HasSameMarks old new = (v : ℕ) → slice_index_or new v false ≡ slice_index_or old v false
 
@@ -55,9 +55,9 @@ HasSameMarks old new = (v : ℕ) → slice_index_or new v false ≡ slice_index_
 abbrev pub Agree : Answers → Answers → Type 0
 Agree first second = (v : ℕ) (b c : Bool) → answer_of first v ≡ Some b → answer_of second v ≡ Some c → b ≡ c
 
--- where the variable is decided at all, it is so at the place
+-- where the variable is decided at all, it is so at the index
 abbrev pub IsAnsweredAt : ℕ → ℕ → Answers → Type 0
-IsAnsweredAt v place decided = (b : Bool) → answer_of decided v ≡ Some b → slice_get decided place ≡ Some (v, b)
+IsAnsweredAt v index decided = (b : Bool) → answer_of decided v ≡ Some b → slice_get decided index ≡ Some (v, b)
 
 -- the clause of the number is refuted
 abbrev pub IsRefutedAt : List Clause → Answers → ℕ → Type 0

@@ -3,14 +3,14 @@ use Rattle.std.specs.Prelude.{◌≡◌, ◌<◌, ℕ, List, [], Bool, true, fal
 use Rattle.cnf_clauses.specs.declared.index.Index.{Index}
 use Rattle.cnf_clauses.specs.Literals.{Clause, Literal}
 
--- the table for literals that are true at the value
-abbrev pub table_of : List (List ℕ) → List (List ℕ) → Bool → List (List ℕ)
-table_of at_yes at_no true = at_yes
-table_of at_yes at_no false = at_no
+-- the lists of the literals that are true at the value
+abbrev pub lists_at : List (List ℕ) → List (List ℕ) → Bool → List (List ℕ)
+lists_at at_yes at_no true = at_yes
+lists_at at_yes at_no false = at_no
 
 -- the clauses in which the literal stands
 abbrev pub held_at : Index → Literal → List ℕ
-held_at index l = slice_index_or (table_of index.yes.items index.no.items l.1) l.0 []
+held_at index l = slice_index_or (lists_at index.yes.items index.no.items l.1) l.0 []
 
 abbrev pub HasTwoLiterals : Clause → Type 0
 HasTwoLiterals c = (m : Literal) × (n : Literal) × Contains c m × Contains c n × (m ≡ n → ⊥)
@@ -21,7 +21,7 @@ pub record AreIndexed (clauses : List Clause) (index : Index) (upto : ℕ) : Typ
       Contains (held_at index l) i
   pub short : (i : ℕ) (c : Clause) → i < upto → slice_get clauses i ≡ Some c → HasTwoLiterals c ⊎ Contains index.short i
 
--- the table has the same list for each variable
+-- there is the same list for each variable
 abbrev pub HasSameLists : List (List ℕ) → List (List ℕ) → Type 0
 HasSameLists old new = (n : ℕ) → slice_index_or new n [] ≡ slice_index_or old n []
 

@@ -79,12 +79,12 @@ impl Clauses {
     }
 }
 
-fn numbers_at(table: &Vec<List<u32>>, variable: u32) -> &[u32]
-    ensures { result.now ≡ slice_index_or table.now.items variable [] }
+fn numbers_at(lists: &Vec<List<u32>>, variable: u32) -> &[u32]
+    ensures { result.now ≡ slice_index_or lists.now.items variable [] }
 {
     let variable = variable as usize;
-    if variable < table.len() {
-        table[variable].as_slice()
+    if variable < lists.len() {
+        lists[variable].as_slice()
     } else {
         &[]
     }

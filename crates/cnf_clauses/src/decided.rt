@@ -64,11 +64,11 @@ impl Decided {
     }
 
     // Where a variable was decided, or how many were decided where it wasn't.
-    pub(crate) fn place_of(&self, variable: u32) -> usize
+    pub(crate) fn index_of(&self, variable: u32) -> usize
         ensures before { answer_of (take result self.now) variable ≡ None }
         ensures there { IsAnsweredAt variable result self.now }
     {
-        first_place(self.answers.as_slice(), variable)
+        first_index(self.answers.as_slice(), variable)
     }
 
     pub(crate) fn value(&self, variable: u32) -> Option<bool>
@@ -93,13 +93,13 @@ impl Decided {
     }
 }
 
-fn first_place(literals: &[(u32, bool)], variable: u32) -> usize
+fn first_index(literals: &[(u32, bool)], variable: u32) -> usize
     ensures before { answer_of (take result literals.now) variable ≡ None }
     ensures there { IsAnsweredAt variable result literals.now }
 {
-    'places: for (place, literal) in literals.iter().enumerate() {
+    'literals: for (index, literal) in literals.iter().enumerate() {
         if literal.0 == variable {
-            return place;
+            return index;
         }
     }
     literals.len()

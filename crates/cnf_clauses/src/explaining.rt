@@ -20,7 +20,7 @@ pub(crate) struct Traced {
     pub(crate) hints: Vec<u32>,
 }
 
-// Makes the table long enough for the variable. What it adds isn't needed.
+// Adds marks until there is one for the variable. What it adds isn't needed.
 fn make_room(needed: &mut Vec<bool>, variable: u32) -> Result<(), NoMemory>
     ensures same { HasSameMarks needed.old.items needed.new.items }
     ensures room { OnOk result (variable < length needed.new.items) }
@@ -69,10 +69,10 @@ fn trace(clauses: &Clauses, traced: &mut Traced, number: u32) -> Result<(), NoMe
     Ok(())
 }
 
-pub(crate) fn reason_at(reasons: &Vec<Option<u32>>, place: usize) -> Option<u32>
-    ensures { result ≡ slice_index_or reasons.now.items place None }
+pub(crate) fn reason_at(reasons: &Vec<Option<u32>>, index: usize) -> Option<u32>
+    ensures { result ≡ slice_index_or reasons.now.items index None }
 {
-    match reasons.as_slice().get(place) {
+    match reasons.as_slice().get(index) {
         Some(reason) => *reason,
         None => None,
     }
@@ -118,16 +118,16 @@ fn trace_step(
     path: &Path,
     trail: &Trail,
     traced: &mut Traced,
-    place: usize,
+    index: usize,
 ) -> Result<(), NoMemory>
     requires reasons { HasReasons clauses.now path.now trail.now }
-    requires within { place < length trail.now.decided }
-    requires agree { Agree path.now (take place trail.now.decided) }
-    requires later { ExplainsAt clauses.now path.now trail.now.decided (place + 1) traced.old }
-    ensures { OnOk result (ExplainsAt clauses.now path.now trail.now.decided place traced.new) }
+    requires within { index < length trail.now.decided }
+    requires agree { Agree path.now (take index trail.now.decided) }
+    requires later { ExplainsAt clauses.now path.now trail.now.decided (index + 1) traced.old }
+    ensures { OnOk result (ExplainsAt clauses.now path.now trail.now.decided index traced.new) }
 {
-    let literal = trail.decided.at(place);
-    let reason = reason_at(&trail.reasons, place);
+    let literal = trail.decided.at(index);
+    let reason = reason_at(&trail.reasons, index);
     match needed_reason(path, &traced.needed, literal, reason) {
         Some(number) => trace(clauses, traced, number),
         None => Ok(()),

@@ -134,9 +134,9 @@ fn contradicted(
     requires opposite { IsOpposite test path.now trail.now.decided }
     ensures { IfOk result (IsConflictAt clauses.now path.now) }
 {
-    let place = trail.decided.place_of(test);
-    match reason_at(&trail.reasons, place) {
-        Some(number) => explain(alloc, clauses, path, trail, place, number),
+    let index = trail.decided.index_of(test);
+    match reason_at(&trail.reasons, index) {
+        Some(number) => explain(alloc, clauses, path, trail, index, number),
         None => unreachable!(),
     }
 }

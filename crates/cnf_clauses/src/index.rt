@@ -18,28 +18,28 @@ pub(crate) struct Index {
     pub(crate) short: List<u32>,
 }
 
-// Makes the table long enough to have a list for the variable. What it adds is empty.
-fn make_room(alloc: Global, table: &mut Vec<List<u32>>, variable: u32) -> Result<(), NoMemory>
-    ensures same { HasSameLists table.old.items table.new.items }
-    ensures room { OnOk result (variable < length table.new.items) }
+// Adds empty lists until there is one for the variable.
+fn make_room(alloc: Global, lists: &mut Vec<List<u32>>, variable: u32) -> Result<(), NoMemory>
+    ensures same { HasSameLists lists.old.items lists.new.items }
+    ensures room { OnOk result (variable < length lists.new.items) }
 {
-    'room: for _ in table.len()..variable as usize + 1 {
-        table.push(List::new(alloc))?;
+    'room: for _ in lists.len()..variable as usize + 1 {
+        lists.push(List::new(alloc))?;
     }
     Ok(())
 }
 
 fn add_number(
     alloc: Global,
-    table: &mut Vec<List<u32>>,
+    lists: &mut Vec<List<u32>>,
     variable: u32,
     number: u32,
 ) -> Result<(), NoMemory>
-    ensures named { OnOk result (Contains (slice_index_or table.new.items variable []) number) }
-    ensures kept { OnOk result (KeepsNumbers table.old.items table.new.items) }
+    ensures named { OnOk result (Contains (slice_index_or lists.new.items variable []) number) }
+    ensures kept { OnOk result (KeepsNumbers lists.old.items lists.new.items) }
 {
-    make_room(alloc, table, variable)?;
-    let list = &mut table[variable as usize];
+    make_room(alloc, lists, variable)?;
+    let list = &mut lists[variable as usize];
     list.push(number)?;
     Ok(())
 }
@@ -87,7 +87,7 @@ fn add_short(
     requires { nothing.now ≡ [] }
     ensures noted { OnOk result (HasTwoLiterals literals.now ⊎ Contains index.new.short number) }
     ensures kept { OnOk result ((i : ℕ) → Contains index.old.short i → Contains index.new.short i) }
-    ensures tables { (l : ℕ × Bool) → held_at index.new l ≡ held_at index.old l }
+    ensures lists { (l : ℕ × Bool) → held_at index.new l ≡ held_at index.old l }
 {
     match look(nothing, literals) {
         Found::Open => Ok(()),

@@ -23,6 +23,3 @@ pub use numbering::clauses_of;
 pub use plain_lists::NoMemory;
 pub use propagation::conflict;
 pub use replaying::replay;
-
-#[cfg(test)]
-mod tests;

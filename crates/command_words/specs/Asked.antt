@@ -8,13 +8,13 @@ use Rattle.std.specs.Str.{bytes_eq}
 use Rattle.std.specs.Str.Parse.{digits_value, without_leading_plus}
 use Rattle.clap.specs.Words.{App, Kinds, Row, Text, all_of, fault_of, first_of, matches_of, one_of}
 use Rattle.command_words.specs.Forms.{check_form, compare_form, eval_form, load_form, summary_form}
-use Rattle.command_words.specs.declared.asked.CheckWords.{CheckWords}
+use Rattle.command_words.specs.declared.asked.CheckArguments.{CheckArguments}
 use Rattle.command_words.specs.declared.asked.Command.{Command}
 use Rattle.command_words.specs.declared.asked.Command.TheVariants.{Compare, Check, Summary, Eval, Load}
-use Rattle.command_words.specs.declared.asked.CompareWords.{CompareWords}
-use Rattle.command_words.specs.declared.asked.EvalWords.{EvalWords}
+use Rattle.command_words.specs.declared.asked.CompareArguments.{CompareArguments}
+use Rattle.command_words.specs.declared.asked.EvalArguments.{EvalArguments}
 use Rattle.command_words.specs.declared.asked.FileNames.{FileNames}
-use Rattle.command_words.specs.declared.asked.SummaryWords.{SummaryWords}
+use Rattle.command_words.specs.declared.asked.SummaryArguments.{SummaryArguments}
 use Rattle.command_words.specs.declared.limits.TheConstants.{MOST_SPLITS, MOST_STATES, DEFAULT_SPLITS, DEFAULT_STATES}
 use Rattle.command_words.specs.declared.limits.TheConstants.{MOST_FINDINGS, DEFAULT_FINDINGS, MOST_KEYS, MOST_DIMENSIONS}
 
@@ -57,7 +57,7 @@ pub data Asked : Type 0 where
   a_check : Checking → Asked
   a_summary : Summarising → Asked
   an_evaluation : Evaluating → Asked
-  -- the jobs on two sets of so many keys
+  -- the comparisons and the summary of two sets of so many keys
   a_load : ℕ → Asked
 
 -- ---- the same, of owned names
@@ -69,7 +69,7 @@ names_in n = record {
   schema = option_map (λ name. string_bytes name) n.schema;
 }
 
-abbrev pub comparing_in : CompareWords → Comparing
+abbrev pub comparing_in : CompareArguments → Comparing
 comparing_in c = record {
   names = names_in c.names;
   splits = c.splits;
@@ -77,14 +77,14 @@ comparing_in c = record {
   certified = c.certified;
 }
 
-abbrev pub checking_in : CheckWords → Checking
+abbrev pub checking_in : CheckArguments → Checking
 checking_in c = record { names = names_in c.names; proof = string_bytes c.proof }
 
 -- the texts of the words
 abbrev pub texts_in : {Z : Type 0} → List (String Z) → List Text
 texts_in words = map (λ word. string_bytes word) words
 
-abbrev pub summarising_in : SummaryWords → Summarising
+abbrev pub summarising_in : SummaryArguments → Summarising
 summarising_in s = record {
   set = string_bytes s.set;
   dimensions = texts_in s.dimensions.items;
@@ -94,7 +94,7 @@ summarising_in s = record {
   findings = s.findings;
 }
 
-abbrev pub evaluating_in : EvalWords → Evaluating
+abbrev pub evaluating_in : EvalArguments → Evaluating
 evaluating_in e = record {
   set = string_bytes e.set;
   request = string_bytes e.request;
@@ -130,11 +130,11 @@ are_dimensions names = not (nat_lt MOST_DIMENSIONS (length names)) && are_distin
 -- ---- ranges
 
 -- the numbers of a comparison lie in their ranges
-abbrev pub HasNumbersInRange : CompareWords → Type 0
+abbrev pub HasNumbersInRange : CompareArguments → Type 0
 HasNumbersInRange c = (1 ≤ c.splits) × (c.splits ≤ MOST_SPLITS) × (1 ≤ c.states) × (c.states ≤ MOST_STATES)
 
 -- the numbers of a summary lie in their ranges
-abbrev pub HasBudgetsInRange : SummaryWords → Type 0
+abbrev pub HasBudgetsInRange : SummaryArguments → Type 0
 HasBudgetsInRange s = (1 ≤ s.splits) × (s.splits ≤ MOST_SPLITS) × (1 ≤ s.states) × (s.states ≤ MOST_STATES)
     × (1 ≤ s.findings) × (s.findings ≤ MOST_FINDINGS)
 

@@ -11,7 +11,7 @@ pub struct FileNames {
 /// What `compare` is asked: the names, the splits and the product states that the search may need, and
 /// whether a certificate is wanted.
 #[derive(Drop)]
-pub struct CompareWords {
+pub struct CompareArguments {
     pub names: FileNames,
     pub splits: u32,
     pub states: u32,
@@ -20,7 +20,7 @@ pub struct CompareWords {
 
 /// What `check` is asked: the names, and that of the certificate.
 #[derive(Drop)]
-pub struct CheckWords {
+pub struct CheckArguments {
     pub names: FileNames,
     pub proof: String,
 }
@@ -28,7 +28,7 @@ pub struct CheckWords {
 /// What `eval` is asked: the names of the files of a set and of a request, and that of a schema where
 /// one is named.
 #[derive(Drop)]
-pub struct EvalWords {
+pub struct EvalArguments {
     pub set: String,
     pub request: String,
     pub schema: Option<String>,
@@ -38,7 +38,7 @@ pub struct EvalWords {
 /// dimensions, at most four, none of which is another one but for the case of ASCII letters; and the splits,
 /// the product states and the findings that it may need.
 #[derive(Drop)]
-pub struct SummaryWords {
+pub struct SummaryArguments {
     pub set: String,
     pub dimensions: Vec<String>,
     pub schema: Option<String>,
@@ -50,10 +50,10 @@ pub struct SummaryWords {
 /// One of the commands.
 #[derive(Drop)]
 pub enum Command {
-    Compare(CompareWords),
-    Check(CheckWords),
-    Summary(SummaryWords),
-    Eval(EvalWords),
+    Compare(CompareArguments),
+    Check(CheckArguments),
+    Summary(SummaryArguments),
+    Eval(EvalArguments),
     /// The number of keys.
     Load(u32),
 }

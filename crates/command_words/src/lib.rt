@@ -9,7 +9,9 @@ mod limits;
 mod parsing;
 mod reading;
 
-pub use asked::{CheckWords, Command, CompareWords, EvalWords, FileNames, SummaryWords};
+pub use asked::{
+    CheckArguments, Command, CompareArguments, EvalArguments, FileNames, SummaryArguments,
+};
 pub use limits::{
     DEFAULT_FINDINGS, DEFAULT_SPLITS, DEFAULT_STATES, MOST_DIMENSIONS, MOST_FINDINGS, MOST_KEYS,
     MOST_SPLITS, MOST_STATES,

@@ -9,7 +9,9 @@ ghost use Rattle.command_words.specs.Asked.{evaluating_in, evaluation_of, load_c
 ghost use Rattle.command_words.specs.Asked.{summarising_in, summarising_of, summary_command, summary_of, texts_in};
 ghost use Rattle.command_words.specs.Parsing.{HasNumberUpTo};
 
-use crate::asked::{CheckWords, Command, CompareWords, EvalWords, FileNames, SummaryWords};
+use crate::asked::{
+    CheckArguments, Command, CompareArguments, EvalArguments, FileNames, SummaryArguments,
+};
 use crate::dimensions::are_dimensions;
 use crate::forms::{check_form, compare_form, eval_form, load_form, summary_form};
 use crate::limits::{
@@ -32,14 +34,14 @@ fn names_in(alloc: Global, matches: &ArgMatches) -> Result<FileNames, NoMemory>
 }
 
 // What the matches of `compare` ask.
-fn comparison_in(alloc: Global, matches: &ArgMatches) -> Result<CompareWords, NoMemory>
+fn comparison_in(alloc: Global, matches: &ArgMatches) -> Result<CompareArguments, NoMemory>
     requires splits { HasNumberUpTo (found_of matches.now) (codes "splits") MOST_SPLITS }
     requires states { HasNumberUpTo (found_of matches.now) (codes "states") MOST_STATES }
     ensures value { IfOk result (λ c. a_comparison (comparing_in c)
         ≡ comparison_of (rows_of (found_of matches.now))) }
     ensures within { IfOk result HasNumbersInRange }
 {
-    Ok(CompareWords {
+    Ok(CompareArguments {
         names: names_in(alloc, matches)?,
         splits: number_or(matches, "splits", MOST_SPLITS, DEFAULT_SPLITS),
         states: number_or(matches, "states", MOST_STATES, DEFAULT_STATES),
@@ -60,11 +62,11 @@ fn read_compare(alloc: Global, words: &[String]) -> Result<Option<Command>, NoMe
 }
 
 // What the matches of `check` ask.
-fn check_in(alloc: Global, matches: &ArgMatches) -> Result<CheckWords, NoMemory>
+fn check_in(alloc: Global, matches: &ArgMatches) -> Result<CheckArguments, NoMemory>
     ensures { IfOk result
         (λ c. a_check (checking_in c) ≡ check_of (rows_of (found_of matches.now))) }
 {
-    Ok(CheckWords {
+    Ok(CheckArguments {
         names: names_in(alloc, matches)?,
         proof: name_at(alloc, matches, "proof")?,
     })
@@ -83,7 +85,7 @@ fn read_check(alloc: Global, words: &[String]) -> Result<Option<Command>, NoMemo
 }
 
 // The names and the budgets of the matches of `summary`.
-fn summary_words(alloc: Global, matches: &ArgMatches) -> Result<SummaryWords, NoMemory>
+fn summary_arguments(alloc: Global, matches: &ArgMatches) -> Result<SummaryArguments, NoMemory>
     requires splits { HasNumberUpTo (found_of matches.now) (codes "splits") MOST_SPLITS }
     requires states { HasNumberUpTo (found_of matches.now) (codes "states") MOST_STATES }
     requires findings { HasNumberUpTo (found_of matches.now) (codes "findings") MOST_FINDINGS }
@@ -91,7 +93,7 @@ fn summary_words(alloc: Global, matches: &ArgMatches) -> Result<SummaryWords, No
         (λ s. summarising_in s ≡ summarising_of (rows_of (found_of matches.now))) }
     ensures within { IfOk result HasBudgetsInRange }
 {
-    Ok(SummaryWords {
+    Ok(SummaryArguments {
         set: name_at(alloc, matches, "set")?,
         dimensions: names_at(alloc, matches, "dimension")?,
         schema: file_of(alloc, matches, "schema")?,
@@ -110,7 +112,7 @@ fn summary_in(alloc: Global, matches: &ArgMatches) -> Result<Option<Command>, No
         ≡ summary_of (rows_of (found_of matches.now))) }
     ensures within { IfOk result (λ c. IfSome c IsInRange) }
 {
-    let asked = summary_words(alloc, matches)?;
+    let asked = summary_arguments(alloc, matches)?;
     if are_dimensions(alloc, asked.dimensions.as_slice())? {
         Ok(Some(Command::Summary(asked)))
     } else {
@@ -132,11 +134,11 @@ fn read_summary(alloc: Global, words: &[String]) -> Result<Option<Command>, NoMe
 }
 
 // What the matches of `eval` ask.
-fn evaluation_in(alloc: Global, matches: &ArgMatches) -> Result<EvalWords, NoMemory>
+fn evaluation_in(alloc: Global, matches: &ArgMatches) -> Result<EvalArguments, NoMemory>
     ensures { IfOk result (λ e. an_evaluation (evaluating_in e)
         ≡ evaluation_of (rows_of (found_of matches.now))) }
 {
-    Ok(EvalWords {
+    Ok(EvalArguments {
         set: name_at(alloc, matches, "set")?,
         request: name_at(alloc, matches, "request")?,
         schema: file_of(alloc, matches, "schema")?,

@@ -18,7 +18,7 @@ use Rattle.refute_check.specs.Laws.{IsMetBy, NoneMeets}
 use Rattle.strata.specs.declared.stratum.Strata.{Strata}
 use Rattle.strata.specs.declared.stratum.Stratum.{Stratum}
 use Rattle.findings.specs.declared.walk.Walk.{Walk}
-use Rattle.findings.specs.Answers.{tree_asked}
+use Rattle.policy_compile.specs.Queries.{asked_tree}
 use Rattle.findings.specs.Asked.{HoldsForOwn}
 use Rattle.findings.specs.Findings.{IsIrreducible, IsOwn}
 use Rattle.findings.specs.Queries.{AreMadeFor}
@@ -55,10 +55,10 @@ some-answers r (t ∷ ts) deny = some-answers r ts (λ answers says. classical {
 
 -- ---- what the answer to a finding's query says
 
-pub met-own : (schema : Schema) (set : PolicySet) (base : Query) (strata : Strata) (f : List ℕ) (q : Query) (r : Request) → AreMadeFor schema set base strata → HoldsForOwn base strata f q → IsMetBy schema q.tests (tree_asked q) [] r → IsOwn schema set strata.dimensions f r
+pub met-own : (schema : Schema) (set : PolicySet) (base : Query) (strata : Strata) (f : List ℕ) (q : Query) (r : Request) → AreMadeFor schema set base strata → HoldsForOwn base strata f q → IsMetBy schema q.tests (asked_tree q) [] r → IsOwn schema set strata.dimensions f r
 met-own schema set base strata f q r made own met = (own schema set made r met.meets.0 met.valid met.meets.1).0 met.meets.2
 
-pub none-own : (schema : Schema) (set : PolicySet) (base : Query) (strata : Strata) (f : List ℕ) (q : Query) → AreMadeFor schema set base strata → HoldsForOwn base strata f q → NoneMeets schema q.tests (tree_asked q) [] → ¬ IsIrreducible schema set strata.dimensions f
+pub none-own : (schema : Schema) (set : PolicySet) (base : Query) (strata : Strata) (f : List ℕ) (q : Query) → AreMadeFor schema set base strata → HoldsForOwn base strata f q → NoneMeets schema q.tests (asked_tree q) [] → ¬ IsIrreducible schema set strata.dimensions f
 none-own schema set base strata f q made own none irreducible =
     let r = irreducible.0 in
     some-answers r q.tests (λ answers says. none r (record {

@@ -16,7 +16,7 @@ use Rattle.policy_compile.specs.declared.outcome.Query.{Query}
 use Rattle.policy_compile.specs.Numbering.{AreNumbered, Collects, IsNumbered, again, anew, nothing, numbered_all, numbered_ask, numbered_more, numbered_none, numbered_not, numbered_one_of, numbered_yes}
 use Rattle.policy_compile.specs.Plans.{Plan, Plans, all, ask, more, none, not, of_plans, one_of, tests_in, tests_in_each, yes}
 use Rattle.strata.specs.declared.stratum.Stratum.{Stratum}
-use Rattle.findings.specs.Asked.{AreAsked, AsksBase, AsksOwn, HasTestNumber, IsAsked, IsTableOf, no_finer_plan}
+use Rattle.findings.specs.Asked.{AreAsked, AreNumbersOf, AsksBase, AsksOwn, HasTestNumber, IsAsked, no_finer_plan}
 use Rattle.findings.specs.Queries.{finding_plan, own_plans, plan_or_yes}
 use Rattle.findings.specs.Renumbering.{renumbered, renumbered_each}
 use Rattle.std.proofs.Common.{rules}
@@ -172,48 +172,48 @@ asked-next a b c ps p before mid after t first second grows =
 -- ---- the base
 
 mutual
-  renumber-numbered : (old new tests : List Test) (table : List ℕ) → IsTableOf old new tests table → (p : Plan) (t : Tree) → IsNumbered tests p t → IsNumbered new p (renumbered table t)
-  renumber-numbered old new tests table is yes tree.yes numbered_yes = numbered_yes
-  renumber-numbered old new tests table is (ask u) (tree.test n) (numbered_ask at) = numbered_ask (is.each n u at)
-  renumber-numbered old new tests table is (not p) (tree.not t) (numbered_not h) = numbered_not (renumber-numbered old new tests table is p t h)
-  renumber-numbered old new tests table is (all ps) (tree.all ts) (numbered_all h) = numbered_all (renumber-all old new tests table is ps ts h)
-  renumber-numbered old new tests table is (one_of ps) (tree.one_of ts) (numbered_one_of h) = numbered_one_of (renumber-all old new tests table is ps ts h)
-  renumber-numbered old new tests table is yes tree.no x = elim x [ ]
-  renumber-numbered old new tests table is yes (tree.test n) x = elim x [ ]
-  renumber-numbered old new tests table is yes (tree.not t) x = elim x [ ]
-  renumber-numbered old new tests table is yes (tree.all ts) x = elim x [ ]
-  renumber-numbered old new tests table is yes (tree.one_of ts) x = elim x [ ]
-  renumber-numbered old new tests table is (ask u) tree.yes x = elim x [ ]
-  renumber-numbered old new tests table is (ask u) tree.no x = elim x [ ]
-  renumber-numbered old new tests table is (ask u) (tree.not t) x = elim x [ ]
-  renumber-numbered old new tests table is (ask u) (tree.all ts) x = elim x [ ]
-  renumber-numbered old new tests table is (ask u) (tree.one_of ts) x = elim x [ ]
-  renumber-numbered old new tests table is (not p) tree.yes x = elim x [ ]
-  renumber-numbered old new tests table is (not p) tree.no x = elim x [ ]
-  renumber-numbered old new tests table is (not p) (tree.test n) x = elim x [ ]
-  renumber-numbered old new tests table is (not p) (tree.all ts) x = elim x [ ]
-  renumber-numbered old new tests table is (not p) (tree.one_of ts) x = elim x [ ]
-  renumber-numbered old new tests table is (all ps) tree.yes x = elim x [ ]
-  renumber-numbered old new tests table is (all ps) tree.no x = elim x [ ]
-  renumber-numbered old new tests table is (all ps) (tree.test n) x = elim x [ ]
-  renumber-numbered old new tests table is (all ps) (tree.not t) x = elim x [ ]
-  renumber-numbered old new tests table is (all ps) (tree.one_of ts) x = elim x [ ]
-  renumber-numbered old new tests table is (one_of ps) tree.yes x = elim x [ ]
-  renumber-numbered old new tests table is (one_of ps) tree.no x = elim x [ ]
-  renumber-numbered old new tests table is (one_of ps) (tree.test n) x = elim x [ ]
-  renumber-numbered old new tests table is (one_of ps) (tree.not t) x = elim x [ ]
-  renumber-numbered old new tests table is (one_of ps) (tree.all ts) x = elim x [ ]
+  renumber-numbered : (old new tests : List Test) (numbers : List ℕ) → AreNumbersOf old new tests numbers → (p : Plan) (t : Tree) → IsNumbered tests p t → IsNumbered new p (renumbered numbers t)
+  renumber-numbered old new tests numbers is yes tree.yes numbered_yes = numbered_yes
+  renumber-numbered old new tests numbers is (ask u) (tree.test n) (numbered_ask at) = numbered_ask (is.each n u at)
+  renumber-numbered old new tests numbers is (not p) (tree.not t) (numbered_not h) = numbered_not (renumber-numbered old new tests numbers is p t h)
+  renumber-numbered old new tests numbers is (all ps) (tree.all ts) (numbered_all h) = numbered_all (renumber-all old new tests numbers is ps ts h)
+  renumber-numbered old new tests numbers is (one_of ps) (tree.one_of ts) (numbered_one_of h) = numbered_one_of (renumber-all old new tests numbers is ps ts h)
+  renumber-numbered old new tests numbers is yes tree.no x = elim x [ ]
+  renumber-numbered old new tests numbers is yes (tree.test n) x = elim x [ ]
+  renumber-numbered old new tests numbers is yes (tree.not t) x = elim x [ ]
+  renumber-numbered old new tests numbers is yes (tree.all ts) x = elim x [ ]
+  renumber-numbered old new tests numbers is yes (tree.one_of ts) x = elim x [ ]
+  renumber-numbered old new tests numbers is (ask u) tree.yes x = elim x [ ]
+  renumber-numbered old new tests numbers is (ask u) tree.no x = elim x [ ]
+  renumber-numbered old new tests numbers is (ask u) (tree.not t) x = elim x [ ]
+  renumber-numbered old new tests numbers is (ask u) (tree.all ts) x = elim x [ ]
+  renumber-numbered old new tests numbers is (ask u) (tree.one_of ts) x = elim x [ ]
+  renumber-numbered old new tests numbers is (not p) tree.yes x = elim x [ ]
+  renumber-numbered old new tests numbers is (not p) tree.no x = elim x [ ]
+  renumber-numbered old new tests numbers is (not p) (tree.test n) x = elim x [ ]
+  renumber-numbered old new tests numbers is (not p) (tree.all ts) x = elim x [ ]
+  renumber-numbered old new tests numbers is (not p) (tree.one_of ts) x = elim x [ ]
+  renumber-numbered old new tests numbers is (all ps) tree.yes x = elim x [ ]
+  renumber-numbered old new tests numbers is (all ps) tree.no x = elim x [ ]
+  renumber-numbered old new tests numbers is (all ps) (tree.test n) x = elim x [ ]
+  renumber-numbered old new tests numbers is (all ps) (tree.not t) x = elim x [ ]
+  renumber-numbered old new tests numbers is (all ps) (tree.one_of ts) x = elim x [ ]
+  renumber-numbered old new tests numbers is (one_of ps) tree.yes x = elim x [ ]
+  renumber-numbered old new tests numbers is (one_of ps) tree.no x = elim x [ ]
+  renumber-numbered old new tests numbers is (one_of ps) (tree.test n) x = elim x [ ]
+  renumber-numbered old new tests numbers is (one_of ps) (tree.not t) x = elim x [ ]
+  renumber-numbered old new tests numbers is (one_of ps) (tree.all ts) x = elim x [ ]
 
-  renumber-all : (old new tests : List Test) (table : List ℕ) → IsTableOf old new tests table → (ps : Plans) (ts : Trees) → AreNumbered tests ps ts → AreNumbered new ps (renumbered_each table ts)
-  renumber-all old new tests table is none tree.none numbered_none = numbered_none
-  renumber-all old new tests table is (more p ps) (tree.more t ts) (numbered_more h hs) = numbered_more (renumber-numbered old new tests table is p t h) (renumber-all old new tests table is ps ts hs)
-  renumber-all old new tests table is none (tree.more t ts) x = elim x [ ]
-  renumber-all old new tests table is (more p ps) tree.none x = elim x [ ]
+  renumber-all : (old new tests : List Test) (numbers : List ℕ) → AreNumbersOf old new tests numbers → (ps : Plans) (ts : Trees) → AreNumbered tests ps ts → AreNumbered new ps (renumbered_each numbers ts)
+  renumber-all old new tests numbers is none tree.none numbered_none = numbered_none
+  renumber-all old new tests numbers is (more p ps) (tree.more t ts) (numbered_more h hs) = numbered_more (renumber-numbered old new tests numbers is p t h) (renumber-all old new tests numbers is ps ts hs)
+  renumber-all old new tests numbers is none (tree.more t ts) x = elim x [ ]
+  renumber-all old new tests numbers is (more p ps) tree.none x = elim x [ ]
 
-pub base-asked : (old new : List Test) (base : Query) (table : List ℕ) (f : Rc Formula Global) → IsTableOf old new base.tests table → tree_of f.value ≡ renumbered table (tree_of base.formula.value) → AsksBase old new base f
-base-asked old new base table f is same allowed query = record {
+pub base-asked : (old new : List Test) (base : Query) (numbers : List ℕ) (f : Rc Formula Global) → AreNumbersOf old new base.tests numbers → tree_of f.value ≡ renumbered numbers (tree_of base.formula.value) → AsksBase old new base f
+base-asked old new base numbers f is same allowed query = record {
   collects = reads-again (tests_in allowed) base.tests old new query.tests is.collects;
-  numbered = subst (IsNumbered new allowed) (sym same) (renumber-numbered old new base.tests table is allowed (tree_of base.formula.value) query.tree);
+  numbered = subst (IsNumbered new allowed) (sym same) (renumber-numbered old new base.tests numbers is allowed (tree_of base.formula.value) query.tree);
 }
 
 -- ---- the whole
@@ -266,10 +266,10 @@ none-of-asked a b ps before branches some f empty asked is same =
     let tree_is : tree_of f ≡ tree.not (tree.one_of (of_list asked.more)) = ap tree_of same ∙ tree-Not some ∙ ap (λ (x : Formula). tree.not (tree_of x)) is ∙ ap tree.not (tree-OneOf branches) ∙ ap (λ (xs : List Tree). tree.not (tree.one_of (of_list xs))) more_is in
     record { collects = asked.collects; numbered = subst (IsNumbered b (not (one_of (of_plans ps)))) (sym tree_is) (numbered_not (numbered_one_of asked.numbered)) }
 
--- ---- the table
+-- ---- the numbers
 
-pub table-none : (a : List Test) (table : List ℕ) → table ≡ [] → IsTableOf a a [] table
-table-none a table empty = record { collects = nothing; count = ap length empty; each = λ i t at. absurd (cc) }
+pub numbers-none : (a : List Test) (numbers : List ℕ) → numbers ≡ [] → AreNumbersOf a a [] numbers
+numbers-none a numbers empty = record { collects = nothing; count = ap length empty; each = λ i t at. absurd (cc) }
 
 at-last : (tests : List Test) (t : Test) (i : ℕ) (u : Test) → slice_get (tests ++ t ∷ []) i ≡ Some u → (slice_get tests i ≡ Some u) ⊎ ((i ≡ length tests) × (t ≡ u))
 at-last [] t zero u e = inr (refl, cc)
@@ -277,34 +277,34 @@ at-last [] t (suc i) u e = absurd (cc)
 at-last (x ∷ xs) t zero u e = inl e
 at-last (x ∷ xs) t (suc i) u e = elim (at-last xs t i u e) [ inl at ↦ inl at | inr last ↦ inr (ap suc last.0, last.1) ]
 
-index-before : (table : List ℕ) (n i : ℕ) → i < length table → slice_index (table ++ n ∷ []) i ≡ slice_index table i
+index-before : (numbers : List ℕ) (n i : ℕ) → i < length numbers → slice_index (numbers ++ n ∷ []) i ≡ slice_index numbers i
 index-before [] n i within = absurd (omega (arith, within))
-index-before (m ∷ table) n zero within = refl
-index-before (m ∷ table) n (suc i) within = index-before table n i (omega (arith, within))
+index-before (m ∷ numbers) n zero within = refl
+index-before (m ∷ numbers) n (suc i) within = index-before numbers n i (omega (arith, within))
 
-index-last : (table : List ℕ) (n : ℕ) → slice_index (table ++ n ∷ []) (length table) ≡ n
+index-last : (numbers : List ℕ) (n : ℕ) → slice_index (numbers ++ n ∷ []) (length numbers) ≡ n
 index-last [] n = refl
-index-last (m ∷ table) n = index-last table n
+index-last (m ∷ numbers) n = index-last numbers n
 
-table-more : (a b c : List Test) (tests : List Test) (t : Test) (table : List ℕ) (n : ℕ) → IsTableOf a b tests table → HasTestNumber b c t n → IsTableOf a c (tests ++ t ∷ []) (table ++ n ∷ [])
-table-more a b c tests t table n before had =
+numbers-more : (a b c : List Test) (tests : List Test) (t : Test) (numbers : List ℕ) (n : ℕ) → AreNumbersOf a b tests numbers → HasTestNumber b c t n → AreNumbersOf a c (tests ++ t ∷ []) (numbers ++ n ∷ [])
+numbers-more a b c tests t numbers n before had =
     let longer = reads-front b (t ∷ []) c had.collects in
     record {
       collects = reads-append a tests b (t ∷ []) c before.collects had.collects;
-      count = (let one = length-append table (n ∷ []) in let other = length-append tests (t ∷ []) in omega (arith, one, other, before.count));
+      count = (let one = length-append numbers (n ∷ []) in let other = length-append tests (t ∷ []) in omega (arith, one, other, before.count));
       each = λ i u at. elim (at-last tests t i u at) [
         | inl old ↦ (
             let room = slice_get_within tests i u old in
-            let same = index-before table n i (omega (arith, room, before.count)) in
-            subst (λ (k : ℕ). slice_get c k ≡ Some u) (sym same) (subst (λ (xs : List Test). slice_get xs (slice_index table i) ≡ Some u) (sym longer.is) (at-longer b longer.rest (slice_index table i) u (before.each i u old))))
+            let same = index-before numbers n i (omega (arith, room, before.count)) in
+            subst (λ (k : ℕ). slice_get c k ≡ Some u) (sym same) (subst (λ (xs : List Test). slice_get xs (slice_index numbers i) ≡ Some u) (sym longer.is) (at-longer b longer.rest (slice_index numbers i) u (before.each i u old))))
         | inr last ↦ (
-            let place : i ≡ length table = omega (arith, last.0, before.count) in
-            let same : slice_index (table ++ n ∷ []) i ≡ n = ap (slice_index (table ++ n ∷ [])) place ∙ index-last table n in
+            let at_end : i ≡ length numbers = omega (arith, last.0, before.count) in
+            let same : slice_index (numbers ++ n ∷ []) i ≡ n = ap (slice_index (numbers ++ n ∷ [])) at_end ∙ index-last numbers n in
             subst (λ (k : ℕ). slice_get c k ≡ Some u) (sym same) (subst (λ (x : Test). slice_get c n ≡ Some x) last.1 had.at))
       ];
     }
 
-pub table-next : (a b c : List Test) (tests : List Test) (i : ℕ) (t copy : Test) (table longer : List ℕ) (n : ℕ) → i < length tests → t ≡ get_or tests i t → copy ≡ t → IsTableOf a b (take i tests) table → HasTestNumber b c copy n → longer ≡ table ++ n ∷ [] → IsTableOf a c (take (i + 1) tests) longer
-table-next a b c tests i t copy table longer n within is same before had grows =
+pub numbers-next : (a b c : List Test) (tests : List Test) (i : ℕ) (t copy : Test) (numbers longer : List ℕ) (n : ℕ) → i < length tests → t ≡ get_or tests i t → copy ≡ t → AreNumbersOf a b (take i tests) numbers → HasTestNumber b c copy n → longer ≡ numbers ++ n ∷ [] → AreNumbersOf a c (take (i + 1) tests) longer
+numbers-next a b c tests i t copy numbers longer n within is same before had grows =
     let one : take (i + 1) tests ≡ take i tests ++ copy ∷ [] = take_more tests i t within ∙ ap (λ (x : Test). take i tests ++ x ∷ []) (sym is ∙ sym same) in
-    subst (λ (xs : List Test). IsTableOf a c xs longer) (sym one) (subst (IsTableOf a c (take i tests ++ copy ∷ [])) (sym grows) (table-more a b c (take i tests) copy table n before had))
+    subst (λ (xs : List Test). AreNumbersOf a c xs longer) (sym one) (subst (AreNumbersOf a c (take i tests ++ copy ∷ [])) (sym grows) (numbers-more a b c (take i tests) copy numbers n before had))

@@ -91,15 +91,15 @@ listed-more : (ts : List Tree) (t : Tree) → of_list (ts ++ t ∷ []) ≡ one_m
 listed-more [] t = refl
 listed-more (x ∷ xs) t = ap (more x) (listed-more xs t)
 
-each-more : (table : List ℕ) (ts : List Tree) (t : Tree) → renumbered_each table (of_list (ts ++ t ∷ [])) ≡ one_more (renumbered_each table (of_list ts)) (renumbered table t)
-each-more table [] t = refl
-each-more table (x ∷ xs) t = ap (more (renumbered table x)) (each-more table xs t)
+each-more : (numbers : List ℕ) (ts : List Tree) (t : Tree) → renumbered_each numbers (of_list (ts ++ t ∷ [])) ≡ one_more (renumbered_each numbers (of_list ts)) (renumbered numbers t)
+each-more numbers [] t = refl
+each-more numbers (x ∷ xs) t = ap (more (renumbered numbers x)) (each-more numbers xs t)
 
-pub each-next : (table : List ℕ) (ts : List Tree) (i : ℕ) (t new : Tree) (before after : List Tree) → Some t ≡ slice_get ts i → of_list before ≡ renumbered_each table (of_list (take i ts)) → new ≡ renumbered table t → after ≡ before ++ new ∷ [] →
-    of_list after ≡ renumbered_each table (of_list (take (i + 1) ts))
-each-next table ts i t new before after e was is grows =
-    ap of_list grows ∙ listed-more before new ∙ ap (λ (xs : Trees). one_more xs new) was ∙ ap (one_more (renumbered_each table (of_list (take i ts)))) is ∙ sym (each-more table (take i ts) t) ∙
-    ap (λ (xs : List Tree). renumbered_each table (of_list xs)) (sym (take_next ts i t e))
+pub each-next : (numbers : List ℕ) (ts : List Tree) (i : ℕ) (t new : Tree) (before after : List Tree) → Some t ≡ slice_get ts i → of_list before ≡ renumbered_each numbers (of_list (take i ts)) → new ≡ renumbered numbers t → after ≡ before ++ new ∷ [] →
+    of_list after ≡ renumbered_each numbers (of_list (take (i + 1) ts))
+each-next numbers ts i t new before after e was is grows =
+    ap of_list grows ∙ listed-more before new ∙ ap (λ (xs : Trees). one_more xs new) was ∙ ap (one_more (renumbered_each numbers (of_list (take i ts)))) is ∙ sym (each-more numbers (take i ts) t) ∙
+    ap (λ (xs : List Tree). renumbered_each numbers (of_list xs)) (sym (take_next ts i t e))
 
-pub each-all : (table : List ℕ) (ts : List Tree) (i : ℕ) (made : List Tree) → length ts ≤ i → of_list made ≡ renumbered_each table (of_list (take i ts)) → of_list made ≡ renumbered_each table (of_list ts)
-each-all table ts i made h e = e ∙ ap (λ (xs : List Tree). renumbered_each table (of_list xs)) (take_all i ts h)
+pub each-all : (numbers : List ℕ) (ts : List Tree) (i : ℕ) (made : List Tree) → length ts ≤ i → of_list made ≡ renumbered_each numbers (of_list (take i ts)) → of_list made ≡ renumbered_each numbers (of_list ts)
+each-all numbers ts i made h e = e ∙ ap (λ (xs : List Tree). renumbered_each numbers (of_list xs)) (take_all i ts h)

@@ -1,9 +1,8 @@
 -- What may be asked of who decides queries, what is answered, and what a summary comes to.
-use Rattle.std.specs.Prelude.{◌≡◌, ◌≢◌, ◌<◌, ◌+◌, ◌^◌, ⊤, ℕ, List, [], length, All, true, false, Some, Result, Ok, Err}
-use Rattle.formula_tree.specs.Answers.{Answers}
-use Rattle.formula_tree.specs.Runs.{NeedsMore, Run, answered}
-use Rattle.formula_tree.specs.Trees.{Tree, tree_of}
-use Rattle.formula_tree.specs.Values.{AreBelow, pick, value}
+use Rattle.std.specs.Prelude.{◌≢◌, ◌<◌, ◌+◌, ◌^◌, ⊤, ℕ, List, [], length, All, Result, Ok, Err}
+use Rattle.formula_tree.specs.Nodes.{IsNode}
+use Rattle.formula_tree.specs.Runs.{NeedsMore}
+use Rattle.formula_tree.specs.Values.{AreBelow, value}
 use Rattle.formula_tree.specs.declared.value.Three.TheVariants.{No}
 use Rattle.wildcard_lang.specs.Places.{ShowWider}
 use Rattle.policy_model.specs.declared.request.Request.{Request}
@@ -11,6 +10,7 @@ use Rattle.policy_model.specs.declared.schema.Schema.{Schema}
 use Rattle.policy_model.specs.declared.set.PolicySet.{PolicySet}
 use Rattle.policy_model.specs.Soundness.{SchemaIsSound, TestSuits}
 use Rattle.policy_compile.specs.declared.outcome.Query.{Query}
+use Rattle.policy_compile.specs.Queries.{asked_tree}
 use Rattle.policy_compile.specs.Sets.{set_plan}
 use Rattle.slot_theory.specs.Cores.{HasTest}
 use Rattle.slot_theory.specs.Possible.{IsPossible}
@@ -25,42 +25,29 @@ use Rattle.findings.specs.declared.outcome.SummaryFault.TheVariants as fault
 use Rattle.findings.specs.Queries.{IsFindingQuery}
 use Rattle.findings.specs.Summaries.{IsSummary, MustBeVisited, VisitsAtLeast}
 
--- the tree of the question
-abbrev pub tree_asked : Query → Tree
-tree_asked query = tree_of query.formula.value
-
--- a question that may be asked: its tests suit the schema and are numbered by 32 bits, and its tree has their numbers alone
+-- a query that may be asked: its tests suit the schema and are numbered by 32 bits, and its tree has their numbers alone
 pub record QueryIsAskable (schema : Schema) (query : Query) : Type 0 where
   pub sound : SchemaIsSound schema
   pub suit : All (TestSuits schema) query.tests
   pub count : length query.tests < 2 ^ 32
-  pub below : AreBelow (length query.tests) (tree_asked query)
+  pub below : AreBelow (length query.tests) (asked_tree query)
 
--- The paths from which the plain run of the tree runs. It runs from the empty path; at a split on to the yes side, and to the no
--- side where no run from the yes side ends with a request.
-pub data RunsFrom (possible : Answers → Type 0) (tree : Tree) : Answers → Type 0 where
-  from_start : RunsFrom possible tree []
-  from_yes : {path : Answers} {n : ℕ} → RunsFrom possible tree path → possible path → pick path tree ≡ Some n →
-      RunsFrom possible tree (answered path n true)
-  from_no : {path : Answers} {n : ℕ} → RunsFrom possible tree path → possible path → pick path tree ≡ Some n →
-      ((k : ℕ) → ¬ Run possible tree (answered path n true) true k) → RunsFrom possible tree (answered path n false)
-
--- the plain run of the question needs more splits than so many
+-- the plain run of the query needs more splits than so many
 abbrev pub SplitsFail : Schema → Query → ℕ → Type 0
-SplitsFail schema query splits = NeedsMore (IsPossible schema query.tests) (tree_asked query) [] splits
+SplitsFail schema query splits = NeedsMore (IsPossible schema query.tests) (asked_tree query) [] splits
 
--- the plain run runs from the kept path, which answers a test of the slot and where the query isn't no, and the kept texts show the
--- patterns of the slot there wider than the states
+-- the kept path is a node of the plain run, which answers a test of the slot and where the query isn't no, and the kept texts show
+-- the patterns of the slot there wider than the states
 pub record StatesFail (schema : Schema) (query : Query) (states : ℕ) (w : Wide) : Type 0 where
-  pub path : RunsFrom (IsPossible schema query.tests) (tree_asked query) w.path
-  pub not_no : value w.path (tree_asked query) ≢ No
+  pub node : IsNode (IsPossible schema query.tests) (asked_tree query) [] w.path
+  pub not_no : value w.path (asked_tree query) ≢ No
   pub asked : HasTest query.tests w.path w.slot
   pub texts : ShowWider (patterns_at schema query.tests w.path w.slot) states w.texts
 
--- a valid request that makes the question's tree yes; that there is none; or that a number is too small for the question
+-- a valid request that makes the query's tree yes; that there is none; or that a number is too small for the query
 abbrev pub AnswersQuery : Schema → ℕ → ℕ → Query → Asked → Type 0
-AnswersQuery schema splits states query (Met r) = IsMetBy schema query.tests (tree_asked query) [] r
-AnswersQuery schema splits states query Nobody = NoneMeets schema query.tests (tree_asked query) []
+AnswersQuery schema splits states query (Met r) = IsMetBy schema query.tests (asked_tree query) [] r
+AnswersQuery schema splits states query Nobody = NoneMeets schema query.tests (asked_tree query) []
 AnswersQuery schema splits states query OutOfSplits = SplitsFail schema query splits
 AnswersQuery schema splits states query (OutOfStates w) = StatesFail schema query states w
 
@@ -71,7 +58,7 @@ pub record FailsAtFinding (schema : Schema) (set : PolicySet) (ds : List Stratum
   pub is : IsFindingQuery (set_plan schema set) ds f query
   pub fails : P query
 
--- What a summary of a set comes to, where questions are answered within so many splits and states and at most so many findings may
+-- What a summary of a set comes to, where queries are answered within so many splits and states and at most so many findings may
 -- be looked at: the summary; that more findings must be looked at; or a finding that must be, and for whose query a number is too
 -- small
 abbrev pub IsSummarised :

@@ -42,11 +42,11 @@ pub record AreAsked (old new : List Test) (ps : List Plan) (before after : List 
 abbrev pub no_finer_plan : List Stratum → List ℕ → Plan
 no_finer_plan ds f = not (one_of (of_plans (finer_plans ds f)))
 
--- after the old tests these were read, and the table has the number of each
-pub record IsTableOf (old new : List Test) (tests : List Test) (table : List ℕ) : Type 0 where
+-- after the old tests these were read, and these are their numbers
+pub record AreNumbersOf (old new : List Test) (tests : List Test) (numbers : List ℕ) : Type 0 where
   pub collects : Collects old tests new
-  pub count : length table ≡ length tests
-  pub each : (i : ℕ) (t : Test) → slice_get tests i ≡ Some t → slice_get new (slice_index table i) ≡ Some t
+  pub count : length numbers ≡ length tests
+  pub each : (i : ℕ) (t : Test) → slice_get tests i ≡ Some t → slice_get new (slice_index numbers i) ≡ Some t
 
 -- of whichever plan the query is, it is asked
 abbrev pub AsksBase : List Test → List Test → Query → Rc Formula Global → Type 0

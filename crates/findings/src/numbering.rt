@@ -24,44 +24,44 @@ pub(crate) struct Numbering {
     ghost few: { length tests.keys < 2 ^ 32 },
 }
 
-// The formula with each test's number replaced by that of the table.
+// The formula with each test's number replaced by the one at its index.
 #[cycle(renumber)]
-fn renumber(alloc: Global, table: &[u32], formula: &Formula) -> Result<Formula, NoMemory>
-    requires { AreBelow (length table.now) (tree_of formula.now) }
-    ensures { IfOk result (λ f. tree_of f ≡ renumbered table.now (tree_of formula.now)) }
+fn renumber(alloc: Global, numbers: &[u32], formula: &Formula) -> Result<Formula, NoMemory>
+    requires { AreBelow (length numbers.now) (tree_of formula.now) }
+    ensures { IfOk result (λ f. tree_of f ≡ renumbered numbers.now (tree_of formula.now)) }
 {
     match formula {
         Formula::Yes => Ok(Formula::Yes),
         Formula::No => Ok(Formula::No),
-        Formula::Test(test) => Ok(Formula::Test(table[*test as usize])),
+        Formula::Test(test) => Ok(Formula::Test(numbers[*test as usize])),
         Formula::Not(inner) => {
-            let inner = renumber(alloc, table, inner)?;
+            let inner = renumber(alloc, numbers, inner)?;
             Ok(Formula::Not(Rc::new(alloc, inner)?))
         }
-        Formula::All(branches) => Ok(Formula::All(renumber_each(alloc, table, branches)?)),
-        Formula::OneOf(branches) => Ok(Formula::OneOf(renumber_each(alloc, table, branches)?)),
+        Formula::All(branches) => Ok(Formula::All(renumber_each(alloc, numbers, branches)?)),
+        Formula::OneOf(branches) => Ok(Formula::OneOf(renumber_each(alloc, numbers, branches)?)),
     }
 }
 
 #[cycle(renumber)]
-fn renumber_each(alloc: Global, table: &[u32], branches: &Branches) -> Result<Branches, NoMemory>
-    requires { EachBelow (length table.now) (children_of branches.now) }
+fn renumber_each(alloc: Global, numbers: &[u32], branches: &Branches) -> Result<Branches, NoMemory>
+    requires { EachBelow (length numbers.now) (children_of branches.now) }
     ensures { IfOk result (λ b. children_of b ≡
-        renumbered_each table.now (children_of branches.now)) }
+        renumbered_each numbers.now (children_of branches.now)) }
 {
     let mut renumbered = Branches::new(alloc);
     'branches: for i in 0..branches.len() {
         let Some(branch) = branches.get(i) else {
             break;
         };
-        let branch = renumber(alloc, table, branch)?;
+        let branch = renumber(alloc, numbers, branch)?;
         renumbered.push(Rc::new(alloc, branch)?)?;
     }
     Ok(renumbered)
 }
 
 impl Numbering {
-    ghost use Rattle.findings.specs.Asked.{AreAsked, AsksBase, HasTestNumber, IsAsked, IsTableOf, no_finer_plan};
+    ghost use Rattle.findings.specs.Asked.{AreAsked, AreNumbersOf, AsksBase, HasTestNumber, IsAsked, no_finer_plan};
     ghost use Rattle.findings.specs.Steps.{AreNumberedBelow, IsNumberedBelow};
     ghost use Rattle.findings.specs.Queries.{finer_plans, number_plan, numbers_below, own_plans, plan_or_yes};
 
@@ -186,15 +186,15 @@ impl Numbering {
     }
 
     // The numbers of tests, each of which gets the next one where it is new.
-    fn table(&mut self, tests: &TestList) -> Result<Vec<u32>, NoMemory>
-        ensures { IfOk result (λ table. IsTableOf self.old.tests.keys self.new.tests.keys
-            tests.now table.items) }
+    fn numbers(&mut self, tests: &TestList) -> Result<Vec<u32>, NoMemory>
+        ensures { IfOk result (λ numbers. AreNumbersOf self.old.tests.keys self.new.tests.keys
+            tests.now numbers.items) }
     {
-        let mut table = Vec::new(self.alloc);
+        let mut numbers = Vec::new(self.alloc);
         'tests: for test in tests.as_slice() {
-            table.push(self.number(test.copy()?)?)?;
+            numbers.push(self.number(test.copy()?)?)?;
         }
-        Ok(table)
+        Ok(numbers)
     }
 
     /// The formula of the query, with its tests numbered after those that are had.
@@ -202,8 +202,8 @@ impl Numbering {
         requires { AreBelow (length base.now.tests) (tree_of base.now.formula.value) }
         ensures { IfOk result (AsksBase self.old.tests.keys self.new.tests.keys base.now) }
     {
-        let table = self.table(&base.tests)?;
-        let formula = renumber(self.alloc, table.as_slice(), &base.formula)?;
+        let numbers = self.numbers(&base.tests)?;
+        let formula = renumber(self.alloc, numbers.as_slice(), &base.formula)?;
         Ok(Rc::new(self.alloc, formula)?)
     }
 

@@ -7,8 +7,8 @@ use std::alloc::AllocError;
 /// For each dimension the number of one of its predicates, in the order of the dimensions.
 pub type Finding = List<u32>;
 
-/// Findings in the order of their numbers. Beside each stands a request that is its own: a witness that
-/// no finer finding has.
+/// Findings in the order of their numbers. Beside each stands a request that is its own: one that no
+/// finer finding has.
 pub type Summary = List<(Finding, Request)>;
 
 /// Why there is no summary.

@@ -1,9 +1,9 @@
--- Lists of answers that grow and shrink at their end, and their tables.
+-- Lists of answers that grow and shrink at their end, and the same by test numbers.
 use Rattle.std.proofs.Common.{◌≡◌, ℕ, ◌<◌, ◌==◌, ◌≢◌, List, [], ◌∷◌, ◌++◌, length, get_or, set, Bool, false, Option, Some, None, zero, suc, ◌⊎◌, refl, sym, ◌∙◌, inl, inr, arith, nat_eq, get_or-set_same, get_or-set_other}
 use Rattle.std.proofs.lemmas.Bool.{cases_lt}
 use Rattle.std.proofs.lemmas.Bool.Decides.{nat_tests}
 use Rattle.std.proofs.lemmas.Grind.{common_steps}
-use Rattle.formula_tree.specs.Answers.{Answers, answer_of, IsDistinct, IsTabled}
+use Rattle.formula_tree.specs.Answers.{Answers, answer_of, IsDistinct, IsByTest}
 
 pub answer_of-more : (ps qs : Answers) (n : ℕ) (b : Bool) → answer_of ps n ≡ Some b → answer_of (ps ++ qs) n ≡ Some b
 answer_of-more [] qs n b h = absurd (cc)
@@ -55,35 +55,35 @@ answer_of-besides (p ∷ ps) n b k ne = grind (arith, common_steps, answer_of-be
 pub answer_of-last : (ps : Answers) (n : ℕ) (b : Bool) → answer_of ps n ≡ None → answer_of (ps ++ (n, b) ∷ []) n ≡ Some b
 answer_of-last ps n b new = let one : answer_of ((n, b) ∷ []) n ≡ Some b = grind (arith, nat_tests) in answer_of-rest ps ((n, b) ∷ []) n new ∙ one
 
-past : (table : List (Option Bool)) (n : ℕ) (b : Bool) → get_or table n None ≡ Some b → n < length table
+past : (by_test : List (Option Bool)) (n : ℕ) (b : Bool) → get_or by_test n None ≡ Some b → n < length by_test
 past [] n b h = absurd (cc)
 past (x ∷ xs) zero b h = omega arith
 past (x ∷ xs) (suc n) b h = omega (arith, past xs n b h)
 
-pub tabled-room : (ps : Answers) (table : List (Option Bool)) (n : ℕ) (b : Bool) → IsTabled (ps ++ (n, b) ∷ []) table → n < length table
-tabled-room ps table n b kept =
+pub by_test-room : (ps : Answers) (by_test : List (Option Bool)) (n : ℕ) (b : Bool) → IsByTest (ps ++ (n, b) ∷ []) by_test → n < length by_test
+by_test-room ps by_test n b kept =
     let one : answer_of ((n, b) ∷ []) n ≡ Some b = grind (arith, nat_tests) in
-    past table n b (kept.same n ∙ answer_of-rest ps ((n, b) ∷ []) n (distinct-last ps (n, b) kept.distinct) ∙ one)
+    past by_test n b (kept.same n ∙ answer_of-rest ps ((n, b) ∷ []) n (distinct-last ps (n, b) kept.distinct) ∙ one)
 
-pub tabled-push : (ps : Answers) (table : List (Option Bool)) (n : ℕ) (b : Bool) → IsTabled ps table → answer_of ps n ≡ None → n < length table → IsTabled (ps ++ (n, b) ∷ []) (set table n (Some b))
-tabled-push ps table n b kept new room = record {
+pub by_test-push : (ps : Answers) (by_test : List (Option Bool)) (n : ℕ) (b : Bool) → IsByTest ps by_test → answer_of ps n ≡ None → n < length by_test → IsByTest (ps ++ (n, b) ∷ []) (set by_test n (Some b))
+by_test-push ps by_test n b kept new room = record {
   distinct = distinct-more ps (n, b) kept.distinct new;
   same = λ k.
       elim (cases_eq k n) [
-        | inl e ↦ rw (e, get_or-set_same table n (Some b) None room, answer_of-rest ps ((n, b) ∷ []) n new) (grind (arith, nat_tests))
-        | inr ne ↦ get_or-set_other table n k (Some b) None ne ∙ kept.same k ∙ sym (answer_of-besides ps n b k ne)
+        | inl e ↦ rw (e, get_or-set_same by_test n (Some b) None room, answer_of-rest ps ((n, b) ∷ []) n new) (grind (arith, nat_tests))
+        | inr ne ↦ get_or-set_other by_test n k (Some b) None ne ∙ kept.same k ∙ sym (answer_of-besides ps n b k ne)
       ];
 }
 
-pub tabled-pop : (ps : Answers) (table : List (Option Bool)) (n : ℕ) (b : Bool) → IsTabled (ps ++ (n, b) ∷ []) table → IsTabled ps (set table n None)
-tabled-pop ps table n b kept = record {
+pub by_test-pop : (ps : Answers) (by_test : List (Option Bool)) (n : ℕ) (b : Bool) → IsByTest (ps ++ (n, b) ∷ []) by_test → IsByTest ps (set by_test n None)
+by_test-pop ps by_test n b kept = record {
   distinct = distinct-front ps (n, b) kept.distinct;
   same = λ k.
       elim (cases_eq k n) [
-        | inl e ↦ rw (e, get_or-set_same table n None None (tabled-room ps table n b kept), distinct-last ps (n, b) kept.distinct) refl
-        | inr ne ↦ get_or-set_other table n k None None ne ∙ kept.same k ∙ answer_of-besides ps n b k ne
+        | inl e ↦ rw (e, get_or-set_same by_test n None None (by_test-room ps by_test n b kept), distinct-last ps (n, b) kept.distinct) refl
+        | inr ne ↦ get_or-set_other by_test n k None None ne ∙ kept.same k ∙ answer_of-besides ps n b k ne
       ];
 }
 
-pub tabled-same : (ps : Answers) (old new : List (Option Bool)) → IsTabled ps old → ((n : ℕ) → get_or new n None ≡ get_or old n None) → IsTabled ps new
-tabled-same ps old new kept same = record { distinct = kept.distinct; same = λ k. same k ∙ kept.same k }
+pub by_test-same : (ps : Answers) (old new : List (Option Bool)) → IsByTest ps old → ((n : ℕ) → get_or new n None ≡ get_or old n None) → IsByTest ps new
+by_test-same ps old new kept same = record { distinct = kept.distinct; same = λ k. same k ∙ kept.same k }

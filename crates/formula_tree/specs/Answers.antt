@@ -23,11 +23,11 @@ Contained few many = (n : ℕ) (b : Bool) → answer_of few n ≡ Some b → ans
 abbrev pub Completes : (ℕ → Bool) → Answers → Type 0
 Completes total path = (n : ℕ) (b : Bool) → answer_of path n ≡ Some b → total n ≡ b
 
--- a table by test numbers answers as the list does
-pub record IsTabled (path : Answers) (table : List (Option Bool)) : Type 0 where
+-- answers by test numbers are those of the path
+pub record IsByTest (path : Answers) (by_test : List (Option Bool)) : Type 0 where
   pub distinct : IsDistinct path
-  pub same : (n : ℕ) → slice_index_or table n None ≡ answer_of path n
+  pub same : (n : ℕ) → slice_index_or by_test n None ≡ answer_of path n
 
--- two tables have one answer to each test
+-- answers by test numbers are the same of each test
 abbrev pub AnswerAlike : List (Option Bool) → List (Option Bool) → Type 0
 AnswerAlike old new = (n : ℕ) → slice_index_or new n None ≡ slice_index_or old n None

@@ -14,6 +14,3 @@ pub use runs::{
     runs_are_determined, runs_end_where_met, runs_miss_none, unmet_stays_unmet,
 };
 pub use value::{Three, longer_paths_keep_values, pick, value3, values_hold_for_completions};
-
-#[cfg(test)]
-mod tests;

@@ -1,4 +1,4 @@
-//! Paths: lists of answered tests. Beside the list a path keeps a table by test numbers, so that an
+//! Paths: lists of answered tests. Beside the list a path keeps its answers by test numbers, so that an
 //! answer is read at once.
 ghost use Rattle.std.specs.Prelude.{◌≡◌, ◌++◌, ◌∷◌, [], ℕ, None, Option, Bool, List, length, slice_get, slice_index_or, option_to_list, OnOk, OnErr, IfOk, ◌<◌, ◌↔◌, IsSome};
 ghost use Rattle.formula_tree.specs.Answers.{AnswerAlike, IsDistinct, answer_of};
@@ -12,7 +12,7 @@ use std::marker::Model;
 #[derive(Drop)]
 pub struct Path {
     pairs: Vec<(u32, bool)>,
-    table: Vec<Option<bool>>,
+    by_test: Vec<Option<bool>>,
 }
 
 impl Model for Path {
@@ -20,11 +20,11 @@ impl Model for Path {
 
     ghost Value = { List (ℕ × Bool) };
 
-    ghost use Rattle.formula_tree.specs.Answers.{IsTabled};
+    ghost use Rattle.formula_tree.specs.Answers.{IsByTest};
 
     ghost view = { λ p. p.pairs.items };
 
-    ghost invariant = { λ p. IsTabled p.pairs.items p.table.items };
+    ghost invariant = { λ p. IsByTest p.pairs.items p.by_test.items };
 }
 
 impl Path {
@@ -34,7 +34,7 @@ impl Path {
     {
         Path {
             pairs: Vec::new(alloc),
-            table: Vec::new(alloc),
+            by_test: Vec::new(alloc),
         }
     }
 
@@ -43,7 +43,7 @@ impl Path {
         ensures value { result.now ≡ self.now }
         ensures distinct { IsDistinct self.now }
     {
-        let _table = &self.table;
+        let _by_test = &self.by_test;
         self.pairs.as_slice()
     }
 
@@ -52,7 +52,7 @@ impl Path {
         ensures value { result ≡ length self.now }
         ensures distinct { IsDistinct self.now }
     {
-        let _table = &self.table;
+        let _by_test = &self.by_test;
         self.pairs.len()
     }
 
@@ -68,7 +68,7 @@ impl Path {
     pub fn answer(&self, test: u32) -> Option<bool>
         ensures { result ≡ answer_of self.now test }
     {
-        match self.table.as_slice().get(test as usize) {
+        match self.by_test.as_slice().get(test as usize) {
             Some(answer) => *answer,
             None => None,
         }
@@ -80,9 +80,9 @@ impl Path {
         ensures ok { OnOk result (self.new ≡ self.old ++ (test, answer) ∷ []) }
         ensures err { OnErr result (self.new ≡ self.old) }
     {
-        make_room(&mut self.table, test)?;
+        make_room(&mut self.by_test, test)?;
         self.pairs.push((test, answer))?;
-        self.table[test as usize] = Some(answer);
+        self.by_test[test as usize] = Some(answer);
         Ok(())
     }
 
@@ -93,7 +93,7 @@ impl Path {
     {
         let last = self.pairs.pop();
         if let Some((test, _)) = last {
-            self.table[test as usize] = None;
+            self.by_test[test as usize] = None;
         }
         last
     }
@@ -104,18 +104,18 @@ impl Path {
     {
         Ok(Path {
             pairs: self.pairs.clone()?,
-            table: self.table.clone()?,
+            by_test: self.by_test.clone()?,
         })
     }
 }
 
-// Makes the table long enough for the test. What it adds answers nothing.
-fn make_room(table: &mut Vec<Option<bool>>, test: u32) -> Result<(), NoMemory>
-    ensures same { AnswerAlike table.old.items table.new.items }
-    ensures room { OnOk result (test < length table.new.items) }
+// Makes the answers by test numbers reach to the test. What it adds answers nothing.
+fn make_room(by_test: &mut Vec<Option<bool>>, test: u32) -> Result<(), NoMemory>
+    ensures same { AnswerAlike by_test.old.items by_test.new.items }
+    ensures room { OnOk result (test < length by_test.new.items) }
 {
-    'room: for _ in table.len()..test as usize + 1 {
-        table.push(None)?;
+    'room: for _ in by_test.len()..test as usize + 1 {
+        by_test.push(None)?;
     }
     Ok(())
 }

@@ -5,8 +5,6 @@
 mod buckets;
 mod lists;
 mod store;
-#[cfg(test)]
-mod tests;
 mod tracking;
 mod watching;
 

@@ -16,7 +16,7 @@ use Rattle.policy_compile.specs.declared.nodes.Node.{Node}
 use Rattle.policy_compile.specs.declared.nodes.Node.TheVariants as node
 use Rattle.policy_compile.specs.contracts.nodes.NodePartialEq.TheImpl as nodes
 use Rattle.policy_compile.specs.Building.{IsBeginningOf, Built, HasNode, HasNumber}
-use Rattle.policy_compile.specs.Nodes.{AreEarlier, children, node_ask}
+use Rattle.policy_compile.specs.Nodes.{AreEarlier, children, plan_ask}
 use Rattle.policy_compile.specs.Numbering.{Collects, HasTooMany, nothing, again, anew}
 use Rattle.policy_compile.specs.Plans.{ask}
 use Rattle.policy_compile.proofs.Equal.{nodes-Decides, tests-Decides}
@@ -115,7 +115,7 @@ pub asked : (old mid new : Builder) (t : Test) (n i : ℕ) → HasNumber old mid
 asked old mid new t n i test_had node_had = record {
   collects = subst (λ (xs : List Test). Collects old.tests.keys (t ∷ []) xs) (sym node_had.tests) test_had.collects;
   grows = subst (λ (xs : List Node). IsBeginningOf xs new.nodes.keys) test_had.nodes node_had.grows;
-  node = node_ask node_had.at (subst (λ (xs : List Test). slice_get xs n ≡ Some t) (sym node_had.tests) test_had.at);
+  node = plan_ask node_had.at (subst (λ (xs : List Test). slice_get xs n ≡ Some t) (sym node_had.tests) test_had.at);
 }
 
 -- whether there is room for a test

@@ -18,7 +18,7 @@ use Rattle.formula_tree.specs.Trees as tree
 use Rattle.policy_model.specs.declared.test.Test.{Test}
 use Rattle.policy_compile.specs.declared.nodes.Node.{Node}
 use Rattle.policy_compile.specs.declared.nodes.Node.TheVariants as node
-use Rattle.policy_compile.specs.Nodes.{AreEarlier, AreNodes, IsNode, StandFor, children, tree_at, tree_in, node_all, node_ask, node_not, node_one_of, node_tree, node_yes, nodes_more, nodes_none}
+use Rattle.policy_compile.specs.Nodes.{AreEarlier, ArePlansAt, IsPlanAt, StandFor, children, node_tree, plan_all, plan_ask, plan_not, plan_one_of, plan_yes, plans_more, plans_none, tree_at, tree_in}
 use Rattle.policy_compile.specs.Numbering.{AreNumbered, Collects, IsNumbered, numbered_all, numbered_ask, numbered_more, numbered_none, numbered_not, numbered_one_of, numbered_yes}
 use Rattle.policy_compile.specs.Plans.{Plan, Plans, all, ask, more, none, not, one_of, tests_in, yes}
 use Rattle.policy_compile.proofs.Asking.{last-or-before}
@@ -28,12 +28,12 @@ abbrev pub at : List tree.Tree → ℕ → tree.Tree
 at trees i = get_or trees i tree.yes
 
 module _ (nodes : List Node) (trees : List tree.Tree) (stand : StandFor nodes trees) (tests : List Test) where
-  child-stands : (p : Plan) (c : ℕ) → c < length trees → IsNode tests nodes p c → IsNumbered tests p (at trees c)
+  child-stands : (p : Plan) (c : ℕ) → c < length trees → IsPlanAt tests nodes p c → IsNumbered tests p (at trees c)
   child-stands p c within h = stand tests p c (at trees c) h (slice_get-get_or trees c tree.yes within)
 
-  children-stand : (ps : Plans) (cs : List ℕ) → All (λ c. c < length trees) cs → AreNodes tests nodes ps cs → AreNumbered tests ps (tree.of_list (map (at trees) cs))
-  children-stand none [] within nodes_none = numbered_none
-  children-stand (more p ps) (c ∷ cs) within (nodes_more first rest) = numbered_more (child-stands p c (All-head (λ c. c < length trees) c cs within) first) (children-stand ps cs (All-tail (λ c. c < length trees) c cs within) rest)
+  children-stand : (ps : Plans) (cs : List ℕ) → All (λ c. c < length trees) cs → ArePlansAt tests nodes ps cs → AreNumbered tests ps (tree.of_list (map (at trees) cs))
+  children-stand none [] within plans_none = numbered_none
+  children-stand (more p ps) (c ∷ cs) within (plans_more first rest) = numbered_more (child-stands p c (All-head (λ c. c < length trees) c cs within) first) (children-stand ps cs (All-tail (λ c. c < length trees) c cs within) rest)
   children-stand none (c ∷ cs) within h = elim h [ ]
   children-stand (more p ps) [] within h = elim h [ ]
 
@@ -41,18 +41,18 @@ module _ (nodes : List Node) (trees : List tree.Tree) (stand : StandFor nodes tr
   same-node i n own here also = cc
 
   -- the tree of the next node is its plan
-  next-stands : (n : Node) (i : ℕ) → slice_get nodes i ≡ Some n → All (λ c. c < length trees) (children n) → (p : Plan) → IsNode tests nodes p i → IsNumbered tests p (node_tree (at trees) n)
-  next-stands n i here within yes (node_yes own) = subst (λ (m : Node). IsNumbered tests yes (node_tree (at trees) m)) (same-node i n node.Yes here own) numbered_yes
-  next-stands n i here within (ask t) (node_ask {n = k} own number) = subst (λ (m : Node). IsNumbered tests (ask t) (node_tree (at trees) m)) (same-node i n (node.Test k) here own) (numbered_ask number)
-  next-stands n i here within (not p) (node_not {c} own h) =
+  next-stands : (n : Node) (i : ℕ) → slice_get nodes i ≡ Some n → All (λ c. c < length trees) (children n) → (p : Plan) → IsPlanAt tests nodes p i → IsNumbered tests p (node_tree (at trees) n)
+  next-stands n i here within yes (plan_yes own) = subst (λ (m : Node). IsNumbered tests yes (node_tree (at trees) m)) (same-node i n node.Yes here own) numbered_yes
+  next-stands n i here within (ask t) (plan_ask {n = k} own number) = subst (λ (m : Node). IsNumbered tests (ask t) (node_tree (at trees) m)) (same-node i n (node.Test k) here own) (numbered_ask number)
+  next-stands n i here within (not p) (plan_not {c} own h) =
       let same = same-node i n (node.Not c) here own in
       let below = subst (λ (m : Node). All (λ c. c < length trees) (children m)) (sym same) within in
       subst (λ (m : Node). IsNumbered tests (not p) (node_tree (at trees) m)) same (numbered_not (child-stands p c (All-head (λ c. c < length trees) c [] below) h))
-  next-stands n i here within (all ps) (node_all {cs} own h) =
+  next-stands n i here within (all ps) (plan_all {cs} own h) =
       let same = same-node i n (node.All cs) here own in
       let below = subst (λ (m : Node). All (λ c. c < length trees) (children m)) (sym same) within in
       subst (λ (m : Node). IsNumbered tests (all ps) (node_tree (at trees) m)) same (numbered_all (children-stand ps cs below h))
-  next-stands n i here within (one_of ps) (node_one_of {cs} own h) =
+  next-stands n i here within (one_of ps) (plan_one_of {cs} own h) =
       let same = same-node i n (node.OneOf cs) here own in
       let below = subst (λ (m : Node). All (λ c. c < length trees) (children m)) (sym same) within in
       subst (λ (m : Node). IsNumbered tests (one_of ps) (node_tree (at trees) m)) same (numbered_one_of (children-stand ps cs below h))
@@ -64,7 +64,7 @@ stand-more nodes trees more_trees n t stand here within made is tests p i u h th
     elim (last-or-before trees t i u (subst (λ (ts : List tree.Tree). slice_get ts i ≡ Some u) is there)) [
       | inl before ↦ stand tests p i u h before
       | inr last ↦
-          let whole : IsNumbered tests p (node_tree (at trees) n) = next-stands nodes trees stand tests n (length trees) here within p (subst (λ (k : ℕ). IsNode tests nodes p k) last.0 h) in
+          let whole : IsNumbered tests p (node_tree (at trees) n) = next-stands nodes trees stand tests n (length trees) here within p (subst (λ (k : ℕ). IsPlanAt tests nodes p k) last.0 h) in
           subst (λ (v : tree.Tree). IsNumbered tests p v) (sym made ∙ last.1) whole
     ]
 
@@ -98,7 +98,7 @@ pub query-made : (builder : Builder) (plan : Plan) (i : ℕ) (fs : List (Rc Form
     f ≡ get_or fs i f → v.value ≡ f.value → tests ≡ builder.tests.keys → length builder.tests.keys ≤ MOST_TESTS → sum_by test_pieces builder.tests.keys ≤ MOST_PIECES → IsQuery plan (record { formula = v; tests = tests })
 query-made builder plan i fs f v nodes tests makes same stand within is value kept few small =
     let here : slice_get (map tree_at fs) i ≡ Some (tree_at f) = slice_get-map tree_at fs i ∙ ap (option_map tree_at) (slice_get-get_or fs i f within ∙ ap (λ (r : Rc Formula Global). Some r) (sym is)) in
-    let numbered : IsNumbered builder.tests.keys plan (tree_at f) = stand builder.tests.keys plan i (tree_at f) (subst (λ (ns : List Node). IsNode builder.tests.keys ns plan i) (sym same) makes.node) here in
+    let numbered : IsNumbered builder.tests.keys plan (tree_at f) = stand builder.tests.keys plan i (tree_at f) (subst (λ (ns : List Node). IsPlanAt builder.tests.keys ns plan i) (sym same) makes.node) here in
     record {
       tests = subst (λ (ts : List Test). Collects [] (tests_in plan) ts) (sym kept) makes.collects;
       few = subst (λ (ts : List Test). length ts ≤ MOST_TESTS) (sym kept) few;

@@ -18,7 +18,7 @@ use Rattle.policy_compile.specs.declared.outcome.QueryFault.TheVariants.{TooMany
 use Rattle.policy_compile.specs.Conditions.{null_plans}
 use Rattle.policy_compile.specs.Plans.{Plan, Plans, yes, ask, not, all, one_of, none, more, of_plans, tests_in, tests_in_each}
 use Rattle.policy_compile.specs.Sets.{some_or_none, where_same}
-use Rattle.policy_compile.specs.Nodes.{IsNode, AreNodes, node_yes, node_ask, node_not, node_all, node_one_of, nodes_none, nodes_more}
+use Rattle.policy_compile.specs.Nodes.{IsPlanAt, ArePlansAt, plan_yes, plan_ask, plan_not, plan_all, plan_one_of, plans_none, plans_more}
 use Rattle.policy_compile.specs.Numbering.{Collects, nothing}
 use Rattle.std.specs.Prelude.{Result, Ok, Err}
 use Rattle.std.specs.Result.{IsErrAnd}
@@ -35,62 +35,62 @@ begins-then a b c one two = record { rest = one.rest ++ two.rest; is = two.is �
 
 -- a node stays the plan
 mutual
-  node-longer : (a b : List Test) (m n : List Node) (p : Plan) (i : ℕ) → IsNode a m p i → IsNode (a ++ b) (m ++ n) p i
-  node-longer a b m n yes i (node_yes at) = node_yes (slice_get-longer m n i node.Yes at)
-  node-longer a b m n (ask t) i (node_ask {n = k} at number) = node_ask (slice_get-longer m n i (node.Test k) at) (slice_get-longer a b k t number)
-  node-longer a b m n (not p) i (node_not {c} at inside) = node_not (slice_get-longer m n i (node.Not c) at) (node-longer a b m n p c inside)
-  node-longer a b m n (all ps) i (node_all {cs} at inside) = node_all (slice_get-longer m n i (node.All cs) at) (nodes-longer a b m n ps cs inside)
-  node-longer a b m n (one_of ps) i (node_one_of {cs} at inside) = node_one_of (slice_get-longer m n i (node.OneOf cs) at) (nodes-longer a b m n ps cs inside)
+  plan-longer : (a b : List Test) (m n : List Node) (p : Plan) (i : ℕ) → IsPlanAt a m p i → IsPlanAt (a ++ b) (m ++ n) p i
+  plan-longer a b m n yes i (plan_yes at) = plan_yes (slice_get-longer m n i node.Yes at)
+  plan-longer a b m n (ask t) i (plan_ask {n = k} at number) = plan_ask (slice_get-longer m n i (node.Test k) at) (slice_get-longer a b k t number)
+  plan-longer a b m n (not p) i (plan_not {c} at inside) = plan_not (slice_get-longer m n i (node.Not c) at) (plan-longer a b m n p c inside)
+  plan-longer a b m n (all ps) i (plan_all {cs} at inside) = plan_all (slice_get-longer m n i (node.All cs) at) (plans-longer a b m n ps cs inside)
+  plan-longer a b m n (one_of ps) i (plan_one_of {cs} at inside) = plan_one_of (slice_get-longer m n i (node.OneOf cs) at) (plans-longer a b m n ps cs inside)
 
-  nodes-longer : (a b : List Test) (m n : List Node) (ps : Plans) (is : List ℕ) → AreNodes a m ps is → AreNodes (a ++ b) (m ++ n) ps is
-  nodes-longer a b m n none [] nodes_none = nodes_none
-  nodes-longer a b m n (more p ps) (i ∷ is) (nodes_more first rest) = nodes_more (node-longer a b m n p i first) (nodes-longer a b m n ps is rest)
-  nodes-longer a b m n none (i ∷ is) h = elim h [ ]
-  nodes-longer a b m n (more p ps) [] h = elim h [ ]
+  plans-longer : (a b : List Test) (m n : List Node) (ps : Plans) (is : List ℕ) → ArePlansAt a m ps is → ArePlansAt (a ++ b) (m ++ n) ps is
+  plans-longer a b m n none [] plans_none = plans_none
+  plans-longer a b m n (more p ps) (i ∷ is) (plans_more first rest) = plans_more (plan-longer a b m n p i first) (plans-longer a b m n ps is rest)
+  plans-longer a b m n none (i ∷ is) h = elim h [ ]
+  plans-longer a b m n (more p ps) [] h = elim h [ ]
 
-node-along : (a b : List Test) (m n : List Node) (p : Plan) (i : ℕ) → IsBeginningOf a b → IsBeginningOf m n → IsNode a m p i → IsNode b n p i
-node-along a b m n p i tests nodes h =
-    subst (λ (xs : List Test). IsNode xs n p i) (sym tests.is) (subst (λ (ys : List Node). IsNode (a ++ tests.rest) ys p i) (sym nodes.is) (node-longer a tests.rest m nodes.rest p i h))
+plan-along : (a b : List Test) (m n : List Node) (p : Plan) (i : ℕ) → IsBeginningOf a b → IsBeginningOf m n → IsPlanAt a m p i → IsPlanAt b n p i
+plan-along a b m n p i tests nodes h =
+    subst (λ (xs : List Test). IsPlanAt xs n p i) (sym tests.is) (subst (λ (ys : List Node). IsPlanAt (a ++ tests.rest) ys p i) (sym nodes.is) (plan-longer a tests.rest m nodes.rest p i h))
 
-nodes-along : (a b : List Test) (m n : List Node) (ps : Plans) (is : List ℕ) → IsBeginningOf a b → IsBeginningOf m n → AreNodes a m ps is → AreNodes b n ps is
-nodes-along a b m n ps is tests nodes h =
-    subst (λ (xs : List Test). AreNodes xs n ps is) (sym tests.is) (subst (λ (ys : List Node). AreNodes (a ++ tests.rest) ys ps is) (sym nodes.is) (nodes-longer a tests.rest m nodes.rest ps is h))
+plans-along : (a b : List Test) (m n : List Node) (ps : Plans) (is : List ℕ) → IsBeginningOf a b → IsBeginningOf m n → ArePlansAt a m ps is → ArePlansAt b n ps is
+plans-along a b m n ps is tests nodes h =
+    subst (λ (xs : List Test). ArePlansAt xs n ps is) (sym tests.is) (subst (λ (ys : List Node). ArePlansAt (a ++ tests.rest) ys ps is) (sym nodes.is) (plans-longer a tests.rest m nodes.rest ps is h))
 
 -- a plan's node is among the nodes
-node-within : (a : List Test) (m : List Node) (p : Plan) (i : ℕ) → IsNode a m p i → i < length m
-node-within a m yes i (node_yes at) = slice_get_within m i node.Yes at
-node-within a m (ask t) i (node_ask {n} at number) = slice_get_within m i (node.Test n) at
-node-within a m (not p) i (node_not {c} at inside) = slice_get_within m i (node.Not c) at
-node-within a m (all ps) i (node_all {cs} at inside) = slice_get_within m i (node.All cs) at
-node-within a m (one_of ps) i (node_one_of {cs} at inside) = slice_get_within m i (node.OneOf cs) at
+plan-within : (a : List Test) (m : List Node) (p : Plan) (i : ℕ) → IsPlanAt a m p i → i < length m
+plan-within a m yes i (plan_yes at) = slice_get_within m i node.Yes at
+plan-within a m (ask t) i (plan_ask {n} at number) = slice_get_within m i (node.Test n) at
+plan-within a m (not p) i (plan_not {c} at inside) = slice_get_within m i (node.Not c) at
+plan-within a m (all ps) i (plan_all {cs} at inside) = slice_get_within m i (node.All cs) at
+plan-within a m (one_of ps) i (plan_one_of {cs} at inside) = slice_get_within m i (node.OneOf cs) at
 
-nodes-within : (a : List Test) (m : List Node) (ps : Plans) (is : List ℕ) → AreNodes a m ps is → All (λ i. i < length m) is
-nodes-within a m none [] nodes_none = All-nil (λ i. i < length m)
-nodes-within a m (more p ps) (i ∷ is) (nodes_more first rest) = All-cons (λ i. i < length m) i is (node-within a m p i first) (nodes-within a m ps is rest)
-nodes-within a m none (i ∷ is) h = elim h [ ]
-nodes-within a m (more p ps) [] h = elim h [ ]
+plans-within : (a : List Test) (m : List Node) (ps : Plans) (is : List ℕ) → ArePlansAt a m ps is → All (λ i. i < length m) is
+plans-within a m none [] plans_none = All-nil (λ i. i < length m)
+plans-within a m (more p ps) (i ∷ is) (plans_more first rest) = All-cons (λ i. i < length m) i is (plan-within a m p i first) (plans-within a m ps is rest)
+plans-within a m none (i ∷ is) h = elim h [ ]
+plans-within a m (more p ps) [] h = elim h [ ]
 
 -- nodes after nodes
-nodes-append : (a : List Test) (m : List Node) (ps qs : List Plan) (is js : List ℕ) → AreNodes a m (of_plans ps) is → AreNodes a m (of_plans qs) js → AreNodes a m (of_plans (ps ++ qs)) (is ++ js)
-nodes-append a m [] qs [] js nodes_none second = second
-nodes-append a m (p ∷ ps) qs (i ∷ is) js (nodes_more first rest) second = nodes_more first (nodes-append a m ps qs is js rest second)
-nodes-append a m [] qs (i ∷ is) js h second = elim h [ ]
-nodes-append a m (p ∷ ps) qs [] js h second = elim h [ ]
+plans-append : (a : List Test) (m : List Node) (ps qs : List Plan) (is js : List ℕ) → ArePlansAt a m (of_plans ps) is → ArePlansAt a m (of_plans qs) js → ArePlansAt a m (of_plans (ps ++ qs)) (is ++ js)
+plans-append a m [] qs [] js plans_none second = second
+plans-append a m (p ∷ ps) qs (i ∷ is) js (plans_more first rest) second = plans_more first (plans-append a m ps qs is js rest second)
+plans-append a m [] qs (i ∷ is) js h second = elim h [ ]
+plans-append a m (p ∷ ps) qs [] js h second = elim h [ ]
 
 -- ---- one plan
 
 pub Built-within : (old new : Builder) (p : Plan) (i : ℕ) → Built old new p i → i < length new.nodes.keys
-Built-within old new p i h = node-within new.tests.keys new.nodes.keys p i h.node
+Built-within old new p i h = plan-within new.tests.keys new.nodes.keys p i h.node
 
 -- the node that always holds
 pub yes-built : (old new : Builder) (i : ℕ) → HasNode old new node.Yes i → Built old new yes i
-yes-built old new i h = record { collects = subst (λ (xs : List Test). Collects old.tests.keys [] xs) (sym h.tests) nothing; grows = h.grows; node = node_yes h.at }
+yes-built old new i h = record { collects = subst (λ (xs : List Test). Collects old.tests.keys [] xs) (sym h.tests) nothing; grows = h.grows; node = plan_yes h.at }
 
 pub not-built : (old mid new : Builder) (p : Plan) (c i : ℕ) → Built old mid p c → HasNode mid new (node.Not c) i → Built old new (not p) i
 not-built old mid new p c i inside h = record {
   collects = subst (λ (xs : List Test). Collects old.tests.keys (tests_in p) xs) (sym h.tests) inside.collects;
   grows = begins-then old.nodes.keys mid.nodes.keys new.nodes.keys inside.grows h.grows;
-  node = node_not h.at (subst (λ (xs : List Test). IsNode xs new.nodes.keys p c) (sym h.tests) (node-along mid.tests.keys mid.tests.keys mid.nodes.keys new.nodes.keys p c (begins-same mid.tests.keys) h.grows inside.node));
+  node = plan_not h.at (subst (λ (xs : List Test). IsPlanAt xs new.nodes.keys p c) (sym h.tests) (plan-along mid.tests.keys mid.tests.keys mid.nodes.keys new.nodes.keys p c (begins-same mid.tests.keys) h.grows inside.node));
 }
 
 -- a node is among the nodes
@@ -126,7 +126,7 @@ from-empty old new ps qs s t e f h = at-plans old new ps qs [] t f (subst (λ (x
 -- ---- plans that were added
 
 pub Added-nothing : (b : Builder) (is : List ℕ) → Added b b [] is is
-Added-nothing b is = record { collects = nothing; grows = begins-same b.nodes.keys; more = []; is = sym (append-nil is); nodes = nodes_none }
+Added-nothing b is = record { collects = nothing; grows = begins-same b.nodes.keys; more = []; is = sym (append-nil is); nodes = plans_none }
 
 pub Added-one : (old new : Builder) (p : Plan) (i : ℕ) (before after : List ℕ) → Built old new p i → after ≡ before ++ i ∷ [] → Added old new (p ∷ []) before after
 Added-one old new p i before after h is = record {
@@ -134,7 +134,7 @@ Added-one old new p i before after h is = record {
   grows = h.grows;
   more = i ∷ [];
   is = is;
-  nodes = nodes_more h.node nodes_none;
+  nodes = plans_more h.node plans_none;
 }
 
 pub Added-then : (old mid new : Builder) (ps qs : List Plan) (s t u : List ℕ) → Added old mid ps s t → Added mid new qs t u → Added old new (ps ++ qs) s u
@@ -144,8 +144,8 @@ Added-then old mid new ps qs s t u one two = record {
   grows = begins-then old.nodes.keys mid.nodes.keys new.nodes.keys one.grows two.grows;
   more = one.more ++ two.more;
   is = two.is ∙ ap (λ xs. xs ++ two.more) one.is ∙ append_assoc s one.more two.more;
-  nodes = nodes-append new.tests.keys new.nodes.keys ps qs one.more two.more
-      (nodes-along mid.tests.keys new.tests.keys mid.nodes.keys new.nodes.keys (of_plans ps) one.more (Collects-begins mid.tests.keys (tests_in_each (of_plans qs)) new.tests.keys two.collects) two.grows one.nodes) two.nodes;
+  nodes = plans-append new.tests.keys new.nodes.keys ps qs one.more two.more
+      (plans-along mid.tests.keys new.tests.keys mid.nodes.keys new.nodes.keys (of_plans ps) one.more (Collects-begins mid.tests.keys (tests_in_each (of_plans qs)) new.tests.keys two.collects) two.grows one.nodes) two.nodes;
 }
 
 -- one more plan was added
@@ -153,26 +153,26 @@ pub Added-push : (old mid new : Builder) (ps : List Plan) (p : Plan) (i : ℕ) (
 Added-push old mid new ps p i s t u one last is = Added-then old mid new ps (p ∷ []) s t u one (Added-one mid new p i t u last is)
 
 pub Added-within : (old new : Builder) (ps : List Plan) (is : List ℕ) → Added old new ps [] is → All (λ i. i < length new.nodes.keys) is
-Added-within old new ps is h = subst (λ (xs : List ℕ). All (λ i. i < length new.nodes.keys) xs) (sym h.is) (nodes-within new.tests.keys new.nodes.keys (of_plans ps) h.more h.nodes)
+Added-within old new ps is h = subst (λ (xs : List ℕ). All (λ i. i < length new.nodes.keys) xs) (sym h.is) (plans-within new.tests.keys new.nodes.keys (of_plans ps) h.more h.nodes)
 
-inside-along : (mid new : Builder) (ps : List Plan) (is : List ℕ) (n : Node) (i : ℕ) → HasNode mid new n i → AreNodes mid.tests.keys mid.nodes.keys (of_plans ps) is → AreNodes new.tests.keys new.nodes.keys (of_plans ps) is
+inside-along : (mid new : Builder) (ps : List Plan) (is : List ℕ) (n : Node) (i : ℕ) → HasNode mid new n i → ArePlansAt mid.tests.keys mid.nodes.keys (of_plans ps) is → ArePlansAt new.tests.keys new.nodes.keys (of_plans ps) is
 inside-along mid new ps is n i h inside =
-    subst (λ (xs : List Test). AreNodes xs new.nodes.keys (of_plans ps) is) (sym h.tests)
-    (nodes-along mid.tests.keys mid.tests.keys mid.nodes.keys new.nodes.keys (of_plans ps) is (begins-same mid.tests.keys) h.grows inside)
+    subst (λ (xs : List Test). ArePlansAt xs new.nodes.keys (of_plans ps) is) (sym h.tests)
+    (plans-along mid.tests.keys mid.tests.keys mid.nodes.keys new.nodes.keys (of_plans ps) is (begins-same mid.tests.keys) h.grows inside)
 
 -- all of them together, and some of them
 pub all-built : (old mid new : Builder) (ps : List Plan) (is : List ℕ) (i : ℕ) → Added old mid ps [] is → HasNode mid new (node.All is) i → Built old new (all (of_plans ps)) i
 all-built old mid new ps is i added h = record {
   collects = subst (λ (xs : List Test). Collects old.tests.keys (tests_in_each (of_plans ps)) xs) (sym h.tests) added.collects;
   grows = begins-then old.nodes.keys mid.nodes.keys new.nodes.keys added.grows h.grows;
-  node = node_all h.at (inside-along mid new ps is (node.All is) i h (subst (λ (xs : List ℕ). AreNodes mid.tests.keys mid.nodes.keys (of_plans ps) xs) (sym added.is) added.nodes));
+  node = plan_all h.at (inside-along mid new ps is (node.All is) i h (subst (λ (xs : List ℕ). ArePlansAt mid.tests.keys mid.nodes.keys (of_plans ps) xs) (sym added.is) added.nodes));
 }
 
 pub one_of-built : (old mid new : Builder) (ps : List Plan) (is : List ℕ) (i : ℕ) → Added old mid ps [] is → HasNode mid new (node.OneOf is) i → Built old new (one_of (of_plans ps)) i
 one_of-built old mid new ps is i added h = record {
   collects = subst (λ (xs : List Test). Collects old.tests.keys (tests_in_each (of_plans ps)) xs) (sym h.tests) added.collects;
   grows = begins-then old.nodes.keys mid.nodes.keys new.nodes.keys added.grows h.grows;
-  node = node_one_of h.at (inside-along mid new ps is (node.OneOf is) i h (subst (λ (xs : List ℕ). AreNodes mid.tests.keys mid.nodes.keys (of_plans ps) xs) (sym added.is) added.nodes));
+  node = plan_one_of h.at (inside-along mid new ps is (node.OneOf is) i h (subst (λ (xs : List ℕ). ArePlansAt mid.tests.keys mid.nodes.keys (of_plans ps) xs) (sym added.is) added.nodes));
 }
 
 -- ---- plans that fail

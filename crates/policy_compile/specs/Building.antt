@@ -6,7 +6,7 @@ use Rattle.policy_compile.specs.declared.builder.TheConstants.{MOST_TESTS}
 use Rattle.policy_compile.specs.declared.nodes.Node.{Node}
 use Rattle.policy_compile.specs.declared.outcome.QueryFault.{QueryFault}
 use Rattle.policy_compile.specs.declared.outcome.QueryFault.TheVariants.{TooManyTests, TooManyPieces, NoMemory}
-use Rattle.policy_compile.specs.Nodes.{AreNodes, IsNode}
+use Rattle.policy_compile.specs.Nodes.{ArePlansAt, IsPlanAt}
 use Rattle.policy_compile.specs.Numbering.{Collects, HasTooMany}
 use Rattle.policy_compile.specs.Plans.{Plan, of_plans, tests_in, tests_in_each}
 use Rattle.policy_compile.specs.Sets.{some_or_none}
@@ -32,7 +32,7 @@ pub record HasNode (old new : Builder) (n : Node) (i : ℕ) : Type 0 where
 pub record Built (old new : Builder) (p : Plan) (i : ℕ) : Type 0 where
   pub collects : Collects old.tests.keys (tests_in p) new.tests.keys
   pub grows : IsBeginningOf old.nodes.keys new.nodes.keys
-  pub node : IsNode new.tests.keys new.nodes.keys p i
+  pub node : IsPlanAt new.tests.keys new.nodes.keys p i
 
 -- from the old builder to the new one the nodes of these plans were added to indices
 pub record Added (old new : Builder) (ps : List Plan) (before after : List ℕ) : Type 0 where
@@ -40,7 +40,7 @@ pub record Added (old new : Builder) (ps : List Plan) (before after : List ℕ) 
   pub grows : IsBeginningOf old.nodes.keys new.nodes.keys
   pub more : List ℕ
   pub is : after ≡ before ++ more
-  pub nodes : AreNodes new.tests.keys new.nodes.keys (of_plans ps) more
+  pub nodes : ArePlansAt new.tests.keys new.nodes.keys (of_plans ps) more
 
 -- the test is had, or there is room for one more; and neither
 abbrev pub HasRoom : Builder → Test → Type 0
@@ -71,7 +71,7 @@ IsAdded old new ps before after (Err e) = Fails old.tests.keys (tests_in_each (o
 -- the builder has the tests of the plan alone, and the plan is the node of this index
 pub record Makes (builder : Builder) (p : Plan) (i : ℕ) : Type 0 where
   pub collects : Collects [] (tests_in p) builder.tests.keys
-  pub node : IsNode builder.tests.keys builder.nodes.keys p i
+  pub node : IsPlanAt builder.tests.keys builder.nodes.keys p i
 
 -- wherever these nodes were added one by one, some of them, or with `not` none, was made of them
 abbrev pub MakesElement : Builder → Builder → Bool → List ℕ → Result ℕ QueryFault → Type 0

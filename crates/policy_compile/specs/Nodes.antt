@@ -25,21 +25,21 @@ AreEarlier nodes = (i : ℕ) (n : Node) → slice_get nodes i ≡ Some n → All
 
 mutual
   -- the node of this index is the plan, with each test's number in its stead
-  pub data IsNode (tests : List Test) (nodes : List Node) : Plan → ℕ → Type 0 where
-    node_yes : {i : ℕ} → slice_get nodes i ≡ Some node.Yes → IsNode tests nodes yes i
-    node_ask : {i n : ℕ} {t : Test} → slice_get nodes i ≡ Some (node.Test n) → slice_get tests n ≡ Some t →
-        IsNode tests nodes (ask t) i
-    node_not : {i c : ℕ} {p : Plan} → slice_get nodes i ≡ Some (node.Not c) → IsNode tests nodes p c →
-        IsNode tests nodes (not p) i
-    node_all : {i : ℕ} {cs : List ℕ} {ps : Plans} → slice_get nodes i ≡ Some (node.All cs) → AreNodes tests nodes ps cs →
-        IsNode tests nodes (all ps) i
-    node_one_of : {i : ℕ} {cs : List ℕ} {ps : Plans} → slice_get nodes i ≡ Some (node.OneOf cs) → AreNodes tests nodes ps cs →
-        IsNode tests nodes (one_of ps) i
+  pub data IsPlanAt (tests : List Test) (nodes : List Node) : Plan → ℕ → Type 0 where
+    plan_yes : {i : ℕ} → slice_get nodes i ≡ Some node.Yes → IsPlanAt tests nodes yes i
+    plan_ask : {i n : ℕ} {t : Test} → slice_get nodes i ≡ Some (node.Test n) → slice_get tests n ≡ Some t →
+        IsPlanAt tests nodes (ask t) i
+    plan_not : {i c : ℕ} {p : Plan} → slice_get nodes i ≡ Some (node.Not c) → IsPlanAt tests nodes p c →
+        IsPlanAt tests nodes (not p) i
+    plan_all : {i : ℕ} {cs : List ℕ} {ps : Plans} → slice_get nodes i ≡ Some (node.All cs) → ArePlansAt tests nodes ps cs →
+        IsPlanAt tests nodes (all ps) i
+    plan_one_of : {i : ℕ} {cs : List ℕ} {ps : Plans} → slice_get nodes i ≡ Some (node.OneOf cs) → ArePlansAt tests nodes ps cs →
+        IsPlanAt tests nodes (one_of ps) i
 
-  pub data AreNodes (tests : List Test) (nodes : List Node) : Plans → List ℕ → Type 0 where
-    nodes_none : AreNodes tests nodes none []
-    nodes_more : {i : ℕ} {is : List ℕ} {p : Plan} {ps : Plans} → IsNode tests nodes p i → AreNodes tests nodes ps is →
-        AreNodes tests nodes (more p ps) (i ∷ is)
+  pub data ArePlansAt (tests : List Test) (nodes : List Node) : Plans → List ℕ → Type 0 where
+    plans_none : ArePlansAt tests nodes none []
+    plans_more : {i : ℕ} {is : List ℕ} {p : Plan} {ps : Plans} → IsPlanAt tests nodes p i → ArePlansAt tests nodes ps is →
+        ArePlansAt tests nodes (more p ps) (i ∷ is)
 
 -- the tree of a node, with the trees of the nodes inside
 abbrev pub node_tree : (ℕ → tree.Tree) → Node → tree.Tree
@@ -59,4 +59,4 @@ tree_in formulas i = get_or (map tree_at formulas) i tree.yes
 -- the trees are those of the nodes: where a node is a plan, its tree is the plan
 abbrev pub StandFor : List Node → List tree.Tree → Type 0
 StandFor nodes trees =
-    (tests : List Test) (p : Plan) (i : ℕ) (t : tree.Tree) → IsNode tests nodes p i → slice_get trees i ≡ Some t → IsNumbered tests p t
+    (tests : List Test) (p : Plan) (i : ℕ) (t : tree.Tree) → IsPlanAt tests nodes p i → slice_get trees i ≡ Some t → IsNumbered tests p t

@@ -1,6 +1,6 @@
 -- What a query is, and when there is none.
 use Rattle.std.specs.Prelude.{◌≡◌, ◌≤◌, ◌<◌, ◌+◌, ⊤, ℕ, List, [], length, sum_by, Option, Some, None, Result, Ok, Err}
-use Rattle.formula_tree.specs.Trees.{tree_of}
+use Rattle.formula_tree.specs.Trees.{Tree, tree_of}
 use Rattle.policy_model.specs.declared.principal.Entry.{Entry}
 use Rattle.policy_model.specs.declared.principal.Entry.TheVariants.{All, Kind, Account, Exact}
 use Rattle.policy_model.specs.declared.test.Test.{Test}
@@ -53,6 +53,10 @@ pub record HasTooManyPieces (plan : Plan) : Type 0 where
   pub collects : Collects [] (tests_in plan) tests
   pub few : length tests ≤ MOST_TESTS
   pub large : MOST_PIECES < sum_by test_pieces tests
+
+-- the tree of a query
+abbrev pub asked_tree : Query → Tree
+asked_tree query = tree_of query.formula.value
 
 -- a query, or why there is none
 abbrev pub IsQueryOf : Plan → Result Query QueryFault → Type 0

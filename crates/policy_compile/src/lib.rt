@@ -16,6 +16,3 @@ pub use meaning::{
     tests_of_queries_suit, tests_of_set_queries_suit,
 };
 pub use outcome::{Query, QueryFault};
-
-#[cfg(test)]
-mod tests;

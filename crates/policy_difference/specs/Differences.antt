@@ -1,4 +1,4 @@
--- The question of a comparison without the Allow statements that both sets share.
+-- The query of a comparison without the Allow statements that both sets share.
 use Rattle.std.specs.Prelude.{◌≡◌, ◌⊎◌, List, [], ◌∷◌, Any, All, true, false}
 use Rattle.policy_model.specs.Sets.{Allows}
 use Rattle.policy_model.specs.Soundness.{SchemaFits}
@@ -78,7 +78,7 @@ pub record IsDifference (first second less : PolicySet) : Type 0 where
   pub grants : AreLeft second.grants first.grants less.grants
   pub guards : less.guards ≡ first.guards
 
--- such statements add nothing to the question
+-- such statements add nothing to the query
 abbrev pub SharedStatementsAddNothing : Type 0
 SharedStatementsAddNothing = (first second less : PolicySet) → IsDifference first second less →
     AskTheSame first less second × FitsToo first less

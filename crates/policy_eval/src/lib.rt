@@ -11,6 +11,3 @@ pub use eval::allows;
 pub use first::decider;
 pub use laws::{deciders_are_equal, deciders_tell_what_is_allowed};
 pub use outcome::Decider;
-
-#[cfg(test)]
-mod tests;

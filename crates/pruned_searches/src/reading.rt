@@ -53,14 +53,14 @@ impl Nodes {
 
 /// Where a part stands: whether it is the node of a label, and under which answers.
 #[derive(Clone, Copy)]
-struct Place {
+struct Standing {
     labelled: bool,
     answered: Answered,
 }
 
-impl Place {
-    fn side(self, test: u32, answer: bool) -> Place {
-        Place {
+impl Standing {
+    fn side(self, test: u32, answer: bool) -> Standing {
+        Standing {
             labelled: false,
             answered: self.answered.with(test, answer),
         }
@@ -68,14 +68,19 @@ impl Place {
 }
 
 // A split, what is below it aside.
-fn split_alone(case: &Case, yes: &Refutation, place: Place, labels: &Labels) -> io::Result<Nodes>
+fn split_alone(
+    case: &Case,
+    yes: &Refutation,
+    standing: Standing,
+    labels: &Labels,
+) -> io::Result<Nodes>
     requires { IsSoundCase case.now }
 {
-    let needless = would_close(case, yes, place.answered, labels)?;
-    let repeated = labels.some_could_be_reused(place.answered);
+    let needless = would_close(case, yes, standing.answered, labels)?;
+    let repeated = labels.some_could_be_reused(standing.answered);
     Ok(Nodes {
         splits: 1,
-        bare: u32::from(!place.labelled),
+        bare: u32::from(!standing.labelled),
         needless: u32::from(needless),
         repeated: u32::from(repeated),
         ..Nodes::NONE
@@ -101,7 +106,12 @@ fn is_long(
 }
 
 #[cycle(reading)]
-fn read(case: &Case, part: &Refutation, place: Place, labels: &mut Labels) -> io::Result<Nodes>
+fn read(
+    case: &Case,
+    part: &Refutation,
+    standing: Standing,
+    labels: &mut Labels,
+) -> io::Result<Nodes>
     requires { IsSoundCase case.now }
 {
     match part {
@@ -113,9 +123,9 @@ fn read(case: &Case, part: &Refutation, place: Place, labels: &mut Labels) -> io
             ..Nodes::NONE
         }),
         Refutation::Split { test, yes, no } => {
-            let own = split_alone(case, yes, place, labels)?;
-            let first = read(case, yes, place.side(*test, true), labels)?;
-            let second = read(case, no, place.side(*test, false), labels)?;
+            let own = split_alone(case, yes, standing, labels)?;
+            let first = read(case, yes, standing.side(*test, true), labels)?;
+            let second = read(case, no, standing.side(*test, false), labels)?;
             Ok(own.with(first).with(second))
         }
         Refutation::Label {
@@ -143,12 +153,12 @@ fn read_label(
         long: u32::from(long),
         ..Nodes::NONE
     };
-    let place = Place {
+    let standing = Standing {
         labelled: true,
         answered: Answered::of(answers.as_slice()),
     };
-    let below = read(case, inner, place, labels)?;
-    labels.end(number, place.answered)?;
+    let below = read(case, inner, standing, labels)?;
+    labels.end(number, standing.answered)?;
     Ok(own.with(below))
 }
 
@@ -157,9 +167,9 @@ pub(crate) fn nodes_of(case: &Case, refutation: &Refutation) -> io::Result<Nodes
     requires { IsSoundCase case.now }
 {
     let mut labels = Labels::new(case.alloc);
-    let place = Place {
+    let standing = Standing {
         labelled: false,
         answered: Answered::NONE,
     };
-    read(case, refutation, place, &mut labels)
+    read(case, refutation, standing, &mut labels)
 }

@@ -18,7 +18,7 @@ pub(crate) struct Run {
 }
 
 impl Run {
-    const CLOSED: Run = Run {
+    const UNMET: Run = Run {
         met: false,
         splits: 0,
     };
@@ -72,13 +72,13 @@ fn step_at(case: &Case, propagated: bool, path: &Path, last: Option<u32>) -> io:
 {
     let value = value3(&case.query.formula, path);
     if value == Three::No || !is_possible(case, path, last)? {
-        return Ok(Step::End(Run::CLOSED));
+        return Ok(Step::End(Run::UNMET));
     }
     if value == Three::Yes {
         return Ok(Step::End(Run::MET));
     }
     if propagated && conflict(case.alloc, case.clauses, path)?.is_some() {
-        return Ok(Step::End(Run::CLOSED));
+        return Ok(Step::End(Run::UNMET));
     }
     match pick(&case.query.formula, path) {
         Some(test) => Ok(Step::Split(test)),
@@ -107,7 +107,7 @@ fn run_from(case: &Case, propagated: bool, node: Node, open_tests: u32) -> io::R
     let fewer = open_tests - 1;
     let yes = run_from(case, propagated, node.side(test, true), fewer)?;
     if yes.met {
-        return Ok(yes.with(Run::CLOSED));
+        return Ok(yes.with(Run::UNMET));
     }
     let no = run_from(case, propagated, node.side(test, false), fewer)?;
     Ok(yes.with(no))

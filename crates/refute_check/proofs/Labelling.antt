@@ -8,7 +8,7 @@ use Rattle.formula_tree.specs.Answers.{Answers, Contained, answer_of}
 use Rattle.formula_tree.proofs.Laws.{cases_eq}
 use Rattle.pattern_automata.specs.Closed.{rises_from}
 use Rattle.refute_check.specs.Closing.{Before, IsLabel, IsReuse, Rise}
-use Rattle.refute_check.specs.Labels.{ArePlaced, IsAnswered}
+use Rattle.refute_check.specs.Labels.{HaveIndices, IsAnswered}
 
 some-same : {X : Type 0} (x y : X) → Some x ≡ Some y → x ≡ y
 some-same x y h = cc
@@ -93,32 +93,32 @@ may-begin before n answers path ok next rise says = (
 
 -- ---- lists that grow at their end
 
-none-more : (places : List (Option ℕ)) (n : ℕ) → get_or (places ++ None ∷ []) n None ≡ get_or places n None
+none-more : (indices : List (Option ℕ)) (n : ℕ) → get_or (indices ++ None ∷ []) n None ≡ get_or indices n None
 none-more [] zero = refl
 none-more [] (suc n) = refl
-none-more (x ∷ places) zero = refl
-none-more (x ∷ places) (suc n) = none-more places n
+none-more (x ∷ indices) zero = refl
+none-more (x ∷ indices) (suc n) = none-more indices n
 
-within : (places : List (Option ℕ)) (n i : ℕ) → get_or places n None ≡ Some i → n < length places
+within : (indices : List (Option ℕ)) (n i : ℕ) → get_or indices n None ≡ Some i → n < length indices
 within [] n i h = absurd (cc)
-within (x ∷ places) zero i h = omega arith
-within (x ∷ places) (suc n) i h = omega (arith, within places n i h)
+within (x ∷ indices) zero i h = omega arith
+within (x ∷ indices) (suc n) i h = omega (arith, within indices n i h)
 
--- ---- the table of labels
+-- ---- the indices of ended labels
 
-module _ (ended : List (ℕ × Answers)) (places : List (Option ℕ)) (placed : ArePlaced ended places) where
-  pub placed-begin : ArePlaced ended (places ++ None ∷ [])
-  placed-begin = record {
-    found = λ i n answers h. none-more places n ∙ placed.found i n answers h;
-    named = λ n i h. placed.named n i (sym (none-more places n) ∙ h);
-    rise = placed.rise;
+module _ (ended : List (ℕ × Answers)) (indices : List (Option ℕ)) (indexed : HaveIndices ended indices) where
+  pub indexed-begin : HaveIndices ended (indices ++ None ∷ [])
+  indexed-begin = record {
+    found = λ i n answers h. none-more indices n ∙ indexed.found i n answers h;
+    named = λ n i h. indexed.named n i (sym (none-more indices n) ∙ h);
+    rise = indexed.rise;
   }
 
   -- a label that ended is one that began
-  pub below : All (λ (l : ℕ × Answers). l.0 < length places) ended
+  pub below : All (λ (l : ℕ × Answers). l.0 < length indices) ended
   below k d small =
       let l = get_or ended k d in
-      within places l.0 k (placed.found k l.0 l.1 (slice_get-get_or ended k d small))
+      within indices l.0 k (indexed.found k l.0 l.1 (slice_get-get_or ended k d small))
 
   -- ---- what may be reused
 
@@ -127,23 +127,23 @@ module _ (ended : List (ℕ × Answers)) (places : List (Option ℕ)) (placed : 
     MayReuse = IsReuse (record { begun = begun; ended = ended }) n path
 
     -- where the label of the number stands
-    reuse-at : MayReuse → (k : ℕ) × (l : ℕ × Answers) × (get_or places n None ≡ Some k) × (slice_get ended k ≡ Some l) × Contained l.1 path
+    reuse-at : MayReuse → (k : ℕ) × (l : ℕ × Answers) × (get_or indices n None ≡ Some k) × (slice_get ended k ≡ Some l) × Contained l.1 path
     reuse-at (k, l, small, is, said) =
         let at : slice_get ended k ≡ Some l = slice_get-get_or ended k l small ∙ ap Some is in
-        (k, l, subst (λ (m : ℕ). get_or places m None ≡ Some k) said.0 (placed.found k l.0 l.1 at), at, said.1)
+        (k, l, subst (λ (m : ℕ). get_or indices m None ≡ Some k) said.0 (indexed.found k l.0 l.1 at), at, said.1)
 
-    pub reuse : (i : ℕ) (l : ℕ × Answers) (ok : Bool) → get_or places n None ≡ Some i → slice_get ended i ≡ Some l → IsTrue ok ↔ All (IsAnswered path) l.1 → IsTrue ok ↔ MayReuse
+    pub reuse : (i : ℕ) (l : ℕ × Answers) (ok : Bool) → get_or indices n None ≡ Some i → slice_get ended i ≡ Some l → IsTrue ok ↔ All (IsAnswered path) l.1 → IsTrue ok ↔ MayReuse
     reuse i l ok is at says = (
       λ yes.
-          let (answers, there) = placed.named n i is in
+          let (answers, there) = indexed.named n i is in
           let number : l.0 ≡ n = ap (λ (x : ℕ × Answers). x.0) (some-same l (n, answers) (sym at ∙ there)) in
           (i, l, slice_get_within ended i l at, get_or_from_slice_get ended i l l at, (number, all-contained l.1 path (says.0 yes))),
       λ may.
-          let (k, m, place, there, inside) = reuse-at may in
-          let index : Some k ≡ Some i = sym place ∙ is in
+          let (k, m, at_k, there, inside) = reuse-at may in
+          let index : Some k ≡ Some i = sym at_k ∙ is in
           let same : k ≡ i = some-same k i index in
           let own : m ≡ l = some-same m l (sym there ∙ subst (λ (j : ℕ). slice_get ended j ≡ Some l) (sym same) at) in
           let small = slice_get_within ended i l at in
-          let rise : Rise l.1 = subst (λ (x : ℕ × Answers). Rise x.1) (get_or_from_slice_get ended i l l at) (placed.rise i l small) in
+          let rise : Rise l.1 = subst (λ (x : ℕ × Answers). Rise x.1) (get_or_from_slice_get ended i l l at) (indexed.rise i l small) in
           says.1 (contained-all l.1 path rise (subst (λ (x : ℕ × Answers). Contained x.1 path) own inside)),
     )

@@ -3,10 +3,10 @@ use Rattle.std.specs.Prelude.{◌≡◌, ℕ, List, [], ◌∷◌, ◌++◌, Boo
 use Rattle.formula_tree.specs.Answers.{Answers, answer_of}
 use Rattle.refute_check.specs.Closing.{Before, Rise}
 
--- the table finds each ended label by its number, and no other; and the tests of their answers rise
-pub record ArePlaced (ended : List (ℕ × Answers)) (places : List (Option ℕ)) : Type 0 where
-  pub found : (i n : ℕ) (answers : Answers) → slice_get ended i ≡ Some (n, answers) → slice_index_or places n None ≡ Some i
-  pub named : (n i : ℕ) → slice_index_or places n None ≡ Some i →
+-- each ended label has its index by its number, and no other label has one; and the tests of their answers rise
+pub record HaveIndices (ended : List (ℕ × Answers)) (indices : List (Option ℕ)) : Type 0 where
+  pub found : (i n : ℕ) (answers : Answers) → slice_get ended i ≡ Some (n, answers) → slice_index_or indices n None ≡ Some i
+  pub named : (n i : ℕ) → slice_index_or indices n None ≡ Some i →
       (answers : Answers) × (slice_get ended i ≡ Some (n, answers))
   pub rise : All (λ l. Rise l.1) ended
 

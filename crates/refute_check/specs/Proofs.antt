@@ -28,7 +28,7 @@ refutation_step (Refutation-F.Reuse n) = reuse n
 abbrev pub proof_of : Refutation → Proof
 proof_of = fold-Refutation Proof refutation_step
 
--- how many nodes it has, a shared node counted at each place
+-- how many nodes it has, a shared node counted as often as it stands
 abbrev pub size : Proof → ℕ
 size (split n y z) = size y + size z + 1
 size by_value = 1
@@ -37,7 +37,7 @@ size (by_clauses hints) = 1
 size (label n answers p) = size p + 1
 size (reuse n) = 1
 
--- how many splits it has, a shared one counted at each place
+-- how many splits it has, a shared one counted as often as it stands
 abbrev pub splits : Proof → ℕ
 splits (split n y z) = splits y + splits z + 1
 splits by_value = 0

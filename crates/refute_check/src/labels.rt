@@ -15,19 +15,19 @@ use std::marker::Model;
 pub(crate) struct Labels {
     ended: List<(u32, AnswerList)>,
     // For each label that began, by its number, its index in `ended`: so a reuse costs one look.
-    places: Vec<Option<usize>>,
+    indices: Vec<Option<usize>>,
 }
 
 impl Model for Labels {
     ghost use Rattle.std.specs.Prelude.{length};
     ghost use Rattle.refute_check.specs.Closing.{Before};
-    ghost use Rattle.refute_check.specs.Labels.{ArePlaced};
+    ghost use Rattle.refute_check.specs.Labels.{HaveIndices};
 
     ghost Value = { Before };
 
-    ghost view = { λ l. record { begun = length l.places.items; ended = l.ended } };
+    ghost view = { λ l. record { begun = length l.indices.items; ended = l.ended } };
 
-    ghost invariant = { λ l. ArePlaced l.ended l.places.items };
+    ghost invariant = { λ l. HaveIndices l.ended l.indices.items };
 }
 
 impl Labels {
@@ -37,7 +37,7 @@ impl Labels {
     {
         Labels {
             ended: List::new(alloc),
-            places: Vec::new(alloc),
+            indices: Vec::new(alloc),
         }
     }
 
@@ -45,7 +45,7 @@ impl Labels {
     pub(crate) fn may_begin(&self, number: u32, answers: &AnswerList, path: &Path) -> bool
         ensures { IsTrue result ↔ IsLabel self.now number answers.now path.now }
     {
-        if number as usize != self.places.len() {
+        if number as usize != self.indices.len() {
             return false;
         }
         let answers = answers.as_slice();
@@ -57,7 +57,7 @@ impl Labels {
         ensures begun { OnOk result (self.new ≡ inside_label self.old) }
         ensures below { All (λ l. l.0 < self.old.begun) self.old.ended }
     {
-        self.places.push(None)?;
+        self.indices.push(None)?;
         Ok(())
     }
 
@@ -68,9 +68,9 @@ impl Labels {
         requires rise { Rise answers }
         ensures { OnOk result (self.new ≡ with_ended self.old number answers) }
     {
-        let place = self.ended.len();
+        let index = self.ended.len();
         self.ended.push((number, answers))?;
-        self.places[number as usize] = Some(place);
+        self.indices[number as usize] = Some(index);
         Ok(())
     }
 
@@ -78,22 +78,22 @@ impl Labels {
     pub(crate) fn may_reuse(&self, number: u32, path: &Path) -> bool
         ensures { IsTrue result ↔ IsReuse self.now number path.now }
     {
-        let Some(place) = place_of(self.places.as_slice(), number) else {
+        let Some(index) = index_of(self.indices.as_slice(), number) else {
             return false;
         };
-        match self.ended.get(place) {
+        match self.ended.get(index) {
             Some(label) => are_answered(label.1.as_slice(), path),
             None => false,
         }
     }
 }
 
-// The index that the table has for a label, or none where the label hasn't ended.
-fn place_of(places: &[Option<usize>], number: u32) -> Option<usize>
-    ensures { result ≡ slice_index_or places.now number None }
+// The index of an ended label in the list of these, or none where the label hasn't ended.
+fn index_of(indices: &[Option<usize>], number: u32) -> Option<usize>
+    ensures { result ≡ slice_index_or indices.now number None }
 {
-    match places.get(number as usize) {
-        Some(place) => *place,
+    match indices.get(number as usize) {
+        Some(index) => *index,
         None => None,
     }
 }

@@ -15,6 +15,3 @@ pub use runs::{
     propagated_runs_end_where_met,
 };
 pub use verdict::{Verdict, check, closes_under};
-
-#[cfg(test)]
-mod tests;

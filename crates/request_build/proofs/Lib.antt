@@ -1,5 +1,4 @@
 mod Existing
 mod Filling
-mod Given
 mod Joining
 pub mod Laws

@@ -7,6 +7,3 @@ mod request;
 
 pub use existence::sound_schemas_have_requests;
 pub use request::{SlotValues, build};
-
-#[cfg(test)]
-mod tests;

@@ -16,7 +16,7 @@ use Rattle.search_parts.specs.Making.{AreMadeHalves, AreOwnNeeds, IsMadePart}
 
 -- the split is on a test that the path leaves open, the values and the lists follow the path, and what the sides need is of theirs
 pub record AreReady (path : Answers) (halves : Halves) (learned : Tracked) (values : Answered) : Type 0 where
-  pub within : halves.test < length values.table
+  pub within : halves.test < length values.answers
   pub free : answer_of path halves.test ≡ None
   pub answered_by : IsAnsweredBy values path
   pub follows : learned.path ≡ path

@@ -29,7 +29,7 @@ pub fn least_answers(
     no: &Needs,
     values: &mut TreeValues,
 ) -> Result<Path, NoMemory>
-    requires within { test < length values.old.table }
+    requires within { test < length values.old.answers }
     requires free { answer_of path.now test ≡ None }
     requires answered { IsAnsweredBy values.old path.now }
     requires yes_needs { AreKnownNeeds (answered_tree values.old)
@@ -78,7 +78,7 @@ fn cut_down(
     requires answered { IsAnsweredBy values.old path.now }
     requires there { Contained needed.now path.now }
     requires free { answer_of path.now test ≡ None }
-    requires within { test < length values.old.table }
+    requires within { test < length values.old.answers }
     requires no { IsNoOn (answered_tree values.old) path.now test sides }
     ensures cut { IfOk result
         (IsCutDown (answered_tree values.old) path.now needed.now test sides) }

@@ -22,5 +22,5 @@ pub use acceptance::{accepted_cores_are_impossible, accepts_by_the_core_alone};
 pub use check::accepts;
 pub use outcome::{Core, KindProof, Possible, SlotProof, SlotValue};
 pub use search::possible;
-pub use slots::{meets, slot_of};
+pub use slots::{is_on, meets, slot_of};
 pub use unasked::{sample, stated_value, stated_values};

@@ -9,7 +9,7 @@ use Rattle.strata.specs.declared.predicate.Predicate.TheVariants.{Every}
 use Rattle.strata.specs.declared.rows.Row.{Row}
 use Rattle.strata.specs.Below.{IsBelow}
 use Rattle.strata.specs.Covers.{predicate_at}
-use Rattle.strata.specs.Rows.{AreAnswered, IsRow, IsTable, TellsBelow}
+use Rattle.strata.specs.Rows.{AreAnswered, IsRow, TellOrder, TellsBelow}
 use Rattle.strata.proofs.Ordering.{apart-below}
 
 -- an answer that is true tells that the one is below the other
@@ -52,12 +52,12 @@ row-longer schema s kept more n p row within h = record {
   above = answered-longer (λ q b. TellsBelow schema s q p b) kept more n row.above within h.above;
 }
 
-pub table-none : (schema : Schema) (s : Slot) → IsTable schema s [] []
-table-none schema s = record { count = refl; each = λ i d l. absurd (omega arith) }
+pub told-none : (schema : Schema) (s : Slot) → TellOrder schema s [] []
+told-none schema s = record { count = refl; each = λ i d l. absurd (omega arith) }
 
 -- one more predicate with its row
-pub table-push : (schema : Schema) (s : Slot) (kept : List Predicate) (rows : List Row) (p : Predicate) (row : Row) → IsTable schema s kept rows → IsRow schema s kept (length kept) p row → IsTable schema s (kept ++ p ∷ []) (rows ++ row ∷ [])
-table-push schema s kept rows p row h last = record {
+pub told-push : (schema : Schema) (s : Slot) (kept : List Predicate) (rows : List Row) (p : Predicate) (row : Row) → TellOrder schema s kept rows → IsRow schema s kept (length kept) p row → TellOrder schema s (kept ++ p ∷ []) (rows ++ row ∷ [])
+told-push schema s kept rows p row h last = record {
   count = length_push rows row ∙ (ap (λ m. m + 1) h.count ∙ sym (length_push kept p));
   each = λ i d l. elim (cases_lt i (length rows)) [
     | inl before ↦

@@ -33,7 +33,7 @@ use Rattle.strata.proofs.Keeping.{kept-few}
 use Rattle.strata.proofs.Ordering.{gathers-begins}
 use Rattle.strata.proofs.Standing.{in-cases}
 use Rattle.strata.proofs.Suiting.{named-suit}
-use Rattle.strata.proofs.Telling.{table-order, table-sized}
+use Rattle.strata.proofs.Telling.{told-order, told-sized}
 
 -- ---- what is named in all slots
 
@@ -89,17 +89,17 @@ stratum-fails schema states s names xs (Ok x) e is same h = absurd is
 stratum-fails schema states s names xs (Err f) e is same h = subst (FailsAmong schema states s names) (sym is) (subst (λ (ns : List Predicate). FailsAmong schema states s ns e) same h)
 
 pub kept-sized : (schema : Schema) (s : Slot) (names : List Predicate) (kept : Kept) (rows : List Row) → rows ≡ kept.rows → AreKeptSoFar schema s names kept → AreSized rows
-kept-sized schema s names kept rows same h = subst AreSized (sym same) (table-sized schema s kept.predicates kept.rows h.table)
+kept-sized schema s names kept rows same h = subst AreSized (sym same) (told-sized schema s kept.predicates kept.rows h.told)
 
 pub kept-fits : (schema : Schema) (s : Slot) (names xs : List Predicate) (kept : Kept) (rows : List Row) → rows ≡ kept.rows → xs ≡ names → length names ≤ MOST_PREDICATES → AreKeptSoFar schema s xs kept → length rows < 2 ^ 32
 kept-fits schema s names xs kept rows same whole few h =
-    omega (arith, ap (λ (ys : List Row). length ys) same, ap (λ (ns : List Predicate). length ns) whole, h.table.count, kept-few schema s [] xs kept.predicates h.keeps)
+    omega (arith, ap (λ (ys : List Row). length ys) same, ap (λ (ns : List Predicate). length ns) whole, h.told.count, kept-few schema s [] xs kept.predicates h.keeps)
 
 pub stratum-made : (schema : Schema) (s copied : Slot) (names xs : List Predicate) (kept : Kept) (rows : List Row) (lists : List (List ℕ)) → copied ≡ s → rows ≡ kept.rows → xs ≡ names → AreKeptSoFar schema s xs kept → AreToldMaximal rows (length rows) lists → IsStratumOf schema s names (record { slot = copied; predicates = kept.predicates; below = lists })
 stratum-made schema s copied names xs kept rows lists copy same whole h told = record {
   slot = copy;
   kept = subst (λ (ns : List Predicate). AreKeptAmong schema s ns kept.predicates) whole h.keeps;
-  order = table-order schema s kept.predicates kept.rows lists h.table (subst (λ (ys : List Row). AreToldMaximal ys (length ys) lists) same told);
+  order = told-order schema s kept.predicates kept.rows lists h.told (subst (λ (ys : List Row). AreToldMaximal ys (length ys) lists) same told);
 }
 
 -- ---- all strata

@@ -20,9 +20,9 @@ use Rattle.strata.specs.Asking.{AnswersMet, AnswersWithin, pair_patterns}
 use Rattle.strata.specs.Below.{AreKeptAmong, IsMetUnder, MeetTheSame, keeps_none}
 use Rattle.strata.specs.Covers.{predicate_at}
 use Rattle.strata.specs.Predicates.{SuitsSlot}
-use Rattle.strata.specs.Rows.{AreAnswered, IsRow, IsTable, TellsBelow}
+use Rattle.strata.specs.Rows.{AreAnswered, IsRow, TellOrder, TellsBelow}
 use Rattle.strata.specs.Settling.{AreKeptSoFar, FailsAmong, FailsWide, IsRowOf, IsWidePair, KeepsOf, KeepsOneMore, SettlesTo, TellsMet, TellsWithin}
-use Rattle.strata.proofs.Answering.{answered-none, answered-push, below-says, says-below, table-none, table-push}
+use Rattle.strata.proofs.Answering.{answered-none, answered-push, below-says, says-below, told-none, told-push}
 use Rattle.strata.proofs.Ordering.{below-self, kept-named}
 use Rattle.strata.proofs.Keeping.{kept-among, new-covers, new-keeps, same-covers, same-keeps, unmet-covers, unmet-keeps}
 
@@ -165,7 +165,7 @@ pub so-far-none : (schema : Schema) (s : Slot) (kept : Kept) → kept.predicates
 so-far-none schema s kept none rows = record {
   keeps = subst (λ (ps : List Predicate). AreKeptAmong schema s [] ps) (sym none) keeps_none;
   covers = λ q here met. absurd (omega (arith, here.1));
-  table = subst (λ (ps : List Predicate). IsTable schema s ps kept.rows) (sym none) (subst (λ (xs : List Row). IsTable schema s [] xs) (sym rows) (table-none schema s));
+  told = subst (λ (ps : List Predicate). TellOrder schema s ps kept.rows) (sym none) (subst (λ (xs : List Row). TellOrder schema s [] xs) (sym rows) (told-none schema s));
 }
 
 pub so-far-unmet : (schema : Schema) (s : Slot) (names : List Predicate) (kept : Kept) (p : Predicate) (b : Bool) → AreKeptSoFar schema s names kept → IsTrue b ↔ IsMetUnder schema s p → b ≡ false → AreKeptSoFar schema s (names ++ p ∷ []) kept
@@ -174,21 +174,21 @@ so-far-unmet schema s names kept p b h says off =
     record {
       keeps = unmet-keeps schema s names kept.predicates p h.keeps unmet;
       covers = unmet-covers schema s names kept.predicates p h.covers unmet;
-      table = h.table;
+      told = h.told;
     }
 
 pub so-far-same : (schema : Schema) (s : Slot) (names : List Predicate) (kept : Kept) (p : Predicate) → AreKeptSoFar schema s names kept → Any (λ q. MeetTheSame schema s q p) kept.predicates → AreKeptSoFar schema s (names ++ p ∷ []) kept
 so-far-same schema s names kept p h some = record {
   keeps = same-keeps schema s names kept.predicates p h.keeps some;
   covers = same-covers schema s names kept.predicates p h.covers some;
-  table = h.table;
+  told = h.told;
 }
 
 pub so-far-new : (schema : Schema) (s : Slot) (names : List Predicate) (kept new : Kept) (p : Predicate) (row : Row) → AreKeptSoFar schema s names kept → IsMetUnder schema s p → IsRow schema s kept.predicates (length kept.predicates) p row × ¬ Any (λ q. MeetTheSame schema s q p) kept.predicates → new.predicates ≡ kept.predicates ++ p ∷ [] → new.rows ≡ kept.rows ++ row ∷ [] → AreKeptSoFar schema s (names ++ p ∷ []) new
 so-far-new schema s names kept new p row h met is predicates rows = record {
   keeps = subst (λ (ps : List Predicate). AreKeptAmong schema s (names ++ p ∷ []) ps) (sym predicates) (new-keeps schema s names kept.predicates p h.keeps h.covers met is.1);
   covers = λ q here own. subst (λ (ps : List Predicate). Any (λ k. MeetTheSame schema s k q) ps) (sym predicates) (new-covers schema s names kept.predicates p h.covers q here own);
-  table = subst (λ (ps : List Predicate). IsTable schema s ps new.rows) (sym predicates) (subst (λ (xs : List Row). IsTable schema s (kept.predicates ++ p ∷ []) xs) (sym rows) (table-push schema s kept.predicates kept.rows p row h.table is.0));
+  told = subst (λ (ps : List Predicate). TellOrder schema s ps new.rows) (sym predicates) (subst (λ (xs : List Row). TellOrder schema s (kept.predicates ++ p ∷ []) xs) (sym rows) (told-push schema s kept.predicates kept.rows p row h.told is.0));
 }
 
 -- what is kept and one more are among what is named and one more

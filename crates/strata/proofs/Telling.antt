@@ -1,4 +1,4 @@
--- What the rows of a table tell of the order.
+-- What rows tell of the order.
 use Rattle.std.proofs.Common.{◌≡◌, ◌≢◌, ℕ, ◌+◌, ◌<◌, ◌≤◌, List, [], length, get_or, Bool, true, false, true≢false, not, nat_eq, nat_lt, IsTrue, ◌↔◌, sym, ap, ◌∙◌, subst, inl, inr, arith}
 use Rattle.std.proofs.lemmas.Bool.{and_from, and_parts, cases_Bool, cases_eq, cases_lt}
 use Rattle.std.proofs.lemmas.Bool.Decides.{nat_tests}
@@ -9,7 +9,7 @@ use Rattle.policy_model.specs.declared.test.Slot.{Slot}
 use Rattle.strata.specs.declared.predicate.Predicate.{Predicate}
 use Rattle.strata.specs.declared.rows.Row.{Row}
 use Rattle.strata.specs.Covers.{AreMaximalBelow, IsBelowAt, OrderIsDecided, IsMaximalBelow, IsStrictlyBelow, predicate_at}
-use Rattle.strata.specs.Rows.{AreListed, AreSized, AreToldMaximal, IsNothingAmong, IsNothingTold, IsTable, IsToldMaximal, TellsBelow, empty_row, tells_below, tells_between, tells_strictly}
+use Rattle.strata.specs.Rows.{AreListed, AreSized, AreToldMaximal, IsNothingAmong, IsNothingTold, IsToldMaximal, TellOrder, TellsBelow, empty_row, tells_below, tells_between, tells_strictly}
 use Rattle.strata.specs.Strata.{IsOrder}
 use Rattle.strata.proofs.Answering.{below-says, says-below}
 use Rattle.strata.proofs.Ordering.{below-self}
@@ -26,12 +26,12 @@ lt-true a b h = grind (arith, nat_tests)
 lt-false : (a b : ℕ) → b ≤ a → nat_lt a b ≡ false
 lt-false a b h = grind (arith, nat_tests)
 
--- each row of a table answers for those before it
-pub table-sized : (schema : Schema) (s : Slot) (kept : List Predicate) (rows : List Row) → IsTable schema s kept rows → AreSized rows
-table-sized schema s kept rows h i d l = let row = h.each i d l in (row.below.count, row.above.count)
+-- each row answers for those before it
+pub told-sized : (schema : Schema) (s : Slot) (kept : List Predicate) (rows : List Row) → TellOrder schema s kept rows → AreSized rows
+told-sized schema s kept rows h i d l = let row = h.each i d l in (row.below.count, row.above.count)
 
--- the answers of a table are right
-tells-below : (schema : Schema) (s : Slot) (kept : List Predicate) (rows : List Row) (j i : ℕ) → IsTable schema s kept rows → j < length rows → i < length rows → TellsBelow schema s (predicate_at kept j) (predicate_at kept i) (tells_below rows j i)
+-- the answers of the rows are right
+tells-below : (schema : Schema) (s : Slot) (kept : List Predicate) (rows : List Row) (j i : ℕ) → TellOrder schema s kept rows → j < length rows → i < length rows → TellsBelow schema s (predicate_at kept j) (predicate_at kept i) (tells_below rows j i)
 tells-below schema s kept rows j i h wj wi = elim (cases_eq j i) [
   | inl same ↦ rw (eq-true j i same) (subst (λ (m : ℕ). IsBelowAt schema s kept j m) same (below-self schema s (predicate_at kept j)))
   | inr differ ↦ elim (cases_lt j i) [
@@ -40,7 +40,7 @@ tells-below schema s kept rows j i h wj wi = elim (cases_eq j i) [
   ]
 ]
 
-tells-strictly : (schema : Schema) (s : Slot) (kept : List Predicate) (rows : List Row) (j i : ℕ) → IsTable schema s kept rows → j < length rows → i < length rows → tells_strictly rows j i ≡ true → IsStrictlyBelow schema s kept j i
+tells-strictly : (schema : Schema) (s : Slot) (kept : List Predicate) (rows : List Row) (j i : ℕ) → TellOrder schema s kept rows → j < length rows → i < length rows → tells_strictly rows j i ≡ true → IsStrictlyBelow schema s kept j i
 tells-strictly schema s kept rows j i h wj wi e =
     let both = and_parts (not (nat_eq j i)) (tells_below rows j i) e in
     record {
@@ -50,12 +50,12 @@ tells-strictly schema s kept rows j i h wj wi e =
       below = says-below schema s (predicate_at kept j) (predicate_at kept i) (tells_below rows j i) (tells-below schema s kept rows j i h wj wi) both.1;
     }
 
-strictly-tells : (schema : Schema) (s : Slot) (kept : List Predicate) (rows : List Row) (j i : ℕ) → IsTable schema s kept rows → IsStrictlyBelow schema s kept j i → tells_strictly rows j i ≡ true
+strictly-tells : (schema : Schema) (s : Slot) (kept : List Predicate) (rows : List Row) (j i : ℕ) → TellOrder schema s kept rows → IsStrictlyBelow schema s kept j i → tells_strictly rows j i ≡ true
 strictly-tells schema s kept rows j i h below =
     and_from (not (nat_eq j i)) (tells_below rows j i) (ap not (eq-false j i below.differ)) (below-says schema s (predicate_at kept j) (predicate_at kept i) (tells_below rows j i) (tells-below schema s kept rows j i h (omega (arith, h.count, below.lower)) (omega (arith, h.count, below.upper))) below.below)
 
--- what a table tells of those that are maximal strictly below is right
-told-maximal : (schema : Schema) (s : Slot) (kept : List Predicate) (rows : List Row) (j i : ℕ) → IsTable schema s kept rows → IsToldMaximal rows i j → IsMaximalBelow schema s kept j i
+-- what the rows tell of those that are maximal strictly below is right
+told-maximal : (schema : Schema) (s : Slot) (kept : List Predicate) (rows : List Row) (j i : ℕ) → TellOrder schema s kept rows → IsToldMaximal rows i j → IsMaximalBelow schema s kept j i
 told-maximal schema s kept rows j i h told = record {
   strictly = tells-strictly schema s kept rows j i h told.lower told.upper told.strictly;
   maximal = λ k low high.
@@ -63,7 +63,7 @@ told-maximal schema s kept rows j i h told = record {
       true≢false (sym both ∙ told.nothing k (omega (arith, h.count, low.upper)));
 }
 
-maximal-told : (schema : Schema) (s : Slot) (kept : List Predicate) (rows : List Row) (j i : ℕ) → IsTable schema s kept rows → IsMaximalBelow schema s kept j i → IsToldMaximal rows i j
+maximal-told : (schema : Schema) (s : Slot) (kept : List Predicate) (rows : List Row) (j i : ℕ) → TellOrder schema s kept rows → IsMaximalBelow schema s kept j i → IsToldMaximal rows i j
 maximal-told schema s kept rows j i h maximal =
     let wj : j < length rows = omega (arith, h.count, maximal.strictly.lower) in
     let wi : i < length rows = omega (arith, h.count, maximal.strictly.upper) in
@@ -79,7 +79,7 @@ maximal-told schema s kept rows j i h maximal =
       ];
     }
 
-listed-maximal : (schema : Schema) (s : Slot) (kept : List Predicate) (rows : List Row) (i : ℕ) (numbers : List ℕ) → IsTable schema s kept rows → AreListed (IsToldMaximal rows i) (length rows) numbers → AreMaximalBelow schema s kept i numbers
+listed-maximal : (schema : Schema) (s : Slot) (kept : List Predicate) (rows : List Row) (i : ℕ) (numbers : List ℕ) → TellOrder schema s kept rows → AreListed (IsToldMaximal rows i) (length rows) numbers → AreMaximalBelow schema s kept i numbers
 listed-maximal schema s kept rows i numbers h listed = record {
   rise = listed.rise;
   exact = λ j. (
@@ -88,23 +88,23 @@ listed-maximal schema s kept rows i numbers h listed = record {
   );
 }
 
-table-decided : (schema : Schema) (s : Slot) (kept : List Predicate) (rows : List Row) → IsTable schema s kept rows → OrderIsDecided schema s kept
-table-decided schema s kept rows h j i wj wi =
+told-decided : (schema : Schema) (s : Slot) (kept : List Predicate) (rows : List Row) → TellOrder schema s kept rows → OrderIsDecided schema s kept
+told-decided schema s kept rows h j i wj wi =
     let says = tells-below schema s kept rows j i h (omega (arith, h.count)) (omega (arith, h.count)) in
     elim (cases_Bool (tells_below rows j i)) [
       | inl on ↦ inl (subst (λ (b : Bool). TellsBelow schema s (predicate_at kept j) (predicate_at kept i) b) on says)
       | inr off ↦ inr (subst (λ (b : Bool). TellsBelow schema s (predicate_at kept j) (predicate_at kept i) b) off says)
     ]
 
--- the lists of a table are the order
-pub table-order : (schema : Schema) (s : Slot) (kept : List Predicate) (rows : List Row) (lists : List (List ℕ)) → IsTable schema s kept rows → AreToldMaximal rows (length rows) lists → IsOrder schema s kept lists
-table-order schema s kept rows lists h told = record {
+-- the lists that the rows tell are the order
+pub told-order : (schema : Schema) (s : Slot) (kept : List Predicate) (rows : List Row) (lists : List (List ℕ)) → TellOrder schema s kept rows → AreToldMaximal rows (length rows) lists → IsOrder schema s kept lists
+told-order schema s kept rows lists h told = record {
   count = told.count ∙ h.count;
   each = λ i numbers at.
       let within : i < length lists = slice_get_within lists i numbers at in
       let here : get_or lists i [] ≡ numbers = get_or_from_slice_get lists i numbers [] at in
       subst (λ (ns : List ℕ). AreMaximalBelow schema s kept i ns) here (listed-maximal schema s kept rows i (get_or lists i []) h (told.each i [] (omega (arith, told.count))));
-  decided = table-decided schema s kept rows h;
+  decided = told-decided schema s kept rows h;
 }
 
 -- ---- none of the numbers so far is between

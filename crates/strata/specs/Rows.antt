@@ -22,8 +22,8 @@ pub record IsRow (schema : Schema) (s : Slot) (kept : List Predicate) (n : ℕ) 
   pub below : AreAnswered (λ q b. TellsBelow schema s p q b) kept n row.below
   pub above : AreAnswered (λ q b. TellsBelow schema s q p b) kept n row.above
 
--- for each predicate its row with those before it
-pub record IsTable (schema : Schema) (s : Slot) (kept : List Predicate) (rows : List Row) : Type 0 where
+-- the rows tell the order of the kept predicates: each has its row with those before it
+pub record TellOrder (schema : Schema) (s : Slot) (kept : List Predicate) (rows : List Row) : Type 0 where
   pub count : length rows ≡ length kept
   pub each : (i : ℕ) (d : Row) → i < length rows → IsRow schema s kept i (predicate_at kept i) (slice_index_or rows i d)
 

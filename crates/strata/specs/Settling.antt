@@ -14,7 +14,7 @@ use Rattle.strata.specs.declared.kept.Kept.{Kept}
 use Rattle.strata.specs.Asking.{pair_patterns}
 use Rattle.strata.specs.Below.{IsMetUnder, MeetTheSame, AreKeptAmong}
 use Rattle.strata.specs.Causes.{HaveWidePair}
-use Rattle.strata.specs.Rows.{IsRow, IsTable, TellsBelow}
+use Rattle.strata.specs.Rows.{IsRow, TellOrder, TellsBelow}
 
 -- a fault in the slot: W holds of the texts
 abbrev pub FailsWide : (List (List ℕ) → Type 0) → Slot → StrataFault → Type 0
@@ -58,7 +58,7 @@ IsRowOf schema states s kept p (Err e) = FailsAmong schema states s (kept ++ p �
 pub record AreKeptSoFar (schema : Schema) (s : Slot) (names : List Predicate) (kept : Kept) : Type 0 where
   pub keeps : AreKeptAmong schema s names kept.predicates
   pub covers : (q : Predicate) → Contains names q → IsMetUnder schema s q → Any (λ k. MeetTheSame schema s k q) kept.predicates
-  pub table : IsTable schema s kept.predicates kept.rows
+  pub told : TellOrder schema s kept.predicates kept.rows
 
 -- the same, or two of those that are named are too wide
 abbrev pub KeepsOf : Schema → ℕ → Slot → List Predicate → Result Kept StrataFault → Type 0

@@ -1,6 +1,5 @@
 //! The predicates that tests name.
 ghost use Rattle.std.specs.Prelude.{◌≡◌, [], ◌∷◌, IfOk, OnOk, map};
-ghost use Rattle.slot_theory.specs.Slots.{is_on};
 ghost use Rattle.strata.specs.declared.predicate.Predicate.TheVariants.{Every, Meets};
 ghost use Rattle.strata.specs.Predicates.{AreNamed, Gathers, test_predicates, read_of};
 
@@ -8,25 +7,11 @@ use crate::predicate::{Predicate, PredicateList};
 use indexmap::IndexSet;
 use plain_lists::{EqualClone, List, NoMemory};
 use policy_model::{Cond, Slot, Test};
+use slot_theory::is_on;
 use std::alloc::Global;
 
 /// The most predicates that may be named in a dimension, `Every` among them.
 pub const MOST_PREDICATES: usize = 128;
-
-// Whether the test is on the slot.
-fn is_on(slot: &Slot, test: &Test) -> bool
-    ensures { result ≡ is_on slot.now test.now }
-{
-    match (slot, test) {
-        (Slot::Principal, Test::Principal(_)) => true,
-        (Slot::Action, Test::Action(_)) => true,
-        (Slot::Resource, Test::Resource(_)) => true,
-        (Slot::Key(name), Test::Present(key)) => name == key,
-        (Slot::Key(name), Test::SomeMeets(key, _)) => name == key,
-        (Slot::Key(name), Test::SomeMeetsNone(key, _)) => name == key,
-        _ => false,
-    }
-}
 
 // Adds the predicate at the end, where it isn't had.
 fn add(names: &mut IndexSet<Predicate>, predicate: Predicate) -> Result<(), NoMemory>

@@ -27,13 +27,6 @@ pub struct Strata {
 }
 
 impl Strata {
-    /// How many dimensions there are.
-    pub fn dims(&self) -> usize
-        ensures { result ≡ length self.now.dimensions }
-    {
-        self.dimensions.len()
-    }
-
     /// The slot of a dimension, or none where there is no such dimension.
     pub fn slot(&self, d: usize) -> Option<&Slot>
         ensures { option_copied result ≡ slot_in self.now d }

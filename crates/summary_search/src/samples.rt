@@ -1,8 +1,8 @@
 //! Samples: values of a slot that are plain to see, and are tried before anything is searched.
-ghost use Rattle.std.specs.Prelude.{◌↔◌, ◌∷◌, [], true, false, IfOk, IfSome, IsTrue};
+ghost use Rattle.std.specs.Prelude.{◌∷◌, [], true, false, IfOk, IfSome, IsTrue};
 ghost use Rattle.policy_model.specs.declared.test.Test.TheVariants.{Principal};
 ghost use Rattle.policy_model.specs.Principals.{IsOfAccount};
-ghost use Rattle.policy_model.specs.Requests.{FitsShape, IsWord};
+ghost use Rattle.policy_model.specs.Requests.{FitsShape};
 ghost use Rattle.policy_model.specs.Soundness.{SchemaIsSound};
 ghost use Rattle.set_operators.specs.Asks.{AreValuesOf};
 ghost use Rattle.slot_theory.specs.Possible.{IsPossible};
@@ -11,12 +11,12 @@ ghost use Rattle.summary_search.specs.Questions.{IsTestOnSlot, MeetsOnKeys};
 
 use plain_lists::{EqualClone, NoMemory};
 use policy_model::{
-    Cond, Entry, KeyRule, PrincipalKind, Schema, Shapes, Slot, Test, Value, ValueList,
+    Cond, Entry, KeyRule, PrincipalKind, Schema, Shapes, Slot, Test, Value, ValueList, is_word,
     permits_values, shape_of,
 };
 use slot_theory::{SlotValue, meets, sample, stated_value};
 use std::alloc::Global;
-use wildcard_lang::{Pattern, Text, matches};
+use wildcard_lang::{Pattern, Text};
 
 // What stands before the account in an ARN whose other parts are empty.
 const BEFORE_ACCOUNT: [char; 7] = ['a', 'r', 'n', ':', ':', ':', ':'];
@@ -91,21 +91,6 @@ fn sample_of(alloc: Global, schema: &Schema, test: &Test) -> Result<Option<SlotV
         Test::SomeMeets(_, cond) => text_of(alloc, cond),
         _ => Ok(None),
     }
-}
-
-fn fits_shape(shape: &Option<Pattern>, text: &Text) -> bool
-    ensures { IsTrue result ↔ FitsShape shape.now text.now }
-{
-    match shape {
-        None => true,
-        Some(pattern) => matches(pattern, text),
-    }
-}
-
-fn is_word(shape: &Option<Pattern>, text: &Text) -> bool
-    ensures { IsTrue result ↔ IsWord shape.now text.now }
-{
-    !text.is_empty() && fits_shape(shape, text)
 }
 
 // Whether a valid request may have these values, of which there is one, at a key of the rule.

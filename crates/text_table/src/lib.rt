@@ -7,9 +7,6 @@ ghost use Rattle.std.specs.Option.{option_copied};
 ghost use Rattle.std.proofs.Common.{rules};
 ghost use Rattle.text_table.specs.Table.{IsInOrder, item_at, with_item};
 
-#[cfg(test)]
-mod tests;
-
 use plain_lists::{EqualClone, NoMemory};
 use std::alloc::Global;
 use std::collections::BTreeMap;

@@ -8,6 +8,7 @@ use Rattle.formula_tree.proofs.Laws.{pick-unanswered}
 use Rattle.cnf_clauses.specs.Replays.{NoneReplay}
 use Rattle.policy_model.specs.declared.schema.Schema.{Schema}
 use Rattle.policy_compile.specs.declared.outcome.Query.{Query}
+use Rattle.policy_compile.specs.Queries.{asked_tree}
 use Rattle.slot_theory.specs.Possible.{IsPossible}
 use Rattle.refute_check.specs.Propagated.{MeetsConflict}
 use Rattle.request_build.proofs.Laws.{joined-possible}
@@ -22,7 +23,7 @@ use Rattle.tree_search.specs.declared.found.Found.{Found}
 use Rattle.tree_search.specs.declared.found.Found.TheVariants.{Refuted}
 use Rattle.tree_search.specs.declared.search.Search.{Search}
 use Rattle.tree_search.specs.declared.state.State.{State}
-use Rattle.tree_search.specs.Decisions.{NeedMore, asked_tree}
+use Rattle.tree_search.specs.Decisions.{NeedMore}
 use Rattle.tree_search.specs.Search.{Carries, Follows, IsFoundFrom, IsFoundHere, IsJoinedHere, IsReady, IsRefutedPart, IsRestored, IsSide, NothingLearned, Spent, Stands}
 use Rattle.tree_search.specs.States.{AreAllUnmet, IsEvaluated}
 use Rattle.tree_search.proofs.Following.{quiet-here}

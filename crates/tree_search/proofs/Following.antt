@@ -9,8 +9,8 @@ use Rattle.cnf_clauses.specs.Literals.{Clause}
 use Rattle.cnf_clauses.specs.Numbering.{clauses_of}
 use Rattle.cnf_clauses.specs.Replays.{NoneReplay}
 use Rattle.policy_compile.specs.declared.outcome.Query.{Query}
+use Rattle.policy_compile.specs.Queries.{asked_tree}
 use Rattle.refute_check.specs.Propagated.{MeetsConflict}
-use Rattle.tree_search.specs.Decisions.{asked_tree}
 use Rattle.tree_search.specs.Search.{followed_at}
 
 -- the same clauses, and one more answer

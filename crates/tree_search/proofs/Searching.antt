@@ -1,6 +1,7 @@
 -- What is found at a node of a search, and from there at the node before it.
 use Rattle.std.proofs.Common.{◌≡◌, ◌≢◌, ℕ, ◌+◌, ◌<◌, ◌≤◌, ◌++◌, List, length, All, true, false, Some, refl, sym, subst, arith, length-append}
 use Rattle.formula_tree.specs.Answers.{Answers, Contained}
+use Rattle.formula_tree.specs.Nodes.{EndsWithNone, IsNode, at_start, in_no, in_yes}
 use Rattle.formula_tree.specs.Runs.{Run, answered}
 use Rattle.formula_tree.specs.Trees.{Tree}
 use Rattle.formula_tree.specs.Values.{pick, value}
@@ -14,6 +15,7 @@ use Rattle.policy_model.specs.declared.schema.Schema.{Schema}
 use Rattle.policy_model.specs.declared.test.Slot.{Slot}
 use Rattle.policy_model.specs.Soundness.{TestSuits}
 use Rattle.policy_compile.specs.declared.outcome.Query.{Query}
+use Rattle.policy_compile.specs.Queries.{asked_tree}
 use Rattle.slot_theory.specs.Possible.{IsPossible, PathInRange}
 use Rattle.slot_theory.specs.declared.outcome.SlotProof.{SlotProof}
 use Rattle.slot_theory.specs.Slots.{patterns_at}
@@ -32,9 +34,8 @@ use Rattle.search_parts.specs.Parts.{ClosesByStore}
 use Rattle.search_parts.proofs.Laws.{clauses-made, closed-none, closes-grows, kept-made, reuse-made, skip-made, slot-made, value-made}
 use Rattle.tree_search.specs.declared.found.Found.{Found}
 use Rattle.tree_search.specs.declared.found.Found.TheVariants.{Refuted, Met, OutOfSplits, OutOfStates}
-use Rattle.tree_search.specs.Decisions.{NeedMore, asked_tree}
+use Rattle.tree_search.specs.Decisions.{NeedMore}
 use Rattle.tree_search.specs.Leading.{LeadBy, nowhere, to_yes, to_no}
-use Rattle.tree_search.specs.Nodes.{EndsWithNone, IsNode, at_start, in_yes, in_no}
 use Rattle.tree_search.specs.Search.{IsFoundFrom, IsRefutedPart, IsWideBy}
 use Rattle.tree_search.specs.States.{AreAllUnmet}
 use Rattle.tree_search.proofs.Splitting.{Runs, both-end, needs-no, needs-one, needs-yes, plain-splits, propagated-splits, skip-end}

@@ -10,6 +10,7 @@ use Rattle.nogoods.specs.Tracking.{Tracked}
 use Rattle.policy_model.specs.declared.schema.Schema.{Schema}
 use Rattle.policy_model.specs.declared.test.Test.{Test}
 use Rattle.policy_compile.specs.declared.outcome.Query.{Query}
+use Rattle.policy_compile.specs.Queries.{asked_tree}
 use Rattle.search_parts.specs.declared.learning.TheConstants.{MOST_LEARNED}
 use Rattle.tree_values.specs.Models.{Answered, IsAnsweredBy, IsSet, answered_tree}
 use Rattle.tree_search.specs.declared.cores.Cores.{Cores}
@@ -17,7 +18,6 @@ use Rattle.tree_search.specs.declared.search.Search.{Search}
 use Rattle.tree_search.specs.declared.state.State.{State}
 use Rattle.tree_search.specs.Cores.{AreKeptCores}
 use Rattle.tree_search.specs.Search.{IsRestored, Stands, spent}
-use Rattle.tree_search.specs.Decisions.{asked_tree}
 use Rattle.tree_search.specs.States.{AreAllUnmet, IsStanding, IsTakenBack, IsDeeper, IsEvaluated, IsLearned}
 
 module _ (query : Query) (path : Answers) (test : ℕ) (answer : Bool) (new : answer_of path test ≡ None) where

@@ -3,6 +3,7 @@ use Rattle.std.proofs.Common.{◌≡◌, ◌≢◌, ◌≤◌, ◌-◌, ◌∙�
 use Rattle.formula_tree.specs.Answers.{Answers}
 use Rattle.policy_model.specs.declared.schema.Schema.{Schema}
 use Rattle.policy_compile.specs.declared.outcome.Query.{Query}
+use Rattle.policy_compile.specs.Queries.{asked_tree}
 use Rattle.refute_check.specs.Proofs.{Proof, proof_of}
 use Rattle.search_parts.specs.declared.learning.TheConstants.{MOST_LEARNED}
 use Rattle.search_parts.specs.declared.part.Part.{Part}
@@ -29,7 +30,7 @@ use Rattle.tree_search.specs.declared.found.Found.{Found}
 use Rattle.tree_search.specs.declared.found.Found.TheVariants as found
 use Rattle.tree_search.specs.declared.outcome.Budgets.{Budgets}
 use Rattle.tree_search.specs.declared.outcome.Decided.{Decided}
-use Rattle.tree_search.specs.Decisions.{IsDecision, IsRefutation, asked_tree}
+use Rattle.tree_search.specs.Decisions.{IsDecision, IsRefutation}
 use Rattle.tree_search.specs.declared.state.State.{State}
 use Rattle.tree_search.specs.Search.{AreCarried, IsFoundFrom, IsRefutedPart, IsWideBy, followed_at, spent}
 use Rattle.tree_search.specs.States.{IsStanding, IsLearned, IsStartState}

@@ -1,8 +1,8 @@
 -- What a search may decide of a query.
 use Rattle.std.specs.Prelude.{◌≢◌, ◌≤◌, ◌*◌, ℕ, [], length}
 use Rattle.formula_tree.specs.Answers.{Answers}
+use Rattle.formula_tree.specs.Nodes.{IsNode}
 use Rattle.formula_tree.specs.Runs.{NeedsMore}
-use Rattle.formula_tree.specs.Trees.{Tree, tree_of}
 use Rattle.formula_tree.specs.Values.{value}
 use Rattle.formula_tree.specs.declared.value.Three.TheVariants.{No}
 use Rattle.wildcard_lang.specs.Places.{ShowWider}
@@ -10,6 +10,7 @@ use Rattle.policy_model.specs.declared.request.Request.{Request}
 use Rattle.policy_model.specs.declared.schema.Schema.{Schema}
 use Rattle.policy_model.specs.Requests.{IsValid}
 use Rattle.policy_compile.specs.declared.outcome.Query.{Query}
+use Rattle.policy_compile.specs.Queries.{asked_tree}
 use Rattle.slot_theory.specs.Possible.{IsPossible}
 use Rattle.slot_theory.specs.Cores.{HasTest}
 use Rattle.slot_theory.specs.Slots.{patterns_at}
@@ -22,14 +23,10 @@ use Rattle.tree_search.specs.declared.outcome.Budgets.{Budgets}
 use Rattle.tree_search.specs.declared.outcome.Decided.{Decided}
 use Rattle.tree_search.specs.declared.outcome.Decided.TheVariants.{Refuted, Met, OutOfSplits, OutOfStates}
 use Rattle.tree_search.specs.declared.outcome.Wide.{Wide}
-use Rattle.tree_search.specs.Nodes.{IsNode, LeadTo}
+use Rattle.tree_search.specs.Nodes.{LeadTo}
 
--- the tree of a query
-abbrev pub asked_tree : Query → Tree
-asked_tree query = tree_of query.formula.value
-
--- the refutation closes the query; it has at most so many splits, a shared one counted at each place; its splits and labels nest at
--- most twice as deep as there are tests; and it is trimmed
+-- the refutation closes the query; it has at most so many splits, a shared one counted as often as it stands; its splits and labels
+-- nest at most twice as deep as there are tests; and it is trimmed
 pub record IsRefutation (schema : Schema) (query : Query) (most : ℕ) (proof : Proof) : Type 0 where
   pub closes : Closes schema query.tests (asked_tree query) at_first proof []
   pub few : splits proof ≤ most

@@ -2,6 +2,7 @@
 use Rattle.std.specs.Prelude.{◌≡◌, ◌≢◌, ◌≤◌, ◌<◌, ◌-◌, ◌^◌, ◌++◌, ◌∷◌, ◌↔◌, [], ℕ, List, length, slice_set}
 use Rattle.std.specs.Prelude.{Bool, true, false, Option, Some, None, All, IsTrue}
 use Rattle.formula_tree.specs.Answers.{Answers, answer_of}
+use Rattle.formula_tree.specs.Nodes.{IsNode}
 use Rattle.formula_tree.specs.Runs.{Run, answered}
 use Rattle.formula_tree.specs.Values.{AreBelow, value}
 use Rattle.formula_tree.specs.declared.value.Three.TheVariants.{No}
@@ -14,6 +15,7 @@ use Rattle.policy_model.specs.declared.schema.Schema.{Schema}
 use Rattle.policy_model.specs.declared.test.Slot.{Slot}
 use Rattle.policy_model.specs.Soundness.{SchemaIsSound, TestSuits}
 use Rattle.policy_compile.specs.declared.outcome.Query.{Query}
+use Rattle.policy_compile.specs.Queries.{asked_tree}
 use Rattle.slot_theory.specs.declared.outcome.SlotValue.{SlotValue}
 use Rattle.slot_theory.specs.Cores.{HasTest}
 use Rattle.slot_theory.specs.Possible.{IsPossible, PathInRange}
@@ -33,9 +35,8 @@ use Rattle.tree_search.specs.declared.found.Found.TheVariants.{Refuted, Met, Out
 use Rattle.tree_search.specs.declared.outcome.Wide.{Wide}
 use Rattle.tree_search.specs.declared.search.Search.{Search}
 use Rattle.tree_search.specs.declared.state.State.{State}
-use Rattle.tree_search.specs.Decisions.{MeetsQuery, NeedMore, asked_tree}
+use Rattle.tree_search.specs.Decisions.{MeetsQuery, NeedMore}
 use Rattle.tree_search.specs.Leading.{LeadBy}
-use Rattle.tree_search.specs.Nodes.{IsNode}
 use Rattle.tree_search.specs.States.{IsStanding}
 
 -- slots, each with a value

@@ -7,18 +7,18 @@ use Rattle.cnf_clauses.specs.Levels.{Followed}
 use Rattle.nogoods.specs.Tracking.{Tracked}
 use Rattle.policy_model.specs.declared.schema.Schema.{Schema}
 use Rattle.policy_compile.specs.declared.outcome.Query.{Query}
+use Rattle.policy_compile.specs.Queries.{asked_tree}
 use Rattle.refute_check.specs.Laws.{NoneMeets}
 use Rattle.search_parts.specs.declared.learning.TheConstants.{MOST_LEARNED}
 use Rattle.tree_values.specs.Models.{Answered, IsAnsweredBy, IsSet}
 use Rattle.tree_search.specs.declared.cores.Cores.{Cores}
 use Rattle.tree_search.specs.declared.state.State.{State}
 use Rattle.tree_search.specs.Cores.{AreKeptCores, IsNoCore}
-use Rattle.tree_search.specs.Decisions.{asked_tree}
 
 -- the query's formula, with the answers of the path
 pub record IsEvaluated (query : Query) (path : Answers) (v : Answered) : Type 0 where
   pub formula_is : v.formula ≡ query.formula.value
-  pub room : length v.table ≡ length query.tests
+  pub room : length v.answers ≡ length query.tests
   pub answers : IsAnsweredBy v path
 
 -- no valid request answers what is stored and makes the query yes

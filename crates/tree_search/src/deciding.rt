@@ -3,7 +3,8 @@ ghost use Rattle.std.specs.Prelude.{◌≡◌, ◌≢◌, ◌≤◌, ◌<◌, �
 ghost use Rattle.formula_tree.specs.Values.{AreBelow, value};
 ghost use Rattle.formula_tree.specs.declared.value.Three.TheVariants.{No};
 ghost use Rattle.policy_model.specs.Soundness.{SchemaIsSound, TestSuits};
-ghost use Rattle.tree_search.specs.Decisions.{IsDecision, asked_tree};
+ghost use Rattle.policy_compile.specs.Queries.{asked_tree};
+ghost use Rattle.tree_search.specs.Decisions.{IsDecision};
 ghost use Rattle.tree_search.specs.Search.{followed_at};
 ghost use Rattle.tree_search.specs.Whole.{HasFewLabels, IsTold, IsWholeSearch};
 

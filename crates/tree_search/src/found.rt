@@ -10,7 +10,7 @@ pub(crate) enum Found {
     Refuted(Part),
     /// A valid request that makes the query yes.
     Met(Request),
-    /// The plain run needs more splits.
+    /// The plain run needs more splits, and so does the propagated run.
     OutOfSplits,
     /// A slot needs more states.
     OutOfStates(Wide),

@@ -31,7 +31,7 @@ pub enum Decided {
     Refuted(Rc<Refutation>),
     /// A valid request that makes the query yes.
     Met(Request),
-    /// The plain run needs more splits.
+    /// The plain run needs more splits, and so does the propagated run.
     OutOfSplits,
     /// A slot needs more states.
     OutOfStates(Wide),

@@ -5,9 +5,10 @@ ghost use Rattle.std.specs.Prelude.{◌≡◌, ◌≢◌, ◌<◌, [], None, IfO
 ghost use Rattle.formula_tree.specs.Answers.{answer_of};
 ghost use Rattle.formula_tree.specs.Values.{value};
 ghost use Rattle.formula_tree.specs.declared.value.Three.TheVariants.{No, Yes};
+ghost use Rattle.policy_compile.specs.Queries.{asked_tree};
 ghost use Rattle.search_parts.specs.Joining.{AreReady};
 ghost use Rattle.slot_theory.specs.Slots.{slot_of, test_at};
-ghost use Rattle.tree_search.specs.Decisions.{MeetsQuery, asked_tree};
+ghost use Rattle.tree_search.specs.Decisions.{MeetsQuery};
 ghost use Rattle.tree_search.specs.Search.{Carries, CarriesWith, Follows, IsAhead, IsFoundHere, IsFoundThere, IsJoinedHere, IsOneLonger, IsReady, IsRestored, IsSide, MayBeYes, NothingLearned, SaysIfClosed, Stands};
 ghost use Rattle.tree_search.specs.Values.{IsIndexOf};
 

@@ -57,7 +57,7 @@ impl State {
     /// One more answer. The values of slots and the clauses don't follow it yet.
     pub(crate) fn go_down(&mut self, test: u32, answer: bool) -> Result<(), NoMemory>
         requires new { answer_of self.old.path test ≡ None }
-        requires room { test < length self.old.tree.table }
+        requires room { test < length self.old.tree.answers }
         requires learned { self.old.learned.path ≡ self.old.path }
         requires cores { self.old.cores.lists.path ≡ self.old.path }
         ensures { OnOk result (IsDeeper self.old test answer self.new) }
@@ -71,7 +71,7 @@ impl State {
 
     /// Takes the last answer back, which is to this test. It takes no memory.
     pub(crate) fn go_back(&mut self, test: u32)
-        requires { test < length self.old.tree.table }
+        requires { test < length self.old.tree.answers }
         ensures { IsTakenBack self.old test self.new }
     {
         self.path.pop();

@@ -91,15 +91,15 @@ settled-answer nodes old new marks test answer asking changed asked settled i n 
       | inr h ↦ settled i n there ∙ sym (node-answers (answer_at old) (answer_at new) marks n test changed.others h)
     ]
 
-pub changed-set : (table : List (Option Bool)) (test : ℕ) (answer : Option Bool) → test < length table → IsChanged table (set table test answer) test answer
-changed-set table test answer lt = record {
-  tests = length-set table test answer;
-  at = get_or-set_same table test answer None lt;
-  others = λ n ne. get_or-set_other table test n answer None ne;
+pub changed-set : (answers : List (Option Bool)) (test : ℕ) (answer : Option Bool) → test < length answers → IsChanged answers (set answers test answer) test answer
+changed-set answers test answer lt = record {
+  tests = length-set answers test answer;
+  at = get_or-set_same answers test answer None lt;
+  others = λ n ne. get_or-set_other answers test n answer None ne;
 }
 
-pub changed-not : (table : List (Option Bool)) (test : ℕ) (answer : Option Bool) → answer_at table test ≡ answer → IsChanged table table test answer
-changed-not table test answer is = record { tests = refl; at = is; others = λ n ne. refl }
+pub changed-not : (answers : List (Option Bool)) (test : ℕ) (answer : Option Bool) → answer_at answers test ≡ answer → IsChanged answers answers test answer
+changed-not answers test answer is = record { tests = refl; at = is; others = λ n ne. refl }
 
 -- ---- the first look at each node, in order
 

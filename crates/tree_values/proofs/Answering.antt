@@ -1,4 +1,4 @@
--- Tables and lists of answers, where one answer is given or taken back.
+-- Answers by test and paths, where one answer is given or taken back.
 use Rattle.std.proofs.Common.{◌≡◌, ℕ, [], Bool, None, Some, inl, inr, sym, ap, ◌∙◌}
 use Rattle.formula_tree.specs.Answers.{Answers, answer_of}
 use Rattle.formula_tree.specs.Runs.{answered}

@@ -25,13 +25,13 @@ pub cases-answer : (o : Option Bool) → (o ≡ None) ⊎ ((b : Bool) × (o ≡ 
 cases-answer None = inl refl
 cases-answer (Some b) = inr (b, refl)
 
-record-alike : (old new : Answered) → new.formula ≡ old.formula → new.table ≡ old.table → new ≡ old
-record-alike old new formula table = λ i. record { formula = formula i; table = table i }
+record-alike : (old new : Answered) → new.formula ≡ old.formula → new.answers ≡ old.answers → new ≡ old
+record-alike old new formula answers = λ i. record { formula = formula i; answers = answers i }
 
-pub same-answered : (old new : Answered) → new.formula ≡ old.formula → length new.table ≡ length old.table → ((n : ℕ) → answer_in new n ≡ answer_in old n) → new ≡ old
+pub same-answered : (old new : Answered) → new.formula ≡ old.formula → length new.answers ≡ length old.answers → ((n : ℕ) → answer_in new n ≡ answer_in old n) → new ≡ old
 same-answered old new formula long same =
-    let table : new.table ≡ old.table = ext_get_or None new.table old.table long (λ i lt. same i) in
-    record-alike old new formula table
+    let answers : new.answers ≡ old.answers = ext_get_or None new.answers old.answers long (λ i lt. same i) in
+    record-alike old new formula answers
 
 pub none-some : (b : Bool) → ◌≡◌ {A = Option Bool} None (Some b) → ⊥
 none-some b e = cc
@@ -53,23 +53,23 @@ set-back old mid new test b free there gone =
     ])
 
 -- what is answered so is answered as the function with one more answer
-pub set-with : (old mid : Answered) (test : ℕ) (b : Bool) → IsSet old mid test (Some b) → (n : ℕ) → answer_in mid n ≡ with_answer (answer_at old.table) test b n
+pub set-with : (old mid : Answered) (test : ℕ) (b : Bool) → IsSet old mid test (Some b) → (n : ℕ) → answer_in mid n ≡ with_answer (answer_at old.answers) test b n
 set-with old mid test b there n =
     elim (cases_eq n test) [
-      | inl e ↦ ap (answer_in mid) e ∙ there.at ∙ sym (with-same (answer_at old.table) test b n e)
-      | inr ne ↦ there.others n ne ∙ sym (with-other (answer_at old.table) test b n ne)
+      | inl e ↦ ap (answer_in mid) e ∙ there.at ∙ sym (with-same (answer_at old.answers) test b n e)
+      | inr ne ↦ there.others n ne ∙ sym (with-other (answer_at old.answers) test b n ne)
     ]
 
-set-without : (old mid : Answered) (test : ℕ) → IsSet old mid test None → (n : ℕ) → answer_in mid n ≡ without_answer (answer_at old.table) test n
+set-without : (old mid : Answered) (test : ℕ) → IsSet old mid test None → (n : ℕ) → answer_in mid n ≡ without_answer (answer_at old.answers) test n
 set-without old mid test gone n =
     elim (cases_eq n test) [
-      | inl e ↦ ap (answer_in mid) e ∙ gone.at ∙ sym (without-same (answer_at old.table) test n e)
-      | inr ne ↦ gone.others n ne ∙ sym (without-other (answer_at old.table) test n ne)
+      | inl e ↦ ap (answer_in mid) e ∙ gone.at ∙ sym (without-same (answer_at old.answers) test n e)
+      | inr ne ↦ gone.others n ne ∙ sym (without-other (answer_at old.answers) test n ne)
     ]
 
 -- ---- trying one
 
-pub out-none : (a : Answered) (needed : Answers) (test : ℕ) (sides : Sides) → IsNoGiven (answered_tree a) (answer_at a.table) test sides → IsLeftOut a a needed test sides
+pub out-none : (a : Answered) (needed : Answers) (test : ℕ) (sides : Sides) → IsNoGiven (answered_tree a) (answer_at a.answers) test sides → IsLeftOut a a needed test sides
 out-none a needed test sides given = record { formula = refl; tests = refl; fewer = λ n b is. is; needed_stay = λ n b need is. is; still = given }
 
 pub out-then : (old mid new : Answered) (needed : Answers) (test : ℕ) (sides : Sides) → IsLeftOut old mid needed test sides → IsLeftOut mid new needed test sides → IsLeftOut old new needed test sides
@@ -78,7 +78,7 @@ out-then old mid new needed test sides a b = record {
   tests = b.tests ∙ a.tests;
   fewer = λ n c is. a.fewer n c (b.fewer n c is);
   needed_stay = λ n c need is. b.needed_stay n c need (a.needed_stay n c need is);
-  still = subst (λ (f : Formula). IsNoGiven (tree_of f) (answer_at new.table) test sides) a.formula b.still;
+  still = subst (λ (f : Formula). IsNoGiven (tree_of f) (answer_at new.answers) test sides) a.formula b.still;
 }
 
 -- where nothing was answered there is nothing to keep
@@ -93,7 +93,7 @@ not-needed needed n b free is = let bad : is_some (Some b) ≡ false = rw is at 
 
 module _ (old mid : Answered) (needed : Answers) (test : ℕ) (sides : Sides) (tried : ℕ) (answer : Bool) (there : answer_in old tried ≡ Some answer) (unneeded : (b : Bool) → answer_of needed tried ≡ Some b → ⊥) (gone : IsSet old mid tried None) where
   -- without the answer it is still no
-  pub out-gone : IsNoGiven (answered_tree mid) (answer_at mid.table) test sides → IsLeftOut old mid needed test sides
+  pub out-gone : IsNoGiven (answered_tree mid) (answer_at mid.answers) test sides → IsLeftOut old mid needed test sides
   out-gone given = record {
     formula = gone.formula;
     tests = gone.tests;
@@ -107,7 +107,7 @@ module _ (old mid : Answered) (needed : Answers) (test : ℕ) (sides : Sides) (t
           | inl e ↦ absurd (unneeded b (ap (answer_of needed) (sym e) ∙ need))
           | inr ne ↦ gone.others n ne ∙ is
         ];
-    still = subst (λ (f : Formula). IsNoGiven (tree_of f) (answer_at mid.table) test sides) gone.formula given;
+    still = subst (λ (f : Formula). IsNoGiven (tree_of f) (answer_at mid.answers) test sides) gone.formula given;
   }
 
   pub kept-gone : IsKeptFor mid needed test sides tried
@@ -122,28 +122,28 @@ module _ (old mid : Answered) (needed : Answers) (test : ℕ) (sides : Sides) (t
         ]
 
     -- and where it isn't, the answer is given again
-    pub out-back : IsNoGiven (answered_tree old) (answer_at old.table) test sides → IsLeftOut old new needed test sides
+    pub out-back : IsNoGiven (answered_tree old) (answer_at old.answers) test sides → IsLeftOut old new needed test sides
     out-back given = record {
       formula = back.formula ∙ gone.formula;
       tests = back.tests ∙ gone.tests;
       fewer = λ n b is. sym (as-before n) ∙ is;
       needed_stay = λ n b need is. as-before n ∙ is;
-      still = given-alike (answered_tree old) (answer_at old.table) (answer_at new.table) test sides (λ n. sym (as-before n)) given;
+      still = given-alike (answered_tree old) (answer_at old.answers) (answer_at new.answers) test sides (λ n. sym (as-before n)) given;
     }
 
-    without-mid : (n : ℕ) → without_answer (answer_at new.table) tried n ≡ answer_in mid n
+    without-mid : (n : ℕ) → without_answer (answer_at new.answers) tried n ≡ answer_in mid n
     without-mid n =
         elim (cases_eq n tried) [
-          | inl e ↦ without-same (answer_at new.table) tried n e ∙ sym gone.at ∙ ap (answer_in mid) (sym e)
-          | inr ne ↦ without-other (answer_at new.table) tried n ne ∙ back.others n ne
+          | inl e ↦ without-same (answer_at new.answers) tried n e ∙ sym gone.at ∙ ap (answer_in mid) (sym e)
+          | inr ne ↦ without-other (answer_at new.answers) tried n ne ∙ back.others n ne
         ]
 
-    pub kept-back : ¬ IsNoGiven (answered_tree mid) (answer_at mid.table) test sides → IsKeptFor new needed test sides tried
+    pub kept-back : ¬ IsNoGiven (answered_tree mid) (answer_at mid.answers) test sides → IsKeptFor new needed test sides tried
     kept-back not b is =
         inr (λ given.
         not
-        (given-alike (answered_tree mid) (without_answer (answer_at new.table) tried) (answer_at mid.table) test sides without-mid
-        (subst (λ (f : Formula). IsNoGiven (tree_of f) (without_answer (answer_at new.table) tried) test sides) back.formula given)))
+        (given-alike (answered_tree mid) (without_answer (answer_at new.answers) tried) (answer_at mid.answers) test sides without-mid
+        (subst (λ (f : Formula). IsNoGiven (tree_of f) (without_answer (answer_at new.answers) tried) test sides) back.formula given)))
 
 -- ---- trying all
 
@@ -159,8 +159,8 @@ kept-next mid new needed rest test sides p out before own n c is b there =
             | inr not ↦
                 inr (λ given.
                 not
-                (given-more (answered_tree mid) (without_answer (answer_at new.table) n) (without_answer (answer_at mid.table) n) test sides (without-fewer (answer_at new.table) (answer_at mid.table) n out.fewer)
-                (subst (λ (f : Formula). IsNoGiven (tree_of f) (without_answer (answer_at new.table) n) test sides) out.formula given)))
+                (given-more (answered_tree mid) (without_answer (answer_at new.answers) n) (without_answer (answer_at mid.answers) n) test sides (without-fewer (answer_at new.answers) (answer_at mid.answers) n out.fewer)
+                (subst (λ (f : Formula). IsNoGiven (tree_of f) (without_answer (answer_at new.answers) n) test sides) out.formula given)))
           ]
     ]
 
@@ -186,74 +186,74 @@ kept-before mid new needed path items test sides left e more within out before o
 pub stays-free : (old new : Answered) (needed : Answers) (test : ℕ) (sides : Sides) → IsLeftOut old new needed test sides → answer_in old test ≡ None → answer_in new test ≡ None
 stays-free old new needed test sides out free = none-of (answer_in new test) (λ b is. none-some b (sym free ∙ out.fewer test b is))
 
-pub past : (table : List (Option Bool)) (n : ℕ) (b : Bool) → answer_at table n ≡ Some b → n < length table
+pub past : (answers : List (Option Bool)) (n : ℕ) (b : Bool) → answer_at answers n ≡ Some b → n < length answers
 past [] n b h = absurd (cc)
 past (x ∷ xs) zero b h = omega arith
 past (x ∷ xs) (suc n) b h = omega (arith, past xs n b h)
 
 -- ---- the answers that are left
 
-still-none : (table : List (Option Bool)) (path : Answers) (n : ℕ) → answer_at table n ≡ None → answer_of (still_answered table path) n ≡ None
-still-none table [] n free = refl
-still-none table (p ∷ path) n free =
-    elim (cases-answer (answer_at table p.0)) [
-      | inl e ↦ rw e (still-none table path n free)
+still-none : (answers : List (Option Bool)) (path : Answers) (n : ℕ) → answer_at answers n ≡ None → answer_of (still_answered answers path) n ≡ None
+still-none answers [] n free = refl
+still-none answers (p ∷ path) n free =
+    elim (cases-answer (answer_at answers p.0)) [
+      | inl e ↦ rw e (still-none answers path n free)
       | inr (b, e) ↦
-          let other : p.0 ≢ n = λ same. none-some b (sym free ∙ ap (answer_at table) (sym same) ∙ e) in
-          rw (e, number-other p.0 n other) (still-none table path n free)
+          let other : p.0 ≢ n = λ same. none-some b (sym free ∙ ap (answer_at answers) (sym same) ∙ e) in
+          rw (e, number-other p.0 n other) (still-none answers path n free)
     ]
 
-still-is : (table : List (Option Bool)) (path : Answers) (n : ℕ) (b : Bool) → answer_at table n ≡ Some b → answer_of path n ≡ Some b → answer_of (still_answered table path) n ≡ Some b
-still-is table [] n b there is = absurd (none-some b is)
-still-is table (p ∷ path) n b there is =
+still-is : (answers : List (Option Bool)) (path : Answers) (n : ℕ) (b : Bool) → answer_at answers n ≡ Some b → answer_of path n ≡ Some b → answer_of (still_answered answers path) n ≡ Some b
+still-is answers [] n b there is = absurd (none-some b is)
+still-is answers (p ∷ path) n b there is =
     elim (cases_eq p.0 n) [
       | inl e ↦
-          let here : answer_at table p.0 ≡ Some b = ap (answer_at table) e ∙ there in
+          let here : answer_at answers p.0 ≡ Some b = ap (answer_at answers) e ∙ there in
           let own : (p.0 == n) ≡ true = subst (λ (k : ℕ). (p.0 == k) ≡ true) e (number-same p.0) in
           let own_answer : ◌≡◌ {A = Option Bool} (Some p.1) (Some b) = rw own at is in
           rw (here, own) own_answer
       | inr ne ↦
           let later : answer_of path n ≡ Some b = rw (number-other p.0 n ne) at is in
-          elim (cases-answer (answer_at table p.0)) [
-            | inl e ↦ rw e (still-is table path n b there later)
-            | inr (c, e) ↦ rw (e, number-other p.0 n ne) (still-is table path n b there later)
+          elim (cases-answer (answer_at answers p.0)) [
+            | inl e ↦ rw e (still-is answers path n b there later)
+            | inr (c, e) ↦ rw (e, number-other p.0 n ne) (still-is answers path n b there later)
           ]
     ]
 
--- a table with no other answers than the path's
-pub still-same : (table : List (Option Bool)) (path : Answers) → ((n : ℕ) (b : Bool) → answer_at table n ≡ Some b → answer_of path n ≡ Some b) → (n : ℕ) → answer_at table n ≡ answer_of (still_answered table path) n
-still-same table path within n =
-    elim (cases-answer (answer_at table n)) [
-      | inl e ↦ e ∙ sym (still-none table path n e)
-      | inr (b, e) ↦ e ∙ sym (still-is table path n b e (within n b e))
+-- answers that are all the path's
+pub still-same : (answers : List (Option Bool)) (path : Answers) → ((n : ℕ) (b : Bool) → answer_at answers n ≡ Some b → answer_of path n ≡ Some b) → (n : ℕ) → answer_at answers n ≡ answer_of (still_answered answers path) n
+still-same answers path within n =
+    elim (cases-answer (answer_at answers n)) [
+      | inl e ↦ e ∙ sym (still-none answers path n e)
+      | inr (b, e) ↦ e ∙ sym (still-is answers path n b e (within n b e))
     ]
 
-pub left-some : {X E : Type 0} (r : Result X E) (table : List (Option Bool)) (old new : Answers) (test : ℕ) (answer b : Bool) → answer_at table test ≡ Some b → OnOk r (new ≡ old ++ (test, answer) ∷ []) →
-    OnOk r (new ≡ old ++ still_answered table ((test, answer) ∷ []))
-left-some (Ok x) table old new test answer b there is = rw there is
-left-some (Err e) table old new test answer b there is = tt
+pub left-some : {X E : Type 0} (r : Result X E) (answers : List (Option Bool)) (old new : Answers) (test : ℕ) (answer b : Bool) → answer_at answers test ≡ Some b → OnOk r (new ≡ old ++ (test, answer) ∷ []) →
+    OnOk r (new ≡ old ++ still_answered answers ((test, answer) ∷ []))
+left-some (Ok x) answers old new test answer b there is = rw there is
+left-some (Err e) answers old new test answer b there is = tt
 
-pub left-none : (table : List (Option Bool)) (old : Answers) (test : ℕ) (answer : Bool) → answer_at table test ≡ None → old ≡ old ++ still_answered table ((test, answer) ∷ [])
-left-none table old test answer free = rw free (sym (append-nil old))
+pub left-none : (answers : List (Option Bool)) (old : Answers) (test : ℕ) (answer : Bool) → answer_at answers test ≡ None → old ≡ old ++ still_answered answers ((test, answer) ∷ [])
+left-none answers old test answer free = rw free (sym (append-nil old))
 
-pub still-append : (table : List (Option Bool)) (ps qs : Answers) → still_answered table (ps ++ qs) ≡ still_answered table ps ++ still_answered table qs
-still-append table [] qs = refl
-still-append table (p ∷ ps) qs =
-    elim (cases-answer (answer_at table p.0)) [
-      | inl e ↦ rw e (still-append table ps qs)
-      | inr (c, e) ↦ rw e (ap (λ (xs : Answers). p ∷ xs) (still-append table ps qs))
+pub still-append : (answers : List (Option Bool)) (ps qs : Answers) → still_answered answers (ps ++ qs) ≡ still_answered answers ps ++ still_answered answers qs
+still-append answers [] qs = refl
+still-append answers (p ∷ ps) qs =
+    elim (cases-answer (answer_at answers p.0)) [
+      | inl e ↦ rw e (still-append answers ps qs)
+      | inr (c, e) ↦ rw e (ap (λ (xs : Answers). p ∷ xs) (still-append answers ps qs))
     ]
 
 -- one item more
-pub still-next : (table : List (Option Bool)) (ps : Answers) (k : ℕ) (left new : Answers) (p : ℕ × Bool) → k < length ps → get_or ps k (0, false) ≡ p → left ≡ still_answered table (take k ps) → new ≡ left ++ still_answered table (p ∷ []) →
-    new ≡ still_answered table (take (k + 1) ps)
-still-next table ps k left new p lt at was is =
-    is ∙ ap (λ (xs : Answers). xs ++ still_answered table (p ∷ [])) was ∙ sym (still-append table (take k ps) (p ∷ [])) ∙
-    ap (still_answered table) (sym (take_more ps k (0, false) lt ∙ ap (λ (q : ℕ × Bool). take k ps ++ q ∷ []) at))
+pub still-next : (answers : List (Option Bool)) (ps : Answers) (k : ℕ) (left new : Answers) (p : ℕ × Bool) → k < length ps → get_or ps k (0, false) ≡ p → left ≡ still_answered answers (take k ps) → new ≡ left ++ still_answered answers (p ∷ []) →
+    new ≡ still_answered answers (take (k + 1) ps)
+still-next answers ps k left new p lt at was is =
+    is ∙ ap (λ (xs : Answers). xs ++ still_answered answers (p ∷ [])) was ∙ sym (still-append answers (take k ps) (p ∷ [])) ∙
+    ap (still_answered answers) (sym (take_more ps k (0, false) lt ∙ ap (λ (q : ℕ × Bool). take k ps ++ q ∷ []) at))
 
-still-free : (table : List (Option Bool)) (ps : Answers) (n : ℕ) → answer_of ps n ≡ None → answer_of (still_answered table ps) n ≡ None
-still-free table [] n free = refl
-still-free table (p ∷ ps) n free =
+still-free : (answers : List (Option Bool)) (ps : Answers) (n : ℕ) → answer_of ps n ≡ None → answer_of (still_answered answers ps) n ≡ None
+still-free answers [] n free = refl
+still-free answers (p ∷ ps) n free =
     elim (cases_eq p.0 n) [
       | inl e ↦
           let own : (p.0 == n) ≡ true = subst (λ (k : ℕ). (p.0 == k) ≡ true) e (number-same p.0) in
@@ -261,9 +261,9 @@ still-free table (p ∷ ps) n free =
           absurd (none-some p.1 (sym bad))
       | inr ne ↦
           let later : answer_of ps n ≡ None = rw (number-other p.0 n ne) at free in
-          elim (cases-answer (answer_at table p.0)) [
-            | inl e ↦ rw e (still-free table ps n later)
-            | inr (c, e) ↦ rw (e, number-other p.0 n ne) (still-free table ps n later)
+          elim (cases-answer (answer_at answers p.0)) [
+            | inl e ↦ rw e (still-free answers ps n later)
+            | inr (c, e) ↦ rw (e, number-other p.0 n ne) (still-free answers ps n later)
           ]
     ]
 
@@ -296,13 +296,13 @@ cut-ok (Ok a) tree path needed test sides answers cut is = subst (IsLeastCut tre
 cut-ok (Err e) tree path needed test sides answers cut is = tt
 
 -- the same of a formula's truth under an answer
-pub seen-with : (old mid : Answered) (test : ℕ) (b : Bool) (s : Seen) → IsSet old mid test (Some b) → s ≡ tree_seen (answer_at mid.table) (answered_tree mid) → s ≡ tree_seen (with_answer (answer_at old.table) test b) (answered_tree old)
+pub seen-with : (old mid : Answered) (test : ℕ) (b : Bool) (s : Seen) → IsSet old mid test (Some b) → s ≡ tree_seen (answer_at mid.answers) (answered_tree mid) → s ≡ tree_seen (with_answer (answer_at old.answers) test b) (answered_tree old)
 seen-with old mid test b s there is =
-    is ∙ tree-alike (answer_at mid.table) (with_answer (answer_at old.table) test b) (set-with old mid test b there) (answered_tree mid) ∙
-    ap (λ (f : Formula). tree_seen (with_answer (answer_at old.table) test b) (tree_of f)) there.formula
+    is ∙ tree-alike (answer_at mid.answers) (with_answer (answer_at old.answers) test b) (set-with old mid test b there) (answered_tree mid) ∙
+    ap (λ (f : Formula). tree_seen (with_answer (answer_at old.answers) test b) (tree_of f)) there.formula
 
-pub still-push : (table : List (Option Bool)) (ps : Answers) (k : ℕ) (p : ℕ × Bool) → IsDistinct ps → slice_get ps k ≡ Some p → answer_of (still_answered table (take k ps)) p.0 ≡ None
-still-push table ps k p distinct at = still-free table (take k ps) p.0 (item-first ps k p distinct at)
+pub still-push : (answers : List (Option Bool)) (ps : Answers) (k : ℕ) (p : ℕ × Bool) → IsDistinct ps → slice_get ps k ≡ Some p → answer_of (still_answered answers (take k ps)) p.0 ≡ None
+still-push answers ps k p distinct at = still-free answers (take k ps) p.0 (item-first ps k p distinct at)
 
 -- ---- given back
 
@@ -363,25 +363,25 @@ module _ (old now : Answered) (path needed : Answers) (test : ℕ) (sides : Side
   within : (n : ℕ) (b : Bool) → answer_in now n ≡ Some b → answer_of path n ≡ Some b
   within n b is = sym (start n) ∙ out.fewer n b is
 
-  same : (n : ℕ) → answer_in now n ≡ answer_of (still_answered now.table path) n
-  same = still-same now.table path within
+  same : (n : ℕ) → answer_in now n ≡ answer_of (still_answered now.answers path) n
+  same = still-same now.answers path within
 
-  left-free : answer_of (still_answered now.table path) test ≡ None
+  left-free : answer_of (still_answered now.answers path) test ≡ None
   left-free = sym (same test) ∙ none-of (answer_in now test) (λ b is. none-some b (sym free ∙ within test b is))
 
   -- leaving one more out doesn't answer the test
-  lost : (n : ℕ) (c : Bool) → answer_of (omitted (still_answered now.table path) n) test ≡ Some c → ⊥
+  lost : (n : ℕ) (c : Bool) → answer_of (omitted (still_answered now.answers path) n) test ≡ Some c → ⊥
   lost n c given =
       elim (cases_eq test n) [
-        | inl e ↦ none-some c (sym (omitted-none (still_answered now.table path) n) ∙ ap (answer_of (omitted (still_answered now.table path) n)) (sym e) ∙ given)
-        | inr ne ↦ none-some c (sym left-free ∙ sym (omitted-other (still_answered now.table path) n test ne) ∙ given)
+        | inl e ↦ none-some c (sym (omitted-none (still_answered now.answers path) n) ∙ ap (answer_of (omitted (still_answered now.answers path) n)) (sym e) ∙ given)
+        | inr ne ↦ none-some c (sym left-free ∙ sym (omitted-other (still_answered now.answers path) n test ne) ∙ given)
       ]
 
-  pub is-cut : IsLeastCut (answered_tree old) path needed test sides (still_answered now.table path)
+  pub is-cut : IsLeastCut (answered_tree old) path needed test sides (still_answered now.answers path)
   is-cut = record {
     needed_there = λ n b is. sym (same n) ∙ out.needed_stay n b is (start n ∙ there n b is);
     there = λ n b is. within n b (same n ∙ is);
-    still = given-on (answered_tree old) (answer_at now.table) (still_answered now.table path) test sides same left-free out.still;
+    still = given-on (answered_tree old) (answer_at now.answers) (still_answered now.answers path) test sides same left-free out.still;
     least = λ n b is.
         let here : answer_in now n ≡ Some b = same n ∙ is in
         elim (tried n b (within n b here) b here) [
@@ -391,12 +391,12 @@ module _ (old now : Answered) (path needed : Answers) (test : ℕ) (sides : Side
               let equal : c ≡ b = same-answer c b (sym also ∙ here) in
               inl (given ∙ ap (λ (x : Bool). Some x) equal)
           | inr not ↦
-              let fewer = without-omitted (answer_at now.table) (still_answered now.table path) n same in
-              let open_test : answer_of (omitted (still_answered now.table path) n) test ≡ None = none-of (answer_of (omitted (still_answered now.table path) n) test) (λ c given. lost n c given) in
+              let fewer = without-omitted (answer_at now.answers) (still_answered now.answers path) n same in
+              let open_test : answer_of (omitted (still_answered now.answers path) n) test ≡ None = none-of (answer_of (omitted (still_answered now.answers path) n) test) (λ c given. lost n c given) in
               inr (λ on.
               not
-              (subst (λ (f : Formula). IsNoGiven (tree_of f) (without_answer (answer_at now.table) n) test sides) (sym out.formula)
-              (given-from (answered_tree old) (without_answer (answer_at now.table) n) (omitted (still_answered now.table path) n) test sides fewer open_test on)))
+              (subst (λ (f : Formula). IsNoGiven (tree_of f) (without_answer (answer_at now.answers) n) test sides) (sym out.formula)
+              (given-from (answered_tree old) (without_answer (answer_at now.answers) n) (omitted (still_answered now.answers path) n) test sides fewer open_test on)))
         ];
   }
 
@@ -411,7 +411,7 @@ module _ (old now : Answered) (path needed : Answers) (test : ℕ) (sides : Side
       ])
 
   -- each of them has room
-  pub path-room : All (λ p. p.0 < length now.table) path
+  pub path-room : All (λ p. p.0 < length now.answers) path
   path-room k d lt =
       let (b, is) = item-answered path k (get_or path k d) (slice_get-get_or path k d lt) in
-      omega (arith, past old.table (get_or path k d).0 b (start (get_or path k d).0 ∙ is), out.tests)
+      omega (arith, past old.answers (get_or path k d).0 b (start (get_or path k d).0 ∙ is), out.tests)

@@ -28,28 +28,28 @@ pub record IsNoGiven (tree : Tree) (answers : ℕ → Option Bool) (test : ℕ) 
 -- some answers were left out, none of the needed ones, and the tree is still no
 pub record IsLeftOut (old new : Answered) (needed : Answers) (test : ℕ) (sides : Sides) : Type 0 where
   pub formula : new.formula ≡ old.formula
-  pub tests : length new.table ≡ length old.table
+  pub tests : length new.answers ≡ length old.answers
   pub fewer : (n : ℕ) (b : Bool) → answer_in new n ≡ Some b → answer_in old n ≡ Some b
   pub needed_stay : (n : ℕ) (b : Bool) → answer_of needed n ≡ Some b → answer_in old n ≡ Some b → answer_in new n ≡ Some b
-  pub still : IsNoGiven (answered_tree old) (answer_at new.table) test sides
+  pub still : IsNoGiven (answered_tree old) (answer_at new.answers) test sides
 
 -- an answer that is still there is needed anyway, or without it the tree isn't no
 abbrev pub IsKeptFor : Answered → Answers → ℕ → Sides → ℕ → Type 0
 IsKeptFor a needed test sides n = (b : Bool) → answer_in a n ≡ Some b →
-    (is_some (answer_of needed n) ≡ true) ⊎ ¬ IsNoGiven (answered_tree a) (without_answer (answer_at a.table) n) test sides
+    (is_some (answer_of needed n) ≡ true) ⊎ ¬ IsNoGiven (answered_tree a) (without_answer (answer_at a.answers) n) test sides
 
 -- each of the answered tests was tried
 abbrev pub AreKeptFor : Answered → Answers → ℕ → Sides → Answers → Type 0
 AreKeptFor a needed test sides tried = (n : ℕ) (c : Bool) → answer_of tried n ≡ Some c → IsKeptFor a needed test sides n
 
--- the answers of a path that are still in the table
+-- the answers of a path that are still given
 abbrev pub still_answered : List (Option Bool) → Answers → Answers
-still_answered table [] = []
-still_answered table (p ∷ path) = (if is_some (answer_at table p.0) then p ∷ still_answered table path else still_answered table path)
+still_answered answers [] = []
+still_answered answers (p ∷ path) = (if is_some (answer_at answers p.0) then p ∷ still_answered answers path else still_answered answers path)
 
 -- the answers of a path were given again, and no others
 pub record IsGivenBack (old new : Answered) (path : Answers) : Type 0 where
   pub formula : new.formula ≡ old.formula
-  pub tests : length new.table ≡ length old.table
+  pub tests : length new.answers ≡ length old.answers
   pub back : (n : ℕ) (b : Bool) → answer_of path n ≡ Some b → answer_in new n ≡ Some b
   pub others : (n : ℕ) → answer_of path n ≡ None → answer_in old n ≡ None → answer_in new n ≡ None

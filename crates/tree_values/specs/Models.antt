@@ -7,43 +7,43 @@ use Rattle.formula_tree.specs.declared.formula.Formula.{Formula}
 -- what is kept means this: a formula, and the answers by test number
 pub record Answered : Type 0 where
   pub formula : Formula
-  pub table : List (Option Bool)
+  pub answers : List (Option Bool)
 
 -- the tree that the formula stands for
 abbrev pub answered_tree : Answered → Tree
 answered_tree a = tree_of a.formula
 
--- the table's answer to a test; none past its end
+-- the answer to a test; none past the end
 abbrev pub answer_at : List (Option Bool) → ℕ → Option Bool
-answer_at table n = slice_index_or table n None
+answer_at answers n = slice_index_or answers n None
 
 abbrev pub answer_in : Answered → ℕ → Option Bool
-answer_in a n = answer_at a.table n
+answer_in a n = answer_at a.answers n
 
--- a list of answers gives each test the answer that the table gives it
+-- a path gives each test the answer that it has
 abbrev pub IsAnsweredBy : Answered → Answers → Type 0
 IsAnsweredBy a path = (n : ℕ) → answer_in a n ≡ answer_of path n
 
 -- the answer to one test is changed, and no other
 pub record IsSet (old new : Answered) (test : ℕ) (answer : Option Bool) : Type 0 where
   pub formula : new.formula ≡ old.formula
-  pub tests : length new.table ≡ length old.table
+  pub tests : length new.answers ≡ length old.answers
   pub at : answer_in new test ≡ answer
   pub others : (n : ℕ) → n ≢ test → answer_in new n ≡ answer_in old n
 
 -- nothing is answered, and there is room for so many tests
 pub record IsStart (formula : Formula) (tests : ℕ) (a : Answered) : Type 0 where
   pub is : a.formula ≡ formula
-  pub room : length a.table ≡ tests
+  pub room : length a.answers ≡ tests
   pub none : (n : ℕ) → answer_in a n ≡ None
 
--- the same of a table
+-- the same of the answers alone
 pub record IsChanged (old new : List (Option Bool)) (test : ℕ) (answer : Option Bool) : Type 0 where
   pub tests : length new ≡ length old
   pub at : answer_at new test ≡ answer
   pub others : (n : ℕ) → n ≢ test → answer_at new n ≡ answer_at old n
 
 -- so many tests without an answer
-pub record IsUnanswered (tests : ℕ) (table : List (Option Bool)) : Type 0 where
-  pub room : length table ≡ tests
-  pub none : (n : ℕ) → answer_at table n ≡ None
+pub record IsUnanswered (tests : ℕ) (answers : List (Option Bool)) : Type 0 where
+  pub room : length answers ≡ tests
+  pub none : (n : ℕ) → answer_at answers n ≡ None

@@ -144,16 +144,16 @@ Enters named old new number = (c p : ℕ) →
 abbrev pub IsGraph : Graph → Type 0
 IsGraph g = HasEntered g.nodes.items g.parents.items g.leaves.items (length g.nodes.items)
 
--- all nodes agree under a table of answers, or all but the pending ones
+-- all nodes agree under answers, or all but the pending ones
 abbrev pub IsSettled : Graph → List (Option Bool) → List Seen → Type 0
-IsSettled g table marks = AreSettled g.nodes.items (answer_at table) marks
+IsSettled g answers marks = AreSettled g.nodes.items (answer_at answers) marks
 
 abbrev pub IsSettledBut : Graph → List (Option Bool) → List Seen → List ℕ → Type 0
-IsSettledBut g table marks pending = AreSettledBut g.nodes.items (answer_at table) marks pending
+IsSettledBut g answers marks pending = AreSettledBut g.nodes.items (answer_at answers) marks pending
 
--- what is kept of a tree under a table of answers
-pub record AreKept (tree : Tree) (table : List (Option Bool)) (g : Graph) (marks : List Seen) : Type 0 where
+-- what is kept of a tree under answers
+pub record AreKept (tree : Tree) (answers : List (Option Bool)) (g : Graph) (marks : List Seen) : Type 0 where
   pub graph : IsGraph g
   pub root : IsAt g.nodes.items tree g.root
   pub long : length marks ≡ length g.nodes.items
-  pub settled : AreSettled g.nodes.items (answer_at table) marks
+  pub settled : AreSettled g.nodes.items (answer_at answers) marks

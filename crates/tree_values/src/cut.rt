@@ -34,7 +34,7 @@ impl TreeValues {
     ) -> Result<Path, NoMemory>
         requires answered { IsAnsweredBy self.old path.now }
         requires there { Contained needed.now path.now }
-        requires test { (answer_of path.now test ≡ None) × (test < length self.old.table) }
+        requires test { (answer_of path.now test ≡ None) × (test < length self.old.answers) }
         requires no { IsNoOn (answered_tree self.old) path.now test sides }
         ensures cut { IfOk result
             (IsLeastCut (answered_tree self.old) path.now needed.now test sides) }
@@ -48,9 +48,9 @@ impl TreeValues {
 
     // Whether the formula is no where the test is answered so.
     fn is_no_at(&mut self, test: u32, answer: bool) -> bool
-        requires { (answer_in self.old test ≡ None) × (test < length self.old.table) }
+        requires { (answer_in self.old test ≡ None) × (test < length self.old.answers) }
         ensures no { IsTrue result ↔
-            (seen_given (answered_tree self.old) (answer_at self.old.table) test answer ≡ seen.No) }
+            (seen_given (answered_tree self.old) (answer_at self.old.answers) test answer ≡ seen.No) }
         ensures same { self.new ≡ self.old }
     {
         self.set(test, Some(answer));
@@ -61,9 +61,9 @@ impl TreeValues {
 
     // Whether the formula is no on the wanted sides.
     fn is_no_on(&mut self, test: u32, sides: Sides) -> bool
-        requires { (answer_in self.old test ≡ None) × (test < length self.old.table) }
+        requires { (answer_in self.old test ≡ None) × (test < length self.old.answers) }
         ensures no { IsTrue result ↔
-            IsNoGiven (answered_tree self.old) (answer_at self.old.table) test sides }
+            IsNoGiven (answered_tree self.old) (answer_at self.old.answers) test sides }
         ensures same { self.new ≡ self.old }
     {
         if sides.yes && !self.is_no_at(test, true) {
@@ -77,8 +77,8 @@ impl TreeValues {
 
     // Leaves out the answer to one test, if it isn't needed.
     fn try_without(&mut self, needed: &Path, tried: u32, test: u32, sides: Sides)
-        requires test { (answer_in self.old test ≡ None) × (test < length self.old.table) }
-        requires no { IsNoGiven (answered_tree self.old) (answer_at self.old.table) test sides }
+        requires test { (answer_in self.old test ≡ None) × (test < length self.old.answers) }
+        requires no { IsNoGiven (answered_tree self.old) (answer_at self.old.answers) test sides }
         ensures out { IsLeftOut self.old self.new needed.now test sides }
         ensures tried { IsKeptFor self.new needed.now test sides tried }
     {
@@ -96,8 +96,8 @@ impl TreeValues {
 
     // Leaves out all answers of the path that aren't needed, the newest first.
     fn leave_out(&mut self, path: &Path, needed: &Path, test: u32, sides: Sides)
-        requires test { (answer_in self.old test ≡ None) × (test < length self.old.table) }
-        requires no { IsNoGiven (answered_tree self.old) (answer_at self.old.table) test sides }
+        requires test { (answer_in self.old test ≡ None) × (test < length self.old.answers) }
+        requires no { IsNoGiven (answered_tree self.old) (answer_at self.old.answers) test sides }
         ensures out { IsLeftOut self.old self.new needed.now test sides }
         ensures tried { AreKeptFor self.new needed.now test sides path.now }
     {
@@ -113,7 +113,7 @@ impl TreeValues {
     fn add_left(&self, left: &mut Path, test: u32, answer: bool) -> Result<(), NoMemory>
         requires { answer_of left.old test ≡ None }
         ensures { OnOk result
-            (left.new ≡ left.old ++ still_answered self.now.table ((test, answer) ∷ [])) }
+            (left.new ≡ left.old ++ still_answered self.now.answers ((test, answer) ∷ [])) }
     {
         match self.answer(test) {
             Some(_) => left.push(test, answer),
@@ -123,7 +123,7 @@ impl TreeValues {
 
     // The answers of the path that are still there.
     fn answers_left(&self, alloc: Global, path: &Path) -> Result<Path, NoMemory>
-        ensures { IfOk result (λ answers. answers ≡ still_answered self.now.table path.now) }
+        ensures { IfOk result (λ answers. answers ≡ still_answered self.now.answers path.now) }
     {
         let mut left = Path::new(alloc);
         'answers: for (test, answer) in path.as_slice() {
@@ -134,7 +134,7 @@ impl TreeValues {
 
     // Gives all answers of the path again.
     fn give_back(&mut self, path: &Path)
-        requires { All (λ p. p.0 < length self.old.table) path.now }
+        requires { All (λ p. p.0 < length self.old.answers) path.now }
         ensures { IsGivenBack self.old self.new path.now }
     {
         'answers: for (test, _) in path.as_slice() {

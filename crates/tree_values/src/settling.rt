@@ -18,23 +18,23 @@ fn seen_at(marks: &[Seen], index: usize) -> Seen
     }
 }
 
-fn answer_at(table: &[Option<bool>], test: u32) -> Option<bool>
-    ensures { result ≡ answer_at table.now test }
+fn answer_at(answers: &[Option<bool>], test: u32) -> Option<bool>
+    ensures { result ≡ answer_at answers.now test }
 {
-    match table.get(test as usize) {
+    match answers.get(test as usize) {
         Some(answer) => *answer,
         None => None,
     }
 }
 
 // What is seen of a node by what was seen of its children.
-fn node_seen(node: Node, table: &[Option<bool>], marks: &[Seen]) -> Seen
-    ensures { result ≡ node_seen (answer_at table.now) marks.now node }
+fn node_seen(node: Node, answers: &[Option<bool>], marks: &[Seen]) -> Seen
+    ensures { result ≡ node_seen (answer_at answers.now) marks.now node }
 {
     match node {
         Node::Yes => Seen::Yes,
         Node::No => Seen::No,
-        Node::Test(test) => test_seen(answer_at(table, test), test),
+        Node::Test(test) => test_seen(answer_at(answers, test), test),
         Node::Not(child) => turned_seen(seen_at(marks, child)),
         Node::Both(first, second) => both_seen(seen_at(marks, first), seen_at(marks, second)),
         Node::Either(first, second) => either_seen(seen_at(marks, first), seen_at(marks, second)),
@@ -51,20 +51,20 @@ fn list_at(lists: &[List<usize>], index: usize) -> &[usize]
     }
 }
 
-// What is seen of all nodes under the answers of the table.
+// What is seen of all nodes under the answers.
 pub(crate) fn first_marks(
     alloc: Global,
     nodes: &[Node],
-    table: &[Option<bool>],
+    answers: &[Option<bool>],
 ) -> Result<Vec<Seen>, NoMemory>
     requires { AreOrdered nodes.now }
     ensures long { IfOk result (λ marks. length marks.items ≡ length nodes.now) }
     ensures settled { IfOk result
-        (λ marks. AreSettled nodes.now (answer_at table.now) marks.items) }
+        (λ marks. AreSettled nodes.now (answer_at answers.now) marks.items) }
 {
     let mut marks = Vec::new(alloc);
     'nodes: for i in 0..nodes.len() {
-        let seen = node_seen(nodes[i], table, marks.as_slice());
+        let seen = node_seen(nodes[i], answers, marks.as_slice());
         marks.push(seen)?;
     }
     Ok(marks)
@@ -73,59 +73,59 @@ pub(crate) fn first_marks(
 // Looks at a node anew, and where something else is seen of it at its parents. Where it and the
 // pending nodes were all that might not agree with their children, the pending ones are all.
 #[cycle(settle)]
-fn settle(graph: &Graph, table: &[Option<bool>], marks: &mut Vec<Seen>, index: usize)
+fn settle(graph: &Graph, answers: &[Option<bool>], marks: &mut Vec<Seen>, index: usize)
     requires graph { IsGraph graph.now }
     requires within { index < length graph.now.nodes.items }
     requires long { length marks.old.items ≡ length graph.now.nodes.items }
     ensures long { length marks.new.items ≡ length graph.now.nodes.items }
     ensures settled { (pending : List ℕ) →
-        IsSettledBut graph.now table.now marks.old.items (index ∷ pending) →
-        IsSettledBut graph.now table.now marks.new.items pending }
+        IsSettledBut graph.now answers.now marks.old.items (index ∷ pending) →
+        IsSettledBut graph.now answers.now marks.new.items pending }
 {
-    let seen = node_seen(graph.nodes[index], table, marks.as_slice());
+    let seen = node_seen(graph.nodes[index], answers, marks.as_slice());
     if is_same(seen, marks[index]) {
         return;
     }
     marks[index] = seen;
     'parents: for parent in list_at(graph.parents.as_slice(), index) {
-        settle(graph, table, marks, *parent);
+        settle(graph, answers, marks, *parent);
     }
 }
 
 // Looks at these nodes anew. Where they were all that might not agree with their children, all
 // nodes agree.
-fn settle_all(graph: &Graph, table: &[Option<bool>], marks: &mut Vec<Seen>, indices: &[usize])
+fn settle_all(graph: &Graph, answers: &[Option<bool>], marks: &mut Vec<Seen>, indices: &[usize])
     requires graph { IsGraph graph.now }
     requires within { All (λ i. i < length graph.now.nodes.items) indices.now }
     requires long { length marks.old.items ≡ length graph.now.nodes.items }
     ensures long { length marks.new.items ≡ length graph.now.nodes.items }
-    ensures settled { IsSettledBut graph.now table.now marks.old.items indices.now →
-        IsSettled graph.now table.now marks.new.items }
+    ensures settled { IsSettledBut graph.now answers.now marks.old.items indices.now →
+        IsSettled graph.now answers.now marks.new.items }
 {
     'indices: for index in indices {
-        settle(graph, table, marks, *index);
+        settle(graph, answers, marks, *index);
     }
 }
 
 // Changes the answer to one test.
 fn change(
     graph: &Graph,
-    table: &mut Vec<Option<bool>>,
+    answers: &mut Vec<Option<bool>>,
     marks: &mut Vec<Seen>,
     test: u32,
     answer: Option<bool>,
 )
     requires graph { IsGraph graph.now }
     requires long { length marks.old.items ≡ length graph.now.nodes.items }
-    requires room { test < length table.old.items }
-    requires settled { IsSettled graph.now table.old.items marks.old.items }
+    requires room { test < length answers.old.items }
+    requires settled { IsSettled graph.now answers.old.items marks.old.items }
     ensures long { length marks.new.items ≡ length graph.now.nodes.items }
-    ensures changed { IsChanged table.old.items table.new.items test answer }
-    ensures settled { IsSettled graph.now table.new.items marks.new.items }
+    ensures changed { IsChanged answers.old.items answers.new.items test answer }
+    ensures settled { IsSettled graph.now answers.new.items marks.new.items }
 {
     let leaves = list_at(graph.leaves.as_slice(), test as usize);
-    table[test as usize] = answer;
-    settle_all(graph, table.as_slice(), marks, leaves);
+    answers[test as usize] = answer;
+    settle_all(graph, answers.as_slice(), marks, leaves);
 }
 
 fn is_same_answer(first: Option<bool>, second: Option<bool>) -> bool
@@ -138,22 +138,22 @@ fn is_same_answer(first: Option<bool>, second: Option<bool>) -> bool
 // the other: so what is seen of a node goes one way at a time, from unknown or towards it.
 pub(crate) fn change_to(
     graph: &Graph,
-    table: &mut Vec<Option<bool>>,
+    answers: &mut Vec<Option<bool>>,
     marks: &mut Vec<Seen>,
     test: u32,
     answer: Option<bool>,
 )
     requires graph { IsGraph graph.now }
     requires long { length marks.old.items ≡ length graph.now.nodes.items }
-    requires room { test < length table.old.items }
-    requires settled { IsSettled graph.now table.old.items marks.old.items }
+    requires room { test < length answers.old.items }
+    requires settled { IsSettled graph.now answers.old.items marks.old.items }
     ensures long { length marks.new.items ≡ length graph.now.nodes.items }
-    ensures changed { IsChanged table.old.items table.new.items test answer }
-    ensures settled { IsSettled graph.now table.new.items marks.new.items }
+    ensures changed { IsChanged answers.old.items answers.new.items test answer }
+    ensures settled { IsSettled graph.now answers.new.items marks.new.items }
 {
-    if is_same_answer(answer_at(table.as_slice(), test), answer) {
+    if is_same_answer(answer_at(answers.as_slice(), test), answer) {
         return;
     }
-    change(graph, table, marks, test, None);
-    change(graph, table, marks, test, answer);
+    change(graph, answers, marks, test, None);
+    change(graph, answers, marks, test, answer);
 }

@@ -21,7 +21,7 @@ use std::rc::Rc;
 pub struct TreeValues {
     pub(crate) formula: Rc<Formula>,
     pub(crate) graph: Graph,
-    pub(crate) table: Vec<Option<bool>>,
+    pub(crate) answers: Vec<Option<bool>>,
     pub(crate) marks: Vec<Seen>,
 }
 
@@ -36,10 +36,10 @@ impl Model for TreeValues {
 
     ghost coded = { Prim.hlevel (codes, formula_row.the_row.coded) };
 
-    ghost view = { λ v. record { formula = v.formula.value; table = v.table.items } };
+    ghost view = { λ v. record { formula = v.formula.value; answers = v.answers.items } };
 
     ghost invariant = { λ v.
-        AreKept (tree_of v.formula.value) v.table.items v.graph v.marks.items };
+        AreKept (tree_of v.formula.value) v.answers.items v.graph v.marks.items };
 }
 
 impl TreeValues {
@@ -48,27 +48,33 @@ impl TreeValues {
         ensures { IfOk result (IsStart formula.now.value tests) }
     {
         let graph = Graph::of(alloc, &**formula)?;
-        let table = empty_table(alloc, tests)?;
-        let marks = first_marks(alloc, graph.nodes.as_slice(), table.as_slice())?;
+        let answers = empty_answers(alloc, tests)?;
+        let marks = first_marks(alloc, graph.nodes.as_slice(), answers.as_slice())?;
         Ok(TreeValues {
             formula: formula.clone()?,
             graph,
-            table,
+            answers,
             marks,
         })
     }
 
     /// Gives a test an answer, or takes its answer back. It takes no memory.
     pub fn set(&mut self, test: u32, answer: Option<bool>)
-        requires { test < length self.old.table }
+        requires { test < length self.old.answers }
         ensures { IsSet self.old self.new test answer }
     {
-        change_to(&self.graph, &mut self.table, &mut self.marks, test, answer);
+        change_to(
+            &self.graph,
+            &mut self.answers,
+            &mut self.marks,
+            test,
+            answer,
+        );
     }
 
     // The formula's value under the answers, and the test that it waits for.
     pub(crate) fn seen(&self) -> Seen
-        ensures { result ≡ tree_seen (answer_at self.now.table) (answered_tree self.now) }
+        ensures { result ≡ tree_seen (answer_at self.now.answers) (answered_tree self.now) }
     {
         self.marks[self.graph.root]
     }
@@ -77,7 +83,7 @@ impl TreeValues {
     pub(crate) fn answer(&self, test: u32) -> Option<bool>
         ensures { result ≡ answer_in self.now test }
     {
-        match self.table.get(test as usize) {
+        match self.answers.get(test as usize) {
             Some(answer) => *answer,
             None => None,
         }
@@ -106,12 +112,12 @@ impl TreeValues {
 }
 
 // So many tests without an answer.
-fn empty_table(alloc: Global, tests: u32) -> Result<Vec<Option<bool>>, NoMemory>
-    ensures { IfOk result (λ table. IsUnanswered tests table.items) }
+fn empty_answers(alloc: Global, tests: u32) -> Result<Vec<Option<bool>>, NoMemory>
+    ensures { IfOk result (λ answers. IsUnanswered tests answers.items) }
 {
-    let mut table = Vec::new(alloc);
+    let mut answers = Vec::new(alloc);
     'tests: for _ in 0..tests {
-        table.push(None)?;
+        answers.push(None)?;
     }
-    Ok(table)
+    Ok(answers)
 }

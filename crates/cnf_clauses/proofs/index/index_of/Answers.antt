@@ -14,4 +14,4 @@ clauses-preserved c =
     let first = c.in_ok-add_literals.ensures in
     let second = c.in_ok-add_short.ensures in
     indexed-step c.args.clauses.now c.clauses.index c.add_literals.new.index c.add_short.new.index c.clauses.i c.index-clauses-i.result c.as_slice-literals.result.now
-    c.index-clauses-i.is c.as_slice-literals.ensures c.clauses.invariant first.named first.kept first.short second.noted second.kept second.tables
+    c.index-clauses-i.is c.as_slice-literals.ensures c.clauses.invariant first.named first.kept first.short second.noted second.kept second.lists

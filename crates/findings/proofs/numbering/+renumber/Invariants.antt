@@ -11,4 +11,4 @@ abbrev pub decreases-renumber_each : goal.decreases-renumber_each
 decreases-renumber_each l = size_in (of_list (trees_of l.branches.now))
 
 abbrev pub invariant-renumber_each-branches : goal.invariant-renumber_each-branches
-invariant-renumber_each-branches l = of_list (trees_of l.renumbered) ≡ renumbered_each l.table (of_list (take l.i (trees_of l.branches)))
+invariant-renumber_each-branches l = of_list (trees_of l.renumbered) ≡ renumbered_each l.numbers (of_list (take l.i (trees_of l.branches)))

@@ -1,9 +1,9 @@
 use Rattle.std.proofs.Common.{◌≡◌, [], length, sym}
 use Rattle.formula_tree.specs.Values.{value}
 use Rattle.formula_tree.specs.declared.value.Three.TheVariants.{No}
+use Rattle.policy_compile.specs.Queries.{asked_tree}
 use Rattle.cnf_clauses.specs.Following.{IsConflictAt}
 use Rattle.cnf_clauses.specs.Numbering.{clauses_of}
-use Rattle.tree_search.specs.Decisions.{asked_tree}
 use Rattle.tree_search.proofs.Starting.{whole-clauses, whole-value}
 use Rattle.tree_search.proofs.deciding.found_of.Goals as goal
 

@@ -15,7 +15,7 @@ returns-then-is_same-clause-settled t c =
     let nodes = c.args.graph.now.nodes.items in
     let marks = c.args.marks.now.items in
     let index = c.args.index in
-    let answers = answer_at c.args.table.now in
+    let answers = answer_at c.args.answers.now in
     let node = get_or nodes index Yes in
     let read = get_or_read nodes index c.index.result.now c.requires.within c.index.ensures Yes in
     let is = c.node_seen-seen.ensures ∙ ap (λ (ms : List Seen). node_seen answers ms c.index.result.now) c.as_slice.ensures.value ∙ ap (node_seen answers marks) read in
@@ -37,7 +37,7 @@ settle-requires t c =
 pub parents-preserved : goal.parents-preserved
 parents-preserved t c =
     let nodes = c.args.graph.now.nodes.items in
-    let answers = answer_at c.args.table.now in
+    let answers = answer_at c.args.answers.now in
     let items = c.list_at-parent-items.result.now in
     let k = c.parents.parent-index in (
       c.settle.ensures.long,
@@ -50,7 +50,7 @@ returns-clause-settled t c =
     let nodes = c.args.graph.now.nodes.items in
     let marks = c.args.marks.now.items in
     let index = c.args.index in
-    let answers = answer_at c.args.table.now in
+    let answers = answer_at c.args.answers.now in
     let node = get_or nodes index Yes in
     let items = c.list_at-parent-items.result.now in
     let k = c.parents.parent-index in

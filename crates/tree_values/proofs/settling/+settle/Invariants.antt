@@ -8,5 +8,5 @@ decreases-settle l = length l.graph.now.nodes.items - l.index
 
 abbrev pub invariant-parents : goal.invariant-parents
 invariant-parents l =
-    (length l.marks.items ≡ length l.graph.nodes.items) × ((pending : List ℕ) → AreSettledBut l.graph.nodes.items (answer_at l.table) l.initial.marks.items (l.parent-items ++ pending) →
-    AreSettledBut l.graph.nodes.items (answer_at l.table) l.marks.items (drop l.parent-index l.parent-items ++ pending))
+    (length l.marks.items ≡ length l.graph.nodes.items) × ((pending : List ℕ) → AreSettledBut l.graph.nodes.items (answer_at l.answers) l.initial.marks.items (l.parent-items ++ pending) →
+    AreSettledBut l.graph.nodes.items (answer_at l.answers) l.marks.items (drop l.parent-index l.parent-items ++ pending))

@@ -15,7 +15,7 @@ settle_all-requires-clause-within c =
 pub returns-clause-settled : goal.returns-clause-settled
 returns-clause-settled c =
     let nodes = c.args.graph.now.nodes.items in
-    let old = c.args.table.now.items in
+    let old = c.args.answers.now.items in
     let new = set old c.args.test c.args.answer in
     let leaves = c.list_at-leaves.result.now in
     let own = c.list_at-leaves.ensures ∙ ap (λ (ls : List (List ℕ)). list_at ls c.args.test) c.as_slice.ensures.value in

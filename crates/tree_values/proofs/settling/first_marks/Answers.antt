@@ -10,7 +10,7 @@ use Rattle.tree_values.proofs.settling.first_marks.Goals as goal
 pub nodes-preserved : goal.nodes-preserved
 nodes-preserved c =
     let nodes = c.args.nodes.now in
-    let answers = answer_at c.args.table.now in
+    let answers = answer_at c.args.answers.now in
     let marks = c.nodes.marks.items in
     let node = get_or nodes c.nodes.i Yes in
     let seen = c.node_seen-seen.result in (
@@ -21,4 +21,4 @@ nodes-preserved c =
     )
 
 pub returns-clause-settled : goal.returns-clause-settled
-returns-clause-settled c = before-all c.args.nodes.now (answer_at c.args.table.now) c.nodes.marks.items c.nodes.i (omega arith) c.nodes.invariant.1
+returns-clause-settled c = before-all c.args.nodes.now (answer_at c.args.answers.now) c.nodes.marks.items c.nodes.i (omega arith) c.nodes.invariant.1

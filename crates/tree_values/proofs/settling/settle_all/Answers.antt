@@ -8,7 +8,7 @@ use Rattle.tree_values.proofs.settling.settle_all.Goals as goal
 pub indices-preserved : goal.indices-preserved
 indices-preserved c =
     let nodes = c.args.graph.now.nodes.items in
-    let answers = answer_at c.args.table.now in
+    let answers = answer_at c.args.answers.now in
     let k = c.indices.index-index in
     let indices = c.args.indices.now in (
       c.settle.ensures.long,
@@ -18,7 +18,7 @@ indices-preserved c =
 pub returns-clause-settled : goal.returns-clause-settled
 returns-clause-settled c =
     let nodes = c.args.graph.now.nodes.items in
-    let answers = answer_at c.args.table.now in
+    let answers = answer_at c.args.answers.now in
     let k = c.indices.index-index in
     let indices = c.args.indices.now in
     λ start. settled-all nodes answers c.indices.marks.items (subst (λ (xs : List ℕ). AreSettledBut nodes answers c.indices.marks.items xs) (drop_all k indices (omega arith)) (c.indices.invariant.1 start))

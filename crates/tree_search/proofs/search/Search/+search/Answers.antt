@@ -4,6 +4,7 @@ use Rattle.formula_tree.specs.Answers.{Contained, answer_of}
 use Rattle.formula_tree.specs.Runs.{answered}
 use Rattle.formula_tree.specs.Values.{pick, value}
 use Rattle.formula_tree.specs.declared.value.Three.TheVariants.{No}
+use Rattle.policy_compile.specs.Queries.{asked_tree}
 use Rattle.cnf_clauses.specs.Following.{IsConflictAt}
 use Rattle.nogoods.specs.Hits.{NoHit, answers_at}
 use Rattle.wildcard_lang.specs.Places.{ShowWider}
@@ -16,7 +17,6 @@ use Rattle.slot_theory.proofs.Laws.{own-test, slot-in}
 use Rattle.search_parts.specs.Parts.{ClosesByStore}
 use Rattle.search_parts.specs.Making.{part_proof}
 use Rattle.tree_search.specs.Cores.{IsKeptPart}
-use Rattle.tree_search.specs.Decisions.{asked_tree}
 use Rattle.tree_search.specs.Search.{AreCarried, IsFoundFrom, IsLonger, IsRefutedPart, Stands, followed_at, spent}
 use Rattle.tree_search.specs.States.{IsDeeper}
 use Rattle.tree_search.specs.Values.{IsHeldAt}

@@ -1,6 +1,6 @@
 use Rattle.std.proofs.Common.{Result, Ok, Err, IfOk}
 use Rattle.policy_model.specs.declared.request.Request.{Request}
-use Rattle.tree_search.specs.Decisions.{asked_tree}
+use Rattle.policy_compile.specs.Queries.{asked_tree}
 use Rattle.refute_check.proofs.RunLaws.{makes-yes}
 use Rattle.tree_search.proofs.search.Search.met.Goals as goal
 

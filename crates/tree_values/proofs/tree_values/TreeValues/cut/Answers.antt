@@ -5,7 +5,7 @@ use Rattle.tree_values.proofs.Staying.{given-from}
 use Rattle.tree_values.proofs.tree_values.TreeValues.cut.Goals as goal
 
 pub leave_out-requires-clause-no : goal.leave_out-requires-clause-no
-leave_out-requires-clause-no c = given-from (answered_tree c.args.self.now) (answer_at c.args.self.now.table) c.args.path.now c.args.test c.args.sides c.requires.answered c.requires.test.0 c.requires.no
+leave_out-requires-clause-no c = given-from (answered_tree c.args.self.now) (answer_at c.args.self.now.answers) c.args.path.now c.args.test c.args.sides c.requires.answered c.requires.test.0 c.requires.no
 
 pub give_back-requires : goal.give_back-requires
 give_back-requires c =
@@ -13,7 +13,7 @@ give_back-requires c =
 
 pub returns-clause-cut : goal.returns-clause-cut
 returns-clause-cut c =
-    cut-ok c.answers_left-answers.result (answered_tree c.args.self.now) c.args.path.now c.args.needed.now c.args.test c.args.sides (still_answered c.leave_out.new.self.table c.args.path.now)
+    cut-ok c.answers_left-answers.result (answered_tree c.args.self.now) c.args.path.now c.args.needed.now c.args.test c.args.sides (still_answered c.leave_out.new.self.answers c.args.path.now)
     (is-cut c.args.self.now c.leave_out.new.self c.args.path.now c.args.needed.now c.args.test c.args.sides c.requires.answered c.requires.there c.requires.test.0 c.leave_out.ensures.out c.leave_out.ensures.tried) c.answers_left-answers.ensures
 
 pub returns-clause-restored : goal.returns-clause-restored

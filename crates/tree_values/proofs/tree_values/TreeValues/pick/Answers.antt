@@ -6,7 +6,7 @@ use Rattle.tree_values.proofs.tree_values.TreeValues.pick.Goals as goal
 
 pub returns : goal.returns
 returns c =
-    let answers = answer_at c.args.self.now.table in
+    let answers = answer_at c.args.self.now.answers in
     let tree = answered_tree c.args.self.now in
     let seen = tree_seen answers tree in
     record {

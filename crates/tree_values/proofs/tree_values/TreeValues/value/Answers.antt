@@ -5,4 +5,4 @@ use Rattle.tree_values.proofs.Seeing.{value-is}
 use Rattle.tree_values.proofs.tree_values.TreeValues.value.Goals as goal
 
 pub returns : goal.returns
-returns c = λ path same. c.value_seen.ensures ∙ ap value_seen c.seen.ensures ∙ value-is path (answer_at c.args.self.now.table) same (answered_tree c.args.self.now)
+returns c = λ path same. c.value_seen.ensures ∙ ap value_seen c.seen.ensures ∙ value-is path (answer_at c.args.self.now.answers) same (answered_tree c.args.self.now)
