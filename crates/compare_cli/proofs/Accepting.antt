@@ -11,7 +11,7 @@ use Rattle.policy_compile.specs.Numbering.{AreNumbered, Collects, HasTooMany, Is
 use Rattle.policy_compile.specs.Numbering.{numbered_all, numbered_ask, numbered_more, numbered_none, numbered_not, numbered_one_of, numbered_yes}
 use Rattle.policy_compile.specs.Plans.{Plan, Plans, tests_in}
 use Rattle.policy_compile.specs.Plans as plan
-use Rattle.policy_compile.specs.Queries.{IsQuery, test_pieces}
+use Rattle.policy_compile.specs.Queries.{IsQuery, asked_tree, test_pieces}
 use Rattle.formula_tree.specs.Answers.{Answers}
 use Rattle.policy_model.specs.declared.schema.Schema.{Schema}
 use Rattle.refute_check.specs.Closing.{Before, FailsAt, at_first, here, in_label, in_no, in_yes}
@@ -25,7 +25,6 @@ use Rattle.proof_text.specs.Lines.{verdict_line}
 use Rattle.proof_text.specs.Spelling.{starts}
 use Rattle.proof_text.specs.declared.fault.ProofFault.{ProofFault}
 use Rattle.proof_text.specs.declared.limits.TheConstants.{MOST_PROOF_BYTES}
-use Rattle.tree_search.specs.Decisions.{asked_tree}
 use Rattle.compare_cli.specs.declared.answer.Answer.{Answer}
 use Rattle.compare_cli.specs.declared.answer.Answer.TheVariants as answer
 use Rattle.compare_cli.specs.declared.answer.Refusal.{Refusal}

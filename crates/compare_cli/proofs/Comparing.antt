@@ -18,7 +18,7 @@ use Rattle.policy_compile.specs.Laws.{AsksPair}
 use Rattle.policy_compile.specs.Meaning.{AnswersAs}
 use Rattle.policy_compile.specs.Numbering.{Collects, again, anew, nothing}
 use Rattle.policy_compile.specs.Plans.{tests_in}
-use Rattle.policy_compile.specs.Queries.{IsQuery}
+use Rattle.policy_compile.specs.Queries.{IsQuery, asked_tree}
 use Rattle.policy_compile.proofs.Laws.{All-collects, below-numbered, holds-numbered, query-covers, query-holds, suit-query}
 use Rattle.slot_theory.specs.Possible.{IsPossible}
 use Rattle.refute_check.specs.Laws.{ClosedQueriesAreNo, MakesYes}
@@ -36,7 +36,7 @@ use Rattle.proof_text.specs.declared.read.ReadProof.{ReadProof}
 use Rattle.tree_search.specs.declared.outcome.Budgets.{Budgets}
 use Rattle.tree_search.specs.declared.outcome.Decided.{Decided}
 use Rattle.tree_search.specs.declared.outcome.Decided.TheVariants as decided
-use Rattle.tree_search.specs.Decisions.{IsDecision, IsRefutation, asked_tree}
+use Rattle.tree_search.specs.Decisions.{IsDecision, IsRefutation}
 use Rattle.tree_search.proofs.Laws.{makes-yes}
 use Rattle.formula_tree.specs.Trees as tree
 use Rattle.command_words.specs.declared.limits.TheConstants.{MOST_SPLITS}

@@ -245,31 +245,31 @@ first_in x xs = (0, omega arith, refl)
 all_at : {X : Type 0} (P : X → Type 0) (xs : List X) (i : ℕ) (v : X) → All P xs → slice_get xs i ≡ Some v → P v
 all_at P xs i v all e = let at = slice_get-at xs i v v e in subst P at.1 (all i v at.0)
 
--- a word that names no dimension isn't among words that do
-unknown_fails : (schema : Schema) (words : List (List ℕ)) (element : List ℕ) → NameSlots schema words → IsFirstUnknown schema words element → ⊥
-unknown_fails schema words element known first =
-    let all : All (NamesSlot schema) (first.before ++ first.word ∷ first.behind) = subst (λ (ws : List (List ℕ)). All (NamesSlot schema) ws) first.is known in
-    first.unknown (All-contains (NamesSlot schema) (first.before ++ first.word ∷ first.behind) first.word all (Contains-append_right first.before (first.word ∷ first.behind) first.word (first_in first.word first.behind)))
+-- a name that names no dimension isn't among names that do
+unknown_fails : (schema : Schema) (names : List (List ℕ)) (element : List ℕ) → NameSlots schema names → IsFirstUnknown schema names element → ⊥
+unknown_fails schema names element known first =
+    let all : All (NamesSlot schema) (first.before ++ first.name ∷ first.behind) = subst (λ (ws : List (List ℕ)). All (NamesSlot schema) ws) first.is known in
+    first.unknown (All-contains (NamesSlot schema) (first.before ++ first.name ∷ first.behind) first.name all (Contains-append_right first.before (first.name ∷ first.behind) first.name (first_in first.name first.behind)))
 
 -- no dimension of which too many predicates are named is among those of which few are
-many_fails : (words : List (List ℕ)) (q : Query) (element : List ℕ) → AreFew q.tests (dimension_slots words) → NamesTooManyOf words q element → ⊥
-many_fails words q element few many =
+many_fails : (names : List (List ℕ)) (q : Query) (element : List ℕ) → AreFew q.tests (dimension_slots names) → NamesTooManyOf names q element → ⊥
+many_fails names q element few many =
     let first = many.first in
-    all_at (λ (s : Slot). ¬ NamesTooMany q.tests s) (dimension_slots words) many.dimension first.slot few first.at first.many
+    all_at (λ (s : Slot). ¬ NamesTooMany q.tests s) (dimension_slots names) many.dimension first.slot few first.at first.many
 
 -- a shortage is of none of the limits that fit
-short_fails : (words : List (List ℕ)) (limits : Limits) (schema : Schema) (set : PolicySet) (q : Query) → FitsLimits words limits schema set q → (s : Shortage) → IsShortOf words limits schema set q s → ⊥
-short_fails words limits schema set q fits (shortage.Splits n) v = v
-short_fails words limits schema set q fits (shortage.States n s) v =
+short_fails : (names : List (List ℕ)) (limits : Limits) (schema : Schema) (set : PolicySet) (q : Query) → FitsLimits names limits schema set q → (s : Shortage) → IsShortOf names limits schema set q s → ⊥
+short_fails names limits schema set q fits (shortage.Splits n) v = v
+short_fails names limits schema set q fits (shortage.States n s) v =
     fits.narrow s v.1 (subst (λ (k : ℕ). WidePredicates schema q k s) v.0 v.3)
-short_fails words limits schema set q fits (shortage.Findings n) v =
+short_fails names limits schema set q fits (shortage.Findings n) v =
     let made = v.1 in
     (fits.strata made.strata made.are).findings (subst (λ (k : ℕ). VisitsAtLeast schema set made.strata.dimensions (k + 1)) v.0 made.holds)
-short_fails words limits schema set q fits (shortage.SplitsIn n text) v =
+short_fails names limits schema set q fits (shortage.SplitsIn n text) v =
     let made = v.1 in
     let failing = made.holds in
     (fits.strata made.strata made.are).splits failing.finding (subst (λ (k : ℕ). FailsAtFinding schema set made.strata.dimensions failing.finding (λ f. SplitsFail schema f k)) v.0 failing.fails)
-short_fails words limits schema set q fits (shortage.StatesIn n s text) v =
+short_fails names limits schema set q fits (shortage.StatesIn n s text) v =
     let made = v.1 in
     let failing = made.holds in
     (fits.strata made.strata made.are).states failing.finding s (subst (λ (k : ℕ). FailsAtFinding schema set made.strata.dimensions failing.finding (StatesFailAt schema k s)) v.0 failing.fails)

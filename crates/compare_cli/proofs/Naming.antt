@@ -1,4 +1,4 @@
--- The slots that words name: which are known, and that words that differ in more than the case of letters name different slots.
+-- The slots of names: which are known, and that names that differ in more than the case of letters have different ones.
 use Rattle.std.proofs.Common.{◌≡◌, ◌≢◌, ◌∙◌, ◌⊎◌, ◌<◌, ◌≤◌, ◌+◌, ◌&&◌, ◌||◌, ℕ, zero, suc, List, [], ◌∷◌, ◌++◌, map, length, get_or, take, drop, Bool, true, false, not, All, AllPairs, codes, drop-cons, arith, refl, sym, ap, subst, inl, inr}
 use Rattle.std.specs.Prelude.{if◌then◌else◌, nat_lt, String, string_bytes}
 use Rattle.std.specs.Char.{to_ascii_lowercase}
@@ -20,44 +20,44 @@ use Rattle.request_schema.specs.BuiltIn.{folded_name}
 use Rattle.slot_theory.specs.Slots.{SlotIsIn}
 use Rattle.compare_cli.specs.Dimensions.{NameSlots, IsFirstUnknown, NamesSlot, dimension_slot, dimension_slots}
 
--- ---- one word more
+-- ---- one name more
 
 -- the text of an item that was read
-pub word-at : {Z : Type 0} (words : List (String Z)) (i : ℕ) (item : String Z) → i < length words → item ≡ get_or words i item → string_bytes item ≡ get_or (texts_in words) i (string_bytes item)
-word-at {Z} words i item within is = ap (λ (s : String Z). string_bytes s) is ∙ sym (get_or-map (λ (s : String Z). string_bytes s) words i item (string_bytes item) within)
+pub name-at : {Z : Type 0} (names : List (String Z)) (i : ℕ) (item : String Z) → i < length names → item ≡ get_or names i item → string_bytes item ≡ get_or (texts_in names) i (string_bytes item)
+name-at {Z} names i item within is = ap (λ (s : String Z). string_bytes s) is ∙ sym (get_or-map (λ (s : String Z). string_bytes s) names i item (string_bytes item) within)
 
-pub within-texts : {Z : Type 0} (words : List (String Z)) (i : ℕ) → i < length words → i < length (texts_in words)
-within-texts {Z} words i within = subst (λ (n : ℕ). i < n) (sym (length-map words (λ (s : String Z). string_bytes s))) within
+pub within-texts : {Z : Type 0} (names : List (String Z)) (i : ℕ) → i < length names → i < length (texts_in names)
+within-texts {Z} names i within = subst (λ (n : ℕ). i < n) (sym (length-map names (λ (s : String Z). string_bytes s))) within
 
-pub past-texts : {Z : Type 0} (words : List (String Z)) (i : ℕ) → length words ≤ i → length (texts_in words) ≤ i
-past-texts {Z} words i past = subst (λ (n : ℕ). n ≤ i) (sym (length-map words (λ (s : String Z). string_bytes s))) past
+pub past-texts : {Z : Type 0} (names : List (String Z)) (i : ℕ) → length names ≤ i → length (texts_in names) ≤ i
+past-texts {Z} names i past = subst (λ (n : ℕ). n ≤ i) (sym (length-map names (λ (s : String Z). string_bytes s))) past
 
--- the slots of known words are known
-pub known-slots : (schema : Schema) (words : List (List ℕ)) → NameSlots schema words → All (SlotIsIn schema) (dimension_slots words)
-known-slots schema words known = All-map (SlotIsIn schema) dimension_slot words known
+-- the slots of known names are known
+pub known-slots : (schema : Schema) (names : List (List ℕ)) → NameSlots schema names → All (SlotIsIn schema) (dimension_slots names)
+known-slots schema names known = All-map (SlotIsIn schema) dimension_slot names known
 
-pub slots-more : (words : List (List ℕ)) (i : ℕ) (w : List ℕ) (slots : List Slot) (slot : Slot) → i < length words → w ≡ get_or words i w → slots ≡ dimension_slots (take i words) → slot ≡ dimension_slot w → slots ++ slot ∷ [] ≡ dimension_slots (take (i + 1) words)
-slots-more words i w slots slot within at before is =
+pub slots-more : (names : List (List ℕ)) (i : ℕ) (w : List ℕ) (slots : List Slot) (slot : Slot) → i < length names → w ≡ get_or names i w → slots ≡ dimension_slots (take i names) → slot ≡ dimension_slot w → slots ++ slot ∷ [] ≡ dimension_slots (take (i + 1) names)
+slots-more names i w slots slot within at before is =
     ap (λ (x : List Slot). x ++ slot ∷ []) before
-    ∙ ap (λ (x : Slot). dimension_slots (take i words) ++ x ∷ []) (is ∙ ap dimension_slot at)
-    ∙ sym (map_more dimension_slot words i w within)
+    ∙ ap (λ (x : Slot). dimension_slots (take i names) ++ x ∷ []) (is ∙ ap dimension_slot at)
+    ∙ sym (map_more dimension_slot names i w within)
 
-pub known-more : (schema : Schema) (words : List (List ℕ)) (i : ℕ) (w : List ℕ) → i < length words → w ≡ get_or words i w → NameSlots schema (take i words) → NamesSlot schema w → NameSlots schema (take (i + 1) words)
-known-more schema words i w within at before is = All-more (NamesSlot schema) words i w within before (subst (NamesSlot schema) at is)
+pub known-more : (schema : Schema) (names : List (List ℕ)) (i : ℕ) (w : List ℕ) → i < length names → w ≡ get_or names i w → NameSlots schema (take i names) → NamesSlot schema w → NameSlots schema (take (i + 1) names)
+known-more schema names i w within at before is = All-more (NamesSlot schema) names i w within before (subst (NamesSlot schema) at is)
 
-pub utf8-more : (words : List (List ℕ)) (i : ℕ) (w : List ℕ) → i < length words → w ≡ get_or words i w → All IsUtf8 (take i words) → IsUtf8 w → All IsUtf8 (take (i + 1) words)
-utf8-more words i w within at before is = All-more IsUtf8 words i w within before (subst IsUtf8 at is)
+pub utf8-more : (names : List (List ℕ)) (i : ℕ) (w : List ℕ) → i < length names → w ≡ get_or names i w → All IsUtf8 (take i names) → IsUtf8 w → All IsUtf8 (take (i + 1) names)
+utf8-more names i w within at before is = All-more IsUtf8 names i w within before (subst IsUtf8 at is)
 
--- the first word that isn't known
-pub unknown-at : (schema : Schema) (words : List (List ℕ)) (i : ℕ) (w : List ℕ) → i < length words → w ≡ get_or words i w → NameSlots schema (take i words) → ¬ NamesSlot schema w → IsFirstUnknown schema words (chars w)
-unknown-at schema words i w within at before unknown = record {
-  before = take i words;
-  word = w;
-  behind = drop (suc i) words;
+-- the first name that isn't known
+pub unknown-at : (schema : Schema) (names : List (List ℕ)) (i : ℕ) (w : List ℕ) → i < length names → w ≡ get_or names i w → NameSlots schema (take i names) → ¬ NamesSlot schema w → IsFirstUnknown schema names (chars w)
+unknown-at schema names i w within at before unknown = record {
+  before = take i names;
+  name = w;
+  behind = drop (suc i) names;
   is =
-      sym (take-append-drop i words)
-      ∙ ap (λ (x : List (List ℕ)). take i words ++ x) (drop-cons words i w within)
-      ∙ ap (λ (x : List ℕ). take i words ++ x ∷ drop (suc i) words) (sym at);
+      sym (take-append-drop i names)
+      ∙ ap (λ (x : List (List ℕ)). take i names ++ x) (drop-cons names i w within)
+      ∙ ap (λ (x : List ℕ). take i names ++ x ∷ drop (suc i) names) (sym at);
   known = before;
   unknown = unknown;
   written = refl;
@@ -127,12 +127,12 @@ same-letters a b first second same =
     let other : lowered b ≡ encode_utf8_all (folded_name b) = ap lowered (sym (encodes-chars b second)) ∙ lower-all (chars b) in
     one ∙ ap encode_utf8_all same ∙ sym other
 
--- ---- words and slots
+-- ---- names and slots
 
 abbrev picked : Bool → Bool → Bool → Slot → Slot
 picked p a r key = if p then Principal else if a then Action else if r then Resource else key
 
--- the slot of a word is one of the three by its own word, and otherwise the key
+-- the slot of a name is one of the three by its own name, and otherwise the key
 abbrev IsNamed : List ℕ → Slot → Slot → Type 0
 IsNamed w key s =
     ((w ≡ codes "principal") × (s ≡ Principal)) ⊎ (((w ≡ codes "action") × (s ≡ Action)) ⊎
@@ -147,7 +147,7 @@ named-by w key false false false e f g = inr (inr (inr refl))
 named : (w : List ℕ) → IsNamed w (Key (folded_name w)) (dimension_slot w)
 named w = named-by w (Key (folded_name w)) (bytes_eq w (codes "principal")) (bytes_eq w (codes "action")) (bytes_eq w (codes "resource")) refl refl refl
 
--- words of one slot are the same but for the case of letters
+-- names of one slot are the same but for the case of letters
 same-slot : (a b : List ℕ) → IsUtf8 a → IsUtf8 b → (s t : Slot) → s ≡ t → IsNamed a (Key (folded_name a)) s → IsNamed b (Key (folded_name b)) t → lowered a ≡ lowered b
 same-slot a b u v s t e (inl x) (inl y) = ap lowered (x.0 ∙ sym y.0)
 same-slot a b u v s t e (inr (inl x)) (inr (inl y)) = ap lowered (x.0 ∙ sym y.0)
@@ -169,7 +169,7 @@ same-slot a b u v s t e (inr (inr (inr x))) (inl y) = let q = y.1 in absurd (cc)
 same-slot a b u v s t e (inr (inr (inr x))) (inr (inl y)) = let q = y.1 in absurd (cc)
 same-slot a b u v s t e (inr (inr (inr x))) (inr (inr (inl y))) = let q = y.1 in absurd (cc)
 
--- ---- words that differ
+-- ---- names that differ
 
 and-left : (a b : Bool) → a && b ≡ true → a ≡ true
 and-left true b e = refl
@@ -197,23 +197,23 @@ distinct-at (t ∷ ts) e (suc i) (suc j) low within same = distinct-at ts (and-r
 at-most : (n : ℕ) → not (nat_lt 4 n) ≡ true → n ≤ 4
 at-most n e = grind (arith, nat_tests)
 
-module _ (words : List (List ℕ)) (dimensions : are_dimensions words ≡ true) where
+module _ (names : List (List ℕ)) (dimensions : are_dimensions names ≡ true) where
   -- the slots of dimensions are at most four
-  pub few-slots : length (dimension_slots words) ≤ 4
+  pub few-slots : length (dimension_slots names) ≤ 4
   few-slots =
-      let few : length words ≤ 4 = at-most (length words) (and-left (not (nat_lt MOST_DIMENSIONS (length words))) (are_distinct (map lowered words)) dimensions) in
-      subst (λ (n : ℕ). n ≤ 4) (sym (length-map words dimension_slot)) few
+      let few : length names ≤ 4 = at-most (length names) (and-left (not (nat_lt MOST_DIMENSIONS (length names))) (are_distinct (map lowered names)) dimensions) in
+      subst (λ (n : ℕ). n ≤ 4) (sym (length-map names dimension_slot)) few
 
   -- and they differ
-  pub slots-differ : All IsUtf8 words → AllPairs (λ (s t : Slot). s ≢ t) (dimension_slots words)
+  pub slots-differ : All IsUtf8 names → AllPairs (λ (s t : Slot). s ≢ t) (dimension_slots names)
   slots-differ texts i j d low within = λ same.
-      let inside : j < length words = subst (λ (n : ℕ). j < n) (length-map words dimension_slot) within in
-      let before : i < length words = omega arith in
-      let a : List ℕ = get_or words i [] in
-      let b : List ℕ = get_or words j [] in
-      let one : get_or (dimension_slots words) i d ≡ dimension_slot a = get_or-map dimension_slot words i [] d before in
-      let other : get_or (dimension_slots words) j d ≡ dimension_slot b = get_or-map dimension_slot words j [] d inside in
+      let inside : j < length names = subst (λ (n : ℕ). j < n) (length-map names dimension_slot) within in
+      let before : i < length names = omega arith in
+      let a : List ℕ = get_or names i [] in
+      let b : List ℕ = get_or names j [] in
+      let one : get_or (dimension_slots names) i d ≡ dimension_slot a = get_or-map dimension_slot names i [] d before in
+      let other : get_or (dimension_slots names) j d ≡ dimension_slot b = get_or-map dimension_slot names j [] d inside in
       let equal : lowered a ≡ lowered b = same-slot a b (texts i [] before) (texts j [] inside) (dimension_slot a) (dimension_slot b) (sym one ∙ same ∙ other) (named a) (named b) in
-      let low_one : get_or (map lowered words) i [] ≡ lowered a = get_or-map lowered words i [] [] before in
-      let low_other : get_or (map lowered words) j [] ≡ lowered b = get_or-map lowered words j [] [] inside in
-      distinct-at (map lowered words) (and-right (not (nat_lt MOST_DIMENSIONS (length words))) (are_distinct (map lowered words)) dimensions) i j low (subst (λ (n : ℕ). j < n) (sym (length-map words lowered)) inside) (low_one ∙ equal ∙ sym low_other)
+      let low_one : get_or (map lowered names) i [] ≡ lowered a = get_or-map lowered names i [] [] before in
+      let low_other : get_or (map lowered names) j [] ≡ lowered b = get_or-map lowered names j [] [] inside in
+      distinct-at (map lowered names) (and-right (not (nat_lt MOST_DIMENSIONS (length names))) (are_distinct (map lowered names)) dimensions) i j low (subst (λ (n : ℕ). j < n) (sym (length-map names lowered)) inside) (low_one ∙ equal ∙ sym low_other)

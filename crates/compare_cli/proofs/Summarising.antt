@@ -34,17 +34,17 @@ all-of-map : {X Y : Type 0} (P : Y → Type 0) (f : X → Y) (xs : List X) → A
 all-of-map P f xs all k d l = subst P (get_or-map f xs k d (f d) l) (all k (f d) (subst (λ (n : ℕ). k < n) (sym (length-map xs f)) l))
 
 -- what a summary came to has texts
-pub texts-of : (words : List (List ℕ)) (limits : Limits) (schema : Schema) (set : PolicySet) (q : Query) (o : Outcome) → IsSummaryOutcome schema set q (dimension_slots words) limits o → HasTexts words o
-texts-of words limits schema set q (outcome.Found strata summary) is =
+pub texts-of : (names : List (List ℕ)) (limits : Limits) (schema : Schema) (set : PolicySet) (q : Query) (o : Outcome) → IsSummaryOutcome schema set q (dimension_slots names) limits o → HasTexts names o
+texts-of names limits schema set q (outcome.Found strata summary) is =
     let finding : All (IsFinding strata.dimensions) (findings_of summary) = λ k d l. (is.1.maximal k d l).finding in
     all-of-map (IsFinding strata.dimensions) (λ (p : List ℕ × Request). p.0) summary finding
-texts-of words limits schema set q (outcome.TooManyPredicates d) is =
-    let within : d < length (dimension_slots words) = slice_get_within (dimension_slots words) d is.slot is.at in
-    subst (λ (n : ℕ). d < n) (length-map words dimension_slot) within
-texts-of words limits schema set q (outcome.Wide s texts) is = tt
-texts-of words limits schema set q outcome.OutOfFindings is = tt
-texts-of words limits schema set q (outcome.OutOfSplits strata f) is = is.1.visited.finding
-texts-of words limits schema set q (outcome.OutOfStates strata f w) is = is.1.visited.finding
+texts-of names limits schema set q (outcome.TooManyPredicates d) is =
+    let within : d < length (dimension_slots names) = slice_get_within (dimension_slots names) d is.slot is.at in
+    subst (λ (n : ℕ). d < n) (length-map names dimension_slot) within
+texts-of names limits schema set q (outcome.Wide s texts) is = tt
+texts-of names limits schema set q outcome.OutOfFindings is = tt
+texts-of names limits schema set q (outcome.OutOfSplits strata f) is = is.1.visited.finding
+texts-of names limits schema set q (outcome.OutOfStates strata f w) is = is.1.visited.finding
 
 -- ---- answers
 
@@ -58,38 +58,38 @@ wide-at schema set ds f states w fails = record {
 }
 
 -- the answer to what a summary came to is what may be said of the query
-pub said-of-outcome : (words : List (List ℕ)) (limits : Limits) (schema : Schema) (set : PolicySet) (q : Query) (o : Outcome) → IsSummaryOutcome schema set q (dimension_slots words) limits o → (a : Answer) → IsOutcomeAnswer words limits o a → IsSummaryAnswer words limits schema set q a
-said-of-outcome words limits schema set q (outcome.Found strata summary) is a v =
-    subst (λ (x : Answer). IsSummaryAnswer words limits schema set q x) (sym v.is)
+pub said-of-outcome : (names : List (List ℕ)) (limits : Limits) (schema : Schema) (set : PolicySet) (q : Query) (o : Outcome) → IsSummaryOutcome schema set q (dimension_slots names) limits o → (a : Answer) → IsOutcomeAnswer names limits o a → IsSummaryAnswer names limits schema set q a
+said-of-outcome names limits schema set q (outcome.Found strata summary) is a v =
+    subst (λ (x : Answer). IsSummaryAnswer names limits schema set q x) (sym v.is)
     (record { strata = strata; are = is.0; holds = record { summary = summary; is = is.1; lines = v.lines } })
-said-of-outcome words limits schema set q (outcome.TooManyPredicates d) is a v =
-    subst (λ (x : Answer). IsSummaryAnswer words limits schema set q x) (sym v.is) (record { dimension = d; first = is; word = v.word; at = v.at; written = refl })
-said-of-outcome words limits schema set q (outcome.Wide s texts) is a v =
-    subst (λ (x : Answer). IsSummaryAnswer words limits schema set q x) (sym v) (refl, is.0, is.1, record { texts = texts; wide = is.2 })
-said-of-outcome words limits schema set q outcome.OutOfFindings is a v =
-    subst (λ (x : Answer). IsSummaryAnswer words limits schema set q x) (sym v) (refl, is)
-said-of-outcome words limits schema set q (outcome.OutOfSplits strata f) is a v =
-    subst (λ (x : Answer). IsSummaryAnswer words limits schema set q x) (sym v.is)
+said-of-outcome names limits schema set q (outcome.TooManyPredicates d) is a v =
+    subst (λ (x : Answer). IsSummaryAnswer names limits schema set q x) (sym v.is) (record { dimension = d; first = is; name = v.name; at = v.at; written = refl })
+said-of-outcome names limits schema set q (outcome.Wide s texts) is a v =
+    subst (λ (x : Answer). IsSummaryAnswer names limits schema set q x) (sym v) (refl, is.0, is.1, record { texts = texts; wide = is.2 })
+said-of-outcome names limits schema set q outcome.OutOfFindings is a v =
+    subst (λ (x : Answer). IsSummaryAnswer names limits schema set q x) (sym v) (refl, is)
+said-of-outcome names limits schema set q (outcome.OutOfSplits strata f) is a v =
+    subst (λ (x : Answer). IsSummaryAnswer names limits schema set q x) (sym v.is)
     (refl, record { strata = strata; are = is.0; holds = record { finding = f; written = v.written; fails = is.1 } })
-said-of-outcome words limits schema set q (outcome.OutOfStates strata f w) is a v =
-    subst (λ (x : Answer). IsSummaryAnswer words limits schema set q x) (sym v.is)
+said-of-outcome names limits schema set q (outcome.OutOfStates strata f w) is a v =
+    subst (λ (x : Answer). IsSummaryAnswer names limits schema set q x) (sym v.is)
     (refl, record { strata = strata; are = is.0; holds = record { finding = f; written = v.written; fails = wide-at schema set strata.dimensions f limits.states w is.1 } })
 
 -- what is said of the query of a set is said of the set
-pub known-of-query : (words : List (List ℕ)) (limits : Limits) (schema : Schema) (set : PolicySet) (q : Query) → IsQuery (set_plan schema set) q → (a : Answer) → IsSummaryAnswer words limits schema set q a → SummarisesKnown words limits schema set a
-known-of-query words limits schema set q is (answer.Refused refusal.TooManyTests) v = absurd v
-known-of-query words limits schema set q is (answer.Refused refusal.TooManyPieces) v = absurd v
-known-of-query words limits schema set q is a v = record { query = q; is = is; holds = v }
+pub known-of-query : (names : List (List ℕ)) (limits : Limits) (schema : Schema) (set : PolicySet) (q : Query) → IsQuery (set_plan schema set) q → (a : Answer) → IsSummaryAnswer names limits schema set q a → SummarisesKnown names limits schema set a
+known-of-query names limits schema set q is (answer.Refused refusal.TooManyTests) v = absurd v
+known-of-query names limits schema set q is (answer.Refused refusal.TooManyPieces) v = absurd v
+known-of-query names limits schema set q is a v = record { query = q; is = is; holds = v }
 
 -- of which each dimension is known
-pub under-known : (words : List (List ℕ)) (limits : Limits) (schema : Schema) (set : PolicySet) → NameSlots schema words → (a : Answer) → SummarisesKnown words limits schema set a → SummarisesUnder words limits set a schema
-under-known words limits schema set known (answer.Refused (refusal.NoDimension element)) v = absurd v.holds
-under-known words limits schema set known a v = (known, v)
+pub under-known : (names : List (List ℕ)) (limits : Limits) (schema : Schema) (set : PolicySet) → NameSlots schema names → (a : Answer) → SummarisesKnown names limits schema set a → SummarisesUnder names limits set a schema
+under-known names limits schema set known (answer.Refused (refusal.NoDimension element)) v = absurd v.holds
+under-known names limits schema set known a v = (known, v)
 
 -- no condition of which is refused
-pub set-under : (words : List (List ℕ)) (limits : Limits) (named : Schema) (set : PolicySet) (schema : Schema) → infer_fault named set None ≡ None → schema ≡ one_schema named set → (a : Answer) → SummarisesUnder words limits set a schema → SummarisesSet words limits a named set
-set-under words limits named set schema answered run (answer.Refused (refusal.NoRun role fault)) v = absurd v.1.holds
-set-under words limits named set schema answered run a v = record { answered = answered; holds = subst (SummarisesUnder words limits set a) run v }
+pub set-under : (names : List (List ℕ)) (limits : Limits) (named : Schema) (set : PolicySet) (schema : Schema) → infer_fault named set None ≡ None → schema ≡ one_schema named set → (a : Answer) → SummarisesUnder names limits set a schema → SummarisesSet names limits a named set
+set-under names limits named set schema answered run (answer.Refused (refusal.NoRun role fault)) v = absurd v.1.holds
+set-under names limits named set schema answered run a v = record { answered = answered; holds = subst (SummarisesUnder names limits set a) run v }
 
 files-same : (s : Summarising) (c : SummaryContents) (named : Schema) (set : PolicySet) → NamesSchema c.schema named → StandsFor c.set set → (a : Answer) → SummarisesSet s.dimensions (limits_in s) a named set → AnswersSummary s c a
 files-same s c named set schema_stands set_stands (answer.Refused (refusal.NoSchema fault)) v = absurd v.holds.1.holds
@@ -97,6 +97,6 @@ files-same s c named set schema_stands set_stands (answer.Refused (refusal.NoSet
 files-same s c named set schema_stands set_stands a v = record { named = named; set = set; schema_stands = schema_stands; set_stands = set_stands; holds = v }
 
 -- which files stand for
-pub files-set : (s : Summarising) (c : SummaryContents) (named : Schema) (set : PolicySet) (words : List (List ℕ)) (limits : Limits) → words ≡ s.dimensions → limits ≡ limits_in s → NamesSchema c.schema named → StandsFor c.set set → (a : Answer) → SummarisesSet words limits a named set → AnswersSummary s c a
-files-set s c named set words limits same range schema_stands set_stands a v =
-    files-same s c named set schema_stands set_stands a (subst (λ (ws : List (List ℕ)). SummarisesSet ws (limits_in s) a named set) same (subst (λ (l : Limits). SummarisesSet words l a named set) range v))
+pub files-set : (s : Summarising) (c : SummaryContents) (named : Schema) (set : PolicySet) (names : List (List ℕ)) (limits : Limits) → names ≡ s.dimensions → limits ≡ limits_in s → NamesSchema c.schema named → StandsFor c.set set → (a : Answer) → SummarisesSet names limits a named set → AnswersSummary s c a
+files-set s c named set names limits same range schema_stands set_stands a v =
+    files-same s c named set schema_stands set_stands a (subst (λ (ws : List (List ℕ)). SummarisesSet ws (limits_in s) a named set) same (subst (λ (l : Limits). SummarisesSet names l a named set) range v))

@@ -37,6 +37,11 @@ pub record Reading : Type 0 where
   pub last_before : Option (List ℕ)
   pub last : Option (List ℕ)
 
+-- what a folder's members tell of it before a run and now
+abbrev pub reading_of : {X : Type 0} → (X → Option Files) → (X → ℕ) → (X → Option (List ℕ)) → X → X → Reading
+reading_of held faults last before now =
+    record { held = held before; faults_before = faults before; faults = faults now; last_before = last before; last = last now }
+
 -- the name of a role's file, where the command has that role and one is named
 abbrev pub file_of : Asked → Role → Option (List ℕ)
 file_of (a_comparison c) First = Some c.names.first

@@ -1,6 +1,7 @@
--- What a comparison of two sets says: the question whether a first set of policies allows a request that a second doesn't.
+-- What a comparison of two sets says: whether a first set of policies allows a request that a second doesn't.
 use Rattle.std.specs.Prelude.{◌≡◌, ◌≢◌, ◌≤◌, ℕ, [], length}
 use Rattle.formula_tree.specs.Answers.{Answers}
+use Rattle.formula_tree.specs.Nodes.{IsNode}
 use Rattle.formula_tree.specs.Runs.{NeedsMore}
 use Rattle.formula_tree.specs.Values.{value}
 use Rattle.formula_tree.specs.declared.value.Three.TheVariants.{No}
@@ -15,14 +16,12 @@ use Rattle.policy_model.specs.Soundness.{SchemaFits, SchemaIsSound}
 use Rattle.policy_compile.specs.declared.outcome.Query.{Query}
 use Rattle.policy_compile.specs.Numbering.{HasTooMany}
 use Rattle.policy_compile.specs.Plans.{Plan, tests_in}
-use Rattle.policy_compile.specs.Queries.{HasTooManyPieces, IsQuery}
+use Rattle.policy_compile.specs.Queries.{HasTooManyPieces, IsQuery, asked_tree}
 use Rattle.policy_compile.specs.Sets.{query_plan}
 use Rattle.slot_theory.specs.Possible.{IsPossible}
 use Rattle.refute_check.specs.Propagated.{PropagatedNeedsMore}
 use Rattle.slot_theory.specs.Cores.{HasTest}
 use Rattle.slot_theory.specs.Slots.{patterns_at}
-use Rattle.tree_search.specs.Decisions.{asked_tree}
-use Rattle.tree_search.specs.Nodes.{IsNode}
 use Rattle.command_words.specs.declared.limits.TheConstants.{MOST_SPLITS}
 use Rattle.compare_cli.specs.declared.pair.Pair.{Pair}
 

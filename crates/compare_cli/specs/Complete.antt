@@ -29,7 +29,7 @@ use Rattle.compare_cli.specs.Dimensions.{NameSlots, dimension_slots}
 use Rattle.compare_cli.specs.SetRun.{OfSet, OfSetRun}
 use Rattle.compare_cli.specs.Summarised.{StatesFailAt, SummaryContents, WidePredicates, limits_in}
 
--- the query of the pair is within its limits, and no budget is below the need of the plain run
+-- the query of the pair is within its limits, and no budget is below the plain need
 pub record IsDecidable (budgets : Budgets) (pair : Pair) : Type 0 where
   pub tests : ¬ TooManyTests pair
   pub pieces : ¬ TooManyPieces pair
@@ -57,18 +57,18 @@ pub record FitsFindings (limits : Limits) (schema : Schema) (set : PolicySet) (d
 
 -- by no dimension too many predicates are named, no two of one have patterns with more product states, and the findings of the
 -- strata need no more than the limits
-pub record FitsLimits (words : List (List ℕ)) (limits : Limits) (schema : Schema) (set : PolicySet) (q : Query) : Type 0 where
-  pub few : AreFew q.tests (dimension_slots words)
-  pub narrow : (s : Slot) → Contains (dimension_slots words) s → ¬ WidePredicates schema q limits.states s
-  pub strata : (made : Strata) → AreStrataWithin schema q (dimension_slots words) made →
+pub record FitsLimits (names : List (List ℕ)) (limits : Limits) (schema : Schema) (set : PolicySet) (q : Query) : Type 0 where
+  pub few : AreFew q.tests (dimension_slots names)
+  pub narrow : (s : Slot) → Contains (dimension_slots names) s → ¬ WidePredicates schema q limits.states s
+  pub strata : (made : Strata) → AreStrataWithin schema q (dimension_slots names) made →
       FitsFindings limits schema set made.dimensions
 
 -- the query of the set is within its limits
-pub record IsSummarisable (words : List (List ℕ)) (limits : Limits) (set : PolicySet) (schema : Schema) : Type 0 where
-  pub known : NameSlots schema words
+pub record IsSummarisable (names : List (List ℕ)) (limits : Limits) (set : PolicySet) (schema : Schema) : Type 0 where
+  pub known : NameSlots schema names
   pub tests : ¬ HasTooMany [] (tests_in (set_plan schema set))
   pub pieces : ¬ HasTooManyPieces (set_plan schema set)
-  pub fits : (q : Query) → IsQuery (set_plan schema set) q → FitsLimits words limits schema set q
+  pub fits : (q : Query) → IsQuery (set_plan schema set) q → FitsLimits names limits schema set q
 
 -- the files of a summary stand for a set with a schema that has each dimension, and no limit is below the need
 abbrev pub IsSummaryAccepted : Summarising → SummaryContents → Type 0

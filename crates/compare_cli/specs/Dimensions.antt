@@ -1,4 +1,4 @@
--- The dimensions of a summary: the slots that words name.
+-- The dimensions of a summary: the slots of their names.
 use Rattle.std.specs.Prelude.{◌≡◌, ℕ, List, ◌∷◌, ◌++◌, map, All, codes, if◌then◌else◌, Result, Ok, Err}
 use Rattle.std.specs.Str.{bytes_eq, chars}
 use Rattle.policy_model.specs.declared.schema.Schema.{Schema}
@@ -9,37 +9,37 @@ use Rattle.slot_theory.specs.Slots.{SlotIsIn}
 use Rattle.compare_cli.specs.declared.answer.Refusal.{Refusal}
 use Rattle.compare_cli.specs.declared.answer.Refusal.TheVariants.{NoDimension}
 
--- the slot that a word names: the principal, the action and the resource by these very words, and any other word the key of this
--- name, with its ASCII letters lowered
+-- the slot of a name: the principal, the action and the resource have these very names, and any other is that of a key, whose ASCII
+-- letters are lowered
 abbrev pub dimension_slot : List ℕ → Slot
-dimension_slot word =
-    if bytes_eq word (codes "principal") then Principal else if bytes_eq word (codes "action") then Action else
-    if bytes_eq word (codes "resource") then Resource else Key (folded_name word)
+dimension_slot name =
+    if bytes_eq name (codes "principal") then Principal else if bytes_eq name (codes "action") then Action else
+    if bytes_eq name (codes "resource") then Resource else Key (folded_name name)
 
--- the slots that words name, in their order
+-- the slots of names, in their order
 abbrev pub dimension_slots : List (List ℕ) → List Slot
-dimension_slots words = map dimension_slot words
+dimension_slots names = map dimension_slot names
 
--- the word names a slot of the requests under the schema
+-- the name is that of a slot of the requests under the schema
 abbrev pub NamesSlot : Schema → List ℕ → Type 0
-NamesSlot schema word = SlotIsIn schema (dimension_slot word)
+NamesSlot schema name = SlotIsIn schema (dimension_slot name)
 
--- each word does
+-- each name is
 abbrev pub NameSlots : Schema → List (List ℕ) → Type 0
-NameSlots schema words = All (NamesSlot schema) words
+NameSlots schema names = All (NamesSlot schema) names
 
--- the word, given by its characters, is the first that doesn't
-pub record IsFirstUnknown (schema : Schema) (words : List (List ℕ)) (element : List ℕ) : Type 0 where
+-- the name, given by its characters, is the first that isn't
+pub record IsFirstUnknown (schema : Schema) (names : List (List ℕ)) (element : List ℕ) : Type 0 where
   pub before : List (List ℕ)
-  pub word : List ℕ
+  pub name : List ℕ
   pub behind : List (List ℕ)
-  pub is : words ≡ before ++ word ∷ behind
+  pub is : names ≡ before ++ name ∷ behind
   pub known : NameSlots schema before
-  pub unknown : ¬ NamesSlot schema word
-  pub written : element ≡ chars word
+  pub unknown : ¬ NamesSlot schema name
+  pub written : element ≡ chars name
 
--- the slots of words that are known, or the first that isn't
+-- the slots of names that are known, or the first that isn't
 abbrev pub AreSlotsOf : Schema → List (List ℕ) → Result (List Slot) Refusal → Type 0
-AreSlotsOf schema words (Ok slots) = NameSlots schema words × (slots ≡ dimension_slots words)
-AreSlotsOf schema words (Err (NoDimension element)) = IsFirstUnknown schema words element
-AreSlotsOf schema words (Err _) = ⊥
+AreSlotsOf schema names (Ok slots) = NameSlots schema names × (slots ≡ dimension_slots names)
+AreSlotsOf schema names (Err (NoDimension element)) = IsFirstUnknown schema names element
+AreSlotsOf schema names (Err _) = ⊥

@@ -1,4 +1,4 @@
--- What the jobs on two sets of a size that is asked for may print.
+-- What a load may print: the comparisons and the summary of two sets of a size that is asked for.
 use Rattle.std.specs.Prelude.{◌≡◌, ◌==◌, ℕ, List, [], ◌∷◌, false, Some, String, string_bytes, if◌then◌else◌, codes}
 use Rattle.command_words.specs.declared.limits.TheConstants.{DEFAULT_SPLITS, DEFAULT_STATES, DEFAULT_FINDINGS}
 use Rattle.policy_load.specs.Loads.{first_load, second_load}
@@ -59,7 +59,7 @@ pub record IsLoaded (keys : ℕ) (lines : LoadLines) : Type 0 where
   pub back : IsLineFor (ComparesSets built_in_schema second_load (first_load keys)) lines.back
   pub summary : IsLineFor (SummarisesFirst built_in_schema (first_load keys)) lines.summary
 
--- what the jobs on two sets of so many keys may be answered
+-- what a load of so many keys may be answered
 abbrev pub AnswersLoad : ℕ → Answer → Type 0
 AnswersLoad keys (Loaded lines) = IsLoaded keys lines
 AnswersLoad keys _ = ⊥

@@ -53,8 +53,8 @@ abbrev pub Promises : Option Asked → Reading → Writing → Status → Type 0
 -- of a comparison: the second set allows each valid request that the first allows, all requests, of texts of any length, and where a
 -- certificate was asked for, what was written is one; of a check: the certificate closes the query, and so the same; of a summary:
 -- what was written are the maximal irreducible findings of the set and no others, each with a request of its own; of an evaluation:
--- the set allows the request, and the line names the statement that decides; of the jobs on two sets: each line is the first of an
--- answer that may be given to them, also where that names a budget
+-- the set allows the request, and the line names the statement that decides; of a load: each line is the first of an
+-- answer that may be given to the two sets, also where that names a budget
 Promises asked r w Holds = SaysWith asked r w Holds
 -- of a comparison: the second line is the text of a valid request that the first set allows and the second doesn't; of an
 -- evaluation: the set doesn't allow the request, and the line names what decides
@@ -62,8 +62,8 @@ Promises asked r w Fails = SaysWith asked r w Fails
 -- the line is of the first cause, in the order of files, then of the schema, the sets and both together, then of the dimensions, of
 -- the request or of the query's limits, and then of the predicates of a dimension
 Promises asked r w Refused = (refusal : Refusal) × Says asked r w (answer.Refused refusal)
--- the line names a budget that is below the need of the plain run, or of a summary also of two predicates, of the findings that must
--- be looked at or of the plain run of one's query
+-- the line names a budget that is below the need of the plain run, of splits also below that of the propagated run; or of a summary
+-- also of two predicates, of the findings that must be looked at or of the plain run of one's query
 Promises asked r w Undecided = (shortage : Shortage) × Says asked r w (answer.Undecided shortage)
 -- the arguments ask for nothing
 Promises asked r w Usage = Says asked r w answer.Usage

@@ -48,9 +48,9 @@ pub record OfSetQuery (schema : Schema) (set : PolicySet) (P : Query → Type 0)
   pub is : IsQuery (set_plan schema set) query
   pub holds : P query
 
--- of the strata of the query by the dimensions that words name, of none of which too many predicates are named, this holds
+-- of the strata of the query by the dimensions of these names, of none of which too many predicates are named, this holds
 abbrev pub OfDimensions : List (List ℕ) → Schema → Query → (List Stratum → Type 0) → Type 0
-OfDimensions words schema q P = OfStrata schema q (dimension_slots words) P
+OfDimensions names schema q P = OfStrata schema q (dimension_slots names) P
 
 -- a finding's text with its request, and a finding's line with that of its request
 abbrev pub told : List Stratum → List ℕ × Request → List ℕ × Request
@@ -92,51 +92,51 @@ pub record WidePredicates (schema : Schema) (q : Query) (states : ℕ) (s : Slot
 -- a budget that is too small: for two predicates of a dimension, for the number of findings that must be looked at, or for the
 -- query of one of them
 abbrev pub IsShortOf : List (List ℕ) → Limits → Schema → PolicySet → Query → Shortage → Type 0
-IsShortOf words limits schema set q (States n s) =
-    (n ≡ limits.states) × Contains (dimension_slots words) s × AreFew q.tests (dimension_slots words) ×
+IsShortOf names limits schema set q (States n s) =
+    (n ≡ limits.states) × Contains (dimension_slots names) s × AreFew q.tests (dimension_slots names) ×
     WidePredicates schema q n s
-IsShortOf words limits schema set q (Findings n) =
-    (n ≡ limits.findings) × OfDimensions words schema q (λ ds. VisitsAtLeast schema set ds (n + 1))
-IsShortOf words limits schema set q (SplitsIn n text) =
+IsShortOf names limits schema set q (Findings n) =
+    (n ≡ limits.findings) × OfDimensions names schema q (λ ds. VisitsAtLeast schema set ds (n + 1))
+IsShortOf names limits schema set q (SplitsIn n text) =
     (n ≡ limits.splits) ×
-    OfDimensions words schema q (IsFailingText schema set (string_bytes text) (λ f. SplitsFail schema f n))
-IsShortOf words limits schema set q (StatesIn n s text) =
+    OfDimensions names schema q (IsFailingText schema set (string_bytes text) (λ f. SplitsFail schema f n))
+IsShortOf names limits schema set q (StatesIn n s text) =
     (n ≡ limits.states) ×
-    OfDimensions words schema q (IsFailingText schema set (string_bytes text) (StatesFailAt schema n s))
-IsShortOf words limits schema set q (Splits n) = ⊥
+    OfDimensions names schema q (IsFailingText schema set (string_bytes text) (StatesFailAt schema n s))
+IsShortOf names limits schema set q (Splits n) = ⊥
 
--- the word, given by its characters, is the first dimension of which too many predicates are named
-pub record NamesTooManyOf (words : List (List ℕ)) (q : Query) (element : List ℕ) : Type 0 where
+-- the name, given by its characters, is that of the first dimension of which too many predicates are named
+pub record NamesTooManyOf (names : List (List ℕ)) (q : Query) (element : List ℕ) : Type 0 where
   pub dimension : ℕ
-  pub first : IsFirstTooMany q.tests (dimension_slots words) dimension
-  pub word : List ℕ
-  pub at : slice_get words dimension ≡ Some word
-  pub written : element ≡ chars word
+  pub first : IsFirstTooMany q.tests (dimension_slots names) dimension
+  pub name : List ℕ
+  pub at : slice_get names dimension ≡ Some name
+  pub written : element ≡ chars name
 
 -- the first dimension of which too many predicates are named, a budget that is too small, or the summary
 abbrev pub IsSummaryAnswer : List (List ℕ) → Limits → Schema → PolicySet → Query → Answer → Type 0
-IsSummaryAnswer words limits schema set q (Refused (TooManyPredicates element)) = NamesTooManyOf words q element
-IsSummaryAnswer words limits schema set q (Undecided shortage) = IsShortOf words limits schema set q shortage
-IsSummaryAnswer words limits schema set q (Summary found) = OfDimensions words schema q (Prints schema set found)
-IsSummaryAnswer words limits schema set q _ = ⊥
+IsSummaryAnswer names limits schema set q (Refused (TooManyPredicates element)) = NamesTooManyOf names q element
+IsSummaryAnswer names limits schema set q (Undecided shortage) = IsShortOf names limits schema set q shortage
+IsSummaryAnswer names limits schema set q (Summary found) = OfDimensions names schema q (Prints schema set found)
+IsSummaryAnswer names limits schema set q _ = ⊥
 
 -- what a set may be answered, of which the schema has each dimension: a limit that its query is past, or what is said of the query
 abbrev pub SummarisesKnown : List (List ℕ) → Limits → Schema → PolicySet → Answer → Type 0
-SummarisesKnown words limits schema set (Refused TooManyTests) = HasTooMany [] (tests_in (set_plan schema set))
-SummarisesKnown words limits schema set (Refused TooManyPieces) = HasTooManyPieces (set_plan schema set)
-SummarisesKnown words limits schema set answer =
-    OfSetQuery schema set (λ q. IsSummaryAnswer words limits schema set q answer)
+SummarisesKnown names limits schema set (Refused TooManyTests) = HasTooMany [] (tests_in (set_plan schema set))
+SummarisesKnown names limits schema set (Refused TooManyPieces) = HasTooManyPieces (set_plan schema set)
+SummarisesKnown names limits schema set answer =
+    OfSetQuery schema set (λ q. IsSummaryAnswer names limits schema set q answer)
 
--- what a set may be answered under the schema of its run: the first word that names no dimension, or what else is said
+-- what a set may be answered under the schema of its run: the first name of no dimension, or what else is said
 abbrev pub SummarisesUnder : List (List ℕ) → Limits → PolicySet → Answer → Schema → Type 0
-SummarisesUnder words limits set (Refused (NoDimension element)) schema = IsFirstUnknown schema words element
-SummarisesUnder words limits set answer schema = NameSlots schema words × SummarisesKnown words limits schema set answer
+SummarisesUnder names limits set (Refused (NoDimension element)) schema = IsFirstUnknown schema names element
+SummarisesUnder names limits set answer schema = NameSlots schema names × SummarisesKnown names limits schema set answer
 
 -- what a set under named keys may be answered: the first condition that the run has no schema for, or what is said under that
 abbrev pub SummarisesSet : List (List ℕ) → Limits → Answer → Schema → PolicySet → Type 0
-SummarisesSet words limits (Refused (NoRun role fault)) named set =
+SummarisesSet names limits (Refused (NoRun role fault)) named set =
     (role ≡ set_file) × FirstInferFault named set None fault
-SummarisesSet words limits answer named set = OfSetRun named set (SummarisesUnder words limits set answer)
+SummarisesSet names limits answer named set = OfSetRun named set (SummarisesUnder names limits set answer)
 
 -- ---- what the parts of an answer come to
 
@@ -147,20 +147,20 @@ IsSetQueried schema set (Err TooManyTests) = HasTooMany [] (tests_in (set_plan s
 IsSetQueried schema set (Err TooManyPieces) = HasTooManyPieces (set_plan schema set)
 IsSetQueried schema set (Err _) = ⊥
 
--- what a summary came to has texts: its findings have a number of each dimension, and a dimension is one of the words
+-- what a summary came to has texts: its findings have a number of each dimension, and a dimension is one of those that are named
 abbrev pub HasTexts : List (List ℕ) → Outcome → Type 0
-HasTexts words (Found strata summary) = All (λ p. IsFinding strata.dimensions p.0) summary
-HasTexts words (outcome.TooManyPredicates d) = d < length words
-HasTexts words (Wide s texts) = ⊤
-HasTexts words OutOfFindings = ⊤
-HasTexts words (OutOfSplits strata f) = IsFinding strata.dimensions f
-HasTexts words (OutOfStates strata f w) = IsFinding strata.dimensions f
+HasTexts names (Found strata summary) = All (λ p. IsFinding strata.dimensions p.0) summary
+HasTexts names (outcome.TooManyPredicates d) = d < length names
+HasTexts names (Wide s texts) = ⊤
+HasTexts names OutOfFindings = ⊤
+HasTexts names (OutOfSplits strata f) = IsFinding strata.dimensions f
+HasTexts names (OutOfStates strata f w) = IsFinding strata.dimensions f
 
 -- the answer to the dimension of an index
-pub record IsTooManyAnswer (words : List (List ℕ)) (d : ℕ) (answer : Answer) : Type 0 where
-  pub word : List ℕ
-  pub at : slice_get words d ≡ Some word
-  pub is : answer ≡ Refused (TooManyPredicates (chars word))
+pub record IsTooManyAnswer (names : List (List ℕ)) (d : ℕ) (answer : Answer) : Type 0 where
+  pub name : List ℕ
+  pub at : slice_get names d ≡ Some name
+  pub is : answer ≡ Refused (TooManyPredicates (chars name))
 
 -- the answer to a finding, of a budget that is too small for its query
 pub record IsFindingAnswer (ds : List Stratum) (f : List ℕ) (short : String Global → Shortage) (answer : Answer) : Type 0 where
@@ -176,13 +176,13 @@ pub record IsFoundAnswer (ds : List Stratum) (summary : List (List ℕ × Reques
 
 -- the answer to what a summary came to
 abbrev pub IsOutcomeAnswer : List (List ℕ) → Limits → Outcome → Answer → Type 0
-IsOutcomeAnswer words limits (Found strata summary) answer = IsFoundAnswer strata.dimensions summary answer
-IsOutcomeAnswer words limits (outcome.TooManyPredicates d) answer = IsTooManyAnswer words d answer
-IsOutcomeAnswer words limits (Wide s texts) answer = answer ≡ Undecided (States limits.states s)
-IsOutcomeAnswer words limits OutOfFindings answer = answer ≡ Undecided (Findings limits.findings)
-IsOutcomeAnswer words limits (OutOfSplits strata f) answer =
+IsOutcomeAnswer names limits (Found strata summary) answer = IsFoundAnswer strata.dimensions summary answer
+IsOutcomeAnswer names limits (outcome.TooManyPredicates d) answer = IsTooManyAnswer names d answer
+IsOutcomeAnswer names limits (Wide s texts) answer = answer ≡ Undecided (States limits.states s)
+IsOutcomeAnswer names limits OutOfFindings answer = answer ≡ Undecided (Findings limits.findings)
+IsOutcomeAnswer names limits (OutOfSplits strata f) answer =
     IsFindingAnswer strata.dimensions f (SplitsIn limits.splits) answer
-IsOutcomeAnswer words limits (OutOfStates strata f w) answer =
+IsOutcomeAnswer names limits (OutOfStates strata f w) answer =
     IsFindingAnswer strata.dimensions f (StatesIn limits.states w.slot) answer
 
 -- ---- the files

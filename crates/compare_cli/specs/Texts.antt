@@ -21,10 +21,12 @@ use Rattle.compare_cli.specs.declared.answer.Refusal.TheVariants.{TooLong, NoSch
 use Rattle.compare_cli.specs.declared.answer.Refusal.TheVariants.{TooManyPieces, NoRequest, NoDimension, TooManyPredicates}
 use Rattle.compare_cli.specs.declared.answer.Shortage.{Shortage}
 use Rattle.compare_cli.specs.declared.answer.Shortage.TheVariants.{Splits, States, Findings, SplitsIn, StatesIn}
+use Rattle.compare_cli.specs.declared.text.TheConstants.{USAGE}
 use Rattle.compare_cli.specs.Files.{limit_of}
 use Rattle.proof_text.specs.declared.fault.ProofCode.{ProofCode}
 use Rattle.proof_text.specs.declared.fault.ProofCode.TheVariants.{C1Syntax, C2Version, C3TestNumber, C4Limit}
 use Rattle.proof_text.specs.declared.fault.ProofFault.{ProofFault}
+use Rattle.proof_text.specs.Lines.{verdict_line}
 use Rattle.request_json.specs.RequestTexts.{request_text}
 use Rattle.request_json.specs.declared.fault.RequestCode.{RequestCode}
 use Rattle.request_json.specs.declared.fault.RequestCode.TheVariants.{Q1NotJson, Q2Shape, Q3BadValue, Q4NotValid}
@@ -133,7 +135,7 @@ too_long_end role = codes ": file longer than " ++ decimal (limit_of role) ++ co
 
 -- the element of a dimension of which too many predicates are named
 abbrev pub predicates_element : List ℕ → List ℕ
-predicates_element word = codes "predicates of " ++ word
+predicates_element name = codes "predicates of " ++ name
 
 -- the line of a refusal
 unfoldable pub refusal_text : Refusal → List ℕ
@@ -144,9 +146,9 @@ refusal_text (NoRun role fault) = codes "refused: " ++ role_word role ++ codes "
 refusal_text (NoRequest fault) = codes "refused: request: " ++ request_fault_text fault ++ codes "\n"
 refusal_text TooManyTests = codes "refused: query: P17 Limit: document 0, statement 0, \"tests\"\n"
 refusal_text TooManyPieces = codes "refused: query: P17 Limit: document 0, statement 0, \"pieces\"\n"
-refusal_text (NoDimension word) = codes "refused: schema: S5 UnknownDimension: " ++ element_text word ++ codes "\n"
-refusal_text (TooManyPredicates word) =
-    codes "refused: query: P17 Limit: document 0, statement 0, " ++ element_text (predicates_element word) ++ codes "\n"
+refusal_text (NoDimension name) = codes "refused: schema: S5 UnknownDimension: " ++ element_text name ++ codes "\n"
+refusal_text (TooManyPredicates name) =
+    codes "refused: query: P17 Limit: document 0, statement 0, " ++ element_text (predicates_element name) ++ codes "\n"
 
 -- the end of a line on a finding's query
 unfoldable pub finding_end : {A : Type 0} → String A → List ℕ
@@ -215,7 +217,7 @@ forth_line line = codes "first to second: " ++ line ++ codes "\n"
 abbrev pub back_line : List ℕ → List ℕ
 back_line line = codes "second to first: " ++ line ++ codes "\n"
 
--- the lines of the jobs on two sets
+-- the lines of a load
 abbrev pub load_text : LoadLines → List ℕ
 load_text lines =
     ((keys_line lines.keys ++ forth_line (string_bytes lines.forth)) ++ back_line (string_bytes lines.back))
@@ -223,13 +225,12 @@ load_text lines =
 
 -- the whole text of an answer
 unfoldable pub answer_text : Answer → List ℕ
-answer_text Usage =
-    codes "usage: compare FIRST SECOND | summary SET DIMENSION.. | check FIRST SECOND PROOF | eval SET REQUEST | load N\n"
+answer_text Usage = USAGE.now
 answer_text (ReadFault role) = codes "read fault: " ++ role_word role ++ codes "\n"
 answer_text (Refused refusal) = refusal_text refusal
 answer_text (Undecided shortage) = shortage_text shortage
-answer_text NotMore = codes "not more permissive\n"
-answer_text (Proved text) = codes "not more permissive\n" ++ string_bytes text
+answer_text NotMore = verdict_line
+answer_text (Proved text) = verdict_line ++ string_bytes text
 answer_text (More q) = codes "more permissive\n" ++ request_text q ++ codes "\n"
 answer_text Accepted = codes "accepted\n"
 answer_text (NotClosing line) = codes "not closing: line " ++ decimal line ++ codes "\n"

@@ -39,14 +39,15 @@ pub enum Refusal {
     TooManyTests,
     /// The patterns of the query's tests have more than 65,536 pieces together.
     TooManyPieces,
-    /// The first dimension of which the set names more than 128 predicates, as it is written.
+    /// The first dimension of which the set names more than 128 predicates, `any` among them, as it is
+    /// written.
     TooManyPredicates(Text),
 }
 
 /// A budget that is too small, by its number.
 #[derive(Drop)]
 pub enum Shortage {
-    /// The plain run needs more splits.
+    /// The plain run needs more splits, and so does the propagated run.
     Splits(u32),
     /// More product states are needed at the slot: at a node of the plain run, or of a summary for two
     /// predicates of the dimension.
@@ -82,7 +83,8 @@ pub struct FoundLines {
 /// The findings of a summary, in their order.
 pub type FoundList = List<FoundLines>;
 
-/// What the jobs on two sets of so many keys came to: the first line of each answer.
+/// What the comparisons and the summary of two sets of so many keys came to: the first line of each
+/// answer.
 #[derive(Drop)]
 pub struct LoadLines {
     /// How many keys there are.
@@ -125,6 +127,6 @@ pub enum Answer {
     Denied(Denial),
     /// The summary of the set by the dimensions.
     Summary(FoundList),
-    /// The lines of the jobs on two sets.
+    /// The lines of a load.
     Loaded(LoadLines),
 }

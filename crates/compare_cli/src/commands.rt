@@ -2,7 +2,7 @@
 ghost use Rattle.std.specs.Prelude.{◌≡◌, ◌≤◌, true, IfOk};
 ghost use Rattle.command_words.specs.Asked.{HasBudgetsInRange, IsInRange, a_check, a_comparison, a_summary, an_evaluation};
 ghost use Rattle.command_words.specs.Asked.{are_dimensions, asked_in, checking_in, comparing_in, evaluating_in, summarising_in, texts_in};
-ghost use Rattle.compare_cli.specs.Answers.{IsAnswerTo, IsFaultAnswer};
+ghost use Rattle.compare_cli.specs.Answers.{IsAnswerTo, IsFaultAnswer, reading_of};
 
 use crate::answer::{Answer, Refusal, Role};
 use crate::contents::{check_of, comparison_of};
@@ -10,7 +10,7 @@ use crate::evaluation::evaluate;
 use crate::files::{bytes_of, read_file, read_if_named};
 use crate::loading::load_answer;
 use crate::summary::summary_of;
-use command_words::{CheckWords, Command, CompareWords, EvalWords, SummaryWords};
+use command_words::{CheckArguments, Command, CompareArguments, EvalArguments, SummaryArguments};
 use pol_outside::{Folder, TakeFault};
 use std::alloc::{AllocError, Global};
 
@@ -28,29 +28,24 @@ fn fault_answer(role: Role, fault: TakeFault) -> Result<Answer, AllocError>
 fn comparison<F: Folder>(
     alloc: Global,
     folder: &mut F,
-    words: &CompareWords,
+    arguments: &CompareArguments,
 ) -> Result<Answer, AllocError>
-    requires splits { 1 ≤ words.now.splits }
-    requires states { 1 ≤ words.now.states }
-    ensures given { IfOk result (IsAnswerTo (a_comparison (comparing_in words.now)) (record {
-      held = F.held folder.old;
-      faults_before = F.faults folder.old;
-      faults = F.faults folder.new;
-      last_before = F.last_fault folder.old;
-      last = F.last_fault folder.new;
-    })) }
+    requires splits { 1 ≤ arguments.now.splits }
+    requires states { 1 ≤ arguments.now.states }
+    ensures given { IfOk result (IsAnswerTo (a_comparison (comparing_in arguments.now))
+        (reading_of F.held F.faults F.last_fault folder.old folder.new)) }
     ensures held { F.held folder.new ≡ F.held folder.old }
     ensures later { F.faults folder.old ≤ F.faults folder.new }
 {
-    let first = match read_file(alloc, folder, Role::First, words.names.first.as_str()) {
+    let first = match read_file(alloc, folder, Role::First, arguments.names.first.as_str()) {
         Ok(bytes) => bytes,
         Err(fault) => return fault_answer(Role::First, fault),
     };
-    let second = match read_file(alloc, folder, Role::Second, words.names.second.as_str()) {
+    let second = match read_file(alloc, folder, Role::Second, arguments.names.second.as_str()) {
         Ok(bytes) => bytes,
         Err(fault) => return fault_answer(Role::Second, fault),
     };
-    let schema = match read_if_named(alloc, folder, Role::Schema, &words.names.schema) {
+    let schema = match read_if_named(alloc, folder, Role::Schema, &arguments.names.schema) {
         Ok(bytes) => bytes,
         Err(fault) => return fault_answer(Role::Schema, fault),
     };
@@ -59,7 +54,7 @@ fn comparison<F: Folder>(
         first.as_slice(),
         second.as_slice(),
         bytes_of(&schema),
-        words,
+        arguments,
     )
 }
 
@@ -67,31 +62,26 @@ fn comparison<F: Folder>(
 fn proof_check<F: Folder>(
     alloc: Global,
     folder: &mut F,
-    words: &CheckWords,
+    arguments: &CheckArguments,
 ) -> Result<Answer, AllocError>
-    ensures given { IfOk result (IsAnswerTo (a_check (checking_in words.now)) (record {
-      held = F.held folder.old;
-      faults_before = F.faults folder.old;
-      faults = F.faults folder.new;
-      last_before = F.last_fault folder.old;
-      last = F.last_fault folder.new;
-    })) }
+    ensures given { IfOk result (IsAnswerTo (a_check (checking_in arguments.now))
+        (reading_of F.held F.faults F.last_fault folder.old folder.new)) }
     ensures held { F.held folder.new ≡ F.held folder.old }
     ensures later { F.faults folder.old ≤ F.faults folder.new }
 {
-    let first = match read_file(alloc, folder, Role::First, words.names.first.as_str()) {
+    let first = match read_file(alloc, folder, Role::First, arguments.names.first.as_str()) {
         Ok(bytes) => bytes,
         Err(fault) => return fault_answer(Role::First, fault),
     };
-    let second = match read_file(alloc, folder, Role::Second, words.names.second.as_str()) {
+    let second = match read_file(alloc, folder, Role::Second, arguments.names.second.as_str()) {
         Ok(bytes) => bytes,
         Err(fault) => return fault_answer(Role::Second, fault),
     };
-    let proof = match read_file(alloc, folder, Role::Proof, words.proof.as_str()) {
+    let proof = match read_file(alloc, folder, Role::Proof, arguments.proof.as_str()) {
         Ok(bytes) => bytes,
         Err(fault) => return fault_answer(Role::Proof, fault),
     };
-    let schema = match read_if_named(alloc, folder, Role::Schema, &words.names.schema) {
+    let schema = match read_if_named(alloc, folder, Role::Schema, &arguments.names.schema) {
         Ok(bytes) => bytes,
         Err(fault) => return fault_answer(Role::Schema, fault),
     };
@@ -108,56 +98,46 @@ fn proof_check<F: Folder>(
 fn summary<F: Folder>(
     alloc: Global,
     folder: &mut F,
-    words: &SummaryWords,
+    arguments: &SummaryArguments,
 ) -> Result<Answer, AllocError>
-    requires budgets { HasBudgetsInRange words.now }
-    requires dimensions { are_dimensions (texts_in words.now.dimensions.items) ≡ true }
-    ensures given { IfOk result (IsAnswerTo (a_summary (summarising_in words.now)) (record {
-      held = F.held folder.old;
-      faults_before = F.faults folder.old;
-      faults = F.faults folder.new;
-      last_before = F.last_fault folder.old;
-      last = F.last_fault folder.new;
-    })) }
+    requires budgets { HasBudgetsInRange arguments.now }
+    requires dimensions { are_dimensions (texts_in arguments.now.dimensions.items) ≡ true }
+    ensures given { IfOk result (IsAnswerTo (a_summary (summarising_in arguments.now))
+        (reading_of F.held F.faults F.last_fault folder.old folder.new)) }
     ensures held { F.held folder.new ≡ F.held folder.old }
     ensures later { F.faults folder.old ≤ F.faults folder.new }
 {
-    let set = match read_file(alloc, folder, Role::Set, words.set.as_str()) {
+    let set = match read_file(alloc, folder, Role::Set, arguments.set.as_str()) {
         Ok(bytes) => bytes,
         Err(fault) => return fault_answer(Role::Set, fault),
     };
-    let schema = match read_if_named(alloc, folder, Role::Schema, &words.schema) {
+    let schema = match read_if_named(alloc, folder, Role::Schema, &arguments.schema) {
         Ok(bytes) => bytes,
         Err(fault) => return fault_answer(Role::Schema, fault),
     };
-    summary_of(alloc, set.as_slice(), bytes_of(&schema), words)
+    summary_of(alloc, set.as_slice(), bytes_of(&schema), arguments)
 }
 
 // The answer to an evaluation of a request.
 fn evaluation<F: Folder>(
     alloc: Global,
     folder: &mut F,
-    words: &EvalWords,
+    arguments: &EvalArguments,
 ) -> Result<Answer, AllocError>
-    ensures given { IfOk result (IsAnswerTo (an_evaluation (evaluating_in words.now)) (record {
-      held = F.held folder.old;
-      faults_before = F.faults folder.old;
-      faults = F.faults folder.new;
-      last_before = F.last_fault folder.old;
-      last = F.last_fault folder.new;
-    })) }
+    ensures given { IfOk result (IsAnswerTo (an_evaluation (evaluating_in arguments.now))
+        (reading_of F.held F.faults F.last_fault folder.old folder.new)) }
     ensures held { F.held folder.new ≡ F.held folder.old }
     ensures later { F.faults folder.old ≤ F.faults folder.new }
 {
-    let set = match read_file(alloc, folder, Role::Set, words.set.as_str()) {
+    let set = match read_file(alloc, folder, Role::Set, arguments.set.as_str()) {
         Ok(bytes) => bytes,
         Err(fault) => return fault_answer(Role::Set, fault),
     };
-    let request = match read_file(alloc, folder, Role::Request, words.request.as_str()) {
+    let request = match read_file(alloc, folder, Role::Request, arguments.request.as_str()) {
         Ok(bytes) => bytes,
         Err(fault) => return fault_answer(Role::Request, fault),
     };
-    let schema = match read_if_named(alloc, folder, Role::Schema, &words.schema) {
+    let schema = match read_if_named(alloc, folder, Role::Schema, &arguments.schema) {
         Ok(bytes) => bytes,
         Err(fault) => return fault_answer(Role::Schema, fault),
     };
@@ -171,21 +151,16 @@ pub fn answer_to<F: Folder>(
     command: &Command,
 ) -> Result<Answer, AllocError>
     requires { IsInRange command.now }
-    ensures given { IfOk result (IsAnswerTo (asked_in command.now) (record {
-      held = F.held folder.old;
-      faults_before = F.faults folder.old;
-      faults = F.faults folder.new;
-      last_before = F.last_fault folder.old;
-      last = F.last_fault folder.new;
-    })) }
+    ensures given { IfOk result (IsAnswerTo (asked_in command.now)
+        (reading_of F.held F.faults F.last_fault folder.old folder.new)) }
     ensures held { F.held folder.new ≡ F.held folder.old }
     ensures later { F.faults folder.old ≤ F.faults folder.new }
 {
     match command {
-        Command::Compare(words) => comparison(alloc, folder, words),
-        Command::Check(words) => proof_check(alloc, folder, words),
-        Command::Summary(words) => summary(alloc, folder, words),
-        Command::Eval(words) => evaluation(alloc, folder, words),
+        Command::Compare(arguments) => comparison(alloc, folder, arguments),
+        Command::Check(arguments) => proof_check(alloc, folder, arguments),
+        Command::Summary(arguments) => summary(alloc, folder, arguments),
+        Command::Eval(arguments) => evaluation(alloc, folder, arguments),
         Command::Load(keys) => load_answer(alloc, *keys),
     }
 }

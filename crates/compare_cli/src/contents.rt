@@ -10,7 +10,7 @@ ghost use Rattle.compare_cli.specs.Standing.{IsNamed};
 use crate::answer::{Answer, Refusal, Role};
 use crate::decision::{check_proof, compare};
 use crate::pair::Pair;
-use command_words::CompareWords;
+use command_words::CompareArguments;
 use policy_json::{PolicyAnswer, read_set};
 use policy_model::{PolicySet, Schema};
 use request_schema::{InferAnswer, InferFault, SchemaAnswer, built_in, infer, read_schema};
@@ -100,11 +100,11 @@ pub fn comparison_of(
     first: &[u8],
     second: &[u8],
     schema: Option<&[u8]>,
-    words: &CompareWords,
+    arguments: &CompareArguments,
 ) -> Result<Answer, AllocError>
-    requires splits { 1 ≤ words.now.splits }
-    requires states { 1 ≤ words.now.states }
-    ensures { IfOk result (AnswersComparison (comparing_in words.now)
+    requires splits { 1 ≤ arguments.now.splits }
+    requires states { 1 ≤ arguments.now.states }
+    ensures { IfOk result (AnswersComparison (comparing_in arguments.now)
         (contents first.now second.now (option_map (λ f. f.now) schema.entry))) }
 {
     let pair = match read_pair(alloc, first, second, schema)? {
@@ -112,10 +112,10 @@ pub fn comparison_of(
         Err(refusal) => return Ok(Answer::Refused(refusal)),
     };
     let budgets = Budgets {
-        splits: words.splits,
-        states: words.states,
+        splits: arguments.splits,
+        states: arguments.states,
     };
-    compare(alloc, &pair, budgets, words.certified)
+    compare(alloc, &pair, budgets, arguments.certified)
 }
 
 /// The same, to a check of a certificate.

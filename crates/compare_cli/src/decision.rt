@@ -102,7 +102,7 @@ pub fn compare(
 }
 
 // The answer, where the first set's statements that the second doesn't have are enough to tell: most often what
-// a change adds is asked, and such a question is as small as the change.
+// a change adds is asked, and such a query is as small as the change.
 fn difference_answer(
     alloc: Global,
     pair: &Pair,

@@ -1,4 +1,4 @@
-//! The dimensions that words name.
+//! The slots of the dimensions of a summary.
 ghost use Rattle.std.specs.Prelude.{◌≡◌, ◌↔◌, All, IfOk, IsTrue, OnOk};
 ghost use Rattle.std.specs.Str.{IsUtf8};
 ghost use Rattle.command_words.specs.Asked.{texts_in};
@@ -10,15 +10,15 @@ use policy_model::{Schema, Slot, SlotList};
 use std::alloc::{AllocError, Global};
 use wildcard_lang::Text;
 
-// The slot that the word names.
-fn dimension_slot(alloc: Global, word: &str) -> Result<Slot, AllocError>
-    ensures { IfOk result (λ s. s ≡ dimension_slot word.now) }
+// The slot of the name.
+fn dimension_slot(alloc: Global, name: &str) -> Result<Slot, AllocError>
+    ensures { IfOk result (λ s. s ≡ dimension_slot name.now) }
 {
-    match word {
+    match name {
         "principal" => Ok(Slot::Principal),
         "action" => Ok(Slot::Action),
         "resource" => Ok(Slot::Resource),
-        _ => Ok(Slot::Key(Text::of(alloc, word)?.folded()?)),
+        _ => Ok(Slot::Key(Text::of(alloc, name)?.folded()?)),
     }
 }
 
@@ -32,21 +32,21 @@ fn is_in(schema: &Schema, slot: &Slot) -> bool
     }
 }
 
-/// The slots that the words name, in their order, or the first word that names neither a part of each
-/// request nor a key of the schema.
+/// The slots of the names, in their order, or the first name that is neither that of a part of each
+/// request nor that of a key of the schema.
 pub fn slots_of(
     alloc: Global,
     schema: &Schema,
-    words: &[String],
+    names: &[String],
 ) -> Result<Result<SlotList, Refusal>, AllocError>
-    ensures slots { IfOk result (AreSlotsOf schema.now (texts_in words.now)) }
-    ensures texts { IfOk result (λ r. OnOk r (All IsUtf8 (texts_in words.now))) }
+    ensures slots { IfOk result (AreSlotsOf schema.now (texts_in names.now)) }
+    ensures texts { IfOk result (λ r. OnOk r (All IsUtf8 (texts_in names.now))) }
 {
     let mut slots = SlotList::new(alloc);
-    for word in words {
-        let slot = dimension_slot(alloc, word.as_str())?;
+    for name in names {
+        let slot = dimension_slot(alloc, name.as_str())?;
         if !is_in(schema, &slot) {
-            let element = Text::of(alloc, word.as_str())?;
+            let element = Text::of(alloc, name.as_str())?;
             return Ok(Err(Refusal::NoDimension(element)));
         }
         slots.push(slot)?;

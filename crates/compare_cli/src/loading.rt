@@ -1,4 +1,4 @@
-//! The jobs on two sets of a size that is asked for.
+//! The comparisons and the summary of two sets of a size that is asked for.
 ghost use Rattle.std.specs.Prelude.{◌≡◌, ◌<◌, IfOk, string_bytes};
 ghost use Rattle.command_words.specs.Asked.{texts_in};
 ghost use Rattle.policy_load.specs.Loads.{first_load, second_load};
@@ -98,11 +98,11 @@ fn default_limits() -> Limits
 
 // The first key, by which the first set is summarised.
 fn first_key(alloc: Global) -> Result<Vec<String>, AllocError>
-    ensures { IfOk result (λ words. texts_in words.items ≡ first_key) }
+    ensures { IfOk result (λ names. texts_in names.items ≡ first_key) }
 {
-    let mut words = Vec::new(alloc);
-    words.push(String::from_str(alloc, "load:k001")?)?;
-    Ok(words)
+    let mut names = Vec::new(alloc);
+    names.push(String::from_str(alloc, "load:k001")?)?;
+    Ok(names)
 }
 
 // The first line of the summary of the set under named keys.
@@ -111,8 +111,8 @@ fn summary_line(alloc: Global, named: &Schema, set: &PolicySet) -> Result<String
     requires set_sound { IsSound set.now }
     ensures { IfOk result (IsLineFor (SummarisesFirst named.now set.now)) }
 {
-    let words = first_key(alloc)?;
-    let answer = set_summary(alloc, named, set, words.as_slice(), default_limits())?;
+    let names = first_key(alloc)?;
+    let answer = set_summary(alloc, named, set, names.as_slice(), default_limits())?;
     answer_line(alloc, &answer)
 }
 
@@ -163,7 +163,7 @@ fn load_lines(alloc: Global, keys: u32) -> Result<LoadLines, AllocError>
     })
 }
 
-/// What the jobs on the two sets of so many keys come to.
+/// What the comparisons and the summary of the two sets of so many keys come to.
 pub fn load_answer(alloc: Global, keys: u32) -> Result<Answer, AllocError>
     requires { keys < 1000 }
     ensures { IfOk result (AnswersLoad keys) }

@@ -1,4 +1,4 @@
-//! AnswersSummary a set of policies by dimensions.
+//! Summarises a set of policies by dimensions.
 ghost use Rattle.std.specs.Prelude.{◌≡◌, ◌≤◌, ◌<◌, true, All, IfOk, length, option_map};
 ghost use Rattle.std.specs.Str.{IsUtf8};
 ghost use Rattle.command_words.specs.Asked.{HasBudgetsInRange, are_dimensions, summarising_in, texts_in};
@@ -13,7 +13,7 @@ ghost use Rattle.compare_cli.specs.Summarised.{limits_in, summary_contents, told
 use crate::answer::{Answer, FoundLines, FoundList, Refusal, Role, Shortage};
 use crate::contents::named_schema;
 use crate::dimensions::slots_of;
-use command_words::SummaryWords;
+use command_words::SummaryArguments;
 use findings::{Finding, Summary, finding_text};
 use plain_lists::EqualClone;
 use policy_compile::{Query, QueryFault, set_query};
@@ -74,30 +74,30 @@ fn query_of(
 }
 
 // The answer on the dimension of the index: too many predicates of it are named.
-fn too_many(alloc: Global, words: &[String], dimension: u32) -> Result<Answer, AllocError>
-    requires { dimension < length words.now }
-    ensures { IfOk result (IsTooManyAnswer (texts_in words.now) dimension) }
+fn too_many(alloc: Global, names: &[String], dimension: u32) -> Result<Answer, AllocError>
+    requires { dimension < length names.now }
+    ensures { IfOk result (IsTooManyAnswer (texts_in names.now) dimension) }
 {
-    let word = Text::of(alloc, words[dimension as usize].as_str())?;
-    Ok(Answer::Refused(Refusal::TooManyPredicates(word)))
+    let name = Text::of(alloc, names[dimension as usize].as_str())?;
+    Ok(Answer::Refused(Refusal::TooManyPredicates(name)))
 }
 
 // The answer to what the summary came to.
 fn outcome_answer(
     alloc: Global,
     outcome: Outcome,
-    words: &[String],
+    names: &[String],
     limits: Limits,
 ) -> Result<Answer, AllocError>
-    requires { HasTexts (texts_in words.now) outcome }
-    ensures { IfOk result (IsOutcomeAnswer (texts_in words.now) limits outcome) }
+    requires { HasTexts (texts_in names.now) outcome }
+    ensures { IfOk result (IsOutcomeAnswer (texts_in names.now) limits outcome) }
 {
     match outcome {
         Outcome::Found(strata, summary) => {
             let lines = all_lines(alloc, &strata, summary.as_slice())?;
             Ok(Answer::Summary(lines))
         }
-        Outcome::TooManyPredicates(dimension) => too_many(alloc, words, dimension),
+        Outcome::TooManyPredicates(dimension) => too_many(alloc, names, dimension),
         Outcome::Wide(slot, _) => Ok(Answer::Undecided(Shortage::States(limits.states, slot))),
         Outcome::OutOfFindings => Ok(Answer::Undecided(Shortage::Findings(limits.findings))),
         Outcome::OutOfSplits(strata, finding) => {
@@ -118,42 +118,42 @@ fn known_answer(
     schema: &Schema,
     set: &PolicySet,
     slots: &SlotList,
-    words: &[String],
+    names: &[String],
     limits: Limits,
 ) -> Result<Answer, AllocError>
     requires sound { SchemaIsSound schema.now }
     requires fits { SchemaFits schema.now set.now }
-    requires dimensions { are_dimensions (texts_in words.now) ≡ true }
-    requires texts { All IsUtf8 (texts_in words.now) }
-    requires known { NameSlots schema.now (texts_in words.now) }
-    requires slots { slots.now ≡ dimension_slots (texts_in words.now) }
+    requires dimensions { are_dimensions (texts_in names.now) ≡ true }
+    requires texts { All IsUtf8 (texts_in names.now) }
+    requires known { NameSlots schema.now (texts_in names.now) }
+    requires slots { slots.now ≡ dimension_slots (texts_in names.now) }
     requires limits { AreInRange limits }
-    ensures { IfOk result (SummarisesKnown (texts_in words.now) limits schema.now set.now) }
+    ensures { IfOk result (SummarisesKnown (texts_in names.now) limits schema.now set.now) }
 {
     let query = match query_of(alloc, schema, set)? {
         Ok(query) => query,
         Err(refusal) => return Ok(Answer::Refused(refusal)),
     };
     let outcome = find_summary(alloc, schema, &query, slots, limits)?;
-    outcome_answer(alloc, outcome, words, limits)
+    outcome_answer(alloc, outcome, names, limits)
 }
 
-/// The summary of a set, under the schema of its run, by the dimensions that the words name.
+/// The summary of a set, under the schema of its run, by the dimensions of these names.
 pub fn summarise_set(
     alloc: Global,
     schema: &Schema,
     set: &PolicySet,
-    words: &[String],
+    names: &[String],
     limits: Limits,
 ) -> Result<Answer, AllocError>
     requires sound { SchemaIsSound schema.now }
     requires fits { SchemaFits schema.now set.now }
-    requires dimensions { are_dimensions (texts_in words.now) ≡ true }
+    requires dimensions { are_dimensions (texts_in names.now) ≡ true }
     requires limits { AreInRange limits }
-    ensures { IfOk result (λ a. SummarisesUnder (texts_in words.now) limits set.now a schema.now) }
+    ensures { IfOk result (λ a. SummarisesUnder (texts_in names.now) limits set.now a schema.now) }
 {
-    match slots_of(alloc, schema, words)? {
-        Ok(slots) => known_answer(alloc, schema, set, &slots, words, limits),
+    match slots_of(alloc, schema, names)? {
+        Ok(slots) => known_answer(alloc, schema, set, &slots, names, limits),
         Err(refusal) => Ok(Answer::Refused(refusal)),
     }
 }
@@ -163,17 +163,17 @@ pub fn set_summary(
     alloc: Global,
     named: &Schema,
     set: &PolicySet,
-    words: &[String],
+    names: &[String],
     limits: Limits,
 ) -> Result<Answer, AllocError>
     requires sound { SchemaIsSound named.now }
     requires set_sound { IsSound set.now }
-    requires dimensions { are_dimensions (texts_in words.now) ≡ true }
+    requires dimensions { are_dimensions (texts_in names.now) ≡ true }
     requires limits { AreInRange limits }
-    ensures { IfOk result (λ a. SummarisesSet (texts_in words.now) limits a named.now set.now) }
+    ensures { IfOk result (λ a. SummarisesSet (texts_in names.now) limits a named.now set.now) }
 {
     match infer(alloc, named, set, None) {
-        Ok(schema) => summarise_set(alloc, &schema, set, words, limits),
+        Ok(schema) => summarise_set(alloc, &schema, set, names, limits),
         Err(InferAnswer::Refused(fault)) => {
             Ok(Answer::Refused(Refusal::NoRun(Role::Set, fault)))
         }
@@ -181,16 +181,16 @@ pub fn set_summary(
     }
 }
 
-// The limits that the words name.
-fn limits_of(words: &SummaryWords) -> Limits
-    requires { HasBudgetsInRange words.now }
-    ensures value { result ≡ limits_in (summarising_in words.now) }
+// The limits of the arguments.
+fn limits_of(arguments: &SummaryArguments) -> Limits
+    requires { HasBudgetsInRange arguments.now }
+    ensures value { result ≡ limits_in (summarising_in arguments.now) }
     ensures range { AreInRange result }
 {
     Limits {
-        splits: words.splits,
-        states: words.states,
-        findings: words.findings,
+        splits: arguments.splits,
+        states: arguments.states,
+        findings: arguments.findings,
     }
 }
 
@@ -200,11 +200,11 @@ pub fn summary_of(
     alloc: Global,
     set: &[u8],
     schema: Option<&[u8]>,
-    words: &SummaryWords,
+    arguments: &SummaryArguments,
 ) -> Result<Answer, AllocError>
-    requires budgets { HasBudgetsInRange words.now }
-    requires dimensions { are_dimensions (texts_in words.now.dimensions.items) ≡ true }
-    ensures { IfOk result (AnswersSummary (summarising_in words.now)
+    requires budgets { HasBudgetsInRange arguments.now }
+    requires dimensions { are_dimensions (texts_in arguments.now.dimensions.items) ≡ true }
+    ensures { IfOk result (AnswersSummary (summarising_in arguments.now)
         (summary_contents set.now (option_map (λ f. f.now) schema.entry))) }
 {
     let named = match named_schema(alloc, schema) {
@@ -223,7 +223,7 @@ pub fn summary_of(
         alloc,
         &named,
         &set,
-        words.dimensions.as_slice(),
-        limits_of(words),
+        arguments.dimensions.as_slice(),
+        limits_of(arguments),
     )
 }

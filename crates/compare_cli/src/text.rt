@@ -240,11 +240,11 @@ fn too_long_end(alloc: Global, role: Role) -> Result<String, AllocError>
 }
 
 // What is refused where too many predicates are named of a dimension, as JSON.
-fn predicates_text(alloc: Global, word: &Text) -> Result<String, AllocError>
-    ensures { IfOk result (λ s. string_bytes s ≡ element_text (predicates_element word.now)) }
+fn predicates_text(alloc: Global, name: &Text) -> Result<String, AllocError>
+    ensures { IfOk result (λ s. string_bytes s ≡ element_text (predicates_element name.now)) }
 {
-    let word = word.to_utf8()?;
-    let element = format!(in alloc; "predicates of {word}")?;
+    let name = name.to_utf8()?;
+    let element = format!(in alloc; "predicates of {name}")?;
     Value::String(element).to_string(alloc)
 }
 
@@ -289,13 +289,13 @@ fn refusal_text(alloc: Global, refusal: &Refusal) -> Result<String, AllocError>
             alloc,
             "refused: query: P17 Limit: document 0, statement 0, \"pieces\"\n",
         ),
-        Refusal::NoDimension(word) => {
-            let word = element_text(alloc, word)?;
-            let word = word.as_str();
-            format!(in alloc; "refused: schema: S5 UnknownDimension: {word}\n")
+        Refusal::NoDimension(name) => {
+            let name = element_text(alloc, name)?;
+            let name = name.as_str();
+            format!(in alloc; "refused: schema: S5 UnknownDimension: {name}\n")
         }
-        Refusal::TooManyPredicates(word) => {
-            let element = predicates_text(alloc, word)?;
+        Refusal::TooManyPredicates(name) => {
+            let element = predicates_text(alloc, name)?;
             let element = element.as_str();
             format!(in alloc; "refused: query: P17 Limit: document 0, statement 0, {element}\n")
         }
@@ -498,7 +498,7 @@ fn ended(alloc: Global, line: &str) -> Result<String, AllocError>
     format!(in alloc; "{line}\n")
 }
 
-// The lines of the jobs on two sets.
+// The lines of a load.
 fn load_text(alloc: Global, lines: &LoadLines) -> Result<String, AllocError>
     ensures { IfOk result (λ s. string_bytes s ≡ load_text lines.now) }
 {

@@ -2,7 +2,7 @@
 ghost use Rattle.std.specs.Prelude.{◌≡◌, ◌≤◌, None, IfOk};
 ghost use Rattle.pol_outside.specs.Faults.{Rose};
 ghost use Rattle.command_words.specs.Asked.{asked_by};
-ghost use Rattle.compare_cli.specs.Answers.{IsAnswer};
+ghost use Rattle.compare_cli.specs.Answers.{IsAnswer, reading_of};
 ghost use Rattle.compare_cli.specs.Complete.{IsAccepted, IsDecided};
 ghost use Rattle.compare_cli.specs.Promises.{IsUsageOrFault, Promises};
 ghost use Rattle.compare_cli.specs.Statuses.{exit_number, status_of};
@@ -59,13 +59,8 @@ fn answer<F: Folder>(
     arguments: &[String],
     folder: &mut F,
 ) -> Result<Answer, AllocError>
-    ensures given { IfOk result (IsAnswer (asked_by arguments.now) (record {
-      held = F.held folder.old;
-      faults_before = F.faults folder.old;
-      faults = F.faults folder.new;
-      last_before = F.last_fault folder.old;
-      last = F.last_fault folder.new;
-    })) }
+    ensures given { IfOk result (IsAnswer (asked_by arguments.now)
+        (reading_of F.held F.faults F.last_fault folder.old folder.new)) }
     ensures untouched { asked_by arguments.now ≡ None → folder.new ≡ folder.old }
     ensures held { F.held folder.new ≡ F.held folder.old }
     ensures later { F.faults folder.old ≤ F.faults folder.new }
@@ -125,13 +120,7 @@ pub fn run<F: Folder, S: Sink>(
     out: &mut S,
 ) -> Status
     ensures promises { Promises (asked_by arguments.now)
-        (record {
-          held = F.held folder.old;
-          faults_before = F.faults folder.old;
-          faults = F.faults folder.new;
-          last_before = F.last_fault folder.old;
-          last = F.last_fault folder.new;
-        })
+        (reading_of F.held F.faults F.last_fault folder.old folder.new)
         (record {
           faults_before = S.faults out.old;
           faults = S.faults out.new;

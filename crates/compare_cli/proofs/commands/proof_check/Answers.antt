@@ -5,7 +5,7 @@ use Rattle.std.proofs.lemmas.Result.{IfOk-weaker}
 use Rattle.command_words.specs.Asked.{Asked, a_check, checking_in}
 use Rattle.pol_outside.specs.Folder.{Files}
 use Rattle.compare_cli.specs.declared.answer.Role.TheVariants as role
-use Rattle.compare_cli.specs.Answers.{Contents, Reading, contents}
+use Rattle.compare_cli.specs.Answers.{Contents, Reading, contents, reading_of}
 use Rattle.compare_cli.specs.Files.{IsShort, IsShortIfNamed}
 use Rattle.compare_cli.proofs.Answering.{IsAnswerTo-read}
 use Rattle.compare_cli.proofs.commands.proof_check.Goals as goal
@@ -13,19 +13,13 @@ use Rattle.compare_cli.proofs.commands.proof_check.Goals as goal
 pub returns-clause-given : goal.returns-clause-given
 returns-clause-given g c =
     let held : Option Files = g.F.Folder.held c.args.folder.now in
-    let words = c.args.words.now in
-    let asked : Asked = a_check (checking_in words) in
-    let r : Reading = record {
-      held = held;
-      faults_before = g.F.Folder.faults c.args.folder.now;
-      faults = g.F.Folder.faults c.read_if_named.new.folder;
-      last_before = g.F.Folder.last_fault c.args.folder.now;
-      last = g.F.Folder.last_fault c.read_if_named.new.folder;
-    } in
-    let first_short : IsShort held role.First (string_bytes words.names.first) c.as_slice.result.now = search rules in
-    let second_short : IsShort held role.Second (string_bytes words.names.second) c.as_slice-2.result.now = search rules in
-    let proof_short : IsShort held role.Proof (string_bytes words.proof) c.as_slice-3.result.now = search rules in
-    let name : Option (List ℕ) = option_map (λ n. string_bytes n) words.names.schema in
+    let arguments = c.args.arguments.now in
+    let asked : Asked = a_check (checking_in arguments) in
+    let r : Reading = reading_of g.F.Folder.held g.F.Folder.faults g.F.Folder.last_fault c.args.folder.now c.read_if_named.new.folder in
+    let first_short : IsShort held role.First (string_bytes arguments.names.first) c.as_slice.result.now = search rules in
+    let second_short : IsShort held role.Second (string_bytes arguments.names.second) c.as_slice-2.result.now = search rules in
+    let proof_short : IsShort held role.Proof (string_bytes arguments.proof) c.as_slice-3.result.now = search rules in
+    let name : Option (List ℕ) = option_map (λ n. string_bytes n) arguments.names.schema in
     let same : g.F.Folder.held c.read_file-3.new.folder ≡ held = c.in-Ok-read_file-2.ensures.held ∙ c.in-Ok-read_file.ensures.held ∙ c.in-Ok.ensures.held in
     let read : IsShortIfNamed held role.Schema name (option_map (λ (b : Vec ℕ Global). b.items) c.in-Ok-read_if_named.bytes) =
     subst (λ (h : Option Files). IsShortIfNamed h role.Schema name (option_map (λ (b : Vec ℕ Global). b.items) c.in-Ok-read_if_named.bytes)) same c.in-Ok-read_if_named.ensures.reads in

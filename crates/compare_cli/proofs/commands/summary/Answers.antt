@@ -5,7 +5,7 @@ use Rattle.std.proofs.lemmas.Result.{IfOk-weaker}
 use Rattle.command_words.specs.Asked.{Asked, a_summary, summarising_in}
 use Rattle.pol_outside.specs.Folder.{Files}
 use Rattle.compare_cli.specs.declared.answer.Role.TheVariants as role
-use Rattle.compare_cli.specs.Answers.{Reading}
+use Rattle.compare_cli.specs.Answers.{Reading, reading_of}
 use Rattle.compare_cli.specs.Files.{IsShort, IsShortIfNamed}
 use Rattle.compare_cli.specs.Summarised.{SummaryContents, summary_contents}
 use Rattle.compare_cli.proofs.Answering.{IsAnswerTo-read}
@@ -14,17 +14,11 @@ use Rattle.compare_cli.proofs.commands.summary.Goals as goal
 pub returns-clause-given : goal.returns-clause-given
 returns-clause-given g c =
     let held : Option Files = g.F.Folder.held c.args.folder.now in
-    let words = c.args.words.now in
-    let asked : Asked = a_summary (summarising_in words) in
-    let r : Reading = record {
-      held = held;
-      faults_before = g.F.Folder.faults c.args.folder.now;
-      faults = g.F.Folder.faults c.read_if_named.new.folder;
-      last_before = g.F.Folder.last_fault c.args.folder.now;
-      last = g.F.Folder.last_fault c.read_if_named.new.folder;
-    } in
-    let set_short : IsShort held role.Set (string_bytes words.set) c.as_slice.result.now = search rules in
-    let name : Option (List ℕ) = option_map (λ n. string_bytes n) words.schema in
+    let arguments = c.args.arguments.now in
+    let asked : Asked = a_summary (summarising_in arguments) in
+    let r : Reading = reading_of g.F.Folder.held g.F.Folder.faults g.F.Folder.last_fault c.args.folder.now c.read_if_named.new.folder in
+    let set_short : IsShort held role.Set (string_bytes arguments.set) c.as_slice.result.now = search rules in
+    let name : Option (List ℕ) = option_map (λ n. string_bytes n) arguments.schema in
     let same : g.F.Folder.held c.read_file.new.folder ≡ held = c.in-Ok.ensures.held in
     let read : IsShortIfNamed held role.Schema name (option_map (λ (b : Vec ℕ Global). b.items) c.in-Ok-read_if_named.bytes) =
     subst (λ (h : Option Files). IsShortIfNamed h role.Schema name (option_map (λ (b : Vec ℕ Global). b.items) c.in-Ok-read_if_named.bytes)) same c.in-Ok-read_if_named.ensures.reads in

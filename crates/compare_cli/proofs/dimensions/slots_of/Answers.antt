@@ -5,47 +5,47 @@ use Rattle.command_words.specs.Asked.{texts_in}
 use Rattle.policy_model.proofs.Laws.{All-done}
 use Rattle.slot_theory.specs.Slots.{SlotIsIn}
 use Rattle.compare_cli.specs.Dimensions.{IsFirstUnknown, NamesSlot, dimension_slot}
-use Rattle.compare_cli.proofs.Naming.{known-more, past-texts, slots-more, unknown-at, utf8-more, within-texts, word-at}
+use Rattle.compare_cli.proofs.Naming.{known-more, name-at, past-texts, slots-more, unknown-at, utf8-more, within-texts}
 use Rattle.compare_cli.proofs.dimensions.slots_of.Goals as goal
 
 pub returns-then-not-is_in-clause-slots : goal.returns-then-not-is_in-clause-slots
 returns-then-not-is_in-clause-slots c =
     let schema = c.args.schema.now in
-    let words = c.args.words.now in
-    let i = c.loop-word.word-index in
-    let item = c.word-item.result in
-    let within : i < length words = omega arith in
+    let names = c.args.names.now in
+    let i = c.loop-name.name-index in
+    let item = c.name-item.result in
+    let within : i < length names = omega arith in
     let slot_is : c.in_ok-slot.slot ≡ dimension_slot (string_bytes item) = search rules in
     let unknown : ¬ NamesSlot schema (string_bytes item) = λ known.
     let there = c.is_in.ensures.1 (subst (SlotIsIn schema) (sym slot_is) known) in
     let off = c.if-not-is_in.true in
     absurd (cc) in
     let element : c.in_ok-element.element ≡ chars (string_bytes item) = search rules in
-    subst (λ (e : List ℕ). IsFirstUnknown schema (texts_in words) e) (sym element)
-    (unknown-at schema (texts_in words) i (string_bytes item) (within-texts words i within) (word-at words i item within c.word-item.is) c.loop-word.invariant.known unknown)
+    subst (λ (e : List ℕ). IsFirstUnknown schema (texts_in names) e) (sym element)
+    (unknown-at schema (texts_in names) i (string_bytes item) (within-texts names i within) (name-at names i item within c.name-item.is) c.loop-name.invariant.known unknown)
 
-pub loop-word-preserved : goal.loop-word-preserved
-loop-word-preserved c =
+pub loop-name-preserved : goal.loop-name-preserved
+loop-name-preserved c =
     let schema = c.args.schema.now in
-    let words = c.args.words.now in
-    let i = c.loop-word.word-index in
-    let item = c.word-item.result in
+    let names = c.args.names.now in
+    let i = c.loop-name.name-index in
+    let item = c.name-item.result in
     let w : List ℕ = string_bytes item in
-    let within : i < length words = omega arith in
-    let inside = within-texts words i within in
-    let here = word-at words i item within c.word-item.is in
+    let within : i < length names = omega arith in
+    let inside = within-texts names i within in
+    let here = name-at names i item within c.name-item.is in
     let slot_is : c.in_ok-slot.slot ≡ dimension_slot w = search rules in
     let on : IsTrue c.is_in.result = search rules in
-    let pushed : c.push.new.self ≡ c.loop-word.slots ++ c.in_ok-slot.slot ∷ [] = search rules in
+    let pushed : c.push.new.self ≡ c.loop-name.slots ++ c.in_ok-slot.slot ∷ [] = search rules in
     let text : IsUtf8 w = subst IsUtf8 c.as_str.ensures.value c.as_str.utf8 in
     record {
-      slots = pushed ∙ slots-more (texts_in words) i w c.loop-word.slots c.in_ok-slot.slot inside here c.loop-word.invariant.slots slot_is;
-      known = known-more schema (texts_in words) i w inside here c.loop-word.invariant.known (subst (SlotIsIn schema) slot_is (c.is_in.ensures.0 on));
-      texts = utf8-more (texts_in words) i w inside here c.loop-word.invariant.texts text;
+      slots = pushed ∙ slots-more (texts_in names) i w c.loop-name.slots c.in_ok-slot.slot inside here c.loop-name.invariant.slots slot_is;
+      known = known-more schema (texts_in names) i w inside here c.loop-name.invariant.known (subst (SlotIsIn schema) slot_is (c.is_in.ensures.0 on));
+      texts = utf8-more (texts_in names) i w inside here c.loop-name.invariant.texts text;
     }
 
 pub returns-clause-texts : goal.returns-clause-texts
 returns-clause-texts c =
-    let words = c.args.words.now in
-    let past : length words ≤ c.loop-word.word-index = omega arith in
-    All-done IsUtf8 (texts_in words) c.loop-word.word-index (past-texts words c.loop-word.word-index past) c.loop-word.invariant.texts
+    let names = c.args.names.now in
+    let past : length names ≤ c.loop-name.name-index = omega arith in
+    All-done IsUtf8 (texts_in names) c.loop-name.name-index (past-texts names c.loop-name.name-index past) c.loop-name.invariant.texts

@@ -7,6 +7,6 @@ use Rattle.compare_cli.proofs.summary.summarise_set.Goals as goal
 
 pub returns-in-Ok : goal.returns-in-Ok
 returns-in-Ok c =
-    let words = texts_in c.args.words.now in
-    let known : NameSlots c.args.schema.now words = search rules in
-    IfOk-weaker c.known_answer.result _ _ (λ a v. under-known words c.args.limits c.args.schema.now c.args.set.now known a v) c.known_answer.ensures
+    let names = texts_in c.args.names.now in
+    let known : NameSlots c.args.schema.now names = search rules in
+    IfOk-weaker c.known_answer.result _ _ (λ a v. under-known names c.args.limits c.args.schema.now c.args.set.now known a v) c.known_answer.ensures
