@@ -11,6 +11,9 @@
 //! key absent, with one value and, where there is a prefix, with two. Of each it prints how many pairs of
 //! a condition and a request that makes, how many conditions hold, and each pair on which the three
 //! answers differ; then the same of all lines together.
+//!
+//! A line `shared|SET|PLACES` asks which parts of the tree of a set's file are one formula, as `sharing`
+//! has it.
 #![tactic(auto)]
 
 ghost use Rattle.policy_model.specs.Soundness.{SchemaFits};
@@ -20,6 +23,7 @@ mod definition;
 mod lists;
 mod row;
 mod sets;
+mod sharing;
 mod tally;
 
 use asked::{Asked, requests_of, schema_with_key};
@@ -29,6 +33,7 @@ use policy_compile::Query;
 use policy_model::{PolicySet, Schema};
 use row::{Row, part_of, parts_in, row_of};
 use sets::{compiled, evaluated, operands_text, query_of, schema_of, set_of};
+use sharing::print_sharing;
 use std::alloc::Global;
 use std::io;
 use std::io::{BufRead, BufReader, Write};
@@ -177,6 +182,10 @@ fn try_row(alloc: Global, out: &mut impl Write, row: Row) -> io::Result<Tally> {
 }
 
 fn try_line(alloc: Global, out: &mut impl Write, line: &str) -> io::Result<Tally> {
+    if let Some(rest) = line.strip_prefix("shared|") {
+        print_sharing(alloc, out, rest)?;
+        return Ok(Tally::NONE);
+    }
     let row = row_of(alloc, line)?;
     let tally = try_row(alloc, out, row)?;
     let (base, kind) = (row.base, row.kind);

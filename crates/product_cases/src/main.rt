@@ -1,18 +1,25 @@
-//! Prints, of each line `LIMIT YES NO OTHER` of standard input, what the product answers to the wants
-//! that the first pattern matches and the two others don't: a text; or the product states of a closed
-//! set, and whether it is closed, and whether it is without each of them in turn; or how many texts.
+//! Prints what products answer to lines of standard input.
+//!
+//! A line `LIMIT YES NO OTHER` asks for what the product answers to the wants that the first pattern matches
+//! and the two others don't: a text; or the product states of a closed set, and whether it is closed, and
+//! whether it is without each of them in turn; or how many texts.
+//!
+//! A line `states LIMIT FORM NAME` asks for how many product states a product has of which no text is wanted, and
+//! whether its closed set is; with the argument `time` also for how fast it is made and checked.
 #![tactic(auto)]
+
+mod made;
 
 ghost use Rattle.std.specs.Prelude.{◌≡◌, ◌≤◌, ◌∷◌, [], IfOk, length};
 ghost use Rattle.pattern_automata.specs.Closed.{InRange};
 
+use made::push_made;
 use pattern_automata::{
-    ClauseList, Closed, Literal, LiteralList, PlaceList, PlaceLists, Product, Wants, is_closed,
-    product,
+    ClauseList, Closed, Literal, LiteralList, PlaceLists, Product, State, Wants, is_closed, product,
 };
 use std::alloc::Global;
-use std::io;
 use std::io::{BufRead, BufReader, ErrorKind, Write};
+use std::{env, io};
 use wildcard_lang::{Pattern, PatternList, read_glob};
 
 fn read(alloc: Global, text: &str) -> io::Result<Pattern> {
@@ -23,7 +30,7 @@ fn read(alloc: Global, text: &str) -> io::Result<Pattern> {
 }
 
 /// The clause of one literal.
-fn clause(alloc: Global, pattern: u32, holds: bool) -> io::Result<LiteralList>
+pub(crate) fn clause(alloc: Global, pattern: u32, holds: bool) -> io::Result<LiteralList>
     ensures { IfOk result (λ k. k ≡ record { pattern = pattern; holds = holds } ∷ []) }
 {
     let mut clause = LiteralList::new(alloc);
@@ -47,8 +54,8 @@ fn wants_of(alloc: Global, yes: Pattern, no: Pattern, other: Pattern) -> io::Res
 }
 
 /// Writes the places, each after a comma.
-fn write_places(alloc: Global, places: &PlaceList, line: &mut String) -> io::Result<()> {
-    for place in places.as_slice() {
+fn write_places(alloc: Global, places: &[u32], line: &mut String) -> io::Result<()> {
+    for place in places {
         let word = format!(in alloc; ",{place}")?;
         line.push_str(word.as_str())?;
     }
@@ -56,26 +63,18 @@ fn write_places(alloc: Global, places: &PlaceList, line: &mut String) -> io::Res
 }
 
 /// Writes a product state, each of its lists after a bar.
-fn write_state(alloc: Global, state: &PlaceLists, line: &mut String) -> io::Result<()> {
-    for places in state.as_slice() {
+fn write_state(alloc: Global, state: &State<'_>, line: &mut String) -> io::Result<()> {
+    for i in 0..state.len() {
         line.push_str("|")?;
-        write_places(alloc, places, line)?;
+        write_places(alloc, state.get(i), line)?;
     }
     Ok(())
 }
 
-fn copy_places(alloc: Global, places: &PlaceList) -> io::Result<PlaceList> {
-    let mut copy = PlaceList::new(alloc);
-    for place in places.as_slice() {
-        copy.push(*place)?;
-    }
-    Ok(copy)
-}
-
-fn copy_state(alloc: Global, state: &PlaceLists) -> io::Result<PlaceLists> {
+fn copy_state(alloc: Global, state: &State<'_>) -> io::Result<PlaceLists> {
     let mut copy = PlaceLists::new(alloc);
-    for places in state.as_slice() {
-        copy.push(copy_places(alloc, places)?)?;
+    for i in 0..state.len() {
+        copy.push(state.get(i))?;
     }
     Ok(copy)
 }
@@ -83,9 +82,10 @@ fn copy_state(alloc: Global, state: &PlaceLists) -> io::Result<PlaceLists> {
 /// The set without the product state at an index.
 fn without(alloc: Global, closed: &Closed, index: usize) -> io::Result<Closed> {
     let mut rest = Closed::new(alloc);
-    for (i, state) in closed.as_slice().iter().enumerate() {
+    for i in 0..closed.len() {
         if i != index {
-            rest.push(copy_state(alloc, state)?)?;
+            let state = copy_state(alloc, &closed.get(i))?;
+            rest.push(&state)?;
         }
     }
     Ok(rest)
@@ -114,11 +114,11 @@ fn write_closed(
 fn write_set(alloc: Global, wants: &Wants, closed: &Closed, line: &mut String) -> io::Result<()>
     requires { InRange (length wants.now.patterns) wants.now.clauses }
 {
-    for state in closed.as_slice() {
-        line.push_str(" ")?;
-        write_state(alloc, state, line)?;
-    }
     let count = closed.len();
+    for i in 0..count {
+        line.push_str(" ")?;
+        write_state(alloc, &closed.get(i), line)?;
+    }
     write_closed(alloc, wants, closed, count, line)?;
     for index in 0..count {
         write_closed(alloc, wants, closed, index, line)?;
@@ -171,13 +171,24 @@ fn answer_to(alloc: Global, words: &[&str]) -> io::Result<String> {
     Ok(line)
 }
 
+// The answer to a line.
+fn answer_to_line(rt: &HostRuntime, line: &str, timed: bool) -> io::Result<String> {
+    let alloc = rt.alloc();
+    if let Some(words) = line.strip_prefix("states ") {
+        let mut answer = String::new(alloc);
+        push_made(rt, &mut answer, words, timed)?;
+        return Ok(answer);
+    }
+    let words: Vec<&str> = line.split(' ').collect(alloc)?;
+    answer_to(alloc, words.as_slice())
+}
+
 fn main(rt: HostRuntime) -> io::Result<()> {
     let alloc = rt.alloc();
+    let timed = env::args(&rt)?.any(|argument| argument.as_str() == "time");
     let mut out = io::writer(&rt);
     for line in BufReader::new(alloc, rt.reader())?.lines(alloc) {
-        let line = line?;
-        let words: Vec<&str> = line.as_str().split(' ').collect(alloc)?;
-        let answer = answer_to(alloc, words.as_slice())?;
+        let answer = answer_to_line(&rt, line?.as_str(), timed)?;
         out.write_all(answer.as_bytes())?;
         out.write_all(b"\n")?;
     }

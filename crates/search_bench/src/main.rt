@@ -1,12 +1,19 @@
-//! How many conflicts and hits some paths meet, and with the word `time` how fast they are found.
+//! What the cases of standard input give, and then how many conflicts and hits drawn paths meet. With the word
+//! `time` there are no cases, and it is printed how fast conflicts and hits are found.
 #![tactic(auto)]
 
 ghost use Rattle.std.specs.Prelude.{◌<◌, true, refl};
 
+mod cases;
+mod reading;
+
+use cases::print_case;
 use cnf_clauses::{Clauses, clauses_of, conflict};
 use formula_tree::{Branches, Formula, Path};
+use line_expansion::expand;
 use nogoods::{Closes, NoMemory, Store};
 use std::alloc::Global;
+use std::io::{BufRead, BufReader};
 use std::rc::Rc;
 use std::time::Instant;
 use std::{env, io};
@@ -246,8 +253,21 @@ fn run_hits(rt: &HostRuntime, one_in: u32, calls: u32, timed: bool) -> io::Resul
     Ok(())
 }
 
+/// Prints what each case of standard input gives.
+fn print_cases(rt: &HostRuntime) -> io::Result<()> {
+    let alloc = rt.alloc();
+    let mut out = io::writer(rt);
+    for line in BufReader::new(alloc, rt.reader())?.lines(alloc) {
+        print_case(alloc, &mut out, expand(alloc, line?.as_str())?.as_str())?;
+    }
+    Ok(())
+}
+
 fn main(rt: HostRuntime) -> io::Result<()> {
     let timed = env::args(&rt)?.any(|argument| argument.as_str() == "time");
+    if !timed {
+        print_cases(&rt)?;
+    }
     run_conflicts(&rt, 200, 2, 20, timed)?;
     run_conflicts(&rt, 200, 50, 20, timed)?;
     run_conflicts(&rt, 4_000, 2, 5, timed)?;

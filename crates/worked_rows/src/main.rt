@@ -1,134 +1,73 @@
-//! Runs the comparer over folders and sinks in memory, as the cases of standard input say, and prints
-//! how each run ends and what it wrote.
+//! Runs the comparer as the cases of standard input say, and prints how each run ends and what it wrote.
 //!
-//! A case is the lines up to an empty one: its name, and then lines that begin with a word. `first TEXT`,
-//! `second TEXT` and `schema TEXT` are the files of these names, in which `⟦N|TEXT⟧` stands for N times
-//! TEXT; a file without a line isn't there. `take N` and `put N` make the folder's or the sink's call of that number
-//! fail, `room N` and `most N` are the bytes that the sink has room for and takes at a call. Then
-//! `$ ARGUMENTS` is a run, its arguments one space apart. `set TEXT` compares the text with that of each
-//! line `set` of the case, over a folder and a sink that never fail, and prints the exit numbers.
+//! A case is the lines up to an empty one: its name, and then lines that begin with a word. Folders and sinks
+//! are in memory, but of `real ARGUMENTS`, which runs over real files and standard output: these are the
+//! examples of README.
+//!
+//! `first TEXT`, `second TEXT` and `schema TEXT` are the files of these names, in which `⟦N|TEXT⟧` stands
+//! for N times TEXT; a file without a line isn't there. `take N` and `put N` make the folder's or the
+//! sink's call of that number fail, `room N` and `most N` are the bytes that the sink has room for and
+//! takes at a call. Then `$ ARGUMENTS` is a run, its arguments one space apart. `set TEXT` compares the text
+//! with that of each line `set` of the case, over a folder and a sink that never fail, and prints the exit
+//! numbers. `file TEXT` compares a file with itself, and prints the first fault of a faulty file, and of any
+//! other that it isn't more permissive.
+//!
+//! A command with its files has a tab behind it and between them: `check FIRST SECOND PROOF` and `eval SET
+//! REQUEST`, and behind them a schema's file or none. In a certificate `/` stands for a line feed. The exit
+//! number is printed, and what the run wrote. `printed FIRST SECOND` compares two sets, and checks what that
+//! printed with its certificate: both exit numbers are printed, and the answer of the check. `splits N` and
+//! `labels N` check certificates that nest deep.
+//!
+//! `damaged PROOF FIRST SECOND` damages a certificate; the word `printed` stands for the one that `compare
+//! --proof` prints of the sets. The certificate is printed and its answer, and behind the name of each kind of
+//! damage the answers to all certificates that it makes: each line left out, doubled, swapped with the
+//! next, each number of each line one more, and one less where it isn't 0. These answers are printed without
+//! the words `bad proof` and `line`.
 #![tactic(auto)]
 
-ghost use Rattle.std.specs.Prelude.{◌<◌, IfOk};
+mod commands;
+mod damage;
+mod damages;
+mod deep;
+mod memory;
+mod real;
+mod rows;
 
-use compare_cli::{exit_number, run};
-use line_expansion::expand;
-use pol_outside::{MemoryFolder, MemorySink, SafeFolder, SafeSink};
-use std::alloc::Global;
+use commands::print_command;
+use real::print_real;
+use rows::{print_file, print_row, print_words};
 use std::io;
-use std::io::{BufRead, BufReader, ErrorKind, Write};
+use std::io::{BufRead, BufReader, Write};
 
-/// Room for every answer, where a case names none.
-const ROOM: u64 = 4096;
-
-/// What stands behind the word at the front of a line of a case, below its name.
-fn behind<'a>(case: &'a str, word: &str) -> Option<&'a str> {
-    for line in case.lines().skip(1) {
-        if let Some(rest) = line.strip_prefix(word) {
-            return Some(rest);
-        }
+fn print_line(rt: &HostRuntime, out: &mut impl Write, case: &str, line: &str) -> io::Result<()> {
+    let alloc = rt.alloc();
+    if let Some(words) = line.strip_prefix('$') {
+        writeln!(out, "{line}")?;
+        return print_words(alloc, out, case, words);
     }
-    None
-}
-
-fn number_behind(case: &str, word: &str, default: u64) -> io::Result<u64> {
-    match behind(case, word) {
-        Some(text) => match text.parse::<u64>() {
-            Ok(number) => Ok(number),
-            Err(_) => Err(ErrorKind::InvalidData.into()),
-        },
-        None => Ok(default),
+    if let Some(first) = line.strip_prefix("set ") {
+        return print_row(alloc, out, case, first);
     }
-}
-
-/// The most bytes that the sink of a case takes at a call: at least one.
-fn most_of(case: &str) -> io::Result<usize>
-    ensures { IfOk result (λ n. 0 < n) }
-{
-    match number_behind(case, "most ", ROOM)? {
-        0 => Err(ErrorKind::InvalidData.into()),
-        most => Ok(most as usize),
+    if let Some(file) = line.strip_prefix("file ") {
+        return print_file(alloc, out, file);
     }
-}
-
-fn arguments_of(alloc: Global, text: &str) -> io::Result<Vec<String>> {
-    let mut arguments = Vec::new(alloc);
-    for argument in text.split(' ').skip(1) {
-        arguments.push(String::from_str(alloc, argument)?)?;
+    if let Some(words) = line.strip_prefix("real ") {
+        return print_real(rt, out, words);
     }
-    Ok(arguments)
-}
-
-fn folder_of(alloc: Global, case: &str) -> io::Result<MemoryFolder> {
-    let mut folder = MemoryFolder::new(alloc);
-    for name in ["first", "second", "schema"] {
-        hold(alloc, &mut folder, case, name)?;
+    match line.split_once('\t') {
+        Some((command, files)) => print_command(alloc, out, command, files),
+        None => Ok(()),
     }
-    folder.fail_at(number_behind(case, "take ", 0)?)?;
-    Ok(folder)
-}
-
-fn hold(alloc: Global, folder: &mut MemoryFolder, case: &str, name: &str) -> io::Result<()> {
-    if let Some(text) = behind(case, name) {
-        folder.hold(name, expand(alloc, text.trim_start())?.as_bytes())?;
-    }
-    Ok(())
-}
-
-fn sink_of(alloc: Global, case: &str) -> io::Result<MemorySink> {
-    let room = number_behind(case, "room ", ROOM)? as usize;
-    let mut sink = MemorySink::new(alloc, room, most_of(case)?)?;
-    sink.fail_at(number_behind(case, "put ", 0)?)?;
-    Ok(sink)
-}
-
-/// Prints the exit number of a run in memory, and what it wrote.
-fn print_run(alloc: Global, out: &mut impl Write, case: &str, arguments: &str) -> io::Result<()> {
-    let arguments = arguments_of(alloc, arguments)?;
-    let mut folder = folder_of(alloc, case)?;
-    let mut sink = sink_of(alloc, case)?;
-    let number = exit_number(run(alloc, arguments.as_slice(), &mut folder, &mut sink));
-    writeln!(out, "exit {number}")?;
-    out.write_all(sink.written())?;
-    out.write_all(b"\n")
-}
-
-/// The exit number of a comparison of two files over a folder and a sink that never fail.
-fn safe_number(alloc: Global, first: &str, second: &str) -> io::Result<u8> {
-    let arguments = arguments_of(alloc, " compare first second")?;
-    let mut folder = SafeFolder::new(alloc);
-    folder.hold("first", first.as_bytes())?;
-    folder.hold("second", second.as_bytes())?;
-    Ok(exit_number(run(
-        alloc,
-        arguments.as_slice(),
-        &mut folder,
-        &mut SafeSink::new(),
-    )))
-}
-
-/// Prints the exit numbers of a file against each set of a case.
-fn print_row(alloc: Global, out: &mut impl Write, case: &str, first: &str) -> io::Result<()> {
-    for line in case.lines() {
-        if let Some(second) = line.strip_prefix("set ") {
-            let number = safe_number(alloc, first, second)?;
-            write!(out, "{number}")?;
-        }
-    }
-    out.write_all(b"\n")
 }
 
 /// Prints the name of a case, and what its other lines ask for.
-fn print_case(alloc: Global, out: &mut impl Write, case: &str) -> io::Result<()> {
-    for (i, line) in case.lines().enumerate() {
-        if i == 0 {
-            writeln!(out, "{line}")?;
-        } else if let Some(arguments) = line.strip_prefix('$') {
-            writeln!(out, "{line}")?;
-            print_run(alloc, out, case, arguments)?;
-        } else if let Some(first) = line.strip_prefix("set ") {
-            print_row(alloc, out, case, first)?;
-        }
+fn print_case(rt: &HostRuntime, out: &mut impl Write, case: &str) -> io::Result<()> {
+    let Some(name) = case.lines().next() else {
+        return Ok(());
+    };
+    writeln!(out, "{name}")?;
+    for line in case.lines().skip(1) {
+        print_line(rt, out, case, line)?;
     }
     Ok(())
 }
@@ -140,12 +79,12 @@ fn main(rt: HostRuntime) -> io::Result<()> {
     for line in BufReader::new(alloc, rt.reader())?.lines(alloc) {
         let line = line?;
         if line.is_empty() {
-            print_case(alloc, &mut out, case.as_str())?;
+            print_case(&rt, &mut out, case.as_str())?;
             case.clear();
         } else {
             case.push_str(line.as_str())?;
             case.push_str("\n")?;
         }
     }
-    print_case(alloc, &mut out, case.as_str())
+    print_case(&rt, &mut out, case.as_str())
 }

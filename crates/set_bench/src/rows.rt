@@ -1,0 +1,149 @@
+//! Sets of the forms and sizes that speed is asked of, compared with changed ones.
+use crate::counts::Counts;
+use crate::runs::{print_time, timed_run, word_of};
+use crate::sets::{Change, Kind, push_set};
+use compare_cli::Status;
+use pol_outside::{MemorySink, SafeFolder, SafeSink};
+use std::io::ErrorKind;
+use std::{io, str};
+
+/// Room for a certificate: as many bytes as one may have that is checked.
+const ROOM: usize = 67_108_864;
+
+/// What the arguments ask for.
+#[derive(Clone, Copy)]
+pub(crate) struct Asked {
+    pub(crate) full: bool,
+    pub(crate) proof: bool,
+    pub(crate) timed: bool,
+}
+
+/// Sets, and how many items they have.
+#[derive(Clone, Copy)]
+struct Row {
+    kind: Kind,
+    change: Change,
+    count: u32,
+}
+
+fn kind_of(word: &str) -> Option<Kind> {
+    match word {
+        "keys" => Some(Kind::Keys),
+        "single" => Some(Kind::Single),
+        "large" => Some(Kind::Large),
+        "block" => Some(Kind::Block),
+        "stars" => Some(Kind::Stars),
+        "pooled" => Some(Kind::Pooled),
+        _ => None,
+    }
+}
+
+fn change_of(word: &str) -> Option<Change> {
+    match word {
+        "itself" => Some(Change::Itself),
+        "dropped" => Some(Change::Dropped),
+        "added" => Some(Change::Added),
+        "bare" => Some(Change::Bare),
+        _ => None,
+    }
+}
+
+/// The row of a line.
+fn row_of(line: &str, full: bool) -> Option<Row> {
+    let mut words = line.split(' ');
+    let kind = kind_of(words.next()?)?;
+    let change = change_of(words.next()?)?;
+    let small = words.next()?;
+    let count = if full { words.next()? } else { small };
+    let Ok(count) = count.parse::<u32>() else {
+        return None;
+    };
+    Some(Row {
+        kind,
+        change,
+        count,
+    })
+}
+
+/// Prints what a certificate is made of.
+fn print_counts(rt: &HostRuntime, certificate: &[u8]) -> io::Result<()> {
+    let Ok(text) = str::from_utf8(certificate) else {
+        return Err(ErrorKind::InvalidData.into());
+    };
+    let counts = Counts::of(text);
+    println!(rt; "  {counts}")
+}
+
+/// Prints whether the folder's certificate is accepted.
+fn print_check(rt: &HostRuntime, folder: &mut SafeFolder, timed: bool) -> io::Result<()> {
+    let words = "check first second proof";
+    let (status, micros) = timed_run(rt, words, folder, &mut SafeSink::new())?;
+    let accepted = status == Status::Holds;
+    println!(rt; "  accepted: {accepted}")?;
+    print_time(rt, timed, micros)
+}
+
+/// Prints what the certificate of the folder's sets is made of, and whether it is accepted.
+fn print_certificate(
+    rt: &HostRuntime,
+    folder: &mut SafeFolder,
+    sink: &mut MemorySink,
+    timed: bool,
+) -> io::Result<()> {
+    let words = "compare first second --proof";
+    let (status, micros) = timed_run(rt, words, folder, sink)?;
+    if status != Status::Holds {
+        println!(rt; "  no certificate")?;
+        return print_time(rt, timed, micros);
+    }
+    print_counts(rt, sink.written())?;
+    print_time(rt, timed, micros)?;
+    folder.hold("proof", sink.written())?;
+    print_check(rt, folder, timed)
+}
+
+/// Prints how the folder's sets compare.
+fn print_sets(rt: &HostRuntime, asked: Asked, folder: &mut SafeFolder) -> io::Result<()> {
+    let words = "compare first second";
+    let (status, micros) = timed_run(rt, words, folder, &mut SafeSink::new())?;
+    let word = word_of(status);
+    println!(rt; "  {word}")?;
+    print_time(rt, asked.timed, micros)?;
+    if !asked.proof || status != Status::Holds {
+        return Ok(());
+    }
+    let mut sink = MemorySink::new(rt.alloc(), ROOM, ROOM)?;
+    print_certificate(rt, folder, &mut sink, asked.timed)
+}
+
+/// Puts a set of a row, changed, into the folder.
+fn hold(
+    folder: &mut SafeFolder,
+    name: &str,
+    text: &mut String,
+    row: Row,
+    change: Change,
+) -> io::Result<()> {
+    text.clear();
+    push_set(text, row.kind, row.count, change)?;
+    folder.hold(name, text.as_bytes())?;
+    Ok(())
+}
+
+fn print_row(rt: &HostRuntime, asked: Asked, row: Row) -> io::Result<()> {
+    let alloc = rt.alloc();
+    let mut folder = SafeFolder::new(alloc);
+    let mut text = String::new(alloc);
+    hold(&mut folder, "first", &mut text, row, Change::Itself)?;
+    hold(&mut folder, "second", &mut text, row, row.change)?;
+    print_sets(rt, asked, &mut folder)
+}
+
+/// Prints a row, and how its sets compare.
+pub(crate) fn print_line(rt: &HostRuntime, asked: Asked, line: &str) -> io::Result<()> {
+    let Some(row) = row_of(line, asked.full) else {
+        return Err(ErrorKind::InvalidData.into());
+    };
+    println!(rt; "{line}")?;
+    print_row(rt, asked, row)
+}
