@@ -1,12 +1,14 @@
 -- Product states from marks.
-use Rattle.std.proofs.Common.{◌≡◌, ℕ, zero, suc, ◌+◌, ◌<◌, ◌≤◌, List, [], ◌∷◌, ◌++◌, length, get_or, Bool, true, false, cond, refl, sym, ap, ◌∙◌, arith, take, drop, add-one}
-use Rattle.std.proofs.lemmas.List.{take_more, append-nil, get_or-take, get_or-drop}
+use Rattle.std.proofs.Common.{◌≡◌, ℕ, zero, suc, ◌+◌, ◌<◌, ◌≤◌, List, [], ◌∷◌, ◌++◌, length, get_or, Bool, true, false, cond, refl, sym, ap, ◌∙◌, inl, inr, arith, take, drop, add-one}
+use Rattle.std.proofs.lemmas.Bool.{cases_lt}
+use Rattle.std.proofs.lemmas.List.{take_more, append-nil, get_or-take, get_or-drop, get_or_append_left, get_or_push, length_push}
 use Rattle.wildcard_lang.specs.declared.piece.Piece.{Piece}
 use Rattle.wildcard_lang.specs.Accepts.{accepts, marks_of}
 use Rattle.wildcard_lang.proofs.Laws.{get_or-marks_of, rising-same}
 use Rattle.wildcard_lang.specs.Places.{rising, places_of, lists_of}
 use Rattle.pattern_automata.specs.Marks.{all_marks, total}
 use Rattle.pattern_automata.specs.Packed.{all_words, word_mark}
+use Rattle.pattern_automata.specs.Answer.{AreStatesOf, GrowsByState}
 use Rattle.pattern_automata.proofs.Packing.{mark-pack}
 use Rattle.pattern_automata.proofs.Parts.{part}
 
@@ -52,3 +54,18 @@ lists-more ps i p t words at size list lists new in' read e f is are before push
     let s : lists_of (take (i + 1) ps) t ≡ lists_of (take i ps) t ++ places_of p t ∷ [] =
     ap (λ x. lists_of x t) (take_more ps i p in') ∙ (lists_of-append (take i ps) (get_or ps i p ∷ []) t ∙ rw (← read) refl) in
     rw (pushed, before, l) (sym s)
+
+-- one more product state
+pub states-more : (ps : List (List Piece)) (found : List (List ℕ)) (i : ℕ) (words : List ℕ) (closed new : List (List (List ℕ))) → words ≡ get_or found i [] → GrowsByState ps words closed new →
+    length closed ≡ i → AreStatesOf ps found closed → (length new ≡ i + 1) × AreStatesOf ps found new
+states-more ps found i words closed new read grows size are =
+    let count : length new ≡ length closed + 1 = ap length grows.2 ∙ length_push closed grows.0 in (
+      omega (arith, count, size),
+      λ k t h is.
+          elim (cases_lt k (length closed)) [
+            | inl s ↦ (ap (λ x. get_or x k []) grows.2 ∙ get_or_append_left closed (grows.0 ∷ []) [] k s) ∙ are k t s is
+            | inr g ↦
+                let e : k ≡ length closed = omega (arith, count) in
+                (ap (λ x. get_or x k []) grows.2 ∙ get_or_push closed grows.0 [] k (sym e)) ∙ grows.1 t (read ∙ (ap (λ x. get_or found x []) (sym (e ∙ size)) ∙ is))
+          ],
+    )

@@ -1,5 +1,5 @@
 -- The patches of the characters that pieces tell from others.
-use Rattle.std.proofs.Common.{◌≡◌, ℕ, ◌+◌, ◌/◌, ◌<◌, ◌≤◌, ◌⊎◌, Bool, true, false, not, cond, eqb, refl, sym, ap, ◌∙◌, subst, inl, inr, arith, List, [], ◌∷◌, ◌++◌, length, get_or, Option, None, Some, All, Vec, Result, Ok, Err, OnOk, take}
+use Rattle.std.proofs.Common.{◌≡◌, ℕ, ◌+◌, ◌/◌, ◌<◌, ◌≤◌, ◌⊎◌, Bool, true, false, not, cond, eqb, refl, sym, ap, ◌∙◌, subst, inl, inr, arith, List, [], ◌∷◌, ◌++◌, length, get_or, Option, None, Some, All, Vec, Result, Ok, Err, IfOk, OnOk, take}
 use Rattle.std.specs.Bool.{beq}
 use Rattle.std.specs.declared.alloc.Global.{Global}
 use Rattle.std.specs.Char.{IsScalar, to_ascii_uppercase}
@@ -7,11 +7,12 @@ use Rattle.std.proofs.lemmas.Bool.{cases_lt, cases_eq, eqb-true, eq-eqb, or_case
 use Rattle.std.proofs.lemmas.List.{length-append, get_or_append_left, map_push, take_more}
 use Rattle.std.proofs.lemmas.List.Elements.{All-push, All-nil}
 use Rattle.std.proofs.lemmas.List.Quantifiers.{Any-push}
+use Rattle.indexmap.specs.IndexMap.{IndexMap}
 use Rattle.wildcard_lang.specs.declared.piece.Piece.{Piece}
 use Rattle.wildcard_lang.specs.declared.piece.Piece.TheVariants.{Lit, LitFold, OneNoColon, ManyNoColon}
 use Rattle.pattern_automata.specs.declared.moves.Patch.{Patch}
 use Rattle.pattern_automata.specs.declared.moves.Move.{Move}
-use Rattle.pattern_automata.specs.Moves.{tells, if_piece, IsPatch, HasPatch, IsToldApart, IsMove, items_of, characters_of}
+use Rattle.pattern_automata.specs.Moves.{tells, if_piece, IsPatch, HasPatch, IsToldApart, IsMove, items_of, characters_of, AreTold, AreMovesBy}
 
 pub patch-kept : (xs ys : List Patch) (k : ℕ) → HasPatch xs k → HasPatch (xs ++ ys) k
 patch-kept xs ys k w = (w.0, w.1, omega (arith, w.2, length-append xs ys), get_or_append_left xs ys w.1 w.0 w.2 ∙ w.3, w.4)
@@ -134,14 +135,21 @@ tell-no F n old none = told-more F n old old (λ m h. h) (λ c h. absurd (none c
 pub told-end : (F : List (Option Piece)) (n : ℕ) (told : ℕ → List Patch) → length F ≤ n → n ≤ length F → ((c : ℕ) → IsToldApart F n c (told c)) → (c : ℕ) → IsToldApart F (length F) c (told c)
 told-end F n told h k all = let e : n ≡ length F = omega arith in rw e at all
 
-pub move-next : (F : List (Option Piece)) (told : ℕ → List Patch) (moves new : List Move) (m : Move) (x i : ℕ) (characters : List ℕ) → ((c : ℕ) → IsToldApart F (length F) c (told c)) →
-    All (IsMove F) moves → characters_of moves ≡ take i characters → new ≡ moves ++ m ∷ [] → m.character ≡ x → IsScalar x → m.patches.items ≡ told x → i < length characters → x ≡ get_or characters i x →
-    All (IsMove F) new × (characters_of new ≡ take (i + 1) characters)
-move-next F told moves new m x i characters all before are pushed named scalar same h read =
-    let one : IsMove F m = record { scalar = rw named scalar; told = rw (named, same) (all x) } in (
-      rw pushed (All-push (IsMove F) moves m before one),
-      ap characters_of pushed ∙ (map_push (λ (y : Move). y.character) moves m ∙ rw (are, named, take_more characters i x h, ← read) refl),
-    )
+pub move-next : (F : List (Option Piece)) (told : ℕ → List Patch) (moves new : List Move) (m : Move) (x : ℕ) → new ≡ moves ++ m ∷ [] → m.character ≡ x → IsScalar x → m.patches.items ≡ told x →
+    ((c : ℕ) → IsToldApart F (length F) c (told c)) → All (IsMove F) moves → All (IsMove F) new
+move-next F told moves new m x pushed named scalar same all before =
+    let one : IsMove F m = record { scalar = rw named scalar; told = rw (named, same) (all x) } in
+    rw pushed (All-push (IsMove F) moves m before one)
+
+pub characters-next : (moves new : List Move) (m : Move) (x i : ℕ) (characters : List ℕ) → characters_of moves ≡ take i characters → new ≡ moves ++ m ∷ [] → m.character ≡ x → i < length characters → x ≡ get_or characters i x →
+    characters_of new ≡ take (i + 1) characters
+characters-next moves new m x i characters are pushed named h read =
+    ap characters_of pushed ∙ (map_push (λ (y : Move). y.character) moves m ∙ rw (are, named, take_more characters i x h, ← read) refl)
+
+pub moves-right : {S E : Type 0} (F : List (Option Piece)) (told : IndexMap ℕ (Vec Patch Global) S) (moves : Result (Vec Move Global) E) → AreTold F (length F) told →
+    IfOk moves (λ v. AreMovesBy told v.items) → IfOk moves (λ v. All (IsMove F) v.items)
+moves-right F told (Ok v) are h = h F are
+moves-right F told (Err e) are h = h
 
 pub tells-wide : false ≡ true → ⊥
 tells-wide h = absurd (cc)

@@ -10,7 +10,7 @@ use Rattle.pattern_automata.specs.declared.tree.Parent.{Parent}
 use Rattle.wildcard_lang.specs.Places.{has}
 use Rattle.pattern_automata.specs.Marks.{total}
 use Rattle.pattern_automata.specs.Packed.{words_for}
-use Rattle.pattern_automata.specs.Tree.{LeadsTo, IsLed, AreDifferent, IsSearch, IsTurn, IsBase, IsFull, IsVisited, IsLeft, words_meet}
+use Rattle.pattern_automata.specs.Tree.{LeadsTo, IsLed, AreDifferent, IsSearch, IsTurn, IsBase, IsFull, IsMet, IsVisited, IsLeft, words_meet}
 use Rattle.pattern_automata.proofs.Packing.{length-all_words}
 use Rattle.pattern_automata.proofs.Searching.{text}
 
@@ -95,6 +95,13 @@ module _ (patterns : List (List Piece)) (ends : List ℕ) (clauses : List (List 
         different = different-push old found marks grows.0 grows.1 base.different;
         count = omega (arith, ap length grows.0, length_push old marks, base.count);
       }
+
+  pub met : new ≡ true → words_meet ends clauses marks ≡ true → IsMet patterns ends clauses found parents
+  met e holds =
+      let grows = MatchBool-at_true _ _ e turn.grows in
+      let size : length old ≡ length found - 1 = omega (arith, ap length grows.0, length_push old marks) in
+      let last : get_or found (length found - 1) [] ≡ marks = ap (λ x. get_or x (length found - 1) []) grows.0 ∙ get_or_push old marks [] (length found - 1) size in
+      record { tree = turn.tree; meets = rw last holds }
 
   none-of-one : words_meet ends clauses marks ≡ false → (j : ℕ) → j < length (marks ∷ []) → words_meet ends clauses (get_or (marks ∷ []) j []) ≡ false
   none-of-one f zero h = f

@@ -1,5 +1,5 @@
 -- What a product answers.
-use Rattle.std.specs.Prelude.{◌≡◌, ℕ, ◌-◌, ◌<◌, ◌≤◌, List, [], length, slice_index_or}
+use Rattle.std.specs.Prelude.{◌≡◌, ℕ, ◌-◌, ◌<◌, ◌≤◌, ◌++◌, ◌∷◌, List, [], length, slice_index_or}
 use Rattle.wildcard_lang.specs.declared.piece.Piece.{Piece}
 use Rattle.wildcard_lang.specs.Text.{IsText}
 use Rattle.pattern_automata.specs.declared.wants.Literal.{Literal}
@@ -28,6 +28,10 @@ HaveWords patterns found = (k : ℕ) → k < length found → length (slice_inde
 -- the product state of the texts whose marks have these words
 abbrev pub IsStateOf : List (List Piece) → List ℕ → List (List ℕ) → Type 0
 IsStateOf patterns words state = (t : List ℕ) → words ≡ all_words patterns t → state ≡ lists_of patterns t
+
+-- the set has got the product state of the words
+abbrev pub GrowsByState : List (List Piece) → List ℕ → List (List (List ℕ)) → List (List (List ℕ)) → Type 0
+GrowsByState patterns words old new = (state : List (List ℕ)) × IsStateOf patterns words state × (new ≡ old ++ state ∷ [])
 
 abbrev pub AreStatesOf : List (List Piece) → List (List ℕ) → List (List (List ℕ)) → Type 0
 AreStatesOf patterns found closed =

@@ -7,6 +7,7 @@ use Rattle.std.specs.Char.{IsScalar}
 use Rattle.pattern_automata.specs.declared.wants.Literal.{Literal}
 use Rattle.pattern_automata.specs.declared.wants.Wants.{Wants}
 use Rattle.pattern_automata.specs.declared.machine.Machine.{Machine}
+use Rattle.pattern_automata.specs.declared.check.Passed.{Passed}
 use Rattle.wildcard_lang.specs.Places.{has}
 use Rattle.pattern_automata.specs.Marks.{all_reached, marks_from, total}
 use Rattle.pattern_automata.specs.Moves.{characters_of}
@@ -53,6 +54,14 @@ abbrev pub HavePassed : Wants → Machine → List (List ℕ) → List (List ℕ
 HavePassed w m index passed =
     (marks : List Bool) → length marks ≡ total w.patterns → Contains passed (pack marks) → PassesBy w m index marks
 
+-- what a check keeps has passed
+abbrev pub KeepsPassed : Wants → Machine → List (List ℕ) → Passed → Type 0
+KeepsPassed w m index p = HavePassed w m index p.words
+
+-- after the answer yes it still has
+abbrev pub StillKeeps : Wants → Machine → List (List ℕ) → Passed → Bool → Type 0
+StillKeeps w m index p answer = IsTrue answer → HavePassed w m index p.words
+
 abbrev pub PassesIn : Wants → Machine → List (List ℕ) → List (List ℕ) → Type 0
 PassesIn w m index lists = PassesBy w m index (marks_from w.patterns lists)
 
@@ -60,6 +69,10 @@ PassesIn w m index lists = PassesBy w m index (marks_from w.patterns lists)
 abbrev pub TellsWhether : Wants → Machine → List (List ℕ) → List ℕ → Bool → Type 0
 TellsWhether w m index words answer =
     (marks : List Bool) → length marks ≡ total w.patterns → words ≡ pack marks → IsTrue answer ↔ PassesBy w m index marks
+
+-- the answer is whether the state passes
+abbrev pub TellsOf : Wants → Machine → List (List ℕ) → List (List ℕ) → Bool → Type 0
+TellsOf w m index lists answer = IsTrue answer ↔ PassesIn w m index lists
 
 abbrev pub AllPass : Wants → Machine → List (List ℕ) → List (List (List ℕ)) → Type 0
 AllPass w m index closed = All (PassesIn w m index) closed

@@ -108,3 +108,7 @@ KeepPatches old new = (c k : ℕ) → HasPatch (patches_of old c) k → HasPatch
 -- the move of a character is by its patches
 abbrev pub IsMoveOf : {S : Type 0} → IndexMap ℕ (Vec Patch Global) S → ℕ → Move → Type 0
 IsMoveOf told c m = (m.character ≡ c) × IsScalar c × (m.patches.items ≡ patches_of told c)
+
+-- the moves are right wherever what the map tells is
+abbrev pub AreMovesBy : {S : Type 0} → IndexMap ℕ (Vec Patch Global) S → List Move → Type 0
+AreMovesBy told moves = (before : List (Option Piece)) → AreTold before (length before) told → All (IsMove before) moves

@@ -1,5 +1,5 @@
 -- What a search keeps, of the structs of its functions.
-use Rattle.std.specs.Prelude.{◌≡◌, ℕ, ◌<◌, List, length, slice_index_or, Bool}
+use Rattle.std.specs.Prelude.{◌≡◌, ℕ, ◌<◌, List, [], ◌∷◌, length, slice_index_or, Bool}
 use Rattle.wildcard_lang.specs.declared.piece.Piece.{Piece}
 use Rattle.pattern_automata.specs.declared.wants.Wants.{Wants}
 use Rattle.pattern_automata.specs.declared.machine.Machine.{Machine}
@@ -9,8 +9,14 @@ use Rattle.pattern_automata.specs.declared.search.Room.{Room}
 use Rattle.pattern_automata.specs.declared.tree.Step.{Step}
 use Rattle.pattern_automata.specs.Marks.{all_reached, total}
 use Rattle.pattern_automata.specs.Moves.{characters_of}
-use Rattle.pattern_automata.specs.Packed.{pack}
+use Rattle.pattern_automata.specs.Packed.{all_words, pack}
 use Rattle.pattern_automata.specs.Tree.{IsTurn, IsBase, IsVisit, IsLeft, IsExpansion, IsOutcome}
+
+-- the search has found the product state of the empty text alone
+pub record HasBegun (patterns : List (List Piece)) (s : Search) : Type 0 where
+  pub found : s.found ≡ all_words patterns [] ∷ []
+  pub parents : length s.parents.items ≡ 1
+  pub words : s.room.words.items ≡ all_words patterns []
 
 -- the words are those to which c leads from the state
 abbrev pub LeadsByWords : List (List Piece) → List ℕ → ℕ → List ℕ → Type 0

@@ -6,8 +6,8 @@ ghost use Rattle.wildcard_lang.specs.Places.{has};
 ghost use Rattle.pattern_automata.specs.Closed.{rises_from, all_rise, IsShaped, InRange, IsClosedUnder};
 ghost use Rattle.pattern_automata.specs.Marks.{marks_from, total};
 ghost use Rattle.pattern_automata.specs.Machine.{IsMachine};
-ghost use Rattle.pattern_automata.specs.Packed.{pack, words_for};
-ghost use Rattle.pattern_automata.specs.Checked.{fits, AllPass, HasAlso, IsIndex, TellsWhether};
+ghost use Rattle.pattern_automata.specs.Packed.{all_words, pack, words_for};
+ghost use Rattle.pattern_automata.specs.Checked.{fits, AllPass, HasAlso, IsIndex, KeepsPassed, StillKeeps, TellsOf, TellsWhether};
 
 use crate::found::Found;
 use crate::machine::{Machine, machine_of};
@@ -18,6 +18,13 @@ use crate::words::pack;
 use plain_lists::NoMemory;
 use std::alloc::Global;
 use wildcard_lang::Pattern;
+
+/// What a check keeps: the words that passed, and room for those of a step.
+#[derive(Drop)]
+struct Passed {
+    words: Found,
+    room: Room,
+}
 
 /// Whether each number is greater than the one before it. It takes no memory.
 pub fn rises(numbers: &[u32]) -> bool
@@ -199,6 +206,75 @@ fn passes(
     Ok(true)
 }
 
+/// Whether the words pass. Those that passed before aren't stepped again.
+fn words_pass(
+    wants: &Wants,
+    machine: &Machine,
+    index: &Found,
+    words: &[u64],
+    passed: &mut Passed,
+) -> Result<bool, NoMemory>
+    requires range { InRange (length wants.now.patterns) wants.now.clauses }
+    requires machine { IsMachine wants.now.patterns machine.now }
+    requires size { length words.now ≡ words_for (total wants.now.patterns) }
+    requires kept { KeepsPassed wants.now machine.now index.now passed.old }
+    ensures answer { IfOk result (TellsWhether wants.now machine.now index.now words.now) }
+    ensures kept { IfOk result (StillKeeps wants.now machine.now index.now passed.new) }
+{
+    if passed.words.has(words) {
+        return Ok(true);
+    }
+    if !passes(wants, machine, index, words, &mut passed.room)? {
+        return Ok(false);
+    }
+    let alloc = *passed.room.words.allocator();
+    passed.words.push(Vec::from_slice(alloc, words)?)?;
+    Ok(true)
+}
+
+/// Whether the state passes.
+fn state_passes(
+    alloc: Global,
+    wants: &Wants,
+    machine: &Machine,
+    index: &Found,
+    state: &State<'_>,
+    passed: &mut Passed,
+) -> Result<bool, NoMemory>
+    requires range { InRange (length wants.now.patterns) wants.now.clauses }
+    requires machine { IsMachine wants.now.patterns machine.now }
+    requires shaped { IsShaped wants.now.patterns state.now }
+    requires kept { KeepsPassed wants.now machine.now index.now passed.old }
+    ensures answer { IfOk result (TellsOf wants.now machine.now index.now state.now) }
+    ensures kept { IfOk result (StillKeeps wants.now machine.now index.now passed.new) }
+{
+    let words = words_of(alloc, wants.patterns.as_slice(), state)?;
+    words_pass(wants, machine, index, words.as_slice(), passed)
+}
+
+/// Whether each member passes.
+fn states_pass(
+    alloc: Global,
+    wants: &Wants,
+    machine: &Machine,
+    index: &Found,
+    closed: &Closed,
+    passed: &mut Passed,
+) -> Result<bool, NoMemory>
+    requires range { InRange (length wants.now.patterns) wants.now.clauses }
+    requires machine { IsMachine wants.now.patterns machine.now }
+    requires shaped { All (IsShaped wants.now.patterns) closed.now }
+    requires kept { KeepsPassed wants.now machine.now index.now passed.old }
+    ensures { IfOk result (λ yes. IsTrue yes ↔ AllPass wants.now machine.now index.now closed.now) }
+{
+    for i in 0..closed.len() {
+        if !state_passes(alloc, wants, machine, index, &closed.get(i), passed)? {
+            return Ok(false);
+        }
+    }
+    Ok(true)
+}
+
 /// Whether each member passes. One that stands many times is stepped once.
 fn all_pass(
     alloc: Global,
@@ -212,24 +288,48 @@ fn all_pass(
     requires shaped { All (IsShaped wants.now.patterns) closed.now }
     ensures { IfOk result (λ yes. IsTrue yes ↔ AllPass wants.now machine.now index.now closed.now) }
 {
-    let mut room = Room {
-        moved: Vec::new(alloc),
-        words: Vec::new(alloc),
+    let mut passed = Passed {
+        words: Found::new(alloc),
+        room: Room {
+            moved: Vec::new(alloc),
+            words: Vec::new(alloc),
+        },
     };
-    let mut passed = Found::new(alloc);
-    let patterns = wants.patterns.as_slice();
-    for i in 0..closed.len() {
-        let state = closed.get(i);
-        let words = words_of(alloc, patterns, &state)?;
-        if passed.has(words.as_slice()) {
-            continue;
-        }
-        if !passes(wants, machine, index, words.as_slice(), &mut room)? {
-            return Ok(false);
-        }
-        passed.push(words)?;
+    states_pass(alloc, wants, machine, index, closed, &mut passed)
+}
+
+/// Whether the index has the words of the empty text.
+fn has_start(
+    alloc: Global,
+    patterns: &[Pattern],
+    count: usize,
+    index: &Found,
+) -> Result<bool, NoMemory>
+    requires { count ≡ total patterns.now }
+    ensures { IfOk result (λ yes. IsTrue yes ↔ Contains index.now (all_words patterns.now [])) }
+{
+    let start = start_words(alloc, patterns, count)?;
+    Ok(index.has(start.as_slice()))
+}
+
+/// The check of a shaped set by its index.
+fn check_by(
+    alloc: Global,
+    wants: &Wants,
+    machine: &Machine,
+    index: &Found,
+    closed: &Closed,
+) -> Result<bool, NoMemory>
+    requires range { InRange (length wants.now.patterns) wants.now.clauses }
+    requires machine { IsMachine wants.now.patterns machine.now }
+    requires shaped { All (IsShaped wants.now.patterns) closed.now }
+    requires index { IsIndex wants.now.patterns closed.now (length closed.now) index.now }
+    ensures { IfOk result (λ yes. IsTrue yes ↔ IsClosedUnder wants.now closed.now) }
+{
+    if !has_start(alloc, wants.patterns.as_slice(), machine.count, index)? {
+        return Ok(false);
     }
-    Ok(true)
+    all_pass(alloc, wants, machine, index, closed)
 }
 
 /// The check of a shaped set, from what there is to know of the patterns.
@@ -239,13 +339,8 @@ fn check(alloc: Global, wants: &Wants, machine: &Machine, closed: &Closed) -> Re
     requires shaped { All (IsShaped wants.now.patterns) closed.now }
     ensures { IfOk result (λ yes. IsTrue yes ↔ IsClosedUnder wants.now closed.now) }
 {
-    let patterns = wants.patterns.as_slice();
-    let index = index_of(alloc, patterns, closed)?;
-    let start = start_words(alloc, patterns, machine.count)?;
-    if !index.has(start.as_slice()) {
-        return Ok(false);
-    }
-    all_pass(alloc, wants, machine, &index, closed)
+    let index = index_of(alloc, wants.patterns.as_slice(), closed)?;
+    check_by(alloc, wants, machine, &index, closed)
 }
 
 /// Whether the set of product states is closed: each of them has one list for each pattern, with

@@ -2,7 +2,7 @@
 //! piece names in few words, so of each character only these are kept.
 ghost use Rattle.std.specs.Prelude.{◌≡◌, ◌≢◌, ◌*◌, ◌+◌, ◌/◌, ◌<◌, ◌≤◌, ℕ, length, slice_index_or, All, Any, IfOk, OnOk, IsTrue, None, Some};
 ghost use Rattle.std.specs.Char.{IsScalar};
-ghost use Rattle.pattern_automata.specs.Moves.{characters_of, fronts, items_of, patches_of, AreTold, HasPatch, IsMasks, IsMove, IsMoveOf, IsPatch, IsToldNext, KeepPatches, StaysTold, StayTold};
+ghost use Rattle.pattern_automata.specs.Moves.{characters_of, fronts, items_of, patches_of, AreMovesBy, AreTold, HasPatch, IsMasks, IsMove, IsMoveOf, IsPatch, IsToldNext, KeepPatches, StaysTold, StayTold};
 
 use crate::fronts::{Kind, word_at, words_by};
 use indexmap::{IndexMap, IndexSet};
@@ -181,6 +181,22 @@ fn move_of(alloc: Global, told: &IndexMap<char, Vec<Patch>>, c: char) -> Result<
     })
 }
 
+/// The moves of the characters, by their patches.
+fn moves_by(
+    alloc: Global,
+    told: &IndexMap<char, Vec<Patch>>,
+    characters: &[char],
+) -> Result<Vec<Move>, NoMemory>
+    ensures moves { IfOk result (λ v. AreMovesBy told.now v.items) }
+    ensures characters { IfOk result (λ v. characters_of v.items ≡ characters.now) }
+{
+    let mut moves = Vec::new(alloc);
+    for c in characters {
+        moves.push(move_of(alloc, told, *c)?)?;
+    }
+    Ok(moves)
+}
+
 /// The moves of the characters.
 pub fn moves_of(
     alloc: Global,
@@ -191,9 +207,5 @@ pub fn moves_of(
     ensures characters { IfOk result (λ v. characters_of v.items ≡ characters.now) }
 {
     let told = told_by(alloc, fronts)?;
-    let mut moves = Vec::new(alloc);
-    for c in characters {
-        moves.push(move_of(alloc, &told, *c)?)?;
-    }
-    Ok(moves)
+    moves_by(alloc, &told, characters)
 }

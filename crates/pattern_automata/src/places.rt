@@ -3,7 +3,7 @@ ghost use Rattle.std.specs.Prelude.{◌≡◌, ◌*◌, ◌+◌, ◌<◌, ◌≤
 ghost use Rattle.wildcard_lang.specs.Places.{rising};
 ghost use Rattle.pattern_automata.specs.Marks.{total};
 ghost use Rattle.pattern_automata.specs.Packed.{word_mark, words_for};
-ghost use Rattle.pattern_automata.specs.Answer.{AreStatesOf, HaveWords, IsStateOf};
+ghost use Rattle.pattern_automata.specs.Answer.{AreStatesOf, GrowsByState, HaveWords, IsStateOf};
 
 use crate::found::Found;
 use crate::states::{Closed, PlaceList, PlaceLists};
@@ -45,6 +45,22 @@ fn lists_in(alloc: Global, patterns: &[Pattern], words: &[u64]) -> Result<PlaceL
     Ok(lists)
 }
 
+/// Adds the product state of the words.
+fn add_state(
+    alloc: Global,
+    patterns: &[Pattern],
+    words: &[u64],
+    closed: &mut Closed,
+) -> Result<(), NoMemory>
+    requires size { length words.now ≡ words_for (total patterns.now) }
+    requires room { total patterns.now < usize.MAX }
+    ensures { OnOk result (GrowsByState patterns.now words.now closed.old closed.new) }
+{
+    let state = lists_in(alloc, patterns, words)?;
+    closed.push(&state)?;
+    Ok(())
+}
+
 /// The product states that were found.
 pub fn closed_of(alloc: Global, patterns: &[Pattern], found: &Found) -> Result<Closed, NoMemory>
     requires sizes { HaveWords patterns.now found.now }
@@ -54,8 +70,7 @@ pub fn closed_of(alloc: Global, patterns: &[Pattern], found: &Found) -> Result<C
 {
     let mut closed = Closed::new(alloc);
     for i in 0..found.len() {
-        let state = lists_in(alloc, patterns, found.get(i))?;
-        closed.push(&state)?;
+        add_state(alloc, patterns, found.get(i), &mut closed)?;
     }
     Ok(closed)
 }

@@ -6,7 +6,7 @@ ghost use Rattle.pattern_automata.specs.Moves.{IsMove, fronts};
 ghost use Rattle.pattern_automata.specs.Packed.{all_words, words_for};
 ghost use Rattle.pattern_automata.specs.Closed.{InRange};
 ghost use Rattle.pattern_automata.specs.Machine.{IsMachine};
-ghost use Rattle.pattern_automata.specs.Search.{Ends, Expands, IsLeftAt, IsUnderWay, LeadsInto, StepsAsFirst, Turns, Visits};
+ghost use Rattle.pattern_automata.specs.Search.{Ends, Expands, HasBegun, IsLeftAt, IsUnderWay, LeadsInto, StepsAsFirst, Turns, Visits};
 ghost use Rattle.pattern_automata.specs.Answer.{HaveWords, IsProduct, IsReport};
 
 use crate::found::Found;
@@ -200,24 +200,36 @@ fn explore(
     Ok(Step::Left)
 }
 
-/// A search that has found the product state of the empty text.
-fn begin(alloc: Global, patterns: &[Pattern], count: usize) -> Result<Search, NoMemory>
-    requires { count ≡ total patterns.now }
-    ensures found { IfOk result (λ s. s.found ≡ all_words patterns.now [] ∷ []) }
-    ensures parents { IfOk result (λ s. length s.parents.items ≡ 1) }
-    ensures words { IfOk result (λ s. s.room.words.items ≡ all_words patterns.now []) }
+/// The words alone.
+fn first_found(alloc: Global, words: &[u64]) -> Result<Found, NoMemory>
+    ensures { IfOk result (λ f. f ≡ words.now ∷ []) }
 {
-    let words = start_words(alloc, patterns, count)?;
     let mut found = Found::new(alloc);
-    found.push(Vec::from_slice(alloc, words.as_slice())?)?;
+    found.push(Vec::from_slice(alloc, words)?)?;
+    Ok(found)
+}
+
+/// What stands for the parent of the first product state, which has none.
+fn first_parents(alloc: Global) -> Result<Vec<Parent>, NoMemory>
+    ensures { IfOk result (λ v. length v.items ≡ 1) }
+{
     let mut parents = Vec::new(alloc);
     parents.push(Parent {
         state: 0,
         character: ' ',
     })?;
+    Ok(parents)
+}
+
+/// A search that has found the product state of the empty text.
+fn begin(alloc: Global, patterns: &[Pattern], count: usize) -> Result<Search, NoMemory>
+    requires { count ≡ total patterns.now }
+    ensures { IfOk result (HasBegun patterns.now) }
+{
+    let words = start_words(alloc, patterns, count)?;
     Ok(Search {
-        found,
-        parents,
+        found: first_found(alloc, words.as_slice())?,
+        parents: first_parents(alloc)?,
         room: Room {
             moved: Vec::new(alloc),
             words,
@@ -258,6 +270,27 @@ fn answer(
     }
 }
 
+/// The product, from a search that has found the product state of the empty text.
+fn solve_from(
+    alloc: Global,
+    wants: &Wants,
+    machine: &Machine,
+    search: &mut Search,
+    limit: usize,
+) -> Result<Product, NoMemory>
+    requires range { InRange (length wants.now.patterns) wants.now.clauses }
+    requires some { 1 ≤ limit }
+    requires machine { IsMachine wants.now.patterns machine.now }
+    requires begun { HasBegun wants.now.patterns search.old }
+    ensures { IfOk result (IsProduct wants.now.patterns wants.now.clauses limit) }
+{
+    if is_met(wants, machine, search.room.words.as_slice()) {
+        return Ok(Product::Found(Text::from_chars(Vec::new(alloc))));
+    }
+    let step = explore(wants, machine, search, limit)?;
+    answer(alloc, wants.patterns.as_slice(), search, step)
+}
+
 /// The product, from what there is to know of the patterns.
 fn solve(alloc: Global, wants: &Wants, machine: &Machine, limit: usize) -> Result<Product, NoMemory>
     requires range { InRange (length wants.now.patterns) wants.now.clauses }
@@ -265,13 +298,8 @@ fn solve(alloc: Global, wants: &Wants, machine: &Machine, limit: usize) -> Resul
     requires machine { IsMachine wants.now.patterns machine.now }
     ensures { IfOk result (IsProduct wants.now.patterns wants.now.clauses limit) }
 {
-    let patterns = wants.patterns.as_slice();
-    let mut search = begin(alloc, patterns, machine.count)?;
-    if is_met(wants, machine, search.room.words.as_slice()) {
-        return Ok(Product::Found(Text::from_chars(Vec::new(alloc))));
-    }
-    let step = explore(wants, machine, &mut search, limit)?;
-    answer(alloc, patterns, &search, step)
+    let mut search = begin(alloc, wants.patterns.as_slice(), machine.count)?;
+    solve_from(alloc, wants, machine, &mut search, limit)
 }
 
 /// Answers a text that meets the wants; or a closed set of at most `limit` product states, so that no

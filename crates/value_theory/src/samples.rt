@@ -29,7 +29,8 @@ pub(crate) fn samples_of(
     ensures items { IfOk result (λ points. points ≡ samples kind conds.now) }
     ensures kinds { IfOk result (λ points. All (IsOfPlainKind kind) points) }
 {
-    let mut points = first_points(alloc, kind, conds)?;
+    let mut points = List::new(alloc);
+    push_first(alloc, kind, conds, &mut points)?;
     for cond in conds {
         push_points(alloc, cond, &mut points)?;
     }
@@ -37,25 +38,28 @@ pub(crate) fn samples_of(
     Ok(points)
 }
 
-// The points that are tried first.
-fn first_points(alloc: Global, kind: PlainKind, conds: &[PlainCond]) -> Result<SampleList, NoMemory>
-    ensures items { IfOk result (λ points. points ≡ first_samples kind conds.now) }
-    ensures kinds { IfOk result (λ points. All (IsOfPlainKind kind) points) }
+// Adds the points that are tried first.
+fn push_first(
+    alloc: Global,
+    kind: PlainKind,
+    conds: &[PlainCond],
+    points: &mut SampleList,
+) -> Result<(), NoMemory>
+    ensures items { OnOk result (points.new ≡ points.old ++ first_samples kind conds.now) }
+    ensures kinds { OnOk result (All (IsOfPlainKind kind) (first_samples kind conds.now)) }
 {
-    let mut points = List::new(alloc);
     match kind {
         PlainKind::Truth => {
             points.push(PlainValue::Truth(false))?;
-            points.push(PlainValue::Truth(true))?;
+            points.push(PlainValue::Truth(true))
         }
-        PlainKind::Number => points.push(PlainValue::Number(number_of(0)))?,
+        PlainKind::Number => points.push(PlainValue::Number(number_of(0))),
         PlainKind::Address => {
             points.push(PlainValue::Address(Address::V4(0)))?;
-            points.push(PlainValue::Address(Address::V6(0)))?;
+            points.push(PlainValue::Address(Address::V6(0)))
         }
-        PlainKind::Bytes => points.push(PlainValue::Bytes(zeros(alloc, longest_of(conds))?))?,
+        PlainKind::Bytes => points.push(PlainValue::Bytes(zeros(alloc, longest_of(conds))?)),
     }
-    Ok(points)
 }
 
 // Adds the point that is tried last.

@@ -81,11 +81,25 @@ fn find(
     ensures zero { IfOk result (PrefersZero kind conds.now clauses.now) }
 {
     let points = samples_of(alloc, kind, conds)?;
-    let screen = screen_of(alloc, conds, clauses)?;
-    match first_meeting(points.as_slice(), &screen, conds, clauses) {
+    let first = first_of(alloc, points.as_slice(), conds, clauses)?;
+    match first {
         Some(index) => Ok(Solved::Found(points.into_vec().remove(index))),
         None => Ok(Solved::Empty),
     }
+}
+
+// The index of the first point that meets the clauses, by what rules points out.
+fn first_of(
+    alloc: Global,
+    points: &[PlainValue],
+    conds: &[PlainCond],
+    clauses: &[LiteralList],
+) -> Result<Option<usize>, NoMemory>
+    requires { OnConditions (length conds.now) clauses.now }
+    ensures { IfOk result (IsFirstMeeting points.now conds.now clauses.now) }
+{
+    let screen = screen_of(alloc, conds, clauses)?;
+    Ok(first_meeting(points, &screen, conds, clauses))
 }
 
 // The index of the first point that meets the clauses.

@@ -1,5 +1,6 @@
 -- The pieces of an ARN's pattern.
-use Rattle.std.proofs.Common.{◌≡◌, ℕ, zero, suc, ◌≤◌, Bool, true, false, List, [], ◌∷◌, map, length, refl, ap, ◌∙◌, subst, Some}
+use Rattle.std.proofs.Common.{◌≡◌, ℕ, zero, suc, ◌+◌, ◌<◌, ◌≤◌, Bool, true, false, List, [], ◌∷◌, ◌++◌, append_assoc, drop, get_or, map, length, refl, sym, ap, ◌∙◌, subst, Some}
+use Rattle.std.proofs.lemmas.List.{append-nil, at_drop_more, drop_all}
 use Rattle.std.proofs.lemmas.Bool.{and_parts}
 use Rattle.std.specs.List.{list_all, flat_map}
 use Rattle.wildcard_lang.specs.declared.piece.Piece.{Piece}
@@ -82,3 +83,16 @@ IsPattern-arn escapes cs ss wide ps text read made parts fits =
     let own : IsText (map character ss) = IsText-read escapes cs ss text read in
     let short : length (narrowed 5 (map (wildcard_of false) ss)) ≤ 2048 = subst (λ qs. length (narrowed 5 qs) ≤ 2048) made (subst (λ qs. length qs ≤ 2048) parts fits) in
     rw (parts, made) (IsPattern-narrowed 5 (map (wildcard_of false) ss) (IsText-pieces (wildcard_of false) each ss own) (list_all-pieces (wildcard_of false) is_lower each.lower ss) (list_all-pieces (wildcard_of false) is_not_narrow each.wide ss) short)
+
+-- one more piece
+pub narrowed-next : (pieces parts new : List Piece) (i left next : ℕ) (made d : Piece) → i < length pieces → made ≡ narrow_before left (get_or pieces i d) → next ≡ left_behind left (get_or pieces i d) →
+    new ≡ parts ++ made ∷ [] → parts ++ narrowed left (drop i pieces) ≡ narrowed 5 pieces → new ++ narrowed next (drop (i + 1) pieces) ≡ narrowed 5 pieces
+narrowed-next pieces parts new i left next made d within is step pushed so_far =
+    let rest : drop i pieces ≡ get_or pieces i d ∷ drop (i + 1) pieces = at_drop_more (λ ps. ps) pieces i d within in
+    let here : parts ++ made ∷ narrowed next (drop (i + 1) pieces) ≡ narrowed 5 pieces = rw (is, step) (rw rest at so_far) in
+    rw pushed (append_assoc parts (made ∷ []) (narrowed next (drop (i + 1) pieces)) ∙ here)
+
+pub narrowed-end : (pieces parts : List Piece) (i left : ℕ) → length pieces ≤ i → parts ++ narrowed left (drop i pieces) ≡ narrowed 5 pieces → parts ≡ narrowed 5 pieces
+narrowed-end pieces parts i left end all =
+    let none : drop i pieces ≡ [] = drop_all i pieces end in
+    sym (append-nil parts) ∙ (rw none at all)

@@ -6,6 +6,18 @@ use Rattle.pattern_automata.proofs.Moving.{characters-more, has-character, move-
 use Rattle.pattern_automata.proofs.Standing.{first-scalar, first-there, index-more}
 use Rattle.pattern_automata.proofs.check.passes.Goals as goal
 
+pub returns-then-is_met : goal.returns-then-is_met
+returns-then-is_met c = λ marks size is. (
+  λ h. absurd (cc),
+  λ p. sym p.none ∙ (ap (λ (x : List ℕ). words_meet c.args.machine.now.ends.items c.args.wants.now.clauses x) (sym is) ∙ sym c.if-is_met.ensures),
+)
+
+pub loop-k-init : goal.loop-k-init
+loop-k-init c = λ marks size is x s known. absurd (cc)
+
+pub leads_as_first-requires-clause-does : goal.leads_as_first-requires-clause-does
+leads_as_first-requires-clause-does c = move-at (fronts c.args.wants.now.patterns) c.args.machine.now.moves.items c.loop-k.k _ c.requires.machine.moves (omega (arith, c.len-k-end.ensures, c.loop-k-test.true)) c.index-step.ensures
+
 pub step_into-requires-clause-does : goal.step_into-requires-clause-does
 step_into-requires-clause-does c = move-at (fronts c.args.wants.now.patterns) c.args.machine.now.moves.items c.loop-k.k _ c.requires.machine.moves (omega (arith, c.len-k-end.ensures, c.loop-k-test.true)) c.index-step.ensures
 

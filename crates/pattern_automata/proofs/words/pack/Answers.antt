@@ -1,6 +1,16 @@
-use Rattle.std.proofs.Common.{arith}
+use Rattle.std.proofs.Common.{◌*◌, ap, arith, length}
+use Rattle.std.proofs.lemmas.List.{length-drop}
 use Rattle.pattern_automata.proofs.Bits.{packed-more, rest-more, packed-last}
 use Rattle.pattern_automata.proofs.words.pack.Goals as goal
+
+pub split_at-requires : goal.split_at-requires
+split_at-requires c = omega (arith, ap length c.loop-block.invariant.1, length-drop (64 * c.loop-block.block) c.args.marks.now, c.loop-block-test.true)
+
+pub word_of-requires : goal.word_of-requires
+word_of-requires c = omega (arith, c.split_at.ensures.front_len)
+
+pub word_of-requires-2 : goal.word_of-requires-2
+word_of-requires-2 c = omega (arith, ap length c.loop-block.invariant.1, length-drop (64 * c.loop-block.block) c.args.marks.now, c.loop-block-test.false)
 
 pub loop-block-preserved : goal.loop-block-preserved
 loop-block-preserved c = (

@@ -1,6 +1,0 @@
-use Rattle.std.proofs.Common.{◌≡◌, take, All}
-use Rattle.pattern_automata.specs.Moves.{IsMove, characters_of}
-use Rattle.pattern_automata.proofs.moves.moves_of.Given as goal
-
-abbrev pub invariant-loop-c : goal.invariant-loop-c
-invariant-loop-c l = All (IsMove l.fronts) l.moves.items × (characters_of l.moves.items ≡ take l.c-index l.characters)
