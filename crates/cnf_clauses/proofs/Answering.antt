@@ -1,11 +1,10 @@
 -- What one more answer of the path makes of what was decided.
-use Rattle.std.proofs.Common.{◌≡◌, ℕ, ◌≤◌, List, [], ◌∷◌, ◌++◌, length, take, get_or, arith, ◌<◌, Bool, true, false, not, Option, Some, None, ◌⊎◌, inl, inr, refl, sym, ap, subst, ◌∙◌, slice_get, append-nil}
-use Rattle.std.specs.Prelude.{IfNone, IfSome}
+use Rattle.std.proofs.Common.{◌≡◌, ℕ, ◌≤◌, List, [], ◌∷◌, ◌++◌, length, take, get_or, arith, ◌<◌, Bool, true, false, not, Option, Some, None, inl, inr, refl, sym, ap, subst, ◌∙◌}
 use Rattle.std.proofs.lemmas.List.{take_all, take_at}
 use Rattle.std.proofs.lemmas.Option.{slice_get_within}
 use Rattle.formula_tree.specs.Answers.{Answers, answer_of, Contained}
 use Rattle.formula_tree.proofs.Laws.{answer_of-more, answer_of-last, cases_eq}
-use Rattle.cnf_clauses.specs.Literals.{Clause, Literal, IsRefuted, IsTrueUnder, IsUnit}
+use Rattle.cnf_clauses.specs.Literals.{Clause, Literal, IsRefuted, IsUnit}
 use Rattle.cnf_clauses.specs.Explains.{Agree, IsAnsweredAt, IsRefutedAt}
 use Rattle.cnf_clauses.specs.Levels.{IsLevel}
 use Rattle.cnf_clauses.specs.Propagates.{AreQuiet}

@@ -1,5 +1,5 @@
 -- Lists of decided variables: what stands nowhere before its index.
-use Rattle.std.proofs.Common.{◌≡◌, ℕ, ◌<◌, ◌+◌, [], ◌∷◌, ◌++◌, length, take, drop, get_or, zero, suc, Bool, false, Some, None, refl, sym, ap, subst, ◌∙◌, arith, nat_eq, slice_get}
+use Rattle.std.proofs.Common.{◌≡◌, ℕ, ◌<◌, ◌+◌, [], ◌∷◌, ◌++◌, length, take, drop, get_or, zero, suc, Bool, false, Some, None, refl, sym, ap, ◌∙◌, arith, nat_eq}
 use Rattle.std.proofs.lemmas.Bool.Decides.{nat_tests}
 use Rattle.std.proofs.lemmas.Grind.{common_steps}
 use Rattle.std.proofs.lemmas.List.{take_more, drop_more, take-append-drop}

@@ -1,5 +1,5 @@
 -- Going back over what was decided: from which answers the hints replay.
-use Rattle.std.proofs.Common.{◌≡◌, ℕ, List, [], ◌∷◌, ◌++◌, Bool, not, Option, Some, None, ◌⊎◌, inl, inr, refl, sym, ap, subst, ◌∙◌, slice_get}
+use Rattle.std.proofs.Common.{◌≡◌, ℕ, List, [], ◌∷◌, ◌++◌, Bool, not, Option, Some, None, inl, inr, refl, sym, ap, subst, ◌∙◌, slice_get}
 use Rattle.std.specs.List.{Contains}
 use Rattle.formula_tree.specs.Answers.{Answers, answer_of, Contained}
 use Rattle.formula_tree.proofs.Laws.{answer_of-more, answer_of-rest, answer_of-besides, cases_eq}

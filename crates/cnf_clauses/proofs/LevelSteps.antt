@@ -1,15 +1,16 @@
 -- One level more, and one less.
-use Rattle.std.proofs.Common.{◌≡◌, ℕ, Bool, ◌<◌, ◌≤◌, ◌+◌, zero, suc, List, [], ◌∷◌, ◌++◌, length, take, drop, get_or, option_to_list, Option, Some, None, ◌⊎◌, ◌↔◌, refl, append-nil, inl, inr, sym, ap, subst, ◌∙◌, arith}
+use Rattle.std.proofs.Common.{◌≡◌, ℕ, Bool, ◌<◌, ◌≤◌, ◌+◌, List, [], ◌∷◌, ◌++◌, length, take, drop, get_or, option_to_list, Option, Some, None, ◌⊎◌, ◌↔◌, refl, append-nil, inl, inr, sym, ap, subst, ◌∙◌, arith}
 use Rattle.std.specs.Prelude.{IsSome}
 use Rattle.std.proofs.lemmas.List.{nil_from_length, take_more, take_all, take_at, take-take, take-append-le, length_push, length-append, length-take-le, get_or_append_left, get_or_at}
 use Rattle.std.proofs.lemmas.Bool.{cases_lt}
 use Rattle.formula_tree.specs.Answers.{Answers}
 use Rattle.cnf_clauses.specs.Literals.{Clause}
 use Rattle.cnf_clauses.specs.Levels.{IsLevel, AreLevels}
-use Rattle.cnf_clauses.specs.Reasons.{Extends}
-use Rattle.cnf_clauses.specs.Trails.{HasReasons, IsBack, IsCut, IsNextLevel, IsSameTrail, IsTrailOf, TrailExtends}
+use Rattle.cnf_clauses.specs.Reasons.{Extends, HaveReasons}
+use Rattle.cnf_clauses.specs.Trails.{HasReasons, IsBack, IsCut, IsEmptyTrail, IsNextLevel, IsQuietTrail, IsSameTrail, IsTrailOf, KeepsReasons, TrailExtends}
 use Rattle.cnf_clauses.specs.declared.trail.Trail.{Trail}
-use Rattle.cnf_clauses.proofs.Extending.{extends-whole}
+use Rattle.cnf_clauses.proofs.Answering.{nothing-contained}
+use Rattle.cnf_clauses.proofs.Extending.{extends-on, extends-whole}
 use Rattle.cnf_clauses.proofs.Reasons.{reasons-length}
 
 level-is : (cs : List Clause) (p q d e : Answers) (r s : List (Option ℕ)) → p ≡ q → d ≡ e → r ≡ s → IsLevel cs p d r → IsLevel cs q e s
@@ -115,6 +116,13 @@ trail-same cs p q old new e same h =
 none-some : IsSome {T = ℕ × Bool} None → ⊥
 none-some h = absurd (cc)
 
+-- the path is as it was before its last answer
+pub popped-back : (before path popped : Answers) (x : ℕ × Bool) (last : Option (ℕ × Bool)) → path ≡ before ++ x ∷ [] → path ≡ popped ++ option_to_list last → IsSome last ↔ (0 < length path) → popped ≡ before
+popped-back before path popped x (Some p) pushed popping some =
+    let count : length popped ≡ length before = omega (arith, ap (λ (q : Answers). length q) pushed, length_push before x, ap (λ (q : Answers). length q) popping, length_push popped p) in
+    sym (take_at popped (p ∷ []) (length before) count) ∙ ap (take (length before)) (sym popping ∙ pushed) ∙ take_at before (x ∷ []) (length before) refl
+popped-back before path popped x None pushed popping some = absurd (none-some (some.1 (omega (arith, ap (λ (q : Answers). length q) pushed, length_push before x))))
+
 -- a list is what comes before its last item, and the item
 split-last : (m : List ℕ) (k : ℕ) → length m ≡ k + 1 → m ≡ take k m ++ get_or m k 0 ∷ []
 split-last m k e =
@@ -159,6 +167,13 @@ trail-next cs p q x old new e h next =
     (old.marks.items ++ length old.decided ∷ []) new.marks.items e decided reasons next.marks
     (level-push cs p old.decided (drop (length old.decided) new.decided) old.reasons.items (drop (length old.reasons.items) new.reasons.items) old.marks.items x h level)
 
+pub extends-then : (old mid new : Trail) → TrailExtends old mid → TrailExtends mid new → TrailExtends old new
+extends-then old mid new first next = record {
+  decided = extends-on old.decided mid.decided new.decided first.decided next.decided;
+  reasons = extends-on old.reasons.items mid.reasons.items new.reasons.items first.reasons next.reasons;
+  marks = next.marks ∙ first.marks;
+}
+
 -- what was followed behind a mark is taken back
 pub trail-undone : (cs : List Clause) (path : Answers) (old marked mid new : Trail) (n : ℕ) → HasReasons cs path old → n ≡ length old.decided → marked.decided ≡ old.decided →
     marked.reasons.items ≡ old.reasons.items → marked.marks.items ≡ old.marks.items ++ n ∷ [] → TrailExtends marked mid → IsCut mid new → IsSameTrail old new
@@ -171,4 +186,25 @@ trail-undone cs path old marked mid new n reasons start d r m more cut =
       decided = back.decided ∙ ap (λ (k : ℕ). take k mid.decided) start ∙ first;
       reasons = back.reasons ∙ ap (λ (k : ℕ). take k mid.reasons.items) even ∙ second;
       marks = back.marks;
+    }
+
+-- ---- the trail of the empty path
+
+pub empty-reasons : (cs : List Clause) (path : Answers) (trail : Trail) → IsEmptyTrail trail → HasReasons cs path trail
+empty-reasons cs path trail empty =
+    subst (λ (r : List (Option ℕ)). HaveReasons cs path [] trail.decided r) (sym empty.reasons) (subst (λ (d : Answers). HaveReasons cs path [] d []) (sym empty.decided) tt)
+
+pub trail-begun : (cs : List Clause) (path : Answers) (old new : Trail) → path ≡ [] → IsEmptyTrail old → KeepsReasons cs old new → IsQuietTrail cs new → new.marks.items ≡ old.marks.items → IsTrailOf cs path new
+trail-begun cs path old new none empty reasons quiet marks =
+    let short : length path ≡ 0 = ap (λ (p : Answers). length p) none in
+    record {
+      now = record {
+        answers = nothing-contained path new.decided none;
+        explained = reasons path (empty-reasons cs path old empty);
+        quiet = quiet;
+      };
+      count = ap (λ (m : List ℕ). length m) (marks ∙ empty.marks) ∙ sym short;
+      within = λ k l. absurd (omega (arith, l, short));
+      rise = λ j k before l. absurd (omega (arith, l, short));
+      before = λ k l. absurd (omega (arith, l, short));
     }

@@ -1,7 +1,7 @@
 -- Marks of the variables that a conflict needs, and the answers to them.
-use Rattle.std.proofs.Common.{◌≡◌, ℕ, ◌<◌, ◌≤◌, ◌+◌, List, [], ◌∷◌, ◌++◌, length, take, get_or, set, zero, arith, Bool, true, false, Some, None, ◌⊎◌, inl, inr, refl, sym, ap, subst, ◌∙◌, get_or-set_same, get_or-set_other}
+use Rattle.std.proofs.Common.{◌≡◌, ℕ, ◌<◌, ◌≤◌, ◌+◌, List, [], ◌∷◌, ◌++◌, length, take, get_or, set, arith, Bool, true, false, None, inl, inr, sym, ap, subst, ◌∙◌, get_or-set_same, get_or-set_other}
 use Rattle.std.specs.List.{Contains}
-use Rattle.std.proofs.lemmas.List.{take_more, take_all, get_or_default}
+use Rattle.std.proofs.lemmas.List.{take_more, take_all}
 use Rattle.std.proofs.lemmas.List.Elements.{Contains-append_left, Contains-push}
 use Rattle.formula_tree.specs.Answers.{Answers, answer_of, IsDistinct}
 use Rattle.formula_tree.proofs.Laws.{answer_of-besides, cases_eq}

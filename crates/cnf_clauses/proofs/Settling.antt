@@ -63,6 +63,13 @@ goes-further cs h1 h2 h3 d1 d2 d3 met first second e =
     let now : GoesOn cs h2 d2 h3 d3 = subst (λ (x : Bool). Steps cs h2 d2 h3 d3 x) e second in
     goes-on cs h1 h2 h3 d1 d2 d3 first now
 
+pub steps-is : (cs : List Clause) (h1 h2 : List ℕ) (d1 d2 : Answers) (met b : Bool) → Steps cs h1 d1 h2 d2 met → met ≡ b → Steps cs h1 d1 h2 d2 b
+steps-is cs h1 h2 d1 d2 met b h e = subst (λ (x : Bool). Steps cs h1 d1 h2 d2 x) e h
+
+pub steps-on : (cs : List Clause) (h1 h2 h3 : List ℕ) (d1 d2 d3 : Answers) (met : Bool) → GoesOn cs h1 d1 h2 d2 → Steps cs h2 d2 h3 d3 met → Steps cs h1 d1 h3 d3 met
+steps-on cs h1 h2 h3 d1 d2 d3 true first next = goes-conflict cs h1 h2 h3 d1 d2 d3 true first next refl
+steps-on cs h1 h2 h3 d1 d2 d3 false first next = goes-on cs h1 h2 h3 d1 d2 d3 first next
+
 pub grown : (cs : List Clause) (h1 h2 : List ℕ) (d1 d2 : Answers) (met : Bool) → Steps cs h1 d1 h2 d2 met → met ≡ false → (more : Answers) × (d2 ≡ d1 ++ more)
 grown cs h1 h2 d1 d2 met steps e =
     let now : GoesOn cs h1 d1 h2 d2 = subst (λ (x : Bool). Steps cs h1 d1 h2 d2 x) e steps in
@@ -271,10 +278,14 @@ next-all cs d k past old = subst (λ (x : Answers). AreQuiet cs x d) (take_all k
 pub none_past : (d : Answers) (k : ℕ) → None ≡ slice_get d k → length d ≤ k
 none_past d k e = elim (cases_lt k (length d)) [ inl l ↦ (let some : slice_get d k ≡ Some (get_or d k (0, true)) = slice_get-get_or d k (0, true) l in absurd (cc)) | inr g ↦ g ]
 
-pub no-replay : (cs : List Clause) (path d0 d1 d2 : Answers) (h0 h1 h2 : List ℕ) (first second : Bool) → d0 ≡ path → Steps cs h0 d0 h1 d1 first → first ≡ false → Steps cs h1 d1 h2 d2 second → second ≡ false →
-    (second ≡ false → AreQuiet cs d2 d2) → (hs : List ℕ) → Replays cs path hs → ⊥
-no-replay cs path d0 d1 d2 h0 h1 h2 first second start one e two f quiet hs r =
-    let (more, grows) = grown cs h0 h1 d0 d1 first one e in
-    let (again, grows2) = grown cs h1 h2 d1 d2 second two f in
-    let whole : d2 ≡ path ++ (more ++ again) = grows2 ∙ ap (λ (x : Answers). x ++ again) (grows ∙ ap (λ (x : Answers). x ++ more) start) ∙ append_assoc path more again in
-    quiet-ends cs d2 (quiet f) path hs (λ n b h. subst (λ (x : Answers). answer_of x n ≡ Some b) (sym whole) (answer_of-more path (more ++ again) n b h)) r
+pub no-replay : (cs : List Clause) (path d0 d1 : Answers) (h0 h1 : List ℕ) (met : Bool) → d0 ≡ path → Steps cs h0 d0 h1 d1 met → (met ≡ false → AreQuiet cs d1 d1) → met ≡ false → (hs : List ℕ) → Replays cs path hs → ⊥
+no-replay cs path d0 d1 h0 h1 met start steps quiet none hs r =
+    let (more, grows) = grown cs h0 h1 d0 d1 met steps none in
+    let whole : d1 ≡ path ++ more = grows ∙ ap (λ (x : Answers). x ++ more) start in
+    quiet-ends cs d1 (quiet none) path hs (λ n b h. subst (λ (x : Answers). answer_of x n ≡ Some b) (sym whole) (answer_of-more path more n b h)) r
+
+-- from where nothing but the path is decided
+pub met-replays : (cs : List Clause) (path d0 d1 : Answers) (h0 h1 : List ℕ) (met : Bool) → d0 ≡ path → h0 ≡ [] → Steps cs h0 d0 h1 d1 met → met ≡ true → Replays cs path h1
+met-replays cs path d0 d1 h0 h1 met start none steps is =
+    steps-is cs h0 h1 d0 d1 met true steps is path
+    (λ rest r. subst (λ (hs : List ℕ). Replays cs path (hs ++ rest)) (sym none) (subst (λ (d : Answers). Replays cs d rest) start r))

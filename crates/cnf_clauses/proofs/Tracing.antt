@@ -1,11 +1,11 @@
 -- Going back over one decided variable.
-use Rattle.std.proofs.Common.{◌≡◌, ℕ, ◌<◌, ◌≤◌, ◌+◌, List, [], ◌∷◌, ◌++◌, length, take, drop, get_or, reverse, Bool, Option, Some, None, inl, inr, refl, sym, ap, subst, ◌∙◌, slice_get, append_assoc, append-nil}
-use Rattle.std.proofs.lemmas.List.{take_more, take_all, take-take, reverse-append}
+use Rattle.std.proofs.Common.{◌≡◌, ℕ, ◌<◌, ◌≤◌, ◌+◌, List, [], ◌∷◌, ◌++◌, length, take, get_or, reverse, Bool, Option, Some, None, inl, inr, sym, ap, subst, ◌∙◌, slice_get, append_assoc}
+use Rattle.std.proofs.lemmas.List.{take_more, take-take, reverse-append}
 use Rattle.std.proofs.lemmas.Option.{slice_get_within, get_or_from_slice_get}
-use Rattle.formula_tree.specs.Answers.{Answers, answer_of, Contained}
+use Rattle.formula_tree.specs.Answers.{Answers, answer_of}
 use Rattle.formula_tree.proofs.Laws.{answer_of-more}
 use Rattle.cnf_clauses.specs.declared.explaining.Traced.{Traced}
-use Rattle.cnf_clauses.specs.Literals.{Clause, Literal, IsRefuted, IsUnit}
+use Rattle.cnf_clauses.specs.Literals.{Clause, Literal, IsUnit}
 use Rattle.cnf_clauses.specs.Explains.{IsNeeded, NeedsAlso, Explains, ExplainsAt, IsTraced, IsNeededReason, IsRefutedAt, Agree}
 use Rattle.cnf_clauses.specs.Reasons.{IsReason, HaveReasons}
 use Rattle.cnf_clauses.proofs.Explains.{explains-conflict, explains-more, explains-skip, unit-behind}

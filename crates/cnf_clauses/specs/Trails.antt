@@ -18,6 +18,12 @@ pub record IsSameTrail (old new : Trail) : Type 0 where
   pub reasons : new.reasons.items ≡ old.reasons.items
   pub marks : new.marks.items ≡ old.marks.items
 
+-- nothing is decided
+pub record IsEmptyTrail (trail : Trail) : Type 0 where
+  pub decided : trail.decided ≡ []
+  pub reasons : trail.reasons.items ≡ []
+  pub marks : trail.marks.items ≡ []
+
 -- each decided variable has its reason at the path
 abbrev pub HasReasons : List Clause → Answers → Trail → Type 0
 HasReasons clauses path trail = HaveReasons clauses path [] trail.decided trail.reasons.items

@@ -4,7 +4,7 @@ ghost use Rattle.std.specs.Prelude.{◌≡◌, ◌++◌, ◌∷◌, [], None, So
 ghost use Rattle.formula_tree.specs.Answers.{answer_of};
 ghost use Rattle.cnf_clauses.specs.Following.{IsConflictAt, IsFollowed, IsStartOf, LosesLast};
 ghost use Rattle.cnf_clauses.specs.Replays.{NoneReplay};
-ghost use Rattle.cnf_clauses.specs.Trails.{HasOthers, HasReasons, IsNextLevel, IsOpposite, IsQuietTrail, IsSameTrail, IsTrailAt, TrailExtends, UnlessMet, WhereMet};
+ghost use Rattle.cnf_clauses.specs.Trails.{HasOthers, HasReasons, IsEmptyTrail, IsNextLevel, IsOpposite, IsQuietTrail, IsSameTrail, IsTrailAt, IsTrailOf, TrailExtends, UnlessMet, WhereMet};
 
 use crate::clauses::{Clauses, Hints};
 use crate::explaining::{explain, reason_at};
@@ -58,16 +58,14 @@ impl Following {
     {
         let mut trail = empty_trail(alloc);
         let path = Path::new(alloc);
-        if let Some(number) = propagate_first(alloc, &clauses, &mut trail)? {
-            let upto = trail.decided.len();
-            let conflict = explain(alloc, &clauses, &path, &trail, upto, number)?;
-            return Ok(Start::Met(conflict));
+        match first_conflict(alloc, &clauses, &path, &mut trail)? {
+            Some(conflict) => Ok(Start::Met(conflict)),
+            None => Ok(Start::Quiet(Following {
+                clauses,
+                path,
+                trail,
+            })),
         }
-        Ok(Start::Quiet(Following {
-            clauses,
-            path,
-            trail,
-        }))
     }
 
     /// Answers one more test, at the end of the path. A conflict is met exactly where hints replay
@@ -119,6 +117,25 @@ impl Following {
     {
         let _trail = &self.trail;
     }
+}
+
+// The conflict that is met before any answer, or none.
+fn first_conflict(
+    alloc: Global,
+    clauses: &Clauses,
+    path: &Path,
+    trail: &mut Trail,
+) -> Result<Option<Conflict>, NoMemory>
+    requires path { path.now ≡ [] }
+    requires trail { IsEmptyTrail trail.old }
+    ensures none { UnlessMet result (IsTrailOf clauses.now path.now trail.new) }
+    ensures conflict { WhereMet result (IsConflictAt clauses.now path.now) }
+{
+    let Some(number) = propagate_first(alloc, clauses, trail)? else {
+        return Ok(None);
+    };
+    let upto = trail.decided.len();
+    Ok(Some(explain(alloc, clauses, path, trail, upto, number)?))
 }
 
 // The conflict of an answer whose opposite was derived: the clause that said so is refuted.

@@ -46,7 +46,7 @@ fn settle(
 }
 
 // Looks at the clauses without two literals that differ.
-pub(crate) fn settle_short(
+fn settle_short(
     clauses: &Clauses,
     decided: &mut Decided,
     watches: &mut Watches,
@@ -112,6 +112,23 @@ pub(crate) fn follow_all(
     Ok(false)
 }
 
+// Derives all that the clauses say of what is decided. Whether a conflict is met.
+pub(crate) fn settle_all(
+    clauses: &Clauses,
+    decided: &mut Decided,
+    watches: &mut Watches,
+    hints: &mut Hints,
+) -> Result<bool, NoMemory>
+    ensures steps { IfOk result (Steps clauses.now hints.old decided.old hints.new decided.new) }
+    ensures hints { IfOk result (Derives clauses.now hints.old decided.old hints.new decided.new) }
+    ensures quiet { IfOk result (Unless (AreQuiet clauses.now decided.new decided.new)) }
+{
+    if settle_short(clauses, decided, watches, hints)? {
+        return Ok(true);
+    }
+    follow_all(clauses, decided, watches, hints, 0)
+}
+
 /// Hints that replay from the path's answers, or none exactly where no hints replay from them, which
 /// is where unit propagation from the path meets no conflict. It looks at the clauses that hold a
 /// literal which becomes false, and at no others.
@@ -122,10 +139,7 @@ pub fn conflict(alloc: Global, clauses: &Clauses, path: &Path) -> Result<Option<
     let mut decided = Decided::of_path(alloc, path)?;
     let mut watches = Watches::new(alloc);
     let mut hints = Hints::new(alloc);
-    if settle_short(clauses, &mut decided, &mut watches, &mut hints)? {
-        return Ok(Some(hints));
-    }
-    if follow_all(clauses, &mut decided, &mut watches, &mut hints, 0)? {
+    if settle_all(clauses, &mut decided, &mut watches, &mut hints)? {
         return Ok(Some(hints));
     }
     Ok(None)

@@ -23,8 +23,15 @@ pub fn replay(
     ensures { IfOk result (λ accepted. IsTrue accepted ↔ Replays clauses.now path.now hints.now) }
 {
     let mut decided = Decided::of_path(alloc, path)?;
+    replay_from(clauses, &mut decided, hints)
+}
+
+// The same from what is decided.
+fn replay_from(clauses: &Clauses, decided: &mut Decided, hints: &Hints) -> Result<bool, NoMemory>
+    ensures { IfOk result (λ yes. IsTrue yes ↔ Replays clauses.now decided.old hints.now) }
+{
     'hints: for (i, hint) in hints.as_slice().iter().enumerate() {
-        match look_at(clauses, &decided, *hint) {
+        match look_at(clauses, decided, *hint) {
             Found::Refuted => return Ok(i + 1 == hints.len()),
             Found::Unit(variable, value) => decided.push(variable, value)?,
             Found::Open => return Ok(false),

@@ -2,13 +2,13 @@
 ghost use Rattle.std.specs.Prelude.{◌≡◌, ◌++◌, ◌∷◌, [], None, Some, map, take, IfOk, OnOk};
 ghost use Rattle.formula_tree.specs.Answers.{answer_of};
 ghost use Rattle.cnf_clauses.specs.Explains.{IsRefutedAt};
-ghost use Rattle.cnf_clauses.specs.Propagates.{AreQuiet, Unless};
-ghost use Rattle.cnf_clauses.specs.Reasons.{Derives, Extends};
+ghost use Rattle.cnf_clauses.specs.Propagates.{AreQuiet};
+ghost use Rattle.cnf_clauses.specs.Reasons.{Extends};
 ghost use Rattle.cnf_clauses.specs.Trails.{HasNoReason, IsCut, IsNoted, IsQuietTrail, IsSameTrail, KeepsReasons, TrailExtends, UnlessMet, WhereMet};
 
 use crate::clauses::{Clauses, Hints};
 use crate::decided::Decided;
-use crate::propagation::{follow_all, settle_short};
+use crate::propagation::{follow_all, settle_all};
 use crate::watching::Watches;
 use plain_lists::NoMemory;
 use std::alloc::Global;
@@ -94,21 +94,6 @@ pub(crate) fn propagate(
     )?;
     let refuted = note(&mut trail.reasons, hints, met)?;
     Ok(refuted)
-}
-
-fn settle_all(
-    clauses: &Clauses,
-    decided: &mut Decided,
-    watches: &mut Watches,
-    hints: &mut Hints,
-) -> Result<bool, NoMemory>
-    ensures hints { IfOk result (Derives clauses.now hints.old decided.old hints.new decided.new) }
-    ensures quiet { IfOk result (Unless (AreQuiet clauses.now decided.new decided.new)) }
-{
-    if settle_short(clauses, decided, watches, hints)? {
-        return Ok(true);
-    }
-    follow_all(clauses, decided, watches, hints, 0)
 }
 
 // Derives what the clauses say before any answer. The result is the number of a refuted clause, where

@@ -1,8 +1,8 @@
 -- Buckets of entries that grow, and what is found by searching them.
-use Rattle.std.proofs.Common.{◌≡◌, ℕ, ◌+◌, ◌<◌, ◌≤◌, List, [], ◌∷◌, ◌++◌, length, get_or, set, Bool, false, Some, refl, sym, ◌∙◌, ap, subst, inl, inr, arith, slice_index, get_or-set_same, get_or-set_other, length-append}
+use Rattle.std.proofs.Common.{◌≡◌, ℕ, zero, suc, ◌+◌, ◌<◌, ◌≤◌, List, [], ◌∷◌, ◌++◌, length, get_or, set, Bool, false, Some, refl, sym, ◌∙◌, ap, subst, inl, inr, arith, slice_index, get_or-set_same, get_or-set_other, length-append}
 use Rattle.std.proofs.lemmas.List.{get_or_default, get_or_append_left, get_or_push, get_or_read}
 use Rattle.std.proofs.lemmas.Bool.{cases_lt}
-use Rattle.std.specs.Prelude.{Contains}
+use Rattle.std.specs.Prelude.{Contains, Result, Ok, Err, OnOk, OnErr}
 use Rattle.formula_tree.specs.Answers.{Answers, answer_of, IsDistinct, Contained}
 use Rattle.formula_tree.proofs.Laws.{cases_eq}
 use Rattle.nogoods.specs.declared.buckets.Choice.{Choice}
@@ -44,6 +44,21 @@ keeps-put old mid bucket entries more same lt is = let P : List Entry → Type 0
 pub holds-put : (mid : List (List Entry)) (bucket : ℕ) (entries before : List Entry) (entry : Entry) → bucket < length mid → entries ≡ before ++ entry ∷ [] → Contains (entries_in (set mid bucket entries) bucket) entry
 holds-put mid bucket entries before entry lt is = let P : List Entry → Type 0 = λ xs. Contains xs entry in subst P (sym (entries-set mid bucket entries lt ∙ is)) (contains-last before entry)
 
+-- one bucket more, without entries
+more-empty : {X : Type 0} (old : List (List X)) (n : ℕ) → get_or (old ++ [] ∷ []) n [] ≡ get_or old n []
+more-empty [] zero = refl
+more-empty [] (suc n) = refl
+more-empty (b ∷ bs) zero = refl
+more-empty (b ∷ bs) (suc n) = more-empty bs n
+
+pub grown : {X : Type 0} (old new : List (List X)) (bucket : List X) → new ≡ old ++ bucket ∷ [] → bucket ≡ [] → (n : ℕ) → get_or new n [] ≡ get_or old n []
+grown {X} old new bucket is empty n =
+    let e : new ≡ old ++ [] ∷ [] = is ∙ ap (λ (b : List X). old ++ b ∷ []) empty in
+    ap (λ (bs : List (List X)). get_or bs n []) e ∙ more-empty old n
+
+pub grown-not : {X : Type 0} (old new : List (List X)) → new ≡ old → (n : ℕ) → get_or new n [] ≡ get_or old n []
+grown-not {X} old new same n = ap (λ (bs : List (List X)). get_or bs n []) same
+
 -- lists that stay kept
 pub lists-kept : (old new : List (List Entry)) (old_without new_without : List ℕ) → KeepsEntries old new → ((index : ℕ) → Contains old_without index → Contains new_without index) → KeepsLists old old_without new new_without
 lists-kept old new old_without new_without keeps also answers index kept =
@@ -51,6 +66,26 @@ lists-kept old new old_without new_without keeps also answers index kept =
       | inl without ↦ inl (also index without)
       | inr under ↦ inr (record { test = under.test; answer = under.answer; has = under.has; entry = under.entry; there = keeps _ under.entry under.there; names = under.names })
     ]
+
+-- a list without answers
+pub kept-without : {E : Type 0} (r : Result (Unit {0}) E) (old new : List ℕ) (index : ℕ) → OnOk r (new ≡ old ++ index ∷ []) → OnErr r (new ≡ old) → (n : ℕ) → Contains old n → Contains new n
+kept-without (Ok u) old new index pushed same n there = subst (λ (xs : List ℕ). Contains xs n) (sym pushed) (contains-more old (index ∷ []) n there)
+kept-without (Err e) old new index pushed same n there = subst (λ (xs : List ℕ). Contains xs n) (sym same) there
+
+pub entered-without : (buckets : List (List Entry)) (old new : List ℕ) (answers : Answers) (index : ℕ) → new ≡ old ++ index ∷ [] → IsEntered buckets new answers index
+entered-without buckets old new answers index pushed = inl (subst (λ (xs : List ℕ). Contains xs index) (sym pushed) (contains-last old index))
+
+-- a list under one of its answers
+pub entered-put : (buckets : List (List Entry)) (without : List ℕ) (answers : Answers) (index : ℕ) (pair : Pair) (bucket : ℕ) → AreChoicesOf answers pair → bucket ≡ bucket_of pair.first.test pair.first.answer →
+    Contains (entries_in buckets bucket) (record { index = index; test = pair.second.test; answer = pair.second.answer }) → IsEntered buckets without answers index
+entered-put buckets without answers index pair bucket both is there = inr (record {
+  test = pair.first.test;
+  answer = pair.first.answer;
+  has = both.0;
+  entry = record { index = index; test = pair.second.test; answer = pair.second.answer };
+  there = subst (λ (b : ℕ). Contains (entries_in buckets b) (record { index = index; test = pair.second.test; answer = pair.second.answer })) is there;
+  names = record { named = refl; watched = both.1 };
+})
 
 pub entered-kept : (lists : List Answers) (old new : List (List Entry)) (old_without new_without : List ℕ) → AreEntered lists old old_without → KeepsLists old old_without new new_without → AreEntered lists new new_without
 entered-kept lists old new old_without new_without indexed keeps i lt = keeps (answers_at lists i) i (indexed i lt)

@@ -83,6 +83,11 @@ stays lists path watching stay number answers at contained lt =
     let P : Answers → Type 0 = λ a. Contained a path in
     inl (subst P (sym at) contained, contains-last stay number)
 
+pub stays-none : (lists : List Answers) (path : Answers) (stay : List ℕ) → stay ≡ [] → StayAsHits lists path stay
+stays-none lists path stay none number there =
+    let (k, lt, is) = subst (λ (xs : List ℕ). Contains xs number) none there in
+    absurd (omega (arith, lt))
+
 pub stay-hits : (lists : List Answers) (path : Answers) (stay : List ℕ) (number : ℕ) (answers : Answers) → number < length lists → answers_at lists number ≡ answers → Contained answers path → StayAsHits lists path stay → StayAsHits lists path (stay ++ number ∷ [])
 stay-hits lists path stay number answers within at contained before n held =
     let P : Answers → Type 0 = λ a. Contained a path in

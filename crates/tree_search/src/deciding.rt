@@ -6,6 +6,7 @@ ghost use Rattle.policy_model.specs.Soundness.{SchemaIsSound, TestSuits};
 ghost use Rattle.policy_compile.specs.Queries.{asked_tree};
 ghost use Rattle.tree_search.specs.Decisions.{IsDecision};
 ghost use Rattle.tree_search.specs.Search.{followed_at};
+ghost use Rattle.tree_search.specs.States.{IsStartState};
 ghost use Rattle.tree_search.specs.Whole.{HasFewLabels, IsTold, IsWholeSearch};
 
 use crate::found::Found;
@@ -88,8 +89,28 @@ fn begin(
     requires may { value [] (asked_tree query.now) ≢ No }
     ensures { IfOk result (IsWholeSearch schema.now query.now budgets) }
 {
-    let clauses = clauses_of(alloc, &query.formula, query.tests.len() as u32)?;
     let mut state = State::start(alloc, query, following, budgets.splits)?;
+    search_from(alloc, schema, query, budgets, &mut state)
+}
+
+// The same from the state there.
+fn search_from(
+    alloc: Global,
+    schema: &Schema,
+    query: &Query,
+    budgets: Budgets,
+    state: &mut State,
+) -> Result<Found, NoMemory>
+    requires sound { SchemaIsSound schema.now }
+    requires suit { All (TestSuits schema.now) query.now.tests }
+    requires count { length query.now.tests < 2 ^ 32 }
+    requires below { AreBelow (length query.now.tests) (asked_tree query.now) }
+    requires states { 1 ≤ budgets.states }
+    requires starts { IsStartState query.now (followed_at query.now []) budgets.splits state.old }
+    requires may { value [] (asked_tree query.now) ≢ No }
+    ensures { IfOk result (IsWholeSearch schema.now query.now budgets) }
+{
+    let clauses = clauses_of(alloc, &query.formula, query.tests.len() as u32)?;
     // The schema's keys are in order, so the request of values that answer a path is valid.
     let _keys = schema.len();
     let search = Search {
@@ -99,7 +120,7 @@ fn begin(
         clauses: &clauses,
         states: budgets.states,
     };
-    search.search(&mut state)
+    search.search(state)
 }
 
 // What is decided by what was found from the start: a refutation with its labels numbered by their lines.

@@ -1,7 +1,8 @@
 //! Where a search stands.
-ghost use Rattle.std.specs.Prelude.{◌≡◌, ◌<◌, ◌^◌, None, IfOk, OnOk, length};
+ghost use Rattle.std.specs.Prelude.{◌≡◌, ◌<◌, ◌^◌, [], None, IfOk, OnOk, length};
 ghost use Rattle.formula_tree.specs.Answers.{answer_of};
-ghost use Rattle.tree_search.specs.States.{IsTakenBack, IsDeeper, IsStartState};
+ghost use Rattle.tree_search.specs.Cores.{IsNoCore};
+ghost use Rattle.tree_search.specs.States.{IsDeeper, IsEvaluated, IsStartState, IsTakenBack};
 
 use crate::cores::Cores;
 use cnf_clauses::Following;
@@ -42,13 +43,13 @@ impl State {
         requires { length query.now.tests < 2 ^ 32 }
         ensures { IfOk result (IsStartState query.now clauses left) }
     {
-        let tests = query.tests.len() as u32;
+        let (tree, learned, cores) = stores(alloc, query)?;
         Ok(State {
             path: Path::new(alloc),
-            tree: TreeValues::of(alloc, &query.formula, tests)?,
+            tree,
             clauses,
-            learned: Tracking::new(alloc)?,
-            cores: Cores::new(alloc)?,
+            learned,
+            cores,
             values: SlotValues::new(alloc),
             left,
         })
@@ -79,4 +80,17 @@ impl State {
         self.learned.pop();
         self.cores.lists.pop();
     }
+}
+
+// The query's formula without answers, and stores in which nothing was learned and no core is kept.
+fn stores(alloc: Global, query: &Query) -> Result<(TreeValues, Tracking, Cores), NoMemory>
+    requires { length query.now.tests < 2 ^ 32 }
+    ensures tree { IfOk result (λ s. IsEvaluated query.now [] s.0) }
+    ensures learned { IfOk result (λ s. s.1 ≡ record { lists = []; path = [] }) }
+    ensures cores { IfOk result (λ s. IsNoCore s.2) }
+{
+    let tree = TreeValues::of(alloc, &query.formula, query.tests.len() as u32)?;
+    let learned = Tracking::new(alloc)?;
+    let cores = Cores::new(alloc)?;
+    Ok((tree, learned, cores))
 }

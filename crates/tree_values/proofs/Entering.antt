@@ -140,3 +140,7 @@ entered-none nodes parents leaves ordered long none bare = record {
   up = λ i c n lt there child. absurd (omega arith);
   asked = λ i t n lt there test. absurd (omega arith);
 }
+
+-- the children of a node that is entered next
+pub children-below : (nodes : List Node) (parents leaves : List (List ℕ)) (k : ℕ) (node : Node) → slice_get nodes k ≡ Some node → k < length nodes → HasEntered nodes parents leaves k → (c : ℕ) → has_child node c ≡ true → c < length parents
+children-below nodes parents leaves k node there within entered c child = omega (arith, entered.ordered k c node there child, within, entered.long)

@@ -8,6 +8,18 @@ get-more [] ys i x e = absurd (cc)
 get-more (y ∷ xs) ys zero x e = e
 get-more (y ∷ xs) ys (suc i) x e = get-more xs ys i x e
 
+-- one item more that is read past the end too
+more-default : {X : Type 0} (old : List X) (d : X) (n : ℕ) → get_or (old ++ d ∷ []) n d ≡ get_or old n d
+more-default [] d zero = refl
+more-default [] d (suc n) = refl
+more-default (x ∷ xs) d zero = refl
+more-default (x ∷ xs) d (suc n) = more-default xs d n
+
+pub grown : {X : Type 0} (old new : List X) (x d : X) → new ≡ old ++ x ∷ [] → x ≡ d → (n : ℕ) → get_or new n d ≡ get_or old n d
+grown {X} old new x d is same n =
+    let longer : new ≡ old ++ d ∷ [] = is ∙ ap (λ (y : X). old ++ y ∷ []) same in
+    ap (λ (ys : List X). get_or ys n d) longer ∙ more-default old d n
+
 -- an item of a list with one more at its end
 pub get-push : {X : Type 0} (xs : List X) (i : ℕ) (y x : X) → slice_get (xs ++ y ∷ []) i ≡ Some x → (slice_get xs i ≡ Some x) ⊎ ((i ≡ length xs) × (x ≡ y))
 get-push [] zero y x e = inr (refl, cc)

@@ -49,8 +49,8 @@ impl TreeValues {
     // Whether the formula is no where the test is answered so.
     fn is_no_at(&mut self, test: u32, answer: bool) -> bool
         requires { (answer_in self.old test ≡ None) × (test < length self.old.answers) }
-        ensures no { IsTrue result ↔
-            (seen_given (answered_tree self.old) (answer_at self.old.answers) test answer ≡ seen.No) }
+        ensures no { IsTrue result ↔ (seen_given (answered_tree self.old)
+            (answer_at self.old.answers) test answer ≡ seen.No) }
         ensures same { self.new ≡ self.old }
     {
         self.set(test, Some(answer));

@@ -1,6 +1,7 @@
 use Rattle.std.proofs.Common.{sym, ◌∙◌}
 use Rattle.std.proofs.lemmas.Option.{MatchOption-at_none, MatchOption-at_some}
 use Rattle.cnf_clauses.proofs.Answering.{answer-all, answer-quiet, answer-reasons, contained-agrees, contained-refuted}
+use Rattle.cnf_clauses.proofs.LevelSteps.{extends-then}
 use Rattle.cnf_clauses.proofs.following.follow_answer.Goals as goal
 
 pub propagate-requires : goal.propagate-requires
@@ -35,3 +36,15 @@ explain-requires-clause-refuted c =
     (answer-all c.args.path.now c.args.trail.now.decided c.decide.new.trail.decided c.propagate.new.trail.decided c.args.test c.args.answer
     c.requires.others c.requires.answered (sym c.value.ensures ∙ c.in_default.is) c.in_ok-decide.ensures.decided c.propagate.ensures.kept.decided)
     (MatchOption-at_some _ _ _ c.in-Some-2.is c.in_ok-number.ensures.met)
+
+pub returns-in_err-number-clause-kept : goal.returns-in_err-number-clause-kept
+returns-in_err-number-clause-kept c = extends-then c.args.trail.now c.decide.new.trail c.propagate.new.trail c.decide.ensures.kept c.propagate.ensures.kept
+
+pub returns-in_default-2-clause-kept : goal.returns-in_default-2-clause-kept
+returns-in_default-2-clause-kept c = extends-then c.args.trail.now c.decide.new.trail c.propagate.new.trail c.decide.ensures.kept c.propagate.ensures.kept
+
+pub returns-in_err-explain-clause-kept : goal.returns-in_err-explain-clause-kept
+returns-in_err-explain-clause-kept c = extends-then c.args.trail.now c.decide.new.trail c.propagate.new.trail c.decide.ensures.kept c.propagate.ensures.kept
+
+pub returns-clause-kept : goal.returns-clause-kept
+returns-clause-kept c = extends-then c.args.trail.now c.decide.new.trail c.propagate.new.trail c.decide.ensures.kept c.propagate.ensures.kept

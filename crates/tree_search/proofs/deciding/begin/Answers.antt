@@ -1,22 +1,10 @@
-use Rattle.std.proofs.Common.{refl}
-use Rattle.tree_search.proofs.Starting.{start-carries, start-follows, start-may, start-nothing, start-stands, whole-from}
+use Rattle.std.proofs.Common.{subst}
+use Rattle.cnf_clauses.specs.Levels.{Followed}
+use Rattle.tree_search.specs.States.{IsStartState}
 use Rattle.tree_search.proofs.deciding.begin.Goals as goal
 
-pub search-requires-clause-stands : goal.search-requires-clause-stands
-search-requires-clause-stands c = start-stands c.args.schema.now c.args.query.now c.args.following c.args.budgets.splits c.in_ok-state.state c.in_ok-state.ensures
-
-pub search-requires-clause-carries : goal.search-requires-clause-carries
-search-requires-clause-carries c = start-carries c.args.schema.now c.args.query.now c.args.following c.args.budgets.splits c.in_ok-state.state c.in_ok-state.ensures
-
-pub search-requires-clause-follows : goal.search-requires-clause-follows
-search-requires-clause-follows c = start-follows c.args.schema.now c.args.query.now c.args.following c.args.budgets.splits c.in_ok-state.state c.in_ok-state.ensures c.requires.follows
-
-pub search-requires-clause-may : goal.search-requires-clause-may
-search-requires-clause-may c = start-may c.args.schema.now c.args.query.now c.args.following c.args.budgets.splits c.in_ok-state.state c.in_ok-state.ensures c.requires.may
-
-pub search-requires-clause-nothing : goal.search-requires-clause-nothing
-search-requires-clause-nothing c = start-nothing c.args.schema.now c.args.query.now c.args.following c.args.budgets.splits c.in_ok-state.state c.in_ok-state.ensures
+pub search_from-requires-clause-starts : goal.search_from-requires-clause-starts
+search_from-requires-clause-starts c = subst (λ (f : Followed). IsStartState c.args.query.now f c.args.budgets.splits c.in_ok-state.state) c.requires.follows c.in_ok-state.ensures
 
 pub returns : goal.returns
-returns c =
-    whole-from c.args.schema.now c.args.query.now c.args.following c.args.budgets.splits c.in_ok-state.state c.in_ok-state.ensures c.args.budgets c.search.new.state c.search.result _ refl (λ r. r.stands.stored.few) c.search.ensures.found c.search.ensures.restored
+returns c = c.search_from.ensures
