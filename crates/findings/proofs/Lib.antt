@@ -11,6 +11,7 @@ mod Owning
 mod Parts
 mod Passing
 mod Plans
+mod Whole
 mod Sets
 mod Stepping
 mod Summing

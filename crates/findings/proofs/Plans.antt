@@ -8,16 +8,15 @@ use Rattle.std.proofs.lemmas.Option.{slice_get_within}
 use Rattle.std.proofs.lemmas.List.Elements.{Contains-append_left, Contains-push, Contains-push_cases}
 use Rattle.formula_tree.specs.declared.formula.Branches.{Branches}
 use Rattle.formula_tree.specs.declared.formula.Formula.{Formula, the_lemmas}
-use Rattle.formula_tree.specs.declared.formula.Formula.TheVariants.{All, Not, OneOf, Test as TestNode, Yes}
+use Rattle.formula_tree.specs.declared.formula.Formula.TheVariants.{Not, OneOf, Test as TestNode, Yes}
 use Rattle.formula_tree.specs.Trees.{Tree, Trees, of_list, tree_of, trees_of}
 use Rattle.formula_tree.specs.Trees as tree
 use Rattle.policy_model.specs.declared.test.Test.{Test}
 use Rattle.policy_compile.specs.declared.outcome.Query.{Query}
 use Rattle.policy_compile.specs.Numbering.{AreNumbered, Collects, IsNumbered, again, anew, nothing, numbered_all, numbered_ask, numbered_more, numbered_none, numbered_not, numbered_one_of, numbered_yes}
 use Rattle.policy_compile.specs.Plans.{Plan, Plans, all, ask, more, none, not, of_plans, one_of, tests_in, tests_in_each, yes}
-use Rattle.strata.specs.declared.stratum.Stratum.{Stratum}
-use Rattle.findings.specs.Asked.{AreAsked, AreNumbersOf, AsksBase, AsksOwn, HasTestNumber, IsAsked, no_finer_plan}
-use Rattle.findings.specs.Queries.{finding_plan, own_plans, plan_or_yes}
+use Rattle.findings.specs.Asked.{AreAsked, AreNumbersOf, AsksBase, HasTestNumber, IsAsked}
+use Rattle.findings.specs.Queries.{plan_or_yes}
 use Rattle.findings.specs.Renumbering.{renumbered, renumbered_each}
 use Rattle.std.proofs.Common.{rules}
 
@@ -215,25 +214,6 @@ base-asked old new base numbers f is same allowed query = record {
   collects = reads-again (tests_in allowed) base.tests old new query.tests is.collects;
   numbered = subst (IsNumbered new allowed) (sym same) (renumber-numbered old new base.tests numbers is allowed (tree_of base.formula.value) query.tree);
 }
-
--- ---- the whole
-
-tree-All : (b : Branches) → tree_of (All b) ≡ tree.all (of_list (trees_of b))
-tree-All b = search (rules, the_lemmas)
-
-pub whole-asked : (base : Query) (ds : List Stratum) (f : List ℕ) (a b c : List Test) (first second third : List Tree) (t : Tree) (r : Rc Formula Global) (q : Query) (branches : Branches) →
-    AreAsked [] a (own_plans ds f) [] first → IsAsked a b (no_finer_plan ds f) t → second ≡ first ++ t ∷ [] → AsksBase b c base r → third ≡ second ++ tree_of r.value ∷ [] →
-    trees_of branches ≡ third → q.formula.value ≡ All branches → q.tests ≡ c → AsksOwn base ds f q
-whole-asked base ds f a b c first second third t r q branches own finer two asks three are is tests allowed query =
-    let one = asked-next [] a b (own_plans ds f) (no_finer_plan ds f) [] first second t own finer two in
-    let each = asked-next [] b c (own_plans ds f ++ no_finer_plan ds f ∷ []) allowed [] second third (tree_of r.value) one (asks allowed query) three in
-    let plans = append_assoc (own_plans ds f) (no_finer_plan ds f ∷ []) (allowed ∷ []) in
-    let done : AreAsked [] c (own_plans ds f ++ no_finer_plan ds f ∷ allowed ∷ []) [] third = subst (λ (ps : List Plan). AreAsked [] c ps [] third) plans each in
-    let tree_is : tree_of q.formula.value ≡ tree.all (of_list done.more) = ap tree_of is ∙ tree-All branches ∙ ap (λ (ts : List Tree). tree.all (of_list ts)) (are ∙ done.is) in
-    record {
-      tests = subst (λ (xs : List Test). Collects [] (tests_in (finding_plan allowed ds f)) xs) (sym tests) done.collects;
-      tree = subst (λ (xs : List Test). IsNumbered xs (finding_plan allowed ds f) (tree_of q.formula.value)) (sym tests) (subst (IsNumbered c (finding_plan allowed ds f)) (sym tree_is) (numbered_all done.numbered));
-    }
 
 -- ---- the answers of the steps
 

@@ -1,5 +1,5 @@
 -- The whole walk: how it starts, goes on and ends.
-use Rattle.std.proofs.Common.{◌≡◌, ℕ, ◌+◌, List, [], ◌∷◌, ◌++◌, length, Ok, Err, Some, None, sym, ap, subst, arith}
+use Rattle.std.proofs.Common.{◌≡◌, ℕ, ◌+◌, List, [], ◌∷◌, ◌++◌, length, Ok, Some, sym, ap, subst, arith}
 use Rattle.std.specs.Cmp.Lexicographic.{slice_cmp}
 use Rattle.std.specs.List.Sorted.{IsStrictlySortedBy}
 use Rattle.std.specs.Ordering.{nat_cmp}
@@ -13,6 +13,7 @@ use Rattle.findings.specs.declared.outcome.SummaryFault.{SummaryFault}
 use Rattle.findings.specs.declared.outcome.SummaryFault.TheVariants as fault
 use Rattle.findings.specs.declared.walk.Walk.{Walk}
 use Rattle.findings.specs.Answers.{IsSummarised}
+use Rattle.findings.specs.Ending.{HasEnded, SummaryFails}
 use Rattle.findings.specs.Queries.{AreMadeFor, AreMadeUnder}
 use Rattle.findings.specs.Steps.{AreNumberedBelow}
 use Rattle.findings.specs.Summaries.{IsSummary, VisitsAtLeast, findings_of}
@@ -47,15 +48,15 @@ module _ (schema : Schema) (base : Query) (strata : Strata) where
   }
 
   -- at the end
-  pub all-summarised : (old new : Walk) (splits states findings : ℕ) (summary : List (List ℕ × Request)) → StandsAt schema base strata old → IsNextFinding strata.dimensions old new None → SameBesides old new → summary ≡ found_by new → IsStrictlySortedBy (slice_cmp nat_cmp) (findings_of summary) →
+  pub all-summarised : (w : Walk) (splits states findings : ℕ) (summary : List (List ℕ × Request)) → HasEnded schema base strata w → summary ≡ found_by w → IsStrictlySortedBy (slice_cmp nat_cmp) (findings_of summary) →
       (set : PolicySet) → AreMadeFor schema set base strata → IsSummarised schema set strata.dimensions splits states findings (Ok summary)
-  all-summarised old new splits states findings summary stands next same is order set made =
+  all-summarised w splits states findings summary ended is order set made =
       let sorted = subst (λ (xs : List (List ℕ × Request)). IsStrictlySortedBy (slice_cmp nat_cmp) (findings_of xs)) is order in
-      subst (IsSummary schema set strata.dimensions) (sym is) (ends schema set strata.dimensions (made-steps schema set base strata made) old new (stands set made) next.0 same sorted)
+      subst (IsSummary schema set strata.dimensions) (sym is) (ends schema set strata.dimensions (made-steps schema set base strata made) ended.before w (ended.stands set made) ended.next.0 ended.same sorted)
 
   -- where one more would be needed
   pub one-too-many : (old new : Walk) (f : List ℕ) (n findings splits states : ℕ) → HasLookedAt schema base strata old n → n ≡ findings → IsNextFinding strata.dimensions old new (Some f) → SameBesides old new →
-      (set : PolicySet) → AreMadeFor schema set base strata → IsSummarised schema set strata.dimensions splits states findings (Err fault.OutOfFindings)
+      SummaryFails schema base strata splits states findings fault.OutOfFindings
   one-too-many old new f n findings splits states looked all next same set made =
       let taken = next-taken old new f looked.stands next same set made in
       let more = one-more schema set strata.dimensions (made-steps schema set base strata made) new f taken in
@@ -63,7 +64,7 @@ module _ (schema : Schema) (base : Query) (strata : Strata) where
       subst (VisitsAtLeast schema set strata.dimensions) count more
 
   -- why one couldn't be looked at
-  pub fails-summarised : (splits states findings : ℕ) (e : SummaryFault) → LookFails schema base strata splits states e → (set : PolicySet) → AreMadeFor schema set base strata → IsSummarised schema set strata.dimensions splits states findings (Err e)
+  pub fails-summarised : (splits states findings : ℕ) (e : SummaryFault) → LookFails schema base strata splits states e → SummaryFails schema base strata splits states findings e
   fails-summarised splits states findings fault.OutOfFindings fails set made = absurd (fails set made)
   fails-summarised splits states findings (fault.OutOfSplits f) fails set made = fails set made
   fails-summarised splits states findings (fault.OutOfStates f w) fails set made = fails set made

@@ -8,4 +8,6 @@ pub mod Walks
 pub mod Walked
 pub mod Renumbering
 pub mod Asked
+pub mod Asking
+pub mod Ending
 pub mod Laws

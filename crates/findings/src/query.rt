@@ -1,9 +1,12 @@
 //! Queries of findings.
-ghost use Rattle.std.specs.Prelude.{IfOk};
+ghost use Rattle.std.specs.Prelude.{◌≡◌, [], IfOk, OnOk};
+ghost use Rattle.formula_tree.specs.Trees.{tree_of, trees_of};
 ghost use Rattle.findings.specs.Asked.{AsksOwn, HoldsForOwn, IsAskableFor};
+ghost use Rattle.findings.specs.Asking.{ArePartsAsked, IsOwnAnswered, IsWholeAsked};
 ghost use Rattle.findings.specs.Findings.{IsFinding};
-ghost use Rattle.findings.specs.Queries.{AreMade};
+ghost use Rattle.findings.specs.Queries.{AreMade, AreMadeUnder};
 
+use crate::decide::{Asked, Decide};
 use crate::numbering::Numbering;
 use crate::outcome::Finding;
 use formula_tree::{Branches, Formula};
@@ -12,6 +15,48 @@ use policy_compile::{Query, tests_of_set_queries_suit};
 use std::alloc::Global;
 use std::rc::Rc;
 use strata::Strata;
+
+// Adds the parts of a finding's query: its predicates, that none right below them holds, and the query
+// of the set.
+fn add_parts(
+    numbering: &mut Numbering,
+    branches: &mut Branches,
+    strata: &Strata,
+    base: &Query,
+    finding: &Finding,
+) -> Result<(), NoMemory>
+    requires made { AreMade base.now strata.now }
+    requires finding { IsFinding strata.now.dimensions finding.now }
+    requires tests { numbering.old.tests.keys ≡ [] }
+    requires parts { trees_of branches.old ≡ [] }
+    ensures { OnOk result (ArePartsAsked base.now strata.now.dimensions finding.now
+        numbering.new.tests.keys (trees_of branches.new)) }
+{
+    numbering.add_own(branches, strata, finding)?;
+    branches.push(numbering.no_finer(strata, finding)?)?;
+    branches.push(numbering.renumbered(base)?)?;
+    Ok(())
+}
+
+// The formula of a finding's query, where there are no tests yet.
+fn whole_formula(
+    alloc: Global,
+    numbering: &mut Numbering,
+    strata: &Strata,
+    base: &Query,
+    finding: &Finding,
+) -> Result<Rc<Formula>, NoMemory>
+    requires made { AreMade base.now strata.now }
+    requires finding { IsFinding strata.now.dimensions finding.now }
+    requires tests { numbering.old.tests.keys ≡ [] }
+    ensures { IfOk result (λ f. IsWholeAsked base.now strata.now.dimensions finding.now
+        numbering.new.tests.keys (tree_of f.value)) }
+{
+    let mut branches = Branches::new(alloc);
+    add_parts(numbering, &mut branches, strata, base, finding)?;
+    let formula = Rc::new(alloc, Formula::All(branches))?;
+    Ok(formula)
+}
 
 /// The query of a finding: that its predicates hold, that none of those that are maximal strictly below
 /// them does, and that the set allows. On a valid request it holds exactly where the request is the
@@ -33,11 +78,27 @@ pub fn finding_query(
 {
     tests_of_set_queries_suit();
     let mut numbering = Numbering::new(alloc);
-    let mut branches = Branches::new(alloc);
-    numbering.add_own(&mut branches, strata, finding)?;
-    branches.push(numbering.no_finer(strata, finding)?)?;
-    branches.push(numbering.renumbered(base)?)?;
-    let formula = Rc::new(alloc, Formula::All(branches))?;
+    let formula = whole_formula(alloc, &mut numbering, strata, base, finding)?;
     let tests = numbering.into_tests()?;
     Ok(Query { formula, tests })
+}
+
+/// What is answered on the query of the finding.
+pub(crate) fn answer_on<D: Decide>(
+    alloc: Global,
+    strata: &Strata,
+    base: &Query,
+    asks: &mut D,
+    finding: &Finding,
+) -> Result<Asked, NoMemory>
+    requires made { AreMadeUnder (D.schema asks.old) base.now strata.now }
+    requires finding { IsFinding strata.now.dimensions finding.now }
+    ensures answer { IfOk result (IsOwnAnswered (D.schema asks.old)
+        (D.splits asks.old) (D.states asks.old) base.now strata.now finding.now) }
+    ensures schema { D.schema asks.new ≡ D.schema asks.old }
+    ensures splits { D.splits asks.new ≡ D.splits asks.old }
+    ensures states { D.states asks.new ≡ D.states asks.old }
+{
+    let query = finding_query(alloc, strata, base, finding)?;
+    asks.ask(alloc, &query)
 }

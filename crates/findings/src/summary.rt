@@ -1,13 +1,14 @@
 //! Summaries.
-ghost use Rattle.std.specs.Prelude.{◌≡◌, IfOk};
+ghost use Rattle.std.specs.Prelude.{◌≡◌, IfErr, IfOk, OnOk};
 ghost use Rattle.std.specs.Cmp.Lexicographic.{slice_cmp};
 ghost use Rattle.std.specs.List.Sorted.{IsStrictlySortedBy};
 ghost use Rattle.std.specs.Ordering.{nat_cmp};
 ghost use Rattle.policy_model.specs.declared.set.PolicySet.{PolicySet};
 ghost use Rattle.findings.specs.Answers.{IsSummarised};
+ghost use Rattle.findings.specs.Ending.{HasEnded, SummaryFails};
 ghost use Rattle.findings.specs.Queries.{AreMadeFor, AreMadeUnder};
 ghost use Rattle.findings.specs.Summaries.{findings_of};
-ghost use Rattle.findings.specs.Walked.{found_by};
+ghost use Rattle.findings.specs.Walked.{StartsAt, found_by};
 
 use crate::decide::Decide;
 use crate::outcome::{Summary, SummaryFault};
@@ -28,6 +29,38 @@ fn found_in(alloc: Global, walk: Walk) -> Result<Summary, NoMemory>
         summary.push((List::from_vec(numbers), request))?;
     }
     Ok(summary)
+}
+
+// Looks at one finding after another, from the first on, until none is to come.
+fn look_at_each<D: Decide>(
+    walk: &mut Walk,
+    strata: &Strata,
+    base: &Query,
+    asks: &mut D,
+    findings: u32,
+) -> Result<(), SummaryFault>
+    requires made { AreMadeUnder (D.schema asks.old) base.now strata.now }
+    requires start { StartsAt strata.now.dimensions walk.old }
+    ensures ended { OnOk result
+        (HasEnded (D.schema asks.old) base.now strata.now walk.new) }
+    ensures fault { IfErr result (SummaryFails (D.schema asks.old) base.now strata.now
+        (D.splits asks.old) (D.states asks.old) findings) }
+    ensures schema { D.schema asks.new ≡ D.schema asks.old }
+    ensures splits { D.splits asks.new ≡ D.splits asks.old }
+    ensures states { D.states asks.new ≡ D.states asks.old }
+{
+    'findings: for _ in 0..findings {
+        let Some(finding) = walk.next(strata)? else {
+            return Ok(());
+        };
+        walk.look_at(strata, base, asks, finding)?;
+    }
+    let further = walk.next(strata)?;
+    match further {
+        None => {}
+        Some(_) => return Err(SummaryFault::OutOfFindings),
+    }
+    Ok(())
 }
 
 /// The summary of the set whose query is `base`: the irreducible findings that have no irreducible one
@@ -53,15 +86,6 @@ pub fn summarise<D: Decide>(
     ensures states { D.states asks.new ≡ D.states asks.old }
 {
     let mut walk = Walk::start(alloc, strata)?;
-    'findings: for _ in 0..findings {
-        let Some(finding) = walk.next(strata)? else {
-            return Ok(found_in(alloc, walk)?);
-        };
-        walk.look_at(strata, base, asks, finding)?;
-    }
-    let further = walk.next(strata)?;
-    match further {
-        None => Ok(found_in(alloc, walk)?),
-        Some(_) => Err(SummaryFault::OutOfFindings),
-    }
+    look_at_each(&mut walk, strata, base, asks, findings)?;
+    Ok(found_in(alloc, walk)?)
 }

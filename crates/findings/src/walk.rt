@@ -9,7 +9,7 @@ ghost use Rattle.findings.specs.Walks.{first_finding};
 
 use crate::decide::{Asked, Decide};
 use crate::outcome::{Finding, SummaryFault};
-use crate::query::finding_query;
+use crate::query::answer_on;
 use crate::reading::is_among;
 use crate::steps::{add_under, are_above_in, copy_of};
 use indexmap::IndexSet;
@@ -115,8 +115,7 @@ impl Walk {
         ensures splits { D.splits asks.new ≡ D.splits asks.old }
         ensures states { D.states asks.new ≡ D.states asks.old }
     {
-        let query = finding_query(self.alloc, strata, base, &finding)?;
-        let answer = asks.ask(self.alloc, &query)?;
+        let answer = answer_on(self.alloc, strata, base, asks, &finding)?;
         match answer {
             Asked::Met(request) => {
                 self.add_found(finding, request)?;

@@ -1,33 +1,23 @@
 -- Equal tests, and equal nodes.
-use Rattle.std.proofs.Common.{◌≡◌, ◌==◌, ◌&&◌, ℕ, List, Bool, true, false, ap, nat_eq, refl, arith}
+use Rattle.std.proofs.Common.{◌≡◌, ◌==◌, ◌&&◌, ℕ, List, Bool, true, false, ap, nat_eq, refl, subst}
 use mathlib.Core.Bool.{beq}
 use Rattle.std.specs.Bool.{Decides}
-use Rattle.std.proofs.lemmas.Grind.{common_steps}
 use Rattle.std.specs.Cmp.Lexicographic.{pointwise, pointwise_decides}
+use Rattle.std.proofs.lemmas.Bool.{and_from, false≢true}
 use Rattle.std.proofs.lemmas.Bool.Decides.{Decides-eqb}
 use Rattle.cidr_bits.proofs.Laws.{blocks-Decides}
 use Rattle.intervals.proofs.Laws.{bytes-Decides, compares-Decides, scaled-Decides}
 use Rattle.policy_model.specs.declared.cond.Cond.{Cond}
 use Rattle.policy_model.specs.declared.cond.Cond.TheVariants as cond
 use Rattle.policy_model.specs.contracts.cond.CondPartialEq.TheImpl as conds
-use Rattle.policy_model.specs.declared.principal.Entry.{Entry}
-use Rattle.policy_model.specs.contracts.principal.EntryPartialEq.TheImpl as entry
 use Rattle.policy_model.specs.declared.test.Test.{Test}
 use Rattle.policy_model.specs.declared.test.Test.TheVariants.{Principal, Action, Resource, Present, SomeMeets, SomeMeetsNone}
 use Rattle.policy_model.specs.contracts.test.TestPartialEq.TheImpl as test
 use Rattle.policy_compile.specs.declared.nodes.Node.{Node}
 use Rattle.policy_compile.specs.declared.nodes.Node.TheVariants as node
 use Rattle.policy_compile.specs.contracts.nodes.NodePartialEq.TheImpl as nodes
+use Rattle.policy_compile.proofs.Entries.{entries-Decides}
 use Rattle.policy_compile.proofs.Pieces.{pieces-Decides}
-
-same-text : (x y : List ℕ) → pointwise ◌==◌ x y ≡ true → x ≡ y
-same-text x y = (pointwise_decides Decides-eqb x y).0
-
-text-same : (x y : List ℕ) → x ≡ y → pointwise ◌==◌ x y ≡ true
-text-same x y = (pointwise_decides Decides-eqb x y).1
-
-entries-Decides : (a b : Entry) → Decides (entry.eq-value.it a b) (a ≡ b)
-entries-Decides a b = grind (arith, common_steps, same-text, text-same)
 
 keys-Decide : (x y : List ℕ) → Decides (pointwise ◌==◌ x y) (x ≡ y)
 keys-Decide x y = pointwise_decides Decides-eqb x y
@@ -38,102 +28,70 @@ flags-Decide true false = (λ e. absurd (cc), λ e. absurd (cc))
 flags-Decide false true = (λ e. absurd (cc), λ e. absurd (cc))
 flags-Decide false false = (λ e. refl, λ e. refl)
 
--- of two parts each is equal
-both-decide : {a b : Bool} {P Q R : Type 0} → Decides a P → Decides b Q → (R → P × Q) → (P → Q → R) → Decides (a && b) R
-both-decide {a = true} {b} h k apart together = (λ e. together (h.0 refl) (k.0 e), λ r. k.1 (apart r).1)
-both-decide {a = false} {b} h k apart together = (λ e. absurd (cc), λ r. let same = h.1 (apart r).0 in absurd (cc))
+-- a test of equality decides where it holds of equal things alone, and of each thing with itself
+decides-by : {T : Type 0} (eq : T → T → Bool) → ((a b : T) → eq a b ≡ true → a ≡ b) → ((a : T) → eq a a ≡ true) → (a b : T) → Decides (eq a b) (a ≡ b)
+decides-by eq same own a b = (same a b, λ e. subst (λ x. eq a x ≡ true) e (own a))
+
+-- each of two parts is equal
+both-same : {a b : Bool} {P Q R : Type 0} → Decides a P → Decides b Q → (P → Q → R) → a && b ≡ true → R
+both-same {a = true} {b} h k together e = together (h.0 refl) (k.0 e)
+both-same {a = false} {b} h k together e = absurd (false≢true e)
+
+conds-same : (a b : Cond) → conds.eq-value.it a b ≡ true → a ≡ b
+conds-same (cond.Matches p) (cond.Matches q) e = ap cond.Matches ((pointwise_decides pieces-Decides p q).0 e)
+conds-same (cond.Compares how m) (cond.Compares way n) e = both-same (compares-Decides how way) (scaled-Decides m n) (λ f g. cc) e
+conds-same (cond.Inside a) (cond.Inside b) e = ap cond.Inside ((blocks-Decides a b).0 e)
+conds-same (cond.Flag s t) (cond.Flag u v) e = both-same (flags-Decide s u) (flags-Decide t v) (λ f g. cc) e
+conds-same (cond.Equals xs) (cond.Equals ys) e = ap cond.Equals ((bytes-Decides xs ys).0 e)
+conds-same a b e = absurd (false≢true e)
+
+conds-own : (a : Cond) → conds.eq-value.it a a ≡ true
+conds-own (cond.Matches p) = (pointwise_decides pieces-Decides p p).1 refl
+conds-own (cond.Compares how m) = and_from _ _ ((compares-Decides how how).1 refl) ((scaled-Decides m m).1 refl)
+conds-own (cond.Inside a) = (blocks-Decides a a).1 refl
+conds-own (cond.Flag s t) = and_from _ _ ((flags-Decide s s).1 refl) ((flags-Decide t t).1 refl)
+conds-own (cond.Equals xs) = (bytes-Decides xs xs).1 refl
 
 pub conds-Decides : (a b : Cond) → Decides (conds.eq-value.it a b) (a ≡ b)
-conds-Decides (cond.Matches p) (cond.Matches q) = let same = pointwise_decides pieces-Decides p q in (λ e. ap cond.Matches (same.0 e), λ e. same.1 (cc))
-conds-Decides (cond.Matches p) (cond.Compares way n) = (λ e. absurd (cc), λ e. absurd (cc))
-conds-Decides (cond.Matches p) (cond.Inside b) = (λ e. absurd (cc), λ e. absurd (cc))
-conds-Decides (cond.Matches p) (cond.Flag u v) = (λ e. absurd (cc), λ e. absurd (cc))
-conds-Decides (cond.Matches p) (cond.Equals ys) = (λ e. absurd (cc), λ e. absurd (cc))
-conds-Decides (cond.Compares how m) (cond.Matches q) = (λ e. absurd (cc), λ e. absurd (cc))
-conds-Decides (cond.Compares how m) (cond.Compares way n) = both-decide (compares-Decides how way) (scaled-Decides m n) (λ e. (cc, cc)) (λ e f. cc)
-conds-Decides (cond.Compares how m) (cond.Inside b) = (λ e. absurd (cc), λ e. absurd (cc))
-conds-Decides (cond.Compares how m) (cond.Flag u v) = (λ e. absurd (cc), λ e. absurd (cc))
-conds-Decides (cond.Compares how m) (cond.Equals ys) = (λ e. absurd (cc), λ e. absurd (cc))
-conds-Decides (cond.Inside a) (cond.Matches q) = (λ e. absurd (cc), λ e. absurd (cc))
-conds-Decides (cond.Inside a) (cond.Compares way n) = (λ e. absurd (cc), λ e. absurd (cc))
-conds-Decides (cond.Inside a) (cond.Inside b) = let same = blocks-Decides a b in (λ e. ap cond.Inside (same.0 e), λ e. same.1 (cc))
-conds-Decides (cond.Inside a) (cond.Flag u v) = (λ e. absurd (cc), λ e. absurd (cc))
-conds-Decides (cond.Inside a) (cond.Equals ys) = (λ e. absurd (cc), λ e. absurd (cc))
-conds-Decides (cond.Flag s t) (cond.Matches q) = (λ e. absurd (cc), λ e. absurd (cc))
-conds-Decides (cond.Flag s t) (cond.Compares way n) = (λ e. absurd (cc), λ e. absurd (cc))
-conds-Decides (cond.Flag s t) (cond.Inside b) = (λ e. absurd (cc), λ e. absurd (cc))
-conds-Decides (cond.Flag s t) (cond.Flag u v) = both-decide (flags-Decide s u) (flags-Decide t v) (λ e. (cc, cc)) (λ e f. cc)
-conds-Decides (cond.Flag s t) (cond.Equals ys) = (λ e. absurd (cc), λ e. absurd (cc))
-conds-Decides (cond.Equals xs) (cond.Matches q) = (λ e. absurd (cc), λ e. absurd (cc))
-conds-Decides (cond.Equals xs) (cond.Compares way n) = (λ e. absurd (cc), λ e. absurd (cc))
-conds-Decides (cond.Equals xs) (cond.Inside b) = (λ e. absurd (cc), λ e. absurd (cc))
-conds-Decides (cond.Equals xs) (cond.Flag u v) = (λ e. absurd (cc), λ e. absurd (cc))
-conds-Decides (cond.Equals xs) (cond.Equals ys) = let same = bytes-Decides xs ys in (λ e. ap cond.Equals (same.0 e), λ e. same.1 (cc))
+conds-Decides a b = decides-by conds.eq-value.it conds-same conds-own a b
+
+tests-same : (a b : Test) → test.eq-value.it a b ≡ true → a ≡ b
+tests-same (Principal x) (Principal y) e = ap Principal ((entries-Decides x y).0 e)
+tests-same (Action x) (Action y) e = ap Action ((pointwise_decides pieces-Decides x y).0 e)
+tests-same (Resource x) (Resource y) e = ap Resource ((pointwise_decides pieces-Decides x y).0 e)
+tests-same (Present x) (Present y) e = ap Present ((keys-Decide x y).0 e)
+tests-same (SomeMeets x c) (SomeMeets y d) e = both-same (keys-Decide x y) (conds-Decides c d) (λ f g. cc) e
+tests-same (SomeMeetsNone x cs) (SomeMeetsNone y ds) e = both-same (keys-Decide x y) (pointwise_decides conds-Decides cs ds) (λ f g. cc) e
+tests-same a b e = absurd (false≢true e)
+
+tests-own : (a : Test) → test.eq-value.it a a ≡ true
+tests-own (Principal x) = (entries-Decides x x).1 refl
+tests-own (Action x) = (pointwise_decides pieces-Decides x x).1 refl
+tests-own (Resource x) = (pointwise_decides pieces-Decides x x).1 refl
+tests-own (Present x) = (keys-Decide x x).1 refl
+tests-own (SomeMeets x c) = and_from _ _ ((keys-Decide x x).1 refl) ((conds-Decides c c).1 refl)
+tests-own (SomeMeetsNone x cs) = and_from _ _ ((keys-Decide x x).1 refl) ((pointwise_decides conds-Decides cs cs).1 refl)
 
 pub tests-Decides : (a b : Test) → Decides (test.eq-value.it a b) (a ≡ b)
-tests-Decides (Principal x) (Principal y) = let same = entries-Decides x y in (λ e. ap Principal (same.0 e), λ e. same.1 (cc))
-tests-Decides (Principal x) (Action y) = (λ e. absurd (cc), λ e. absurd (cc))
-tests-Decides (Principal x) (Resource y) = (λ e. absurd (cc), λ e. absurd (cc))
-tests-Decides (Principal x) (Present y) = (λ e. absurd (cc), λ e. absurd (cc))
-tests-Decides (Principal x) (SomeMeets y d) = (λ e. absurd (cc), λ e. absurd (cc))
-tests-Decides (Principal x) (SomeMeetsNone y ds) = (λ e. absurd (cc), λ e. absurd (cc))
-tests-Decides (Action x) (Principal y) = (λ e. absurd (cc), λ e. absurd (cc))
-tests-Decides (Action x) (Action y) = let same = pointwise_decides pieces-Decides x y in (λ e. ap Action (same.0 e), λ e. same.1 (cc))
-tests-Decides (Action x) (Resource y) = (λ e. absurd (cc), λ e. absurd (cc))
-tests-Decides (Action x) (Present y) = (λ e. absurd (cc), λ e. absurd (cc))
-tests-Decides (Action x) (SomeMeets y d) = (λ e. absurd (cc), λ e. absurd (cc))
-tests-Decides (Action x) (SomeMeetsNone y ds) = (λ e. absurd (cc), λ e. absurd (cc))
-tests-Decides (Resource x) (Principal y) = (λ e. absurd (cc), λ e. absurd (cc))
-tests-Decides (Resource x) (Action y) = (λ e. absurd (cc), λ e. absurd (cc))
-tests-Decides (Resource x) (Resource y) = let same = pointwise_decides pieces-Decides x y in (λ e. ap Resource (same.0 e), λ e. same.1 (cc))
-tests-Decides (Resource x) (Present y) = (λ e. absurd (cc), λ e. absurd (cc))
-tests-Decides (Resource x) (SomeMeets y d) = (λ e. absurd (cc), λ e. absurd (cc))
-tests-Decides (Resource x) (SomeMeetsNone y ds) = (λ e. absurd (cc), λ e. absurd (cc))
-tests-Decides (Present x) (Principal y) = (λ e. absurd (cc), λ e. absurd (cc))
-tests-Decides (Present x) (Action y) = (λ e. absurd (cc), λ e. absurd (cc))
-tests-Decides (Present x) (Resource y) = (λ e. absurd (cc), λ e. absurd (cc))
-tests-Decides (Present x) (Present y) = let same = keys-Decide x y in (λ e. ap Present (same.0 e), λ e. same.1 (cc))
-tests-Decides (Present x) (SomeMeets y d) = (λ e. absurd (cc), λ e. absurd (cc))
-tests-Decides (Present x) (SomeMeetsNone y ds) = (λ e. absurd (cc), λ e. absurd (cc))
-tests-Decides (SomeMeets x c) (Principal y) = (λ e. absurd (cc), λ e. absurd (cc))
-tests-Decides (SomeMeets x c) (Action y) = (λ e. absurd (cc), λ e. absurd (cc))
-tests-Decides (SomeMeets x c) (Resource y) = (λ e. absurd (cc), λ e. absurd (cc))
-tests-Decides (SomeMeets x c) (Present y) = (λ e. absurd (cc), λ e. absurd (cc))
-tests-Decides (SomeMeets x c) (SomeMeets y d) = both-decide (keys-Decide x y) (conds-Decides c d) (λ e. (cc, cc)) (λ e f. cc)
-tests-Decides (SomeMeets x c) (SomeMeetsNone y ds) = (λ e. absurd (cc), λ e. absurd (cc))
-tests-Decides (SomeMeetsNone x cs) (Principal y) = (λ e. absurd (cc), λ e. absurd (cc))
-tests-Decides (SomeMeetsNone x cs) (Action y) = (λ e. absurd (cc), λ e. absurd (cc))
-tests-Decides (SomeMeetsNone x cs) (Resource y) = (λ e. absurd (cc), λ e. absurd (cc))
-tests-Decides (SomeMeetsNone x cs) (Present y) = (λ e. absurd (cc), λ e. absurd (cc))
-tests-Decides (SomeMeetsNone x cs) (SomeMeets y d) = (λ e. absurd (cc), λ e. absurd (cc))
-tests-Decides (SomeMeetsNone x cs) (SomeMeetsNone y ds) = both-decide (keys-Decide x y) (pointwise_decides conds-Decides cs ds) (λ e. (cc, cc)) (λ e f. cc)
+tests-Decides a b = decides-by test.eq-value.it tests-same tests-own a b
 
 same-indices : (m n : List ℕ) → Decides (pointwise (λ a b. nat_eq a b) m n) (m ≡ n)
 same-indices m n = pointwise_decides Decides-eqb m n
 
+nodes-same : (a b : Node) → nodes.eq-value.it a b ≡ true → a ≡ b
+nodes-same node.Yes node.Yes e = refl
+nodes-same (node.Test m) (node.Test n) e = ap node.Test ((Decides-eqb m n).0 e)
+nodes-same (node.Not m) (node.Not n) e = ap node.Not ((Decides-eqb m n).0 e)
+nodes-same (node.All m) (node.All n) e = ap node.All ((same-indices m n).0 e)
+nodes-same (node.OneOf m) (node.OneOf n) e = ap node.OneOf ((same-indices m n).0 e)
+nodes-same a b e = absurd (false≢true e)
+
+nodes-own : (a : Node) → nodes.eq-value.it a a ≡ true
+nodes-own node.Yes = refl
+nodes-own (node.Test m) = (Decides-eqb m m).1 refl
+nodes-own (node.Not m) = (Decides-eqb m m).1 refl
+nodes-own (node.All m) = (same-indices m m).1 refl
+nodes-own (node.OneOf m) = (same-indices m m).1 refl
+
 pub nodes-Decides : (a b : Node) → Decides (nodes.eq-value.it a b) (a ≡ b)
-nodes-Decides node.Yes node.Yes = (λ e. refl, λ e. refl)
-nodes-Decides (node.Test m) (node.Test n) = let same = Decides-eqb m n in (λ e. ap node.Test (same.0 e), λ e. same.1 (cc))
-nodes-Decides (node.Not m) (node.Not n) = let same = Decides-eqb m n in (λ e. ap node.Not (same.0 e), λ e. same.1 (cc))
-nodes-Decides (node.All m) (node.All n) = let same = same-indices m n in (λ e. ap node.All (same.0 e), λ e. same.1 (cc))
-nodes-Decides (node.OneOf m) (node.OneOf n) = let same = same-indices m n in (λ e. ap node.OneOf (same.0 e), λ e. same.1 (cc))
-nodes-Decides node.Yes (node.Test n) = (λ e. absurd (cc), λ e. absurd (cc))
-nodes-Decides node.Yes (node.Not n) = (λ e. absurd (cc), λ e. absurd (cc))
-nodes-Decides node.Yes (node.All n) = (λ e. absurd (cc), λ e. absurd (cc))
-nodes-Decides node.Yes (node.OneOf n) = (λ e. absurd (cc), λ e. absurd (cc))
-nodes-Decides (node.Test m) node.Yes = (λ e. absurd (cc), λ e. absurd (cc))
-nodes-Decides (node.Test m) (node.Not n) = (λ e. absurd (cc), λ e. absurd (cc))
-nodes-Decides (node.Test m) (node.All n) = (λ e. absurd (cc), λ e. absurd (cc))
-nodes-Decides (node.Test m) (node.OneOf n) = (λ e. absurd (cc), λ e. absurd (cc))
-nodes-Decides (node.Not m) node.Yes = (λ e. absurd (cc), λ e. absurd (cc))
-nodes-Decides (node.Not m) (node.Test n) = (λ e. absurd (cc), λ e. absurd (cc))
-nodes-Decides (node.Not m) (node.All n) = (λ e. absurd (cc), λ e. absurd (cc))
-nodes-Decides (node.Not m) (node.OneOf n) = (λ e. absurd (cc), λ e. absurd (cc))
-nodes-Decides (node.All m) node.Yes = (λ e. absurd (cc), λ e. absurd (cc))
-nodes-Decides (node.All m) (node.Test n) = (λ e. absurd (cc), λ e. absurd (cc))
-nodes-Decides (node.All m) (node.Not n) = (λ e. absurd (cc), λ e. absurd (cc))
-nodes-Decides (node.All m) (node.OneOf n) = (λ e. absurd (cc), λ e. absurd (cc))
-nodes-Decides (node.OneOf m) node.Yes = (λ e. absurd (cc), λ e. absurd (cc))
-nodes-Decides (node.OneOf m) (node.Test n) = (λ e. absurd (cc), λ e. absurd (cc))
-nodes-Decides (node.OneOf m) (node.Not n) = (λ e. absurd (cc), λ e. absurd (cc))
-nodes-Decides (node.OneOf m) (node.All n) = (λ e. absurd (cc), λ e. absurd (cc))
+nodes-Decides a b = decides-by nodes.eq-value.it nodes-same nodes-own a b

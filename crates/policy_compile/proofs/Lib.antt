@@ -1,7 +1,9 @@
 mod Asking
 mod Collecting
 mod Covering
+mod Entries
 mod Equal
+mod Finishing
 mod Grouping
 mod Items
 pub mod Laws

@@ -2,25 +2,19 @@
 use Rattle.std.proofs.Common.{◌≡◌, ◌<◌, ◌+◌, ℕ, List, [], ◌∷◌, ◌++◌, length, get_or, map, All, Some, sym, ap, ◌∙◌, subst, inl, inr}
 use Rattle.std.specs.Prelude.{slice_get}
 use Rattle.std.proofs.lemmas.List.Elements.{All-head, All-tail}
-use Rattle.std.proofs.Common.{◌≤◌, arith}
-use Rattle.std.specs.Prelude.{option_map, sum_by}
+use Rattle.std.proofs.Common.{arith}
 use Rattle.std.specs.declared.rc.Rc.{Rc}
 use Rattle.std.specs.declared.alloc.Global.{Global}
 use Rattle.std.proofs.lemmas.List.{get_or-map, length-append, length-map, map_push}
-use Rattle.std.proofs.lemmas.Option.{slice_get-get_or, slice_get-map}
+use Rattle.std.proofs.lemmas.Option.{slice_get-get_or}
 use Rattle.formula_tree.specs.declared.formula.Formula.{Formula}
-use Rattle.policy_compile.specs.declared.compile.TheConstants.{MOST_PIECES}
-use Rattle.policy_compile.specs.declared.builder.TheConstants.{MOST_TESTS}
-use Rattle.policy_compile.specs.declared.builder.Builder.{Builder}
-use Rattle.policy_compile.specs.Building.{Makes}
-use Rattle.policy_compile.specs.Queries.{IsQuery, test_pieces}
 use Rattle.formula_tree.specs.Trees as tree
 use Rattle.policy_model.specs.declared.test.Test.{Test}
 use Rattle.policy_compile.specs.declared.nodes.Node.{Node}
 use Rattle.policy_compile.specs.declared.nodes.Node.TheVariants as node
 use Rattle.policy_compile.specs.Nodes.{AreEarlier, ArePlansAt, IsPlanAt, StandFor, children, node_tree, plan_all, plan_ask, plan_not, plan_one_of, plan_yes, plans_more, plans_none, tree_at, tree_in}
-use Rattle.policy_compile.specs.Numbering.{AreNumbered, Collects, IsNumbered, numbered_all, numbered_ask, numbered_more, numbered_none, numbered_not, numbered_one_of, numbered_yes}
-use Rattle.policy_compile.specs.Plans.{Plan, Plans, all, ask, more, none, not, one_of, tests_in, yes}
+use Rattle.policy_compile.specs.Numbering.{AreNumbered, IsNumbered, numbered_all, numbered_ask, numbered_more, numbered_none, numbered_not, numbered_one_of, numbered_yes}
+use Rattle.policy_compile.specs.Plans.{Plan, Plans, all, ask, more, none, not, one_of, yes}
 use Rattle.policy_compile.proofs.Asking.{last-or-before}
 
 -- the tree at an index
@@ -92,16 +86,3 @@ formula-more nodes fs gs seen i n r f earlier count stand within is same made va
       stand-more nodes trees (map tree_at gs) n (tree_at r) stand (subst (λ (k : ℕ). slice_get nodes k ≡ Some n) index here) (subst (λ (k : ℕ). All (λ c. c < k) (children n)) index (earlier i n here)) tree_is
           (ap (map tree_at) longer ∙ map_push tree_at fs r),
     )
-
--- a query of the tests and of the formula of its plan's node
-pub query-made : (builder : Builder) (plan : Plan) (i : ℕ) (fs : List (Rc Formula Global)) (f v : Rc Formula Global) (nodes : List Node) (tests : List Test) → Makes builder plan i → nodes ≡ builder.nodes.keys → StandFor nodes (map tree_at fs) → i < length fs →
-    f ≡ get_or fs i f → v.value ≡ f.value → tests ≡ builder.tests.keys → length builder.tests.keys ≤ MOST_TESTS → sum_by test_pieces builder.tests.keys ≤ MOST_PIECES → IsQuery plan (record { formula = v; tests = tests })
-query-made builder plan i fs f v nodes tests makes same stand within is value kept few small =
-    let here : slice_get (map tree_at fs) i ≡ Some (tree_at f) = slice_get-map tree_at fs i ∙ ap (option_map tree_at) (slice_get-get_or fs i f within ∙ ap (λ (r : Rc Formula Global). Some r) (sym is)) in
-    let numbered : IsNumbered builder.tests.keys plan (tree_at f) = stand builder.tests.keys plan i (tree_at f) (subst (λ (ns : List Node). IsPlanAt builder.tests.keys ns plan i) (sym same) makes.node) here in
-    record {
-      tests = subst (λ (ts : List Test). Collects [] (tests_in plan) ts) (sym kept) makes.collects;
-      few = subst (λ (ts : List Test). length ts ≤ MOST_TESTS) (sym kept) few;
-      small = subst (λ (ts : List Test). sum_by test_pieces ts ≤ MOST_PIECES) (sym kept) small;
-      tree = subst (λ (ts : List Test). IsNumbered ts plan (tree_at v)) (sym kept) (subst (λ (x : Formula). IsNumbered builder.tests.keys plan (tree.tree_of x)) (sym value) numbered);
-    }

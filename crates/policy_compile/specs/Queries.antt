@@ -1,5 +1,8 @@
 -- What a query is, and when there is none.
 use Rattle.std.specs.Prelude.{◌≡◌, ◌≤◌, ◌<◌, ◌+◌, ⊤, ℕ, List, [], length, sum_by, Option, Some, None, Result, Ok, Err}
+use Rattle.std.specs.declared.rc.Rc.{Rc}
+use Rattle.std.specs.declared.alloc.Global.{Global}
+use Rattle.formula_tree.specs.declared.formula.Formula.{Formula}
 use Rattle.formula_tree.specs.Trees.{Tree, tree_of}
 use Rattle.policy_model.specs.declared.principal.Entry.{Entry}
 use Rattle.policy_model.specs.declared.principal.Entry.TheVariants.{All, Kind, Account, Exact}
@@ -7,11 +10,13 @@ use Rattle.policy_model.specs.declared.test.Test.{Test}
 use Rattle.policy_model.specs.declared.cond.Cond.{Cond}
 use Rattle.policy_model.specs.declared.cond.Cond.TheVariants as cond
 use Rattle.policy_model.specs.declared.test.Test.TheVariants.{Principal, Action, Resource, Present, SomeMeets, SomeMeetsNone}
+use Rattle.policy_compile.specs.declared.builder.Builder.{Builder}
 use Rattle.policy_compile.specs.declared.builder.TheConstants.{MOST_TESTS}
 use Rattle.policy_compile.specs.declared.compile.TheConstants.{ACCOUNT_PIECES, MOST_PIECES}
 use Rattle.policy_compile.specs.declared.outcome.Query.{Query}
 use Rattle.policy_compile.specs.declared.outcome.QueryFault.{QueryFault}
 use Rattle.policy_compile.specs.declared.outcome.QueryFault.TheVariants.{TooManyTests, TooManyPieces, NoMemory}
+use Rattle.policy_compile.specs.Nodes.{IsPlanAt, tree_at}
 use Rattle.policy_compile.specs.Plans.{Plan, tests_in}
 use Rattle.policy_compile.specs.Numbering.{Collects, IsNumbered, HasTooMany}
 
@@ -64,3 +69,15 @@ IsQueryOf plan (Ok q) = IsQuery plan q
 IsQueryOf plan (Err TooManyTests) = HasTooMany [] (tests_in plan)
 IsQueryOf plan (Err TooManyPieces) = HasTooManyPieces plan
 IsQueryOf plan (Err NoMemory) = ⊤
+
+-- the formula of the node of this index: where the node is a plan, its tree is the plan
+abbrev pub IsFormulaAt : Builder → ℕ → Rc Formula Global → Type 0
+IsFormulaAt builder i f =
+    (plan : Plan) → IsPlanAt builder.tests.keys builder.nodes.keys plan i → IsNumbered builder.tests.keys plan (tree_at f)
+
+-- the formula of a node, where the tests have few enough pieces together, or why there is none
+abbrev pub IsSmallFormula : Builder → ℕ → Result (Rc Formula Global) QueryFault → Type 0
+IsSmallFormula builder i (Ok f) = (sum_by test_pieces builder.tests.keys ≤ MOST_PIECES) × IsFormulaAt builder i f
+IsSmallFormula builder i (Err TooManyTests) = ⊥
+IsSmallFormula builder i (Err TooManyPieces) = MOST_PIECES < sum_by test_pieces builder.tests.keys
+IsSmallFormula builder i (Err NoMemory) = ⊤

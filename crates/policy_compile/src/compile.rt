@@ -3,15 +3,17 @@ ghost use Rattle.std.specs.Prelude.{◌≡◌, ◌≤◌, ◌<◌, ◌↔◌, Is
 ghost use Rattle.policy_compile.specs.declared.compile.TheConstants.{MOST_PIECES};
 ghost use Rattle.policy_compile.specs.Building.{Makes};
 ghost use Rattle.policy_compile.specs.Plans.{Plan};
-ghost use Rattle.policy_compile.specs.Queries.{IsQueryOf, IsRoomAfter, cond_pieces, entry_pieces, test_pieces};
+ghost use Rattle.policy_compile.specs.Queries.{IsQueryOf, IsRoomAfter, IsSmallFormula, cond_pieces, entry_pieces, test_pieces};
 ghost use Rattle.policy_compile.specs.Sets.{query_plan, set_plan};
 
 use crate::builder::Builder;
 use crate::nodes::formulas_of;
 use crate::outcome::{Query, QueryFault};
 use crate::sets::{pair_node, set_node};
+use formula_tree::Formula;
 use policy_model::{Cond, Entry, PolicySet, Schema, Test};
 use std::alloc::Global;
+use std::rc::Rc;
 
 /// The most pieces that the patterns of a query's tests have together.
 const MOST_PIECES: usize = 65_536;
@@ -79,15 +81,24 @@ fn are_small(tests: &[Test]) -> bool
     true
 }
 
-fn finished(builder: Builder, index: usize) -> Result<Query, QueryFault>
-    requires { index < length builder.nodes.keys }
-    ensures { (plan : Plan) → Makes builder plan index → IsQueryOf plan result }
+// The formula of a node, where the patterns of the tests have few enough pieces.
+fn small_formula(builder: &Builder, index: usize) -> Result<Rc<Formula>, QueryFault>
+    requires { index < length builder.now.nodes.keys }
+    ensures { IsSmallFormula builder.now index result }
 {
     if !are_small(builder.tests.as_slice()) {
         return Err(QueryFault::TooManyPieces);
     }
     let formulas = formulas_of(builder.alloc, builder.nodes.as_slice())?;
     let formula = formulas[index].clone()?;
+    Ok(formula)
+}
+
+fn finished(builder: Builder, index: usize) -> Result<Query, QueryFault>
+    requires { index < length builder.nodes.keys }
+    ensures { (plan : Plan) → Makes builder plan index → IsQueryOf plan result }
+{
+    let formula = small_formula(&builder, index)?;
     let tests = builder.into_tests()?;
     Ok(Query { formula, tests })
 }

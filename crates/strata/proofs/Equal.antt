@@ -13,6 +13,9 @@ use Rattle.policy_model.specs.declared.cond.Cond.{Cond}
 use Rattle.policy_model.specs.declared.cond.Cond.TheVariants as cond
 use Rattle.policy_model.specs.contracts.cond.CondPartialEq.TheImpl as conds
 use Rattle.policy_model.specs.declared.principal.Entry.{Entry}
+use Rattle.policy_model.specs.declared.principal.Entry.TheVariants as entries
+use Rattle.policy_model.specs.declared.principal.PrincipalKind.{PrincipalKind}
+use Rattle.policy_model.specs.contracts.principal.PrincipalKindPartialEq.TheImpl as kind
 use Rattle.policy_model.specs.contracts.principal.EntryPartialEq.TheImpl as entry
 use Rattle.strata.specs.declared.predicate.Predicate.{Predicate}
 use Rattle.strata.specs.declared.predicate.Predicate.TheVariants.{Every, Principal, Word, Meets}
@@ -21,14 +24,11 @@ use Rattle.strata.specs.contracts.predicate.PredicatePartialEq.TheImpl as predic
 pieces-Decides : (a b : Piece) → Decides (pieces.eq-value.it a b) (a ≡ b)
 pieces-Decides a b = grind (arith, common_steps)
 
-same-text : (x y : List ℕ) → pointwise ◌==◌ x y ≡ true → x ≡ y
-same-text x y = (pointwise_decides Decides-eqb x y).0
+kinds-Decide : (a b : PrincipalKind) → Decides (kind.eq-value.it a b) (a ≡ b)
+kinds-Decide a b = grind (arith, common_steps)
 
-text-same : (x y : List ℕ) → x ≡ y → pointwise ◌==◌ x y ≡ true
-text-same x y = (pointwise_decides Decides-eqb x y).1
-
-entries-Decides : (a b : Entry) → Decides (entry.eq-value.it a b) (a ≡ b)
-entries-Decides a b = grind (arith, common_steps, same-text, text-same)
+texts-Decide : (x y : List ℕ) → Decides (pointwise ◌==◌ x y) (x ≡ y)
+texts-Decide x y = pointwise_decides Decides-eqb x y
 
 flags-Decide : (a b : Bool) → Decides (beq a b) (a ≡ b)
 flags-Decide true true = (λ e. refl, λ e. refl)
@@ -40,6 +40,13 @@ flags-Decide false false = (λ e. refl, λ e. refl)
 both-decide : {a b : Bool} {P Q R : Type 0} → Decides a P → Decides b Q → (R → P × Q) → (P → Q → R) → Decides (a && b) R
 both-decide {a = true} {b} h k apart together = (λ e. together (h.0 refl) (k.0 e), λ r. k.1 (apart r).1)
 both-decide {a = false} {b} h k apart together = (λ e. absurd (cc), λ r. let same = h.1 (apart r).0 in absurd (cc))
+
+entries-Decides : (a b : Entry) → Decides (entry.eq-value.it a b) (a ≡ b)
+entries-Decides entries.All entries.All = (λ e. refl, λ e. refl)
+entries-Decides (entries.Kind k) (entries.Kind m) = let same = kinds-Decide k m in (λ e. ap entries.Kind (same.0 e), λ e. same.1 (cc))
+entries-Decides (entries.Account x) (entries.Account y) = let same = texts-Decide x y in (λ e. ap entries.Account (same.0 e), λ e. same.1 (cc))
+entries-Decides (entries.Exact k x) (entries.Exact m y) = both-decide (kinds-Decide k m) (texts-Decide x y) (λ e. (cc, cc)) (λ e f. cc)
+entries-Decides a b = (λ e. absurd (cc), λ e. absurd (cc))
 
 conds-Decides : (a b : Cond) → Decides (conds.eq-value.it a b) (a ≡ b)
 conds-Decides (cond.Matches p) (cond.Matches q) = let same = pointwise_decides pieces-Decides p q in (λ e. ap cond.Matches (same.0 e), λ e. same.1 (cc))

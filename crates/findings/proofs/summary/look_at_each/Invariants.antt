@@ -1,6 +1,6 @@
 use Rattle.std.proofs.Common.{◌≡◌}
 use Rattle.findings.specs.Walked.{HasLookedAt}
-use Rattle.findings.proofs.summary.summarise.Given as goal
+use Rattle.findings.proofs.summary.look_at_each.Given as goal
 
 abbrev pub invariant-findings : goal.invariant-findings
 invariant-findings g l = record {
