@@ -51,6 +51,14 @@ module _ (schema : Schema) (tests : List Test) (path : Answers) (core : List ℕ
       let some : slice_get tests first ≡ Some (get_or tests first (Action [])) = slice_get-get_or tests first (Action []) within in
       absurd (cc)
 
+-- the same where the tests, the core and the slot are named otherwise
+pub accepts-where : (schema : Schema) (tests seen : List Test) (path : Answers) (core list : List ℕ) (s : Slot) (proof : SlotProof) (first : ℕ) (t : Test) (ok : Bool) → slice_get core 0 ≡ Some first → slice_get tests first ≡ Some t → seen ≡ tests → list ≡ core → s ≡ slot_of t →
+    IsTrue ok ↔ IsConflict schema seen path s list proof → IsTrue ok ↔ Accepts schema tests path core proof
+accepts-where schema tests seen path core list s proof first t ok at here same whole on says =
+    let one = subst (λ (x : List Test). IsTrue ok ↔ IsConflict schema x path s list proof) same says in
+    let two = subst (λ (x : List ℕ). IsTrue ok ↔ IsConflict schema tests path s x proof) whole one in
+    accepts-by schema tests path core proof first t ok at here (subst (λ (x : Slot). IsTrue ok ↔ IsConflict schema tests path x core proof) on two)
+
 -- what is left to show is what is shown, where the rest is known
 pub conflict-by : (schema : Schema) (tests : List Test) (path : Answers) (s : Slot) (core : List ℕ) (proof : SlotProof) (ok : Bool) → IsCore tests path core s → IsTrue ok ↔ Shows schema tests path core s proof →
     IsTrue ok ↔ IsConflict schema tests path s core proof

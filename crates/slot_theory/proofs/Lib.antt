@@ -10,6 +10,7 @@ mod Naming
 mod Products
 mod Rising
 mod Sampling
+mod Shrinking
 mod Stating
 mod Wanting
 mod Wording

@@ -1,10 +1,11 @@
 -- A sample of a pattern is a text that the pattern matches, and where nothing is asked any value answers.
-use Rattle.std.proofs.Common.{◌≡◌, ◌≢◌, ◌≤◌, ℕ, List, [], ◌∷◌, length, take, true, refl, sym, ap, ◌∙◌, subst, codes, arith}
+use Rattle.std.proofs.Common.{◌≡◌, ◌≢◌, ◌≤◌, ◌<◌, ◌+◌, ℕ, List, [], ◌∷◌, ◌++◌, length, get_or, take, true, refl, sym, ap, ◌∙◌, subst, codes, arith}
 use Rattle.std.specs.Prelude.{Option, Some, None}
 use Rattle.std.specs.List.{flat_map}
 use Rattle.std.proofs.lemmas.Bool.{and_parts, and_from}
 use Rattle.std.proofs.lemmas.Bool.Decides.{Decides-eqb}
-use Rattle.std.proofs.lemmas.List.{take_all}
+use Rattle.std.proofs.lemmas.Grind.{flat_map-append}
+use Rattle.std.proofs.lemmas.List.{append-nil, take_all, take_more}
 use Rattle.wildcard_lang.specs.declared.piece.Piece.{Piece}
 use Rattle.wildcard_lang.specs.declared.piece.Piece.TheVariants.{Lit, LitFold, One, Many, OneNoColon, ManyNoColon}
 use Rattle.wildcard_lang.specs.Text.{IsText}
@@ -20,7 +21,7 @@ use Rattle.slot_theory.specs.declared.outcome.SlotValue.{SlotValue}
 use Rattle.slot_theory.specs.Slots.{AnswersSlot, slot_of}
 use Rattle.slot_theory.specs.Cores.{HasTest}
 use Rattle.std.proofs.lemmas.Option.{get_or_from_slice_get}
-use Rattle.slot_theory.specs.Unasked.{or_x, sample, stated_word}
+use Rattle.slot_theory.specs.Unasked.{or_x, sample, sampled, stated_word}
 
 pub sample-text : (ps : List Piece) → IsText (flat_map own ps) → IsText (sample ps)
 sample-text [] h = refl
@@ -36,6 +37,21 @@ pub gathered-text : (ps qs : List Piece) (got : List ℕ) (i : ℕ) → qs ≡ p
 gathered-text ps qs got i same text made end =
     let whole : length ps ≤ i = omega (arith, ap length same) in
     rw (made, take_all i ps whole) (sample-text ps text)
+
+-- one more piece was gathered
+pub gathered-more : (ps qs : List Piece) (i : ℕ) (d : Piece) (before after : List ℕ) → qs ≡ ps → i < length qs → before ≡ sample (take i ps) → after ≡ before ++ sampled (get_or qs i d) → after ≡ sample (take (i + 1) ps)
+gathered-more ps qs i d before after same within made is =
+    let here : i < length ps = omega (arith, ap length same) in
+    let piece : sampled (get_or qs i d) ≡ sampled (get_or ps i d) = ap (λ (xs : List Piece). sampled (get_or xs i d)) same in
+    let one : sample (get_or ps i d ∷ []) ≡ sampled (get_or ps i d) = append-nil (sampled (get_or ps i d)) in
+    is ∙ ap (λ (xs : List ℕ). xs ++ sampled (get_or qs i d)) made ∙ ap (λ (xs : List ℕ). sample (take i ps) ++ xs) (piece ∙ sym one)
+    ∙ sym (flat_map-append sampled (take i ps) (get_or ps i d ∷ [])) ∙ ap sample (sym (take_more ps i d here))
+
+-- what was gathered from all pieces is the sample
+pub gathered-all : (ps qs : List Piece) (t got : List ℕ) (i : ℕ) → qs ≡ ps → t ≡ got → got ≡ sample (take i ps) → length qs ≤ i → t ≡ sample ps
+gathered-all ps qs t got i same is made end =
+    let whole : length ps ≤ i = omega (arith, ap length same) in
+    is ∙ made ∙ ap sample (take_all i ps whole)
 
 -- the sample matches
 pub sample-matches : (ps : List Piece) → Matches ps (sample ps)

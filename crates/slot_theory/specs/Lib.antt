@@ -6,5 +6,6 @@ pub mod Cores
 pub mod Outcome
 pub mod Unasked
 pub mod Steps
+pub mod Shrinking
 pub mod Question
 pub mod Acceptance

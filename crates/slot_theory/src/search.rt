@@ -1,6 +1,6 @@
 //! The search for a value of a slot. It asks for a value that gives the answers of a few tests, its
 //! core, and tries that on all of them; a test that the value answers otherwise joins the core.
-ghost use Rattle.std.specs.Prelude.{◌≡◌, ◌≤◌, ◌<◌, ◌^◌, ◌+◌, IfOk, MatchOption, All, length};
+ghost use Rattle.std.specs.Prelude.{◌≡◌, ◌≤◌, ◌<◌, ◌^◌, ◌+◌, IfOk, IfSome, MatchOption, All, length};
 ghost use Rattle.formula_tree.specs.Answers.{IsDistinct};
 ghost use Rattle.policy_model.specs.Soundness.{SchemaIsSound, TestSuits};
 ghost use Rattle.slot_theory.specs.Possible.{PathInRange};
@@ -9,7 +9,8 @@ ghost use Rattle.slot_theory.specs.declared.outcome.Possible.TheVariants.{Found}
 ghost use Rattle.slot_theory.specs.Outcome.{IsSlotOutcome};
 ghost use Rattle.slot_theory.specs.Unasked.{stated_value};
 ghost use Rattle.slot_theory.specs.Slots.{SlotIsIn};
-ghost use Rattle.slot_theory.specs.Question.{IsAnsweredOf, IsAskable, IsConflictOf, IsOutcomeOf};
+ghost use Rattle.slot_theory.specs.Question.{IsAnsweredOf, IsAskable, IsConflictOf, IsCoreOf, IsOutcomeOf};
+ghost use Rattle.slot_theory.specs.Shrinking.{IsKept, IsSmaller, found_or};
 ghost use Rattle.slot_theory.specs.Steps.{is_named, named_tests};
 
 use crate::attempt::attempt;
@@ -40,6 +41,57 @@ fn last_on(tests: &[Test], answers: &[(u32, bool)], slot: &Slot) -> Option<u32>
     None
 }
 
+/// The core with its proof, where an attempt finds no value for it.
+fn without_value(
+    alloc: Global,
+    question: &Question<'_>,
+    states: u32,
+    core: Core,
+) -> Result<Option<Kept>, NoMemory>
+    requires askable { IsAskable question.now }
+    requires some { 1 ≤ states }
+    requires core { IsCoreOf question.now core }
+    ensures { IfOk result (λ found. IfSome found (IsKept question.now core)) }
+{
+    match attempt(alloc, question, core.as_slice(), states)? {
+        Attempt::Empty(proof) => Ok(Some(Kept { core, proof })),
+        _ => Ok(None),
+    }
+}
+
+/// The core without the test at an index, with its proof, where a test is left and no value answers
+/// them.
+fn without_test(
+    alloc: Global,
+    question: &Question<'_>,
+    states: u32,
+    core: &[u32],
+    index: usize,
+) -> Result<Option<Kept>, NoMemory>
+    requires askable { IsAskable question.now }
+    requires some { 1 ≤ states }
+    requires core { IsCoreOf question.now core.now }
+    requires within { index < length core.now }
+    ensures { IfOk result (λ found. IfSome found (IsSmaller question.now core.now)) }
+{
+    if core.len() < 2 {
+        return Ok(None);
+    }
+    let fewer = without(alloc, core, index)?;
+    without_value(alloc, question, states, fewer)
+}
+
+/// What was found, or else what is had.
+fn found_or<T: Drop>(found: Result<Option<T>, NoMemory>, had: T) -> Result<T, NoMemory>
+    ensures { result ≡ found_or found had }
+{
+    match found {
+        Ok(Some(other)) => Ok(other),
+        Ok(None) => Ok(had),
+        Err(fault) => Err(fault),
+    }
+}
+
 /// The core without the test at an index, with its proof, where it still has one.
 fn smaller(
     alloc: Global,
@@ -55,14 +107,8 @@ fn smaller(
     ensures kept { IfOk result (λ k. IsConflictOf question.now k.core k.proof) }
     ensures length { IfOk result (λ k. length kept.core ≤ length k.core + 1) }
 {
-    if kept.core.len() < 2 {
-        return Ok(kept);
-    }
-    let fewer = without(alloc, kept.core.as_slice(), index)?;
-    match attempt(alloc, question, fewer.as_slice(), states)? {
-        Attempt::Empty(proof) => Ok(Kept { core: fewer, proof }),
-        _ => Ok(kept),
-    }
+    let fewer = without_test(alloc, question, states, kept.core.as_slice(), index);
+    found_or(fewer, kept)
 }
 
 /// The core without the tests that it doesn't need. The test that joined it last is needed, since
@@ -119,6 +165,25 @@ fn named_tests(
     Ok(named)
 }
 
+/// The tests alone that the proof rests on, with a proof of theirs, where they are fewer.
+fn named_alone(
+    alloc: Global,
+    question: &Question<'_>,
+    states: u32,
+    first: &Kept,
+) -> Result<Option<Kept>, NoMemory>
+    requires askable { IsAskable question.now }
+    requires some { 1 ≤ states }
+    requires kept { IsConflictOf question.now first.now.core first.now.proof }
+    ensures { IfOk result (λ found. IfSome found (λ k. IsConflictOf question.now k.core k.proof)) }
+{
+    let named = named_tests(alloc, question.path, &first.proof, first.core.as_slice())?;
+    if named.is_empty() || named.len() == first.core.len() {
+        return Ok(None);
+    }
+    without_value(alloc, question, states, named)
+}
+
 /// The conflict of the tests alone that its proof rests on. Each test of a key with several values that
 /// is answered yes has a product of its own, so that `cut` would look at many of them again and again.
 fn trimmed(
@@ -132,14 +197,8 @@ fn trimmed(
     requires kept { IsConflictOf question.now first.core first.proof }
     ensures { IfOk result (λ k. IsConflictOf question.now k.core k.proof) }
 {
-    let named = named_tests(alloc, question.path, &first.proof, first.core.as_slice())?;
-    if named.is_empty() || named.len() == first.core.len() {
-        return Ok(first);
-    }
-    match attempt(alloc, question, named.as_slice(), states)? {
-        Attempt::Empty(proof) => Ok(Kept { core: named, proof }),
-        _ => Ok(first),
-    }
+    let fewer = named_alone(alloc, question, states, &first);
+    found_or(fewer, first)
 }
 
 /// The search from a core of one test.
