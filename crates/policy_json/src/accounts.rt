@@ -1,5 +1,5 @@
 //! Accounts that principals' ids stand for.
-ghost use Rattle.std.specs.Prelude.{◌≡◌, IfSome, option_map};
+ghost use Rattle.std.specs.Prelude.{◌≡◌, IfSome, bytes_eq, codes, option_map};
 ghost use Rattle.policy_model.specs.Soundness.{IsAccount};
 ghost use Rattle.policy_json.specs.Principals.{account_before_root, account_of, nonempty_part, is_account, root_account};
 
@@ -22,20 +22,25 @@ fn nonempty_part(text: &[char]) -> Option<&[char]>
     }
 }
 
+// Whether the text is `:root`.
+fn is_root(text: &[char]) -> bool
+    ensures { result ≡ bytes_eq text.now (codes ":root") }
+{
+    match text {
+        [':', 'r', 'o', 'o', 't'] => true,
+        _ => false,
+    }
+}
+
 // The account at the front, where `:root` follows and ends the text.
 fn account_before_root(text: &[char]) -> Option<&[char]>
     ensures { option_map (λ s. s.now) result ≡ account_before_root text.now }
 {
     let (account, rest) = text.split_at_checked(ACCOUNT_DIGITS)?;
-    match rest {
-        [':', 'r', 'o', 'o', 't'] => {
-            if is_account_text(account) {
-                Some(account)
-            } else {
-                None
-            }
-        }
-        _ => None,
+    if is_account_text(account) && is_root(rest) {
+        Some(account)
+    } else {
+        None
     }
 }
 

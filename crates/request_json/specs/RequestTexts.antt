@@ -58,6 +58,12 @@ request_data q =
     let end = member (codes "Principal") (principal_data q) (member (codes "Resource") resource no_members) in
     object (member (codes "Action") action (member (codes "Context") context end))
 
+-- the same, put part by part among members
+abbrev pub with_parts : Request → Members → Members
+with_parts q ms =
+    put (codes "Resource") (string (encode_utf8_all q.resource)) (put (codes "Principal") (principal_data q)
+    (put (codes "Context") (object (context_members q.context)) (put (codes "Action") (string (encode_utf8_all q.action)) ms)))
+
 -- and as a text
 abbrev pub request_text : Request → List ℕ
 request_text q = compact_text (request_data q)

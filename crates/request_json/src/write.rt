@@ -1,18 +1,18 @@
 //! The writer of requests.
 ghost use Rattle.std.specs.Prelude.{◌≡◌, Some, IfOk, OnOk, string_bytes};
 ghost use Rattle.std.specs.Str.{encode_utf8_all};
-ghost use Rattle.serde_json.specs.Data.{object, put};
+ghost use Rattle.serde_json.specs.Data.{object, put, string};
 ghost use Rattle.serde_json.specs.Read.{read};
 ghost use Rattle.serde_json.specs.View.{members_view, view};
 ghost use Rattle.policy_model.specs.Operators.{truth_word};
-ghost use Rattle.request_json.specs.RequestTexts.{context_members, principal_data, request_data, request_text, value_data, value_text, values_data};
+ghost use Rattle.request_json.specs.RequestTexts.{context_members, kind_word, principal_data, request_data, request_text, value_data, value_text, values_data, with_parts};
 
 use base64::engine::general_purpose::STANDARD;
 use cidr_bits::write_address;
 use intervals::write_decimal;
 use plain_lists::NoMemory;
 use policy_model::{Context, PrincipalKind, Request, Value, ValueList};
-use serde_json::{Map, Value as Json, json};
+use serde_json::{Map, Value as Json};
 use std::alloc::Global;
 use wildcard_lang::Text;
 
@@ -79,29 +79,79 @@ fn context_json(alloc: Global, context: &Context) -> Result<Json, NoMemory>
     Ok(Json::Object(members))
 }
 
+// The name of a kind of principals.
+fn kind_word(kind: PrincipalKind) -> &'static str
+    ensures { result.now ≡ kind_word kind }
+{
+    match kind {
+        PrincipalKind::Aws => "AWS",
+        PrincipalKind::Service => "Service",
+        PrincipalKind::Federated => "Federated",
+        PrincipalKind::CanonicalUser => "CanonicalUser",
+    }
+}
+
+// A text as JSON.
+fn text_json(text: &Text) -> Result<Json, NoMemory>
+    ensures { IfOk result (λ v. view v ≡ string (encode_utf8_all text.now)) }
+{
+    Ok(Json::String(text.to_utf8()?))
+}
+
+// Puts a value at a name.
+fn put_at(
+    alloc: Global,
+    members: &mut Map<String, Json>,
+    name: &str,
+    value: Json,
+) -> Result<(), NoMemory>
+    ensures { OnOk result (members_view members.new.entries ≡
+        put name.now (view value) (members_view members.old.entries)) }
+{
+    let name = String::from_str(alloc, name)?;
+    members.insert(name, value)?;
+    Ok(())
+}
+
 fn principal_json(alloc: Global, request: &Request) -> Result<Json, NoMemory>
     ensures { IfOk result (λ v. view v ≡ principal_data request.now) }
 {
-    let id = request.id.to_utf8()?;
-    let id = id.as_str();
-    match request.kind {
-        PrincipalKind::Aws => json!(in alloc; {"AWS": id}),
-        PrincipalKind::Service => json!(in alloc; {"Service": id}),
-        PrincipalKind::Federated => json!(in alloc; {"Federated": id}),
-        PrincipalKind::CanonicalUser => json!(in alloc; {"CanonicalUser": id}),
-    }
+    let mut members = Map::new(alloc);
+    put_at(
+        alloc,
+        &mut members,
+        kind_word(request.kind),
+        text_json(&request.id)?,
+    )?;
+    Ok(Json::Object(members))
+}
+
+// Puts the parts of a request at their names.
+fn put_parts(
+    alloc: Global,
+    request: &Request,
+    members: &mut Map<String, Json>,
+) -> Result<(), NoMemory>
+    ensures { OnOk result (members_view members.new.entries ≡
+        with_parts request.now (members_view members.old.entries)) }
+{
+    put_at(alloc, members, "Action", text_json(&request.action)?)?;
+    put_at(
+        alloc,
+        members,
+        "Context",
+        context_json(alloc, &request.context)?,
+    )?;
+    put_at(alloc, members, "Principal", principal_json(alloc, request)?)?;
+    put_at(alloc, members, "Resource", text_json(&request.resource)?)
 }
 
 fn request_json(alloc: Global, request: &Request) -> Result<Json, NoMemory>
     ensures { IfOk result (λ v. view v ≡ request_data request.now) }
 {
-    let action = request.action.to_utf8()?;
-    let resource = request.resource.to_utf8()?;
-    let action = action.as_str();
-    let resource = resource.as_str();
-    let context = context_json(alloc, &request.context)?;
-    let principal = principal_json(alloc, request)?;
-    json!(in alloc; {"Action": action, "Context": context, "Principal": principal, "Resource": resource})
+    let mut members = Map::new(alloc);
+    put_parts(alloc, request, &mut members)?;
+    Ok(Json::Object(members))
 }
 
 /// The request as one line of compact JSON (RFC 8259), without a line feed. Its names stand in the order

@@ -1,12 +1,13 @@
 -- The keys of a schema file: what is checked of each, in this order, and the rule that it stands for. One table is for both versions:
 -- in version 1 a key has at most a kind and `Many`, so that the checks of what else stands are passed.
-use Rattle.std.specs.Prelude.{ℕ, List, [], ◌∷◌, ◌++◌, length, map, Bool, true, false, ◌&&◌, ◌||◌, not, nat_le, is_some, Option, Some, None, option_map, option_and_then, unwrap_or, chars, codes, bytes_eq, if◌then◌else◌}
+use Rattle.std.specs.Prelude.{⊤, ℕ, List, [], ◌∷◌, ◌++◌, length, map, Bool, true, false, ◌&&◌, ◌||◌, not, nat_le, is_some, Option, Some, None, option_map, option_and_then, unwrap_or, chars, codes, bytes_eq, if◌then◌else◌}
 use Rattle.std.specs.List.{list_all, list_any}
 use Rattle.serde_json.specs.Data.{Data}
 use Rattle.serde_json.specs.Find.{get, as_bool, as_str}
 use Rattle.wildcard_lang.specs.declared.piece.Piece.{Piece}
 use Rattle.wildcard_lang.specs.declared.pattern.TheConstants.{MOST_PIECES}
 use Rattle.wildcard_lang.specs.Reading.{wildcards}
+use Rattle.text_table.specs.Table.{Entries, item_at}
 use Rattle.policy_model.specs.declared.value.Kind.{Kind}
 use Rattle.policy_model.specs.declared.value.Kind.TheVariants as kind
 use Rattle.policy_model.specs.declared.value.Value.{Value}
@@ -149,6 +150,10 @@ abbrev pub keys_checks : Bool → List (List ℕ) → List (List ℕ × Data) �
 keys_checks second before [] = []
 keys_checks second before (key ∷ keys) =
     rule_checks second (list_any (same_key key.0) before) key ++ keys_checks second (key.0 ∷ before) keys
+
+-- a key of this name is noted
+abbrev pub is_noted : Entries ⊤ → List ℕ → Bool
+is_noted seen name = is_some (item_at (folded_name name) seen)
 
 -- ---- what it stands for
 

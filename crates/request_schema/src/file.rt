@@ -1,13 +1,14 @@
 //! Reads schema files.
-ghost use Rattle.std.specs.Prelude.{◌≡◌, [], IfOk, if◌then◌else◌};
+ghost use Rattle.std.specs.Prelude.{◌≡◌, [], IfOk, OnOk, if◌then◌else◌};
 ghost use Rattle.serde_json.specs.View.{view, members_view};
 ghost use Rattle.json_shapes.specs.Json.{pairs_of};
-ghost use Rattle.policy_model.specs.Soundness.{SchemaIsSound};
-ghost use Rattle.request_schema.specs.BuiltIn.{RulesAreSound, built_in_rules, with_rules};
+ghost use Rattle.text_table.specs.Table.{with_item};
+ghost use Rattle.policy_model.specs.Soundness.{RuleIsSound, SchemaIsSound};
+ghost use Rattle.request_schema.specs.BuiltIn.{RulesAreSound, built_in_rules, folded_name, with_rules};
 ghost use Rattle.request_schema.specs.SchemaChecks.{IsPartRead};
 ghost use Rattle.request_schema.specs.SchemaHeads.{is_second};
 ghost use Rattle.request_schema.specs.SchemaFiles.{IsSchemaFrom, keys_in, schema_checks, schema_of};
-ghost use Rattle.request_schema.specs.SchemaRules.{keys_checks, rules_of};
+ghost use Rattle.request_schema.specs.SchemaRules.{is_noted, keys_checks, rule_checks, rule_of, rules_of};
 
 use crate::global_keys::built_in_rules;
 use crate::head::{check_file, is_second};
@@ -20,6 +21,30 @@ use serde_json::{Map, Value};
 use std::alloc::Global;
 use text_table::Table;
 use wildcard_lang::Text;
+
+// Reads a key of a file, notes its name, and puts its rule among the others.
+fn add_rule(
+    alloc: Global,
+    second: bool,
+    name: &str,
+    rule: &Value,
+    seen: &mut Table<()>,
+    rules: &mut KeyRules,
+) -> Result<(), SchemaAnswer>
+    ensures read { IsPartRead
+        (rule_checks second (is_noted seen.old name.now) (name.now, view rule.now)) tt result }
+    ensures noted { OnOk result (seen.new ≡ with_item seen.old (folded_name name.now) tt) }
+    ensures added { OnOk result (rules.new ≡
+        with_item rules.old (folded_name name.now) (rule_of (view rule.now))) }
+    ensures sound { OnOk result (RuleIsSound (rule_of (view rule.now))) }
+{
+    let key = Text::of(alloc, name)?.folded()?;
+    let twice = seen.get(&key).is_some();
+    seen.insert(key.copy()?, ())?;
+    let rule = read_rule(alloc, second, twice, name, rule)?;
+    rules.insert(key, rule)?;
+    Ok(())
+}
 
 // Reads the keys of a file, and puts their rules among those of the built-in ones.
 fn read_rules(
@@ -34,12 +59,7 @@ fn read_rules(
     let mut rules = built_in_rules(alloc)?;
     let mut seen: Table<()> = Table::new(alloc);
     for (name, rule) in keys {
-        let name = name.as_str();
-        let key = Text::of(alloc, name)?.folded()?;
-        let twice = seen.get(&key).is_some();
-        let rule = read_rule(alloc, second, twice, name, rule)?;
-        seen.insert(key.copy()?, ())?;
-        rules.insert(key, rule)?;
+        add_rule(alloc, second, name.as_str(), rule, &mut seen, &mut rules)?;
     }
     Ok(rules)
 }

@@ -92,7 +92,8 @@ pub fn built_in(alloc: Global) -> Result<Schema, NoMemory>
     ensures value { IfOk result (λ schema. schema ≡ built_in_schema) }
     ensures sound { IfOk result SchemaIsSound }
 {
+    let keys = built_in_rules(alloc)?;
     let mut schema = Schema::new(alloc);
-    schema.keys = built_in_rules(alloc)?;
+    schema.keys = keys;
     Ok(schema)
 }

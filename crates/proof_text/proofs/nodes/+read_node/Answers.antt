@@ -1,16 +1,17 @@
-use Rattle.std.proofs.Common.{◌≡◌, ◌++◌, ◌+◌, ◌<◌, [], ◌∷◌, Global, arith, sym, subst, refl, ◌∙◌}
+use Rattle.std.proofs.Common.{◌≡◌, ◌++◌, ◌+◌, ◌<◌, ℕ, List, [], ◌∷◌, Err, Global, arith, sym, subst, refl, ◌∙◌}
 use Rattle.std.proofs.lemmas.Result.{err_from_is_err_and}
 use Rattle.std.specs.declared.rc.Rc.{Rc}
 use Rattle.refute_check.specs.Proofs.{Proof, proof_of}
 use Rattle.refute_check.specs.declared.refutation.Refutation.{Refutation}
-use Rattle.proof_text.specs.LineForms.{a_node}
+use Rattle.proof_text.specs.Around.{node_line_value}
+use Rattle.proof_text.specs.LineForms.{a_node, line_said}
 use Rattle.proof_text.specs.Lines.{clauses_line, label_line, reuse_line, slot_line, split_line, value_line}
 use Rattle.proof_text.specs.Spelling.{node_lines, starts}
-use Rattle.proof_text.specs.Steps.{TakesLines}
+use Rattle.proof_text.specs.Steps.{IsLineRead, TakesLines}
 use Rattle.proof_text.specs.declared.limits.TheConstants.{MOST_NESTING}
 use Rattle.proof_text.proofs.Branching.{around-entered, behind-label, core-read, known-at, label-depth, label-fails, label-number, label-starts, label-takes, split-starts, split-takes, takes-at}
 use Rattle.proof_text.proofs.Shapes.{of-clauses, of-label, of-reuse, of-split, of-value}
-use Rattle.proof_text.proofs.Taking.{leads-alone}
+use Rattle.proof_text.proofs.Taking.{end-refused, fails-behind, fails-below, fails-longer, leads-alone, line-refused}
 use Rattle.proof_text.proofs.nodes.+read_node.Goals as goal
 
 pub read_node-requires-in-Ok-Label : goal.read_node-requires-in-Ok-Label
@@ -104,3 +105,37 @@ returns-in_ok-shared-in-Ok-Reuse-clause-read t c =
     let known = known-at c.args.limits c.args.location.begun c.args.depth c.as_slice.result.now inside c.in_ok-line.line.now (reuse_line c.in-Ok-Reuse.number) c.as_slice.ensures.value (rw c.in-Ok-Reuse.field-0-is at c.in-Ok-Reuse.ensures) in
     subst (λ (r : Proof). TakesLines c.args.limits (a_node c.args.depth inside ∷ []) c.args.location (node_lines r) c.in_ok-line.behind) (sym (of-reuse c.in-Ok-Reuse.number c.in_ok-shared-in-Ok-Reuse.field-0.value c.in_ok-shared-in-Ok-Reuse.ensures))
     (leads-alone c.args.limits (a_node c.args.depth inside) c.args.location c.in_ok-line.behind c.in_ok-line.line.now (reuse_line c.in-Ok-Reuse.number) c.in_ok-line.ensures known.0 known.1 refl)
+
+pub returns-in_err-line-clause-read : goal.returns-in_err-line-clause-read
+returns-in_err-line-clause-read t c =
+    let p = err_from_is_err_and c.from_residual.result c.from_residual.ensures.1 in
+    rw (p.1, p.2) (end-refused c.args.limits (a_node c.args.depth c.args.trail.now.inside.items) c.args.location _ c.in_err-line.ensures)
+
+pub returns-in_err-push-clause-read : goal.returns-in_err-push-clause-read
+returns-in_err-push-clause-read t c =
+    let p = err_from_is_err_and c.from_residual-in_err-push.result c.from_residual-in_err-push.ensures.1 in
+    rw (p.1, p.2) tt
+
+pub returns-in_err-yes-in-Ok-Split-clause-read : goal.returns-in_err-yes-in-Ok-Split-clause-read
+returns-in_err-yes-in-Ok-Split-clause-read t c =
+    let inside = c.args.trail.now.inside.items in
+    let known = known-at c.args.limits c.args.location.begun c.args.depth c.as_slice.result.now inside c.in_ok-line.line.now (split_line c.in-Ok-Split.test) c.as_slice.ensures.value (rw c.in-Ok-Split.field-0-is at c.in-Ok-Split.ensures) in
+    let below = a_node (c.args.depth + 1) inside ∷ [] in
+    let p = err_from_is_err_and c.from_residual-in_err-yes-in-Ok-Split.result c.from_residual-in_err-yes-in-Ok-Split.ensures.1 in
+    rw (p.1, p.2) (fails-below c.args.limits (a_node c.args.depth inside) c.args.location c.in_ok-line.behind c.in_ok-line.line.now (split_line c.in-Ok-Split.test) _ c.in_ok-line.ensures known.0 known.1
+    (fails-longer c.args.limits below below c.in_ok-line.behind _ c.in_err-yes-in-Ok-Split.ensures.read))
+
+pub returns-in_err-no-in-Ok-Split-clause-read : goal.returns-in_err-no-in-Ok-Split-clause-read
+returns-in_err-no-in-Ok-Split-clause-read t c =
+    let inside = c.args.trail.now.inside.items in
+    let known = known-at c.args.limits c.args.location.begun c.args.depth c.as_slice.result.now inside c.in_ok-line.line.now (split_line c.in-Ok-Split.test) c.as_slice.ensures.value (rw c.in-Ok-Split.field-0-is at c.in-Ok-Split.ensures) in
+    let below = a_node (c.args.depth + 1) inside ∷ [] in
+    let p = err_from_is_err_and c.from_residual-in_err-no-in-Ok-Split.result c.from_residual-in_err-no-in-Ok-Split.ensures.1 in
+    rw (p.1, p.2) (fails-below c.args.limits (a_node c.args.depth inside) c.args.location c.in_ok-line.behind c.in_ok-line.line.now (split_line c.in-Ok-Split.test) _ c.in_ok-line.ensures known.0 known.1
+    (fails-behind c.args.limits below below c.in_ok-line.behind c.in_ok-yes-in-Ok-Split.middle (node_lines (proof_of c.in_ok-yes-in-Ok-Split.yes.value)) _ c.in_ok-yes-in-Ok-Split.ensures.read (rw c.in_ok-yes-in-Ok-Split.ensures.inside at c.in_err-no-in-Ok-Split.ensures.read)))
+
+pub returns-in-Err-clause-read : goal.returns-in-Err-clause-read
+returns-in-Err-clause-read t c =
+    let inside = c.args.trail.now.inside.items in
+    let read = subst (λ (ns : List ℕ). IsLineRead node_line_value c.args.limits c.args.location.begun (a_node c.args.depth ns) (line_said (a_node c.args.depth ns) c.in_ok-line.line.now) (Err c.in-Err.answer)) c.as_slice.ensures.value c.in-Err.ensures in
+    line-refused node_line_value c.args.limits (a_node c.args.depth inside) c.args.location c.in_ok-line.behind c.in_ok-line.line.now 0 c.in-Err.answer c.answer_at.result c.in_ok-line.ensures read c.answer_at.ensures

@@ -1,8 +1,20 @@
+use Rattle.std.proofs.Common.{[], ◌∷◌}
 use Rattle.std.proofs.lemmas.Result.{err_from_is_err_and}
 use Rattle.proof_text.specs.LineForms.{a_kind_proof}
 use Rattle.proof_text.specs.Spelling.{kind_lines}
-use Rattle.proof_text.proofs.Taking.{four-takes, fourth-fails, third-fails}
+use Rattle.proof_text.proofs.Taking.{fails-behind, fails-longer, four-takes, fourth-fails, third-fails}
 use Rattle.proof_text.proofs.slots.read_kinds.Goals as goal
+
+pub returns-in_err-aws-clause-kinds : goal.returns-in_err-aws-clause-kinds
+returns-in_err-aws-clause-kinds c =
+    let p = err_from_is_err_and c.from_residual.result c.from_residual.ensures.1 in
+    rw (p.1, p.2) (fails-longer c.args.limits (a_kind_proof ∷ []) (a_kind_proof ∷ a_kind_proof ∷ a_kind_proof ∷ []) c.args.location _ c.in_err-aws.ensures)
+
+pub returns-in_err-service-clause-kinds : goal.returns-in_err-service-clause-kinds
+returns-in_err-service-clause-kinds c =
+    let p = err_from_is_err_and c.from_residual-in_err-service.result c.from_residual-in_err-service.ensures.1 in
+    rw (p.1, p.2) (fails-behind c.args.limits (a_kind_proof ∷ []) (a_kind_proof ∷ a_kind_proof ∷ a_kind_proof ∷ []) c.args.location c.in_ok-aws.first (kind_lines c.in_ok-aws.aws) _ c.in_ok-aws.ensures
+    (fails-longer c.args.limits (a_kind_proof ∷ []) (a_kind_proof ∷ a_kind_proof ∷ []) c.in_ok-aws.first _ c.in_err-service.ensures))
 
 pub returns-in_err-federated-clause-kinds : goal.returns-in_err-federated-clause-kinds
 returns-in_err-federated-clause-kinds c =
