@@ -1,15 +1,29 @@
 -- What is asked by words that `clap` refuses, and of which command.
-use Rattle.std.proofs.Common.{◌≡◌, ◌∙◌, List, [], ◌∷◌, None, Option, Some, ap, refl, sym, codes}
-use Rattle.std.specs.Prelude.{option_and_then}
-use Rattle.clap.specs.Words.{App, Kinds, Text, fault_of, matches_of}
+use Rattle.std.proofs.Common.{◌≡◌, ◌∙◌, List, [], ◌∷◌, None, Option, Some, Result, Ok, Err, ap, refl, subst, sym, codes}
+use Rattle.std.specs.Prelude.{IfOk, option_and_then, option_map}
+use Rattle.std.specs.declared.alloc.AllocError.{AllocError}
+use Rattle.clap.specs.Words.{App, Kinds, Text, fault_of, found_of, matches_of, rows_of}
+use Rattle.clap.specs.declared.parser.matches.ArgMatches.{ArgMatches}
 use Rattle.command_words.proofs.Readings.{other_text}
-use Rattle.command_words.specs.Asked.{Asked, NamedCommand, asked_of, asked_unless, check_command, command_of, compare_command, eval_command}
+use Rattle.command_words.specs.Asked.{Asked, NamedCommand, asked_in, asked_of, asked_unless, check_command, command_of, compare_command, eval_command}
 use Rattle.command_words.specs.Asked.{load_command, summary_command}
+use Rattle.command_words.specs.Parsing.{Parses}
+use Rattle.command_words.specs.declared.asked.Command.{Command}
 use Rattle.command_words.specs.Forms.{check_form, compare_form, eval_form, load_form, summary_form}
 
 unless_none : (kinds : Kinds) (asked : Option Asked) → ¬ (kinds ≡ []) → None ≡ asked_unless kinds asked
 unless_none [] asked bad = absurd (bad refl)
 unless_none (k ∷ ks) asked bad = refl
+
+some_asked : (e : NamedCommand) (words : List Text) (m : ArgMatches) → Parses e.form words (Some m) → e.asks (rows_of (found_of m)) ≡ asked_of e words
+some_asked e words m p = ap e.asks p.1 ∙ sym (ap (λ kinds. asked_unless kinds (e.asks (matches_of e.form words))) p.0)
+
+-- what the matches of the words ask is asked of the command
+pub asked_some : (e : NamedCommand) (a : App) (words : List Text) (m : ArgMatches) (r : Result (Option Command) AllocError) → a ≡ e.form
+    → Parses a words (Some m) → IfOk r (λ c. option_map asked_in c ≡ e.asks (rows_of (found_of m)))
+    → IfOk r (λ c. option_map asked_in c ≡ asked_of e words)
+asked_some e a words m (Err x) is parsed asked = tt
+asked_some e a words m (Ok c) is parsed asked = asked ∙ some_asked e words m (subst (λ (x : App). Parses x words (Some m)) is parsed)
 
 pub asked_none : (e : NamedCommand) (a : App) (words : List Text) → a ≡ e.form → ¬ (fault_of a words ≡ []) → None ≡ asked_of e words
 asked_none e a words is bad =
@@ -60,6 +74,9 @@ no_command word compare check summary eval load =
     let not_load = other_text (codes "load") word (λ e. load (sym e)) in
     rw (compare_name, check_name, summary_name, eval_name, load_name) rw (not_compare, not_check, not_summary, not_eval, not_load) refl
 
-pub asked_by_command : (word : Text) (words : List Text) (e : NamedCommand) (o : Option Asked) → command_of word ≡ Some e → o ≡ asked_of e words
-    → o ≡ option_and_then (λ f. asked_of f words) (command_of word)
-asked_by_command word words e o is asked = rw is asked
+-- what is asked of a command is asked of the one that the word names
+pub answered_by : (word : Text) (words : List Text) (e : NamedCommand) (r : Result (Option Command) AllocError) → command_of word ≡ Some e
+    → IfOk r (λ c. option_map asked_in c ≡ asked_of e words)
+    → IfOk r (λ c. option_map asked_in c ≡ option_and_then (λ f. asked_of f words) (command_of word))
+answered_by word words e (Err x) is asked = tt
+answered_by word words e (Ok c) is asked = rw is asked

@@ -1,7 +1,9 @@
 mod Asking
 mod Compare
 mod Distinct
+mod Filled
 mod Load
+mod Named
 mod Numbers
 mod Parses
 mod Readings

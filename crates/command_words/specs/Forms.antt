@@ -3,8 +3,13 @@ use Rattle.std.specs.Prelude.{◌∷◌, ℕ, List, [], fold, Some, pos, true, c
 use Rattle.clap.specs.Words.{App, Rule, Text, new_app, new_rule, with_rule}
 use Rattle.clap.specs.Lexer.{usize_max}
 use Rattle.clap.specs.declared.builder.action.ArgAction.TheVariants.{Append, Set, SetTrue}
+use Rattle.clap.specs.declared.builder.value_parser.ValueParser.{ValueParser}
 use Rattle.clap.specs.declared.builder.value_parser.ValueParser.TheVariants.{Signed}
 use Rattle.command_words.specs.declared.limits.TheConstants.{MOST_FINDINGS, MOST_KEYS, MOST_SPLITS, MOST_STATES}
+
+-- the numbers from 1 to `most`
+abbrev pub numbers_up_to : ℕ → ValueParser
+numbers_up_to most = Signed (pos 1) (pos most)
 
 -- a name that has to stand, by its position
 abbrev pub name_rule : Text → Rule

@@ -1,3 +1,5 @@
+pub mod Arguments
 pub mod Asked
 pub mod Forms
+pub mod Named
 pub mod Parsing

@@ -1,10 +1,14 @@
 //! The form of each command's words, as a simple command of `clap`.
-ghost use Rattle.std.specs.Prelude.{◌≡◌, ◌≤◌, false, IfOk};
+ghost use Rattle.std.specs.Prelude.{◌≡◌, ◌≤◌, false, fold, map, IfOk};
 ghost use Rattle.clap.specs.Words.{app_of, rule_of, with_rule};
+ghost use Rattle.command_words.specs.Arguments.{argument_rule};
 ghost use Rattle.command_words.specs.Forms.{amount_rule, check_form, compare_form, eval_form, file_rule, flag_rule, load_form};
-ghost use Rattle.command_words.specs.Forms.{name_rule, names_rule, number_rule, summary_form};
+ghost use Rattle.command_words.specs.Forms.{name_rule, names_rule, number_rule, numbers_up_to, summary_form};
+ghost use Rattle.command_words.specs.Named.{named_command};
 
 use crate::limits::{MOST_FINDINGS, MOST_KEYS, MOST_SPLITS, MOST_STATES};
+use crate::names::CommandName;
+use clap::builder::ValueParser;
 use clap::{Arg, ArgAction, Command, value_parser};
 use plain_lists::NoMemory;
 use std::alloc::Global;
@@ -26,6 +30,13 @@ fn names_arg<'a>(alloc: Global, id: &'a str) -> Arg<'a>
         .action(ArgAction::Append)
 }
 
+// The numbers from 1 to `most`.
+fn up_to<'a>(most: u32) -> ValueParser<'a>
+    ensures { result ≡ numbers_up_to most }
+{
+    value_parser!(u32).range(1..=i64::from(most))
+}
+
 fn amount_arg<'a>(alloc: Global, id: &'a str, most: u32) -> Arg<'a>
     ensures rule { rule_of result ≡ amount_rule id.now most }
     ensures local { result.global ≡ false }
@@ -33,7 +44,7 @@ fn amount_arg<'a>(alloc: Global, id: &'a str, most: u32) -> Arg<'a>
     Arg::new(alloc, id)
         .required(true)
         .action(ArgAction::Set)
-        .value_parser(value_parser!(u32).range(1..=i64::from(most)))
+        .value_parser(up_to(most))
 }
 
 fn file_arg<'a>(alloc: Global, id: &'a str) -> Arg<'a>
@@ -47,11 +58,10 @@ fn number_arg<'a>(alloc: Global, id: &'a str, most: u32) -> Arg<'a>
     ensures rule { rule_of result ≡ number_rule id.now most }
     ensures local { result.global ≡ false }
 {
-    let numbers = value_parser!(u32).range(1..=i64::from(most));
     Arg::new(alloc, id)
         .long(id)
         .action(ArgAction::Set)
-        .value_parser(numbers)
+        .value_parser(up_to(most))
 }
 
 fn flag_arg<'a>(alloc: Global, id: &'a str) -> Arg<'a>
@@ -61,6 +71,37 @@ fn flag_arg<'a>(alloc: Global, id: &'a str) -> Arg<'a>
     Arg::new(alloc, id).long(id).action(ArgAction::SetTrue)
 }
 
+/// An argument of a command, by its id.
+#[derive(Clone, Copy)]
+pub(crate) enum Argument<'a> {
+    /// A name that has to stand, by its position.
+    Name(&'a str),
+    /// Names of which one has to stand, behind the others by their position.
+    Names(&'a str),
+    /// A number from 1 to the greatest that has to stand, by its position.
+    Amount(&'a str, u32),
+    /// `--ID FILE`.
+    File(&'a str),
+    /// `--ID N`, a number from 1 to the greatest.
+    Number(&'a str, u32),
+    /// `--ID`.
+    Flag(&'a str),
+}
+
+fn arg_of<'a>(alloc: Global, argument: Argument<'a>) -> Arg<'a>
+    ensures rule { rule_of result ≡ argument_rule argument.entry }
+    ensures local { result.global ≡ false }
+{
+    match argument {
+        Argument::Name(id) => name_arg(alloc, id),
+        Argument::Names(id) => names_arg(alloc, id),
+        Argument::Amount(id, most) => amount_arg(alloc, id, most),
+        Argument::File(id) => file_arg(alloc, id),
+        Argument::Number(id, most) => number_arg(alloc, id, most),
+        Argument::Flag(id) => flag_arg(alloc, id),
+    }
+}
+
 fn with_arg<'a>(form: Command<'a>, arg: Arg<'a>) -> Result<Command<'a>, NoMemory>
     requires { arg.global ≡ false }
     ensures { IfOk result (λ r. app_of r ≡ with_rule (app_of form.entry) (rule_of arg.entry)) }
@@ -68,62 +109,99 @@ fn with_arg<'a>(form: Command<'a>, arg: Arg<'a>) -> Result<Command<'a>, NoMemory
     form.arg(arg)
 }
 
-/// `compare FIRST SECOND [--schema FILE] [--splits N] [--states N] [--proof]`.
+// The form with the arguments, in their order.
+fn with_arguments<'a>(
+    alloc: Global,
+    form: Command<'a>,
+    arguments: &[Argument<'a>],
+) -> Result<Command<'a>, NoMemory>
+    ensures { IfOk result
+        (λ r. app_of r ≡ fold with_rule (app_of form.entry) (map argument_rule arguments.now)) }
+{
+    let mut filled = form;
+    for argument in arguments {
+        filled = with_arg(filled, arg_of(alloc, *argument))?;
+    }
+    Ok(filled)
+}
+
+// `compare FIRST SECOND [--schema FILE] [--splits N] [--states N] [--proof]`.
 #[tactic(auto, unfolding(crate::specs::Forms::compare_form))]
-pub(crate) fn compare_form<'a>(alloc: Global) -> Result<Command<'a>, NoMemory>
+fn compare_form<'a>(alloc: Global) -> Result<Command<'a>, NoMemory>
     ensures { IfOk result (λ c. app_of c ≡ compare_form) }
 {
-    let form = Command::new(alloc, "compare");
-    let form = with_arg(form, name_arg(alloc, "first"))?;
-    let form = with_arg(form, name_arg(alloc, "second"))?;
-    let form = with_arg(form, file_arg(alloc, "schema"))?;
-    let form = with_arg(form, number_arg(alloc, "splits", MOST_SPLITS))?;
-    let form = with_arg(form, number_arg(alloc, "states", MOST_STATES))?;
-    with_arg(form, flag_arg(alloc, "proof"))
+    let arguments = [
+        Argument::Name("first"),
+        Argument::Name("second"),
+        Argument::File("schema"),
+        Argument::Number("splits", MOST_SPLITS),
+        Argument::Number("states", MOST_STATES),
+        Argument::Flag("proof"),
+    ];
+    with_arguments(alloc, Command::new(alloc, "compare"), &arguments)
 }
 
-/// `check FIRST SECOND PROOF [--schema FILE]`.
+// `check FIRST SECOND PROOF [--schema FILE]`.
 #[tactic(auto, unfolding(crate::specs::Forms::check_form))]
-pub(crate) fn check_form<'a>(alloc: Global) -> Result<Command<'a>, NoMemory>
+fn check_form<'a>(alloc: Global) -> Result<Command<'a>, NoMemory>
     ensures { IfOk result (λ c. app_of c ≡ check_form) }
 {
-    let form = Command::new(alloc, "check");
-    let form = with_arg(form, name_arg(alloc, "first"))?;
-    let form = with_arg(form, name_arg(alloc, "second"))?;
-    let form = with_arg(form, name_arg(alloc, "proof"))?;
-    with_arg(form, file_arg(alloc, "schema"))
+    let arguments = [
+        Argument::Name("first"),
+        Argument::Name("second"),
+        Argument::Name("proof"),
+        Argument::File("schema"),
+    ];
+    with_arguments(alloc, Command::new(alloc, "check"), &arguments)
 }
 
-/// `summary SET DIMENSION.. [--schema FILE] [--splits N] [--states N] [--findings N]`.
+// `summary SET DIMENSION.. [--schema FILE] [--splits N] [--states N] [--findings N]`.
 #[tactic(auto, unfolding(crate::specs::Forms::summary_form))]
-pub(crate) fn summary_form<'a>(alloc: Global) -> Result<Command<'a>, NoMemory>
+fn summary_form<'a>(alloc: Global) -> Result<Command<'a>, NoMemory>
     ensures { IfOk result (λ c. app_of c ≡ summary_form) }
 {
-    let form = Command::new(alloc, "summary");
-    let form = with_arg(form, name_arg(alloc, "set"))?;
-    let form = with_arg(form, names_arg(alloc, "dimension"))?;
-    let form = with_arg(form, file_arg(alloc, "schema"))?;
-    let form = with_arg(form, number_arg(alloc, "splits", MOST_SPLITS))?;
-    let form = with_arg(form, number_arg(alloc, "states", MOST_STATES))?;
-    with_arg(form, number_arg(alloc, "findings", MOST_FINDINGS))
+    let arguments = [
+        Argument::Name("set"),
+        Argument::Names("dimension"),
+        Argument::File("schema"),
+        Argument::Number("splits", MOST_SPLITS),
+        Argument::Number("states", MOST_STATES),
+        Argument::Number("findings", MOST_FINDINGS),
+    ];
+    with_arguments(alloc, Command::new(alloc, "summary"), &arguments)
 }
 
-/// `eval SET REQUEST [--schema FILE]`.
+// `eval SET REQUEST [--schema FILE]`.
 #[tactic(auto, unfolding(crate::specs::Forms::eval_form))]
-pub(crate) fn eval_form<'a>(alloc: Global) -> Result<Command<'a>, NoMemory>
+fn eval_form<'a>(alloc: Global) -> Result<Command<'a>, NoMemory>
     ensures { IfOk result (λ c. app_of c ≡ eval_form) }
 {
-    let form = Command::new(alloc, "eval");
-    let form = with_arg(form, name_arg(alloc, "set"))?;
-    let form = with_arg(form, name_arg(alloc, "request"))?;
-    with_arg(form, file_arg(alloc, "schema"))
+    let arguments = [
+        Argument::Name("set"),
+        Argument::Name("request"),
+        Argument::File("schema"),
+    ];
+    with_arguments(alloc, Command::new(alloc, "eval"), &arguments)
 }
 
-/// `load N`.
+// `load N`.
 #[tactic(auto, unfolding(crate::specs::Forms::load_form))]
-pub(crate) fn load_form<'a>(alloc: Global) -> Result<Command<'a>, NoMemory>
+fn load_form<'a>(alloc: Global) -> Result<Command<'a>, NoMemory>
     ensures { IfOk result (λ c. app_of c ≡ load_form) }
 {
-    let form = Command::new(alloc, "load");
-    with_arg(form, amount_arg(alloc, "keys", MOST_KEYS))
+    let arguments = [Argument::Amount("keys", MOST_KEYS)];
+    with_arguments(alloc, Command::new(alloc, "load"), &arguments)
+}
+
+/// The form of the command of the name.
+pub(crate) fn command_form<'a>(alloc: Global, name: CommandName) -> Result<Command<'a>, NoMemory>
+    ensures { IfOk result (λ c. app_of c ≡ (named_command name).form) }
+{
+    match name {
+        CommandName::Compare => compare_form(alloc),
+        CommandName::Check => check_form(alloc),
+        CommandName::Summary => summary_form(alloc),
+        CommandName::Eval => eval_form(alloc),
+        CommandName::Load => load_form(alloc),
+    }
 }

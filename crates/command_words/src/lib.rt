@@ -6,6 +6,7 @@ mod asked;
 mod dimensions;
 mod forms;
 mod limits;
+mod names;
 mod parsing;
 mod reading;
 

@@ -3,21 +3,23 @@ ghost use Rattle.std.specs.Prelude.{◌≡◌, ◌≤◌, codes, IfOk, IfSome, o
 ghost use Rattle.clap.specs.Words.{found_of, rows_of};
 ghost use Rattle.command_words.specs.Asked.{HasBudgetsInRange, HasNumbersInRange, IsInRange};
 ghost use Rattle.command_words.specs.Asked.{a_check, a_comparison, a_load, an_evaluation};
-ghost use Rattle.command_words.specs.Asked.{asked_by, asked_in, asked_of, check_command, check_of, checking_in};
-ghost use Rattle.command_words.specs.Asked.{command_of, compare_command, comparing_in, comparison_of, eval_command};
-ghost use Rattle.command_words.specs.Asked.{evaluating_in, evaluation_of, load_command, load_of, names_in, pair_names};
-ghost use Rattle.command_words.specs.Asked.{summarising_in, summarising_of, summary_command, summary_of, texts_in};
+ghost use Rattle.command_words.specs.Asked.{asked_by, asked_in, asked_of, check_of, checking_in};
+ghost use Rattle.command_words.specs.Asked.{command_of, comparing_in, comparison_of};
+ghost use Rattle.command_words.specs.Asked.{evaluating_in, evaluation_of, load_of, names_in, pair_names};
+ghost use Rattle.command_words.specs.Asked.{summarising_in, summarising_of, summary_of, texts_in};
+ghost use Rattle.command_words.specs.Named.{HasNumbersOf, named_command};
 ghost use Rattle.command_words.specs.Parsing.{HasNumberUpTo};
 
 use crate::asked::{
     CheckArguments, Command, CompareArguments, EvalArguments, FileNames, SummaryArguments,
 };
 use crate::dimensions::are_dimensions;
-use crate::forms::{check_form, compare_form, eval_form, load_form, summary_form};
+use crate::forms::command_form;
 use crate::limits::{
     DEFAULT_FINDINGS, DEFAULT_SPLITS, DEFAULT_STATES, MOST_FINDINGS, MOST_KEYS, MOST_SPLITS,
     MOST_STATES,
 };
+use crate::names::{CommandName, command_named};
 use crate::parsing::{file_of, has_flag, name_at, names_at, number_or, parsed};
 use clap::ArgMatches;
 use plain_lists::NoMemory;
@@ -49,18 +51,6 @@ fn comparison_in(alloc: Global, matches: &ArgMatches) -> Result<CompareArguments
     })
 }
 
-// What the words of `compare` ask, or none where `clap` refuses them.
-fn read_compare(alloc: Global, words: &[String]) -> Result<Option<Command>, NoMemory>
-    ensures value { IfOk result (λ c. option_map asked_in c
-        ≡ asked_of compare_command (texts_in words.now)) }
-    ensures within { IfOk result (λ c. IfSome c IsInRange) }
-{
-    match parsed(compare_form(alloc)?, words)? {
-        Some(matches) => Ok(Some(Command::Compare(comparison_in(alloc, &matches)?))),
-        None => Ok(None),
-    }
-}
-
 // What the matches of `check` ask.
 fn check_in(alloc: Global, matches: &ArgMatches) -> Result<CheckArguments, NoMemory>
     ensures { IfOk result
@@ -70,18 +60,6 @@ fn check_in(alloc: Global, matches: &ArgMatches) -> Result<CheckArguments, NoMem
         names: names_in(alloc, matches)?,
         proof: name_at(alloc, matches, "proof")?,
     })
-}
-
-// What the words of `check` ask, or none where `clap` refuses them.
-fn read_check(alloc: Global, words: &[String]) -> Result<Option<Command>, NoMemory>
-    ensures value { IfOk result (λ c. option_map asked_in c
-        ≡ asked_of check_command (texts_in words.now)) }
-    ensures within { IfOk result (λ c. IfSome c IsInRange) }
-{
-    match parsed(check_form(alloc)?, words)? {
-        Some(matches) => Ok(Some(Command::Check(check_in(alloc, &matches)?))),
-        None => Ok(None),
-    }
 }
 
 // The names and the budgets of the matches of `summary`.
@@ -120,19 +98,6 @@ fn summary_in(alloc: Global, matches: &ArgMatches) -> Result<Option<Command>, No
     }
 }
 
-// What the words of `summary` ask, or none where `clap` refuses them, where there are too many dimensions
-// or where one stands twice.
-fn read_summary(alloc: Global, words: &[String]) -> Result<Option<Command>, NoMemory>
-    ensures value { IfOk result (λ c. option_map asked_in c
-        ≡ asked_of summary_command (texts_in words.now)) }
-    ensures within { IfOk result (λ c. IfSome c IsInRange) }
-{
-    match parsed(summary_form(alloc)?, words)? {
-        Some(matches) => summary_in(alloc, &matches),
-        None => Ok(None),
-    }
-}
-
 // What the matches of `eval` ask.
 fn evaluation_in(alloc: Global, matches: &ArgMatches) -> Result<EvalArguments, NoMemory>
     ensures { IfOk result (λ e. an_evaluation (evaluating_in e)
@@ -145,18 +110,6 @@ fn evaluation_in(alloc: Global, matches: &ArgMatches) -> Result<EvalArguments, N
     })
 }
 
-// What the words of `eval` ask, or none where `clap` refuses them.
-fn read_eval(alloc: Global, words: &[String]) -> Result<Option<Command>, NoMemory>
-    ensures value { IfOk result (λ c. option_map asked_in c
-        ≡ asked_of eval_command (texts_in words.now)) }
-    ensures within { IfOk result (λ c. IfSome c IsInRange) }
-{
-    match parsed(eval_form(alloc)?, words)? {
-        Some(matches) => Ok(Some(Command::Eval(evaluation_in(alloc, &matches)?))),
-        None => Ok(None),
-    }
-}
-
 // The number of keys in the matches of `load`.
 fn load_in(matches: &ArgMatches) -> u32
     requires { HasNumberUpTo (found_of matches.now) (codes "keys") MOST_KEYS }
@@ -166,31 +119,52 @@ fn load_in(matches: &ArgMatches) -> u32
     number_or(matches, "keys", MOST_KEYS, 1)
 }
 
-// What the words of `load` ask, or none where `clap` refuses them.
-fn read_load(alloc: Global, words: &[String]) -> Result<Option<Command>, NoMemory>
+// What the matches of the command of the name ask, if anything.
+fn command_in(
+    alloc: Global,
+    name: CommandName,
+    matches: &ArgMatches,
+) -> Result<Option<Command>, NoMemory>
+    requires { HasNumbersOf name (found_of matches.now) }
     ensures value { IfOk result (λ c. option_map asked_in c
-        ≡ asked_of load_command (texts_in words.now)) }
+        ≡ (named_command name).asks (rows_of (found_of matches.now))) }
     ensures within { IfOk result (λ c. IfSome c IsInRange) }
 {
-    match parsed(load_form(alloc)?, words)? {
-        Some(matches) => Ok(Some(Command::Load(load_in(&matches)))),
+    match name {
+        CommandName::Compare => Ok(Some(Command::Compare(comparison_in(alloc, matches)?))),
+        CommandName::Check => Ok(Some(Command::Check(check_in(alloc, matches)?))),
+        CommandName::Summary => summary_in(alloc, matches),
+        CommandName::Eval => Ok(Some(Command::Eval(evaluation_in(alloc, matches)?))),
+        CommandName::Load => Ok(Some(Command::Load(load_in(matches)))),
+    }
+}
+
+// What the words ask of the command of the name, or none where `clap` refuses them or they ask for no
+// summary.
+fn read_named(
+    alloc: Global,
+    name: CommandName,
+    words: &[String],
+) -> Result<Option<Command>, NoMemory>
+    ensures value { IfOk result (λ c. option_map asked_in c
+        ≡ asked_of (named_command name) (texts_in words.now)) }
+    ensures within { IfOk result (λ c. IfSome c IsInRange) }
+{
+    match parsed(command_form(alloc, name)?, words)? {
+        Some(matches) => command_in(alloc, name, &matches),
         None => Ok(None),
     }
 }
 
-// What the words ask of the command with this name.
-fn read_command(alloc: Global, name: &str, words: &[String]) -> Result<Option<Command>, NoMemory>
+// What the words ask of the command that the first word names.
+fn read_command(alloc: Global, word: &str, words: &[String]) -> Result<Option<Command>, NoMemory>
     ensures value { IfOk result (λ c. option_map asked_in c ≡ option_and_then (λ e. asked_of e
-        (texts_in words.now)) (command_of name.now)) }
+        (texts_in words.now)) (command_of word.now)) }
     ensures within { IfOk result (λ c. IfSome c IsInRange) }
 {
-    match name {
-        "compare" => read_compare(alloc, words),
-        "check" => read_check(alloc, words),
-        "summary" => read_summary(alloc, words),
-        "eval" => read_eval(alloc, words),
-        "load" => read_load(alloc, words),
-        _ => Ok(None),
+    match command_named(word) {
+        Some(name) => read_named(alloc, name, words),
+        None => Ok(None),
     }
 }
 
@@ -203,7 +177,7 @@ pub fn read_words(alloc: Global, words: &[String]) -> Result<Option<Command>, No
     ensures within { IfOk result (λ c. IfSome c IsInRange) }
 {
     match words.first() {
-        Some(name) => read_command(alloc, name.as_str(), words),
+        Some(word) => read_command(alloc, word.as_str(), words),
         None => Ok(None),
     }
 }
