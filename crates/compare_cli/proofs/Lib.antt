@@ -8,3 +8,4 @@ mod Naming
 mod PairRuns
 mod Printing
 mod Summarising
+mod Writing

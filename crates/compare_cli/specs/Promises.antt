@@ -75,3 +75,9 @@ Promises asked r w WriteFault = Breaks asked r w
 Promises asked r w NoMemory = w.now ≡ w.before
 -- the certificate's first fault, or the line of its first node that fails
 Promises asked r w BadProof = SaysWith asked r w BadProof
+
+-- how the writing of an answer's text ends, by the status
+abbrev pub IsWritten : Answer → Writing → Status → Type 0
+IsWritten a w WriteFault = Rose w.faults_before w.faults × ((count : ℕ) × Appends w.before (take count (answer_text a)) w.now)
+IsWritten a w NoMemory = w.now ≡ w.before
+IsWritten a w status = (status_of a ≡ status) × Appends w.before (answer_text a) w.now

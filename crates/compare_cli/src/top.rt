@@ -4,7 +4,7 @@ ghost use Rattle.pol_outside.specs.Faults.{Rose};
 ghost use Rattle.command_words.specs.Asked.{asked_by};
 ghost use Rattle.compare_cli.specs.Answers.{IsAnswer, reading_of};
 ghost use Rattle.compare_cli.specs.Complete.{IsAccepted, IsDecided};
-ghost use Rattle.compare_cli.specs.Promises.{IsUsageOrFault, Promises};
+ghost use Rattle.compare_cli.specs.Promises.{IsUsageOrFault, IsWritten, Promises};
 ghost use Rattle.compare_cli.specs.Statuses.{exit_number, status_of};
 
 use crate::answer::Answer;
@@ -92,6 +92,27 @@ fn status_of(answer: &Answer) -> Status
     }
 }
 
+// Writes the text of an answer, and says how the run ends.
+fn write_answer<S: Sink>(alloc: Global, answer: &Answer, out: &mut S) -> Status
+    ensures written { IsWritten answer.now
+        (record {
+          faults_before = S.faults out.old;
+          faults = S.faults out.new;
+          before = S.written out.old;
+          now = S.written out.new;
+        })
+        result }
+    ensures writes { S.faults out.old ≤ S.faults out.new }
+{
+    let Ok(text) = answer_text(alloc, answer) else {
+        return Status::NoMemory;
+    };
+    match put_all(out, text.as_bytes()) {
+        Ok(()) => status_of(answer),
+        Err(_) => Status::WriteFault,
+    }
+}
+
 /// Reads the files that the arguments name, answers, and writes the answer. The arguments are those
 /// after the program's name.
 ///
@@ -138,14 +159,8 @@ pub fn run<F: Folder, S: Sink>(
         → ¬ Rose (S.faults out.old) (S.faults out.new)
         → IsDecided (asked_by arguments.now) result }
 {
-    let Ok(answer) = answer(alloc, arguments, folder) else {
-        return Status::NoMemory;
-    };
-    let Ok(text) = answer_text(alloc, &answer) else {
-        return Status::NoMemory;
-    };
-    match put_all(out, text.as_bytes()) {
-        Ok(()) => status_of(&answer),
-        Err(_) => Status::WriteFault,
+    match answer(alloc, arguments, folder) {
+        Ok(answer) => write_answer(alloc, &answer, out),
+        Err(_) => Status::NoMemory,
     }
 }
