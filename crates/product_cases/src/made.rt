@@ -22,14 +22,6 @@ const PARTS: [&str; 3] = ["*a????????", "a????????", "?*a????????"];
 /// Patterns with more product states than the limit.
 const WIDE: [&str; 2] = ["*a????????????????", "?*"];
 
-fn read_all(alloc: Global, texts: &[&str]) -> io::Result<PatternList> {
-    let mut patterns = PatternList::new(alloc);
-    for text in texts {
-        push(alloc, &mut patterns, text)?;
-    }
-    Ok(patterns)
-}
-
 fn push(alloc: Global, patterns: &mut PatternList, text: &str) -> io::Result<()> {
     if let Ok(pattern) = read_glob(alloc, text, false, false) {
         patterns.push(pattern)?;
@@ -37,22 +29,36 @@ fn push(alloc: Global, patterns: &mut PatternList, text: &str) -> io::Result<()>
     Ok(())
 }
 
-fn shared(alloc: Global) -> io::Result<PatternList> {
-    let mut patterns = PatternList::new(alloc);
-    for i in 10..30u32 {
-        let text = format!(in alloc; "{SHARED}{i}*")?;
-        push(alloc, &mut patterns, text.as_str())?;
+fn push_all(alloc: Global, patterns: &mut PatternList, texts: &[&str]) -> io::Result<()> {
+    for text in texts {
+        push(alloc, patterns, text)?;
     }
-    Ok(patterns)
+    Ok(())
 }
 
-fn literals(alloc: Global) -> io::Result<PatternList> {
-    let mut patterns = PatternList::new(alloc);
-    for i in 1000..1200u32 {
-        let text = format!(in alloc; "{i}{LONG}")?;
-        push(alloc, &mut patterns, text.as_str())?;
+fn push_numbered(
+    alloc: Global,
+    patterns: &mut PatternList,
+    before: &str,
+    number: u32,
+    behind: &str,
+) -> io::Result<()> {
+    let text = format!(in alloc; "{before}{number}{behind}")?;
+    push(alloc, patterns, text.as_str())
+}
+
+fn push_shared(alloc: Global, patterns: &mut PatternList) -> io::Result<()> {
+    for i in 10..30u32 {
+        push_numbered(alloc, patterns, SHARED, i, "*")?;
     }
-    Ok(patterns)
+    Ok(())
+}
+
+fn push_literals(alloc: Global, patterns: &mut PatternList) -> io::Result<()> {
+    for i in 1000..1200u32 {
+        push_numbered(alloc, patterns, "", i, LONG)?;
+    }
+    Ok(())
 }
 
 /// That the first pattern matches and doesn't, so that all product states are looked at.
@@ -66,43 +72,48 @@ fn impossible(alloc: Global, patterns: PatternList) -> io::Result<Wants>
     Ok(Wants { patterns, clauses })
 }
 
-/// A pattern of as many characters as a pattern may have, all different.
-fn characters(alloc: Global) -> io::Result<PatternList> {
-    let mut text = String::new(alloc);
+fn push_codes(text: &mut String) -> io::Result<()> {
     for code in 0x4E00..0x5600u32 {
         if let Some(c) = char::from_u32(code) {
             text.push(c)?;
         }
     }
-    let mut patterns = PatternList::new(alloc);
-    push(alloc, &mut patterns, text.as_str())?;
-    Ok(patterns)
+    Ok(())
 }
 
-/// Twenty patterns of so many wildcards that each text has nearly all places.
-fn stars(alloc: Global) -> io::Result<PatternList> {
+/// Adds a pattern of as many characters as a pattern may have, all different.
+fn push_characters(alloc: Global, patterns: &mut PatternList) -> io::Result<()> {
     let mut text = String::new(alloc);
-    for i in 0..2046u32 {
-        text.push('*')?;
+    push_codes(&mut text)?;
+    push(alloc, patterns, text.as_str())
+}
+
+/// Adds twenty patterns of so many wildcards that each text has nearly all places.
+fn push_stars(alloc: Global, patterns: &mut PatternList) -> io::Result<()> {
+    let text = "*".repeat(alloc, 2046)?;
+    for _ in 0..20u32 {
+        push(alloc, patterns, text.as_str())?;
     }
-    let mut patterns = PatternList::new(alloc);
-    for i in 10..30u32 {
-        push(alloc, &mut patterns, text.as_str())?;
+    Ok(())
+}
+
+fn push_patterns(alloc: Global, patterns: &mut PatternList, form: &str) -> io::Result<()> {
+    match form {
+        "shared" => push_shared(alloc, patterns),
+        "parts" => push_all(alloc, patterns, PARTS.as_slice()),
+        "literals" => push_literals(alloc, patterns),
+        "wide" => push_all(alloc, patterns, WIDE.as_slice()),
+        "characters" => push_characters(alloc, patterns),
+        "stars" => push_stars(alloc, patterns),
+        _ => Err(ErrorKind::InvalidData.into()),
     }
-    Ok(patterns)
 }
 
 // The patterns of a form.
 fn patterns_of(alloc: Global, form: &str) -> io::Result<PatternList> {
-    match form {
-        "shared" => shared(alloc),
-        "parts" => read_all(alloc, PARTS.as_slice()),
-        "literals" => literals(alloc),
-        "wide" => read_all(alloc, WIDE.as_slice()),
-        "characters" => characters(alloc),
-        "stars" => stars(alloc),
-        _ => Err(ErrorKind::InvalidData.into()),
-    }
+    let mut patterns = PatternList::new(alloc);
+    push_patterns(alloc, &mut patterns, form)?;
+    Ok(patterns)
 }
 
 /// What is asked of a product: how many product states are looked at, its name, and whether it is timed.

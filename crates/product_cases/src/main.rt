@@ -10,7 +10,7 @@
 
 mod made;
 
-ghost use Rattle.std.specs.Prelude.{◌≡◌, ◌≤◌, ◌∷◌, [], IfOk, length};
+ghost use Rattle.std.specs.Prelude.{◌≡◌, ◌≤◌, ◌+◌, ◌∷◌, [], IfOk, OnOk, length};
 ghost use Rattle.pattern_automata.specs.Closed.{InRange};
 
 use made::push_made;
@@ -18,7 +18,7 @@ use pattern_automata::{
     ClauseList, Closed, Literal, LiteralList, PlaceLists, Product, State, Wants, is_closed, product,
 };
 use std::alloc::Global;
-use std::io::{BufRead, BufReader, ErrorKind, Write};
+use std::io::{ErrorKind, Write};
 use std::{env, io};
 use wildcard_lang::{Pattern, PatternList, read_glob};
 
@@ -38,35 +38,55 @@ pub(crate) fn clause(alloc: Global, pattern: u32, holds: bool) -> io::Result<Lit
     Ok(clause)
 }
 
-/// That the first pattern matches and the others don't.
-fn wants_of(alloc: Global, yes: Pattern, no: Pattern, other: Pattern) -> io::Result<Wants>
-    ensures { IfOk result (λ w. InRange (length w.patterns) w.clauses) }
+fn push_pattern(alloc: Global, patterns: &mut PatternList, text: &str) -> io::Result<()>
+    ensures { OnOk result (length patterns.new ≡ length patterns.old + 1) }
+{
+    patterns.push(read(alloc, text)?)?;
+    Ok(())
+}
+
+fn patterns_of(alloc: Global, texts: [&str; 3]) -> io::Result<PatternList>
+    ensures { IfOk result (λ p. length p ≡ 3) }
 {
     let mut patterns = PatternList::new(alloc);
-    patterns.push(yes)?;
-    patterns.push(no)?;
-    patterns.push(other)?;
+    push_pattern(alloc, &mut patterns, texts[0])?;
+    push_pattern(alloc, &mut patterns, texts[1])?;
+    push_pattern(alloc, &mut patterns, texts[2])?;
+    Ok(patterns)
+}
+
+fn clauses_of(alloc: Global) -> io::Result<ClauseList>
+    ensures { IfOk result (InRange 3) }
+{
     let mut clauses = ClauseList::new(alloc);
     clauses.push(clause(alloc, 0, true)?)?;
     clauses.push(clause(alloc, 1, false)?)?;
     clauses.push(clause(alloc, 2, false)?)?;
+    Ok(clauses)
+}
+
+/// That the first pattern matches and the others don't.
+fn wants_of(alloc: Global, texts: [&str; 3]) -> io::Result<Wants>
+    ensures { IfOk result (λ w. InRange (length w.patterns) w.clauses) }
+{
+    let patterns = patterns_of(alloc, texts)?;
+    let clauses = clauses_of(alloc)?;
     Ok(Wants { patterns, clauses })
 }
 
 /// Writes the places, each after a comma.
-fn write_places(alloc: Global, places: &[u32], line: &mut String) -> io::Result<()> {
+fn write_places(places: &[u32], line: &mut String) -> io::Result<()> {
     for place in places {
-        let word = format!(in alloc; ",{place}")?;
-        line.push_str(word.as_str())?;
+        write!(line, ",{place}")?;
     }
     Ok(())
 }
 
 /// Writes a product state, each of its lists after a bar.
-fn write_state(alloc: Global, state: &State<'_>, line: &mut String) -> io::Result<()> {
+fn write_state(state: &State<'_>, line: &mut String) -> io::Result<()> {
     for i in 0..state.len() {
         line.push_str("|")?;
-        write_places(alloc, state.get(i), line)?;
+        write_places(state.get(i), line)?;
     }
     Ok(())
 }
@@ -79,13 +99,18 @@ fn copy_state(alloc: Global, state: &State<'_>) -> io::Result<PlaceLists> {
     Ok(copy)
 }
 
+fn push_copy(alloc: Global, set: &mut Closed, state: &State<'_>) -> io::Result<()> {
+    let copy = copy_state(alloc, state)?;
+    set.push(&copy)?;
+    Ok(())
+}
+
 /// The set without the product state at an index.
 fn without(alloc: Global, closed: &Closed, index: usize) -> io::Result<Closed> {
     let mut rest = Closed::new(alloc);
     for i in 0..closed.len() {
         if i != index {
-            let state = copy_state(alloc, &closed.get(i))?;
-            rest.push(&state)?;
+            push_copy(alloc, &mut rest, &closed.get(i))?;
         }
     }
     Ok(rest)
@@ -102,11 +127,21 @@ fn write_closed(
     requires { InRange (length wants.now.patterns) wants.now.clauses }
 {
     let rest = without(alloc, closed, index)?;
-    line.push_str(if is_closed(alloc, wants, &rest)? {
+    let word = if is_closed(alloc, wants, &rest)? {
         " yes"
     } else {
         " no"
-    })?;
+    };
+    line.push_str(word)?;
+    Ok(())
+}
+
+/// Writes the product states of the set.
+fn write_states(closed: &Closed, line: &mut String) -> io::Result<()> {
+    for i in 0..closed.len() {
+        line.push_str(" ")?;
+        write_state(&closed.get(i), line)?;
+    }
     Ok(())
 }
 
@@ -115,10 +150,7 @@ fn write_set(alloc: Global, wants: &Wants, closed: &Closed, line: &mut String) -
     requires { InRange (length wants.now.patterns) wants.now.clauses }
 {
     let count = closed.len();
-    for i in 0..count {
-        line.push_str(" ")?;
-        write_state(alloc, &closed.get(i), line)?;
-    }
+    write_states(closed, line)?;
     write_closed(alloc, wants, closed, count, line)?;
     for index in 0..count {
         write_closed(alloc, wants, closed, index, line)?;
@@ -143,54 +175,66 @@ fn write_answer(alloc: Global, wants: &Wants, limit: u32, line: &mut String) -> 
         }
         Product::TooMany(texts) => {
             let count = texts.len();
-            line.push_str(format!(in alloc; "{count} texts")?.as_str())?;
+            write!(line, "{count} texts")?;
             Ok(())
         }
     }
 }
 
-/// The answer to the words of a line.
-fn answer_to(alloc: Global, words: &[&str]) -> io::Result<String> {
-    let [limit, yes, no, other] = words else {
-        return Err(ErrorKind::InvalidData.into());
-    };
-    let Ok(limit) = limit.parse::<u32>() else {
-        return Err(ErrorKind::InvalidData.into());
-    };
-    if limit == 0 {
-        return Err(ErrorKind::InvalidData.into());
-    }
-    let wants = wants_of(
-        alloc,
-        read(alloc, yes)?,
-        read(alloc, no)?,
-        read(alloc, other)?,
-    )?;
+fn answer_to_wants(alloc: Global, wants: &Wants, limit: u32) -> io::Result<String>
+    requires range { InRange (length wants.now.patterns) wants.now.clauses }
+    requires some { 1 ≤ limit }
+{
     let mut line = String::new(alloc);
-    write_answer(alloc, &wants, limit, &mut line)?;
+    write_answer(alloc, wants, limit, &mut line)?;
     Ok(line)
 }
 
-// The answer to a line.
-fn answer_to_line(rt: &HostRuntime, line: &str, timed: bool) -> io::Result<String> {
-    let alloc = rt.alloc();
-    if let Some(words) = line.strip_prefix("states ") {
-        let mut answer = String::new(alloc);
-        push_made(rt, &mut answer, words, timed)?;
-        return Ok(answer);
+fn answer_within(alloc: Global, limit: &str, texts: [&str; 3]) -> io::Result<String> {
+    match limit.parse::<u32>() {
+        Ok(limit) if limit > 0 => answer_to_wants(alloc, &wants_of(alloc, texts)?, limit),
+        _ => Err(ErrorKind::InvalidData.into()),
     }
+}
+
+/// The answer to the words of a line.
+fn answer_to(alloc: Global, words: &[&str]) -> io::Result<String> {
+    match words {
+        [limit, yes, no, other] => answer_within(alloc, limit, [*yes, *no, *other]),
+        _ => Err(ErrorKind::InvalidData.into()),
+    }
+}
+
+fn answer_to_words(alloc: Global, line: &str) -> io::Result<String> {
     let words: Vec<&str> = line.split(' ').collect(alloc)?;
     answer_to(alloc, words.as_slice())
 }
 
-fn main(rt: HostRuntime) -> io::Result<()> {
-    let alloc = rt.alloc();
-    let timed = env::args(&rt)?.any(|argument| argument.as_str() == "time");
-    let mut out = io::writer(&rt);
-    for line in BufReader::new(alloc, rt.reader())?.lines(alloc) {
-        let answer = answer_to_line(&rt, line?.as_str(), timed)?;
-        out.write_all(answer.as_bytes())?;
-        out.write_all(b"\n")?;
+fn answer_of_made(rt: &HostRuntime, words: &str, timed: bool) -> io::Result<String> {
+    let mut answer = String::new(rt.alloc());
+    push_made(rt, &mut answer, words, timed)?;
+    Ok(answer)
+}
+
+// The answer to a line.
+fn answer_to_line(rt: &HostRuntime, line: &str, timed: bool) -> io::Result<String> {
+    match line.strip_prefix("states ") {
+        Some(words) => answer_of_made(rt, words, timed),
+        None => answer_to_words(rt.alloc(), line),
+    }
+}
+
+fn print_answers(rt: &HostRuntime, input: &str, timed: bool) -> io::Result<()> {
+    let mut out = io::writer(rt);
+    for line in input.lines() {
+        let answer = answer_to_line(rt, line, timed)?;
+        writeln!(out, "{answer}")?;
     }
     Ok(())
+}
+
+fn main(rt: HostRuntime) -> io::Result<()> {
+    let timed = env::args(&rt)?.any(|argument| argument.as_str() == "time");
+    let input = io::read_to_string(rt.alloc(), rt.reader())?;
+    print_answers(&rt, input.as_str(), timed)
 }

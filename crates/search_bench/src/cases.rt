@@ -109,11 +109,16 @@ fn learn(
     Ok(())
 }
 
+fn learn_all(alloc: Global, store: &mut Store<Numbered>, lists: &str) -> io::Result<()> {
+    for (number, answers) in lists.split(',').enumerate() {
+        learn(alloc, store, number, answers)?;
+    }
+    Ok(())
+}
+
 fn store_of(alloc: Global, lists: &str) -> io::Result<Store<Numbered>> {
     let mut store = Store::new(alloc);
-    for (number, answers) in lists.split(',').enumerate() {
-        learn(alloc, &mut store, number, answers)?;
-    }
+    learn_all(alloc, &mut store, lists)?;
     Ok(store)
 }
 
@@ -122,6 +127,12 @@ fn print_hit(out: &mut impl Write, store: &Store<Numbered>, path: &Path) -> io::
         Some((_, hit)) => writeln!(out, "{}", hit.number),
         None => writeln!(out, "none"),
     }
+}
+
+fn print_hit_of(alloc: Global, out: &mut impl Write, line: &str) -> io::Result<()> {
+    let store = store_of(alloc, field(line, 1))?;
+    let path = answers_of(alloc, field(line, 2))?;
+    print_hit(out, &store, &path)
 }
 
 /// The field at an index of a line, or the empty text behind the last one.
@@ -175,10 +186,11 @@ fn print_replay(
 
 /// Prints what a line gives.
 pub(crate) fn print_case(alloc: Global, out: &mut impl Write, line: &str) -> io::Result<()> {
-    if field(line, 0) == "hit" {
-        let store = store_of(alloc, field(line, 1))?;
-        return print_hit(out, &store, &answers_of(alloc, field(line, 2))?);
+    match field(line, 0) {
+        "hit" => print_hit_of(alloc, out, line),
+        _ => {
+            let tree = tree_of(alloc, field(line, 1))?;
+            print_of_tree(alloc, out, line, &tree)
+        }
     }
-    let tree = tree_of(alloc, field(line, 1))?;
-    print_of_tree(alloc, out, line, &tree)
 }

@@ -13,7 +13,7 @@ use formula_tree::{Branches, Formula, Path};
 use line_expansion::expand;
 use nogoods::{Closes, NoMemory, Store};
 use std::alloc::Global;
-use std::io::{BufRead, BufReader};
+use std::io::Write;
 use std::rc::Rc;
 use std::time::Instant;
 use std::{env, io};
@@ -26,6 +26,12 @@ const LISTS: u32 = 20_000;
 
 /// How many answers are drawn for a path.
 const LENGTHS: [u32; 4] = [20, 100, 500, 1_000];
+
+/// Adds a formula to a list.
+fn put(alloc: Global, list: &mut Branches, formula: Formula) -> Result<(), NoMemory> {
+    list.push(Rc::new(alloc, formula)?)?;
+    Ok(())
+}
 
 /// Numbers that look as if drawn by chance.
 #[derive(Drop)]
@@ -46,32 +52,78 @@ impl Draw {
         drawn as u32
     }
 
-    /// That one of so many tests holds.
-    fn some(&mut self, alloc: Global, tests: u32) -> Result<Rc<Formula>, NoMemory> {
-        let mut items = Branches::new(alloc);
+    fn put_tests(
+        &mut self,
+        alloc: Global,
+        items: &mut Branches,
+        tests: u32,
+    ) -> Result<(), NoMemory> {
         for _ in 0..tests {
-            items.push(Rc::new(alloc, Formula::Test(self.below(TESTS)))?)?;
+            put(alloc, items, Formula::Test(self.below(TESTS)))?;
         }
-        let some = Rc::new(alloc, Formula::OneOf(items))?;
-        Ok(some)
+        Ok(())
     }
 
-    /// A statement of any principal, three actions, two resources and no condition.
+    /// Adds that one of so many tests holds.
+    fn put_some(
+        &mut self,
+        alloc: Global,
+        parts: &mut Branches,
+        tests: u32,
+    ) -> Result<(), NoMemory> {
+        let mut items = Branches::new(alloc);
+        self.put_tests(alloc, &mut items, tests)?;
+        put(alloc, parts, Formula::OneOf(items))
+    }
+
+    /// Adds the parts of a statement of any principal, three actions, two resources and no condition.
+    fn put_parts(&mut self, alloc: Global, parts: &mut Branches) -> Result<(), NoMemory> {
+        put(alloc, parts, Formula::Yes)?;
+        self.put_some(alloc, parts, 3)?;
+        self.put_some(alloc, parts, 2)?;
+        put(alloc, parts, Formula::All(Branches::new(alloc)))
+    }
+
     fn statement(&mut self, alloc: Global) -> Result<Rc<Formula>, NoMemory> {
         let mut parts = Branches::new(alloc);
-        parts.push(Rc::new(alloc, Formula::Yes)?)?;
-        parts.push(self.some(alloc, 3)?)?;
-        parts.push(self.some(alloc, 2)?)?;
-        parts.push(Rc::new(alloc, Formula::All(Branches::new(alloc)))?)?;
+        self.put_parts(alloc, &mut parts)?;
         let statement = Rc::new(alloc, Formula::All(parts))?;
         Ok(statement)
     }
 
-    /// A path of answers, of which about one in so many is yes. What is drawn again is left out.
-    fn path(&mut self, alloc: Global, length: u32, one_in: u32) -> Result<Path, NoMemory>
+    /// Adds a statement to both sets.
+    fn put_shared(
+        &mut self,
+        alloc: Global,
+        first: &mut Branches,
+        second: &mut Branches,
+    ) -> Result<(), NoMemory> {
+        let statement = self.statement(alloc)?;
+        second.push(statement.clone()?)?;
+        first.push(statement)?;
+        Ok(())
+    }
+
+    /// Adds so many statements to both sets, and one more to the first.
+    fn put_statements(
+        &mut self,
+        alloc: Global,
+        first: &mut Branches,
+        second: &mut Branches,
+        statements: u32,
+    ) -> Result<(), NoMemory> {
+        for _ in 0..statements {
+            self.put_shared(alloc, first, second)?;
+        }
+        first.push(self.statement(alloc)?)?;
+        Ok(())
+    }
+
+    /// Adds so many answers to a path, of which about one in so many is yes. What is drawn again is left
+    /// out.
+    fn put_answers(&mut self, path: &mut Path, length: u32, one_in: u32) -> Result<(), NoMemory>
         requires { 0 < one_in }
     {
-        let mut path = Path::new(alloc);
         for _ in 0..length {
             let test = self.below(TESTS);
             let answer = self.below(one_in) == 0;
@@ -79,34 +131,53 @@ impl Draw {
                 path.push(test, answer)?;
             }
         }
+        Ok(())
+    }
+
+    /// A path of answers.
+    fn path(&mut self, alloc: Global, length: u32, one_in: u32) -> Result<Path, NoMemory>
+        requires { 0 < one_in }
+    {
+        let mut path = Path::new(alloc);
+        self.put_answers(&mut path, length, one_in)?;
         Ok(path)
     }
 }
 
+/// Adds what the statements allow, where none denies.
+fn put_allowed(alloc: Global, parts: &mut Branches, statements: Branches) -> Result<(), NoMemory> {
+    put(alloc, parts, Formula::OneOf(statements))?;
+    let denied = Rc::new(alloc, Formula::OneOf(Branches::new(alloc)))?;
+    put(alloc, parts, Formula::Not(denied))
+}
+
 /// What the statements allow, where none denies.
 fn set(alloc: Global, statements: Branches) -> Result<Rc<Formula>, NoMemory> {
-    let denied = Rc::new(alloc, Formula::OneOf(Branches::new(alloc)))?;
     let mut parts = Branches::new(alloc);
-    parts.push(Rc::new(alloc, Formula::OneOf(statements))?)?;
-    parts.push(Rc::new(alloc, Formula::Not(denied))?)?;
+    put_allowed(alloc, &mut parts, statements)?;
     let set = Rc::new(alloc, Formula::All(parts))?;
     Ok(set)
+}
+
+fn put_negation(alloc: Global, sides: &mut Branches, statements: Branches) -> Result<(), NoMemory> {
+    let set = set(alloc, statements)?;
+    put(alloc, sides, Formula::Not(set))
+}
+
+/// That the first statements allow, and the second don't.
+fn comparison(alloc: Global, first: Branches, second: Branches) -> Result<Formula, NoMemory> {
+    let mut sides = Branches::new(alloc);
+    sides.push(set(alloc, first)?)?;
+    put_negation(alloc, &mut sides, second)?;
+    Ok(Formula::All(sides))
 }
 
 /// That a set of so many statements allows, and the set without the last of them doesn't.
 fn query(alloc: Global, draw: &mut Draw, statements: u32) -> Result<Formula, NoMemory> {
     let mut first = Branches::new(alloc);
     let mut second = Branches::new(alloc);
-    for _ in 0..statements {
-        let statement = draw.statement(alloc)?;
-        second.push(statement.clone()?)?;
-        first.push(statement)?;
-    }
-    first.push(draw.statement(alloc)?)?;
-    let mut sides = Branches::new(alloc);
-    sides.push(set(alloc, first)?)?;
-    sides.push(Rc::new(alloc, Formula::Not(set(alloc, second)?))?)?;
-    Ok(Formula::All(sides))
+    draw.put_statements(alloc, &mut first, &mut second, statements)?;
+    comparison(alloc, first, second)
 }
 
 /// Prints how long a call took.
@@ -126,18 +197,20 @@ fn count_conflicts(alloc: Global, clauses: &Clauses, paths: &[Path]) -> Result<u
     Ok(found)
 }
 
-fn draw_paths(
-    alloc: Global,
-    draw: &mut Draw,
+/// How many paths are drawn, how many answers of each, and about which part of them is yes.
+#[derive(Clone, Copy)]
+struct Drawn {
     calls: u32,
     length: u32,
     one_in: u32,
-) -> Result<Vec<Path>, NoMemory>
-    requires { 0 < one_in }
+}
+
+fn draw_paths(alloc: Global, draw: &mut Draw, drawn: Drawn) -> Result<Vec<Path>, NoMemory>
+    requires { 0 < drawn.one_in }
 {
     let mut paths = Vec::new(alloc);
-    for _ in 0..calls {
-        paths.push(draw.path(alloc, length, one_in)?)?;
+    for _ in 0..drawn.calls {
+        paths.push(draw.path(alloc, drawn.length, drawn.one_in)?)?;
     }
     Ok(paths)
 }
@@ -161,7 +234,54 @@ fn time_conflicts(
     Ok(())
 }
 
+/// Looks for conflicts from so many drawn paths of a length.
+fn run_length(
+    rt: &HostRuntime,
+    draw: &mut Draw,
+    clauses: &Clauses,
+    drawn: Drawn,
+    timed: bool,
+) -> io::Result<()>
+    requires { 0 < drawn.one_in }
+{
+    let paths = draw_paths(rt.alloc(), draw, drawn)?;
+    time_conflicts(rt, clauses, drawn.length, paths.as_slice(), timed)
+}
+
 /// Looks for conflicts from paths of each length.
+fn run_lengths(
+    rt: &HostRuntime,
+    draw: &mut Draw,
+    clauses: &Clauses,
+    one_in: u32,
+    calls: u32,
+    timed: bool,
+) -> io::Result<()>
+    requires { 0 < one_in }
+{
+    for length in LENGTHS {
+        run_length(
+            rt,
+            draw,
+            clauses,
+            Drawn {
+                calls,
+                length,
+                one_in,
+            },
+            timed,
+        )?;
+    }
+    Ok(())
+}
+
+fn drawn_clauses(alloc: Global, draw: &mut Draw, statements: u32) -> io::Result<Clauses> {
+    let query = query(alloc, draw, statements)?;
+    let clauses = clauses_of(alloc, &query, TESTS)?;
+    Ok(clauses)
+}
+
+/// Looks for conflicts in the clauses of a query of so many statements.
 fn run_conflicts(
     rt: &HostRuntime,
     statements: u32,
@@ -171,16 +291,11 @@ fn run_conflicts(
 ) -> io::Result<()>
     requires { 0 < one_in }
 {
-    let alloc = rt.alloc();
     let mut draw = Draw { state: 2026 };
-    let clauses = clauses_of(alloc, &query(alloc, &mut draw, statements)?, TESTS)?;
+    let clauses = drawn_clauses(rt.alloc(), &mut draw, statements)?;
     let made = clauses.len();
     println!(rt; "{statements} statements, {made} clauses, one answer in {one_in} yes")?;
-    for length in LENGTHS {
-        let paths = draw_paths(alloc, &mut draw, calls, length, one_in)?;
-        time_conflicts(rt, &clauses, length, paths.as_slice(), timed)?;
-    }
-    Ok(())
+    run_lengths(rt, &mut draw, &clauses, one_in, calls, timed)
 }
 
 /// A value that closes under all answers.
@@ -198,14 +313,33 @@ impl Closes for Always {
 }
 
 /// The lists have two to six drawn answers.
+fn learn_drawn(
+    alloc: Global,
+    draw: &mut Draw,
+    store: &mut Store<Always>,
+    always: &Rc<Always>,
+) -> Result<(), NoMemory> {
+    let length = draw.below(5).saturating_add(2);
+    let answers = draw.path(alloc, length, 2)?;
+    store.learn(answers, always.clone()?)
+}
+
+fn learn_all(
+    alloc: Global,
+    draw: &mut Draw,
+    store: &mut Store<Always>,
+    always: &Rc<Always>,
+) -> Result<(), NoMemory> {
+    for _ in 0..LISTS {
+        learn_drawn(alloc, draw, store, always)?;
+    }
+    Ok(())
+}
+
 fn store(alloc: Global, draw: &mut Draw) -> Result<Store<Always>, NoMemory> {
     let always = Rc::new(alloc, Always)?;
     let mut store = Store::new(alloc);
-    for _ in 0..LISTS {
-        let length = 2 + draw.below(5);
-        let answers = draw.path(alloc, length, 2)?;
-        store.learn(answers, always.clone()?)?;
-    }
+    learn_all(alloc, draw, &mut store, &always)?;
     Ok(store)
 }
 
@@ -238,35 +372,65 @@ fn time_hits(
     Ok(())
 }
 
+/// Looks for hits with so many drawn paths of a length.
+fn run_hits_of_length(
+    rt: &HostRuntime,
+    draw: &mut Draw,
+    store: &Store<Always>,
+    drawn: Drawn,
+    timed: bool,
+) -> io::Result<()>
+    requires { 0 < drawn.one_in }
+{
+    let paths = draw_paths(rt.alloc(), draw, drawn)?;
+    time_hits(rt, store, drawn.length, paths.as_slice(), timed)
+}
+
 /// Looks for hits with paths of each length.
 fn run_hits(rt: &HostRuntime, one_in: u32, calls: u32, timed: bool) -> io::Result<()>
     requires { 0 < one_in }
 {
-    let alloc = rt.alloc();
     let mut draw = Draw { state: 2026 };
-    let store = store(alloc, &mut draw)?;
+    let store = store(rt.alloc(), &mut draw)?;
     println!(rt; "{LISTS} lists, one answer in {one_in} yes")?;
     for length in LENGTHS {
-        let paths = draw_paths(alloc, &mut draw, calls, length, one_in)?;
-        time_hits(rt, &store, length, paths.as_slice(), timed)?;
+        run_hits_of_length(
+            rt,
+            &mut draw,
+            &store,
+            Drawn {
+                calls,
+                length,
+                one_in,
+            },
+            timed,
+        )?;
     }
     Ok(())
 }
 
-/// Prints what each case of standard input gives.
-fn print_cases(rt: &HostRuntime) -> io::Result<()> {
-    let alloc = rt.alloc();
-    let mut out = io::writer(rt);
-    for line in BufReader::new(alloc, rt.reader())?.lines(alloc) {
-        print_case(alloc, &mut out, expand(alloc, line?.as_str())?.as_str())?;
+fn print_expanded(alloc: Global, out: &mut impl Write, line: &str) -> io::Result<()> {
+    let line = expand(alloc, line)?;
+    print_case(alloc, out, line.as_str())
+}
+
+/// Prints what each case of a text gives.
+fn print_cases(alloc: Global, out: &mut impl Write, input: &str) -> io::Result<()> {
+    for line in input.lines() {
+        print_expanded(alloc, out, line)?;
     }
     Ok(())
+}
+
+fn print_input(rt: &HostRuntime) -> io::Result<()> {
+    let input = io::read_to_string(rt.alloc(), rt.reader())?;
+    print_cases(rt.alloc(), &mut io::writer(rt), input.as_str())
 }
 
 fn main(rt: HostRuntime) -> io::Result<()> {
     let timed = env::args(&rt)?.any(|argument| argument.as_str() == "time");
     if !timed {
-        print_cases(&rt)?;
+        print_input(&rt)?;
     }
     run_conflicts(&rt, 200, 2, 20, timed)?;
     run_conflicts(&rt, 200, 50, 20, timed)?;

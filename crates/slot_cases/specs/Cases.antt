@@ -14,11 +14,11 @@ use Rattle.slot_cases.specs.declared.cases.Case.{Case}
 
 -- three tests that suit a sound schema, and two paths that answer none but them
 pub record IsCase (c : Case) : Type 0 where
-  pub sound : SchemaIsSound c.schema
-  pub suit : All (TestSuits c.schema) c.tests
-  pub count : length c.tests ≡ 3
-  pub range : PathInRange c.tests c.path
-  pub other : PathInRange c.tests c.other
+  pub sound : SchemaIsSound c.schema.now
+  pub suit : All (TestSuits c.schema.now) c.tests.now
+  pub count : length c.tests.now ≡ 3
+  pub range : PathInRange c.tests.now c.path.now
+  pub other : PathInRange c.tests.now c.other.now
 
 -- a text of at most 2,048 characters
 pub record IsShortText (t : List ℕ) : Type 0 where

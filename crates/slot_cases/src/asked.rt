@@ -1,12 +1,14 @@
 //! The answer to a question, and what is accepted of it.
-ghost use Rattle.std.specs.Prelude.{◌≤◌, IfOk};
+ghost use Rattle.std.specs.Prelude.{◌≡◌, ◌≤◌, All, IfOk, length};
+ghost use Rattle.policy_model.specs.Soundness.{SchemaIsSound, TestSuits};
 ghost use Rattle.slot_theory.specs.Possible.{PathInRange};
 ghost use Rattle.slot_theory.specs.Slots.{SlotIsIn};
 ghost use Rattle.slot_cases.specs.Cases.{IsCase};
 
-use crate::cases::{Case, case_of, key_case_of, slot_named};
+use crate::cases::{Case, key_tests_of, path_of, slot_named, tests_of};
+use crate::schemas::{key_schema_of, schema_of};
 use formula_tree::Path;
-use policy_model::{Schema, Slot};
+use policy_model::{Schema, Slot, Test, TestList};
 use slot_theory::{
     Core, KindProof, Possible, SlotProof, SlotValue, accepts, meets, possible, slot_of,
 };
@@ -15,11 +17,23 @@ use std::io;
 use std::io::ErrorKind;
 use wildcard_lang::Text;
 
+// Whether the value gives the test its answer, where that is on the slot.
+fn is_answered(
+    alloc: Global,
+    slot: &Slot,
+    value: &SlotValue,
+    test: &Test,
+    answer: bool,
+) -> io::Result<bool> {
+    let own = slot_of(alloc, test)?;
+    Ok(own != *slot || meets(value, test) == answer)
+}
+
 // Whether the value gives each test of the slot its answer.
 fn answers(alloc: Global, case: &Case, slot: &Slot, value: &SlotValue) -> io::Result<bool> {
     for (n, answer) in case.path.as_slice() {
         if let Some(test) = case.tests.get(*n as usize) {
-            if slot_of(alloc, test)? == *slot && meets(value, test) != *answer {
+            if !is_answered(alloc, slot, value, test, *answer)? {
                 return Ok(false);
             }
         }
@@ -36,15 +50,6 @@ fn shorter(alloc: Global, core: &Core) -> io::Result<Core> {
     let mut numbers = Vec::from_slice(alloc, core.as_slice())?;
     numbers.pop();
     Ok(Core::from_vec(numbers))
-}
-
-fn never() -> SlotProof {
-    SlotProof::Kinds(
-        KindProof::Never,
-        KindProof::Never,
-        KindProof::Never,
-        KindProof::Never,
-    )
 }
 
 fn name_of(proof: &SlotProof) -> &'static str {
@@ -67,24 +72,56 @@ fn accepted(
     proof: &SlotProof,
 ) -> io::Result<&'static str>
     requires case { IsCase case.now }
-    requires range { PathInRange case.now.tests path.now }
+    requires range { PathInRange case.now.tests.now path.now }
 {
-    let accepted = accepts(alloc, &case.schema, &case.tests, path, core, proof)?;
+    let accepted = accepts(alloc, case.schema, case.tests, path, core, proof)?;
     Ok(word(accepted))
+}
+
+// Whether the core is accepted without its last test.
+fn accepted_shorter(
+    alloc: Global,
+    case: &Case,
+    core: &Core,
+    proof: &SlotProof,
+) -> io::Result<&'static str>
+    requires { IsCase case.now }
+{
+    let shorter = shorter(alloc, core)?;
+    accepted(alloc, case, case.path, &shorter, proof)
+}
+
+// Whether the core is accepted by fixed answers alone.
+fn accepted_by_nothing(alloc: Global, case: &Case, core: &Core) -> io::Result<&'static str>
+    requires { IsCase case.now }
+{
+    let never = SlotProof::Kinds(
+        KindProof::Never,
+        KindProof::Never,
+        KindProof::Never,
+        KindProof::Never,
+    );
+    accepted(alloc, case, case.path, core, &never)
+}
+
+// The kind of the proof, and the numbers of the core's tests.
+fn core_text(alloc: Global, core: &Core, proof: &SlotProof) -> io::Result<String> {
+    let mut text = String::from_str(alloc, name_of(proof))?;
+    for n in core.as_slice() {
+        write!(text, " {n}")?;
+    }
+    Ok(text)
 }
 
 // The core, whether it is accepted, and whether what differs from it in one thing is.
 fn judged(alloc: Global, case: &Case, core: &Core, proof: &SlotProof) -> io::Result<String>
     requires { IsCase case.now }
 {
-    let mut text = String::from_str(alloc, name_of(proof))?;
-    for n in core.as_slice() {
-        text.push_str(format!(in alloc; " {n}")?.as_str())?;
-    }
-    let own = accepted(alloc, case, &case.path, core, proof)?;
-    let other = accepted(alloc, case, &case.other, core, proof)?;
-    let fewer = accepted(alloc, case, &case.path, &shorter(alloc, core)?, proof)?;
-    let fixed = accepted(alloc, case, &case.path, core, &never())?;
+    let own = accepted(alloc, case, case.path, core, proof)?;
+    let other = accepted(alloc, case, case.other, core, proof)?;
+    let fewer = accepted_shorter(alloc, case, core, proof)?;
+    let fixed = accepted_by_nothing(alloc, case, core)?;
+    let text = core_text(alloc, core, proof)?;
     Ok(format!(in alloc; "{text}: {own} {other} {fewer} {fixed}")?)
 }
 
@@ -94,19 +131,75 @@ fn found(alloc: Global, case: &Case, slot: &Slot, value: &SlotValue) -> io::Resu
     Ok(format!(in alloc; "found: {right}")?)
 }
 
-fn asked(alloc: Global, case: &Case, slot: &Slot, states: u32) -> io::Result<String>
-    requires case { IsCase case.now }
-    requires slot { SlotIsIn case.now.schema slot.now }
-    requires some { 1 ≤ states }
+fn answer_of(alloc: Global, case: &Case, slot: &Slot, answer: &Possible) -> io::Result<String>
+    requires { IsCase case.now }
 {
-    match possible(alloc, &case.schema, &case.tests, &case.path, slot, states)? {
-        Possible::Found(value) => found(alloc, case, slot, &value),
-        Possible::Conflict(core, proof) => judged(alloc, case, &core, &proof),
+    match answer {
+        Possible::Found(value) => found(alloc, case, slot, value),
+        Possible::Conflict(core, proof) => judged(alloc, case, core, proof),
         Possible::TooMany(texts) => {
             let count = texts.len();
             Ok(format!(in alloc; "{count} texts")?)
         }
     }
+}
+
+fn asked(alloc: Global, case: &Case, slot: &Slot, states: u32) -> io::Result<String>
+    requires case { IsCase case.now }
+    requires slot { SlotIsIn case.now.schema.now slot.now }
+    requires some { 1 ≤ states }
+{
+    let answer = possible(alloc, case.schema, case.tests, case.path, slot, states)?;
+    answer_of(alloc, case, slot, &answer)
+}
+
+fn asked_word(alloc: Global, case: &Case, slot: &Slot, states: &str) -> io::Result<String>
+    requires case { IsCase case.now }
+    requires slot { SlotIsIn case.now.schema.now slot.now }
+{
+    match states.parse::<u32>() {
+        Ok(states) if states > 0 => asked(alloc, case, slot, states),
+        _ => Err(ErrorKind::InvalidData.into()),
+    }
+}
+
+// The answer to tests, of which three words have the answers.
+fn asked_of_tests(
+    alloc: Global,
+    schema: &Schema,
+    tests: &TestList,
+    slot: &Slot,
+    states: &str,
+    words: [&str; 3],
+) -> io::Result<String>
+    requires sound { SchemaIsSound schema.now }
+    requires suit { All (TestSuits schema.now) tests.now }
+    requires count { length tests.now ≡ 3 }
+    requires slot { SlotIsIn schema.now slot.now }
+{
+    let path = path_of(alloc, words, false)?;
+    let other = path_of(alloc, words, true)?;
+    let case = Case {
+        schema,
+        tests,
+        path: &path,
+        other: &other,
+    };
+    asked_word(alloc, &case, slot, states)
+}
+
+fn asked_of_slot(
+    alloc: Global,
+    schema: &Schema,
+    slot: &Slot,
+    states: &str,
+    words: [&str; 3],
+) -> io::Result<String>
+    requires sound { SchemaIsSound schema.now }
+    requires slot { SlotIsIn schema.now slot.now }
+{
+    let tests = tests_of(alloc, slot, words)?;
+    asked_of_tests(alloc, schema, &tests, slot, states, words)
 }
 
 /// The answer to a question.
@@ -118,11 +211,8 @@ pub(crate) fn answer_to_question(
     words: [&str; 3],
 ) -> io::Result<String> {
     let slot = slot_named(slot)?;
-    let case = case_of(alloc, &slot, shape, words)?;
-    match states.parse::<u32>() {
-        Ok(states) if states > 0 => asked(alloc, &case, &slot, states),
-        _ => Err(ErrorKind::InvalidData.into()),
-    }
+    let schema = schema_of(alloc, shape)?;
+    asked_of_slot(alloc, &schema, &slot, states, words)
 }
 
 /// The slot of the key `k`.
@@ -136,6 +226,20 @@ pub(crate) fn key_slot(alloc: Global, schema: &Schema) -> io::Result<Slot>
     Ok(Slot::Key(key))
 }
 
+fn asked_of_key(
+    alloc: Global,
+    schema: &Schema,
+    slot: &Slot,
+    states: &str,
+    words: [&str; 3],
+) -> io::Result<String>
+    requires sound { SchemaIsSound schema.now }
+    requires slot { SlotIsIn schema.now slot.now }
+{
+    let tests = key_tests_of(alloc, schema, words)?;
+    asked_of_tests(alloc, schema, &tests, slot, states, words)
+}
+
 /// The answer to a question on the key `k`.
 pub(crate) fn answer_on_key(
     alloc: Global,
@@ -143,16 +247,7 @@ pub(crate) fn answer_on_key(
     states: &str,
     words: [&str; 3],
 ) -> io::Result<String> {
-    let case = key_case_of(alloc, rule, words)?;
-    asked_of_key(alloc, &case, states)
-}
-
-fn asked_of_key(alloc: Global, case: &Case, states: &str) -> io::Result<String>
-    requires { IsCase case.now }
-{
-    let slot = key_slot(alloc, &case.schema)?;
-    match states.parse::<u32>() {
-        Ok(states) if states > 0 => asked(alloc, case, &slot, states),
-        _ => Err(ErrorKind::InvalidData.into()),
-    }
+    let schema = key_schema_of(alloc, rule)?;
+    let slot = key_slot(alloc, &schema)?;
+    asked_of_key(alloc, &schema, &slot, states, words)
 }

@@ -1,12 +1,11 @@
 //! Three tests of a slot with their answers.
-ghost use Rattle.std.specs.Prelude.{◌≡◌, ◌+◌, length, All, IfOk, OnOk};
+ghost use Rattle.std.specs.Prelude.{◌≡◌, ◌+◌, ◌∷◌, [], length, All, IfOk, OnOk};
 ghost use Rattle.policy_model.specs.Soundness.{EntryIsSound, TestSuits};
 ghost use Rattle.policy_model.specs.declared.schema.Schema.{Schema};
 ghost use Rattle.slot_theory.specs.Slots.{SlotIsIn};
-ghost use Rattle.slot_cases.specs.Cases.{AnswersBelow, IsCase};
+ghost use Rattle.slot_cases.specs.Cases.{AnswersBelow};
 
 use crate::keys::key_test_of;
-use crate::schemas::{key_schema_of, schema_of};
 use formula_tree::Path;
 use policy_model::{Entry, PrincipalKind, Schema, Slot, Test, TestList, is_account};
 use std::alloc::Global;
@@ -89,27 +88,38 @@ fn test_of(alloc: Global, slot: &Slot, word: &str) -> io::Result<Test>
     }
 }
 
-// The tests of three words.
-fn tests_of(alloc: Global, slot: &Slot, words: [&str; 3]) -> io::Result<TestList>
-    ensures suit { IfOk result (λ v. (schema : Schema) → All (TestSuits schema) v) }
-    ensures count { IfOk result (λ v. length v ≡ 3) }
+// The list of three tests.
+fn three(alloc: Global, first: Test, second: Test, third: Test) -> io::Result<TestList>
+    ensures { IfOk result (λ v. v ≡ first ∷ second ∷ third ∷ []) }
 {
     let mut tests = TestList::new(alloc);
-    tests.push(test_of(alloc, slot, words[0])?)?;
-    tests.push(test_of(alloc, slot, words[1])?)?;
-    tests.push(test_of(alloc, slot, words[2])?)?;
+    tests.push(first)?;
+    tests.push(second)?;
+    tests.push(third)?;
     Ok(tests)
 }
 
-// The tests on keys of three words.
-fn key_tests_of(alloc: Global, schema: &Schema, words: [&str; 3]) -> io::Result<TestList>
+/// The tests of three words.
+pub(crate) fn tests_of(alloc: Global, slot: &Slot, words: [&str; 3]) -> io::Result<TestList>
+    ensures suit { IfOk result (λ v. (schema : Schema) → All (TestSuits schema) v) }
+    ensures count { IfOk result (λ v. length v ≡ 3) }
+{
+    let first = test_of(alloc, slot, words[0])?;
+    let second = test_of(alloc, slot, words[1])?;
+    let third = test_of(alloc, slot, words[2])?;
+    let tests = three(alloc, first, second, third)?;
+    Ok(tests)
+}
+
+/// The tests on keys of three words.
+pub(crate) fn key_tests_of(alloc: Global, schema: &Schema, words: [&str; 3]) -> io::Result<TestList>
     ensures suit { IfOk result (All (TestSuits schema.now)) }
     ensures count { IfOk result (λ v. length v ≡ 3) }
 {
-    let mut tests = TestList::new(alloc);
-    tests.push(key_test_of(alloc, schema, asked_in(words[0]))?)?;
-    tests.push(key_test_of(alloc, schema, asked_in(words[1]))?)?;
-    tests.push(key_test_of(alloc, schema, asked_in(words[2]))?)?;
+    let first = key_test_of(alloc, schema, asked_in(words[0]))?;
+    let second = key_test_of(alloc, schema, asked_in(words[1]))?;
+    let third = key_test_of(alloc, schema, asked_in(words[2]))?;
+    let tests = three(alloc, first, second, third)?;
     Ok(tests)
 }
 
@@ -141,8 +151,8 @@ fn add_answer(path: &mut Path, n: u32, answer: Option<bool>) -> io::Result<()>
     }
 }
 
-// The path that gives three tests the answers of three words, or the contrary ones.
-fn path_of(alloc: Global, words: [&str; 3], contrary: bool) -> io::Result<Path>
+/// The path that gives three tests the answers of three words, or the contrary ones.
+pub(crate) fn path_of(alloc: Global, words: [&str; 3], contrary: bool) -> io::Result<Path>
     ensures { IfOk result (λ p. AnswersBelow p 3) }
 {
     let mut path = Path::new(alloc);
@@ -153,43 +163,11 @@ fn path_of(alloc: Global, words: [&str; 3], contrary: bool) -> io::Result<Path>
 }
 
 /// Tests with their answers, under a schema.
-#[derive(Drop)]
-pub(crate) struct Case {
-    pub(crate) schema: Schema,
-    pub(crate) tests: TestList,
-    pub(crate) path: Path,
+#[derive(Clone, Copy)]
+pub(crate) struct Case<'a> {
+    pub(crate) schema: &'a Schema,
+    pub(crate) tests: &'a TestList,
+    pub(crate) path: &'a Path,
     /// The path of the other answers.
-    pub(crate) other: Path,
-}
-
-/// The case of a shape and three words.
-pub(crate) fn case_of(alloc: Global, slot: &Slot, shape: &str, words: [&str; 3]) -> io::Result<Case>
-    ensures { IfOk result IsCase }
-{
-    let schema = schema_of(alloc, shape)?;
-    let tests = tests_of(alloc, slot, words)?;
-    let path = path_of(alloc, words, false)?;
-    let other = path_of(alloc, words, true)?;
-    Ok(Case {
-        schema,
-        tests,
-        path,
-        other,
-    })
-}
-
-/// The case of tests on keys, of which `k` has the rule of three words.
-pub(crate) fn key_case_of(alloc: Global, rule: [&str; 3], words: [&str; 3]) -> io::Result<Case>
-    ensures { IfOk result IsCase }
-{
-    let schema = key_schema_of(alloc, rule)?;
-    let tests = key_tests_of(alloc, &schema, words)?;
-    let path = path_of(alloc, words, false)?;
-    let other = path_of(alloc, words, true)?;
-    Ok(Case {
-        schema,
-        tests,
-        path,
-        other,
-    })
+    pub(crate) other: &'a Path,
 }

@@ -11,6 +11,9 @@
 //! divided by bars. Behind `j` it is on another key. A line `stated-key KIND FLAGS VALUES` asks nothing.
 #![tactic(auto)]
 
+ghost use Rattle.policy_model.specs.Soundness.{SchemaIsSound};
+ghost use Rattle.slot_theory.specs.Slots.{SlotIsIn};
+
 mod asked;
 mod cases;
 mod keys;
@@ -18,32 +21,20 @@ mod schemas;
 
 use asked::{answer_on_key, answer_to_question, key_slot};
 use cases::slot_named;
-use policy_model::{Value, ValueList};
+use policy_model::{Schema, Slot, Value, ValueList};
 use schemas::{key_schema_of, schema_of};
 use slot_theory::{
     SlotValue, accepted_cores_are_impossible, accepts_by_the_core_alone, stated_value,
 };
 use std::alloc::Global;
 use std::io;
-use std::io::{BufRead, BufReader, ErrorKind, Write};
-
-// The stated value of the slot.
-fn stated(alloc: Global, slot: &str, shape: &str) -> io::Result<String> {
-    let slot = slot_named(slot)?;
-    let schema = schema_of(alloc, shape)?;
-    let value = stated_value(alloc, &schema, &slot)?;
-    match &value {
-        SlotValue::Principal(_, id) => Ok(id.to_utf8()?),
-        SlotValue::Word(text) => Ok(text.to_utf8()?),
-        SlotValue::Values(values) => written(alloc, values),
-    }
-}
+use std::io::{ErrorKind, Write};
 
 // A value as text. Of numbers, addresses and bytes the kind is enough.
 fn text_of(alloc: Global, value: &Value) -> io::Result<String> {
     match value {
         Value::Word(text) => Ok(text.to_utf8()?),
-        Value::Truth(truth) => Ok(format!(in alloc; "{truth}")?),
+        Value::Truth(truth) => Ok(String::from_str(alloc, if *truth { "true" } else { "false" })?),
         Value::Number(_) => Ok(String::from_str(alloc, "a number")?),
         Value::Address(_) => Ok(String::from_str(alloc, "an address")?),
         Value::Bytes(_) => Ok(String::from_str(alloc, "bytes")?),
@@ -61,14 +52,30 @@ fn written(alloc: Global, values: &ValueList) -> io::Result<String> {
     Ok(text)
 }
 
+// The stated value of the slot under the schema.
+fn stated_of(alloc: Global, schema: &Schema, slot: &Slot) -> io::Result<String>
+    requires sound { SchemaIsSound schema.now }
+    requires slot { SlotIsIn schema.now slot.now }
+{
+    match &stated_value(alloc, schema, slot)? {
+        SlotValue::Principal(_, id) => Ok(id.to_utf8()?),
+        SlotValue::Word(text) => Ok(text.to_utf8()?),
+        SlotValue::Values(values) => written(alloc, values),
+    }
+}
+
+// The stated value of the slot.
+fn stated(alloc: Global, slot: &str, shape: &str) -> io::Result<String> {
+    let slot = slot_named(slot)?;
+    let schema = schema_of(alloc, shape)?;
+    stated_of(alloc, &schema, &slot)
+}
+
 // The stated values of the key `k`.
 fn stated_key(alloc: Global, rule: [&str; 3]) -> io::Result<String> {
     let schema = key_schema_of(alloc, rule)?;
     let slot = key_slot(alloc, &schema)?;
-    match &stated_value(alloc, &schema, &slot)? {
-        SlotValue::Values(values) => written(alloc, values),
-        _ => Err(ErrorKind::InvalidData.into()),
-    }
+    stated_of(alloc, &schema, &slot)
 }
 
 fn answer_to(alloc: Global, line: &str) -> io::Result<String> {
@@ -87,15 +94,17 @@ fn answer_to(alloc: Global, line: &str) -> io::Result<String> {
     }
 }
 
+fn print_answers(alloc: Global, out: &mut impl Write, input: &str) -> io::Result<()> {
+    for line in input.lines() {
+        let answer = answer_to(alloc, line)?;
+        writeln!(out, "{answer}")?;
+    }
+    Ok(())
+}
+
 fn main(rt: HostRuntime) -> io::Result<()> {
     accepted_cores_are_impossible();
     accepts_by_the_core_alone();
-    let alloc = rt.alloc();
-    let mut out = io::writer(&rt);
-    for line in BufReader::new(alloc, rt.reader())?.lines(alloc) {
-        let answer = answer_to(alloc, line?.as_str())?;
-        out.write_all(answer.as_bytes())?;
-        out.write_all(b"\n")?;
-    }
-    Ok(())
+    let input = io::read_to_string(rt.alloc(), rt.reader())?;
+    print_answers(rt.alloc(), &mut io::writer(&rt), input.as_str())
 }

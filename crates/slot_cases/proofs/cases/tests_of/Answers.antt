@@ -5,9 +5,9 @@ use Rattle.slot_cases.proofs.cases.tests_of.Goals as goal
 
 pub returns-clause-suit : goal.returns-clause-suit
 returns-clause-suit c = λ schema.
-    let first = c.in_ok-test_of.field-0 in
-    let second = c.in_ok-test_of-2.field-0 in
-    let third = c.in_ok-test_of-3.field-0 in
+    let first = c.in_ok-first.first in
+    let second = c.in_ok-second.second in
+    let third = c.in_ok-third.third in
     let suits = TestSuits schema in
-    rw (c.in_ok-push-3.ensures.ok, c.in_ok-push-2.ensures.ok, c.in_ok-push.ensures.ok, c.new-tests.ensures)
-    (All-cons suits first (second ∷ third ∷ []) (c.in_ok-test_of.ensures schema) (All-cons suits second (third ∷ []) (c.in_ok-test_of-2.ensures schema) (All-cons suits third [] (c.in_ok-test_of-3.ensures schema) (All-nil suits))))
+    rw (c.in_ok-tests.ensures)
+    (All-cons suits first (second ∷ third ∷ []) (c.in_ok-first.ensures schema) (All-cons suits second (third ∷ []) (c.in_ok-second.ensures schema) (All-cons suits third [] (c.in_ok-third.ensures schema) (All-nil suits))))
