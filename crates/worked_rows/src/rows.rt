@@ -122,6 +122,14 @@ fn safe_number(alloc: Global, folder: &mut SafeFolder, arguments: &[String]) -> 
     exit_number(run(alloc, arguments, folder, &mut SafeSink::new()))
 }
 
+fn words_of_sets(schema: bool) -> &'static str {
+    if schema {
+        "compare first second --schema schema"
+    } else {
+        "compare first second"
+    }
+}
+
 // Prints the exit number of the folder's first file against each set of a case.
 fn print_numbers(
     alloc: Global,
@@ -140,7 +148,8 @@ fn print_numbers(
     out.write_all(b"\n")
 }
 
-// Prints the exit number of a file against each set of a case, over the folder.
+// Prints the exit number of a file against each set of a case, over the folder, under the case's schema
+// where it has one.
 fn print_first(
     alloc: Global,
     out: &mut impl Write,
@@ -149,7 +158,9 @@ fn print_first(
     first: &str,
 ) -> io::Result<()> {
     folder.hold("first", first.as_bytes())?;
-    let arguments = arguments_of(alloc, "compare first second")?;
+    let schema = behind(case, "schema ");
+    folder.hold("schema", schema.unwrap_or("").as_bytes())?;
+    let arguments = arguments_of(alloc, words_of_sets(schema.is_some()))?;
     print_numbers(alloc, out, folder, case, arguments.as_slice())
 }
 
