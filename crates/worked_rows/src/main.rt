@@ -8,9 +8,9 @@
 //! for N times TEXT; a file without a line isn't there. `take N` and `put N` make the folder's or the
 //! sink's call of that number fail, `room N` and `most N` are the bytes that the sink has room for and
 //! takes at a call. Then `$ ARGUMENTS` is a run, its arguments one space apart. `set TEXT` compares the text
-//! with that of each line `set` of the case, over a folder and a sink that never fail, and prints the exit
-//! numbers. `file TEXT` compares a file with itself, and prints the first fault of a faulty file, and of any
-//! other that it isn't more permissive.
+//! with that of each line `set` of the case, under its schema where it has one, over a folder and a sink that
+//! never fail, and prints the exit numbers. `file TEXT` compares a file with itself, and prints the first
+//! fault of a faulty file, and of any other that it isn't more permissive.
 //!
 //! A command with its files has a tab behind it and between them: `check FIRST SECOND PROOF` and `eval SET
 //! REQUEST`, and behind them a schema's file or none. In a certificate `/` stands for a line feed. The exit
