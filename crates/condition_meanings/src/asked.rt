@@ -1,5 +1,5 @@
 //! The requests that a row is tried on, and the schema that they are valid under.
-ghost use Rattle.std.specs.Prelude.{IfOk};
+ghost use Rattle.std.specs.Prelude.{◌≢◌, [], IfOk};
 ghost use Rattle.policy_model.specs.Keys.{IsFolded};
 
 use crate::lists::short_lists;
@@ -29,9 +29,8 @@ fn key(alloc: Global) -> io::Result<Text>
     Ok(Text::of(alloc, KEY)?.folded()?)
 }
 
-/// The schema that has the key alone.
-pub(crate) fn schema_with_key(alloc: Global, kind: Kind, many: bool) -> io::Result<Schema> {
-    let mut schema = Schema::new(alloc);
+fn add_rule(alloc: Global, schema: &mut Schema, kind: Kind, many: bool) -> io::Result<()> {
+    let key = key(alloc)?;
     let rule = KeyRule {
         kind,
         many,
@@ -39,7 +38,14 @@ pub(crate) fn schema_with_key(alloc: Global, kind: Kind, many: bool) -> io::Resu
         among: None,
         shape: None,
     };
-    schema.insert(key(alloc)?, rule)?;
+    schema.insert(key, rule)?;
+    Ok(())
+}
+
+/// The schema that has the key alone.
+pub(crate) fn schema_with_key(alloc: Global, kind: Kind, many: bool) -> io::Result<Schema> {
+    let mut schema = Schema::new(alloc);
+    add_rule(alloc, &mut schema, kind, many)?;
     Ok(schema)
 }
 
@@ -50,38 +56,65 @@ fn value_of(alloc: Global, kind: Kind, text: &str) -> io::Result<Value> {
     }
 }
 
+fn add_value(alloc: Global, values: &mut ValueList, kind: Kind, text: &str) -> io::Result<()> {
+    values.push(value_of(alloc, kind, text)?)?;
+    Ok(())
+}
+
 fn values_of(alloc: Global, row: &Row, numbers: &[usize]) -> io::Result<ValueList> {
     let mut values = List::new(alloc);
     for number in numbers {
-        values.push(value_of(alloc, row.kind, part_of(row.values, *number))?)?;
+        add_value(alloc, &mut values, row.kind, part_of(row.values, *number))?;
     }
     Ok(values)
 }
 
-fn context_of(alloc: Global, values: ValueList) -> io::Result<Context> {
+fn context_with(alloc: Global, values: ValueList) -> io::Result<Context>
+    requires { values ≢ [] }
+{
     let mut context = Context::new(alloc);
-    if !values.is_empty() {
-        context.insert(key(alloc)?, values)?;
-    }
+    context.insert(key(alloc)?, values)?;
     Ok(context)
 }
 
-fn request_of(alloc: Global, row: &Row, numbers: &[usize]) -> io::Result<Request> {
+fn context_of(alloc: Global, row: &Row, numbers: &[usize]) -> io::Result<Context> {
+    let values = values_of(alloc, row, numbers)?;
+    if values.is_empty() {
+        return Ok(Context::new(alloc));
+    }
+    context_with(alloc, values)
+}
+
+fn request_with(alloc: Global, context: Context) -> io::Result<Request> {
+    let id = Text::of(alloc, "id")?;
+    let action = Text::of(alloc, "action")?;
+    let resource = Text::of(alloc, "resource")?;
     Ok(Request {
         kind: PrincipalKind::Aws,
-        id: Text::of(alloc, "id")?,
-        action: Text::of(alloc, "action")?,
-        resource: Text::of(alloc, "resource")?,
-        context: context_of(alloc, values_of(alloc, row, numbers)?)?,
+        id,
+        action,
+        resource,
+        context,
     })
+}
+
+fn add_request(
+    alloc: Global,
+    asked: &mut Vec<Asked>,
+    row: &Row,
+    values: Vec<usize>,
+) -> io::Result<()> {
+    let context = context_of(alloc, row, values.as_slice())?;
+    let request = request_with(alloc, context)?;
+    asked.push(Asked { values, request })?;
+    Ok(())
 }
 
 /// The requests of a row: with the key absent, with one of its values, and with `many` with two.
 pub(crate) fn requests_of(alloc: Global, row: &Row, many: bool) -> io::Result<Vec<Asked>> {
     let mut asked = Vec::new(alloc);
     for values in short_lists(alloc, parts_in(row.values), many)? {
-        let request = request_of(alloc, row, values.as_slice())?;
-        asked.push(Asked { values, request })?;
+        add_request(alloc, &mut asked, row, values)?;
     }
     Ok(asked)
 }

@@ -16,7 +16,7 @@
 //! has it.
 #![tactic(auto)]
 
-ghost use Rattle.policy_model.specs.Soundness.{SchemaFits};
+ghost use Rattle.policy_model.specs.Soundness.{IsSound, SchemaFits};
 
 mod asked;
 mod definition;
@@ -36,7 +36,7 @@ use sets::{compiled, evaluated, operands_text, query_of, schema_of, set_of};
 use sharing::print_sharing;
 use std::alloc::Global;
 use std::io;
-use std::io::{BufRead, BufReader, Write};
+use std::io::{ErrorKind, Write};
 use tally::{Answers, Tally};
 
 /// Prefixes and suffixes, of which `Null` takes the first alone.
@@ -57,13 +57,18 @@ struct Tried<'a> {
     query: &'a Query,
 }
 
-fn values_text(alloc: Global, row: &Row, numbers: &[usize]) -> io::Result<String> {
-    let mut text = String::new(alloc);
+fn print_condition(alloc: Global, out: &mut impl Write, case: &Case) -> io::Result<()> {
+    let operands = operands_text(alloc, case)?;
+    let (prefix, base, suffix) = (case.prefix, case.row.base, case.suffix);
+    write!(out, "{prefix}{base}{suffix} {operands} of")
+}
+
+fn print_values(out: &mut impl Write, row: &Row, numbers: &[usize]) -> io::Result<()> {
     for number in numbers {
-        text.push(' ')?;
-        text.push_str(part_of(row.values, *number))?;
+        let value = part_of(row.values, *number);
+        write!(out, " {value}")?;
     }
-    Ok(text)
+    Ok(())
 }
 
 /// Prints the answers to a condition of a request.
@@ -74,18 +79,14 @@ fn print_answers(
     values: &[usize],
     answers: &Answers,
 ) -> io::Result<()> {
-    let operands = operands_text(alloc, case)?;
-    let values = values_text(alloc, &case.row, values)?;
+    print_condition(alloc, out, case)?;
+    print_values(out, &case.row, values)?;
     let Answers {
         defined,
         evaluated,
         compiled,
     } = *answers;
-    let (prefix, base, suffix) = (case.prefix, case.row.base, case.suffix);
-    writeln!(
-        out,
-        "{prefix}{base}{suffix} {operands} of{values}: {defined} {evaluated} {compiled:?}"
-    )
+    writeln!(out, ": {defined} {evaluated} {compiled:?}")
 }
 
 fn try_request(
@@ -124,6 +125,39 @@ fn try_requests(
     Ok(tally)
 }
 
+fn try_under(
+    alloc: Global,
+    out: &mut impl Write,
+    case: &Case,
+    schema: &Schema,
+    set: &PolicySet,
+    asked: &[Asked],
+) -> io::Result<Tally>
+    requires { SchemaFits schema.now set.now }
+{
+    let query = query_of(alloc, schema, set)?;
+    let tried = Tried {
+        schema,
+        set,
+        query: &query,
+    };
+    try_requests(alloc, out, case, tried, asked)
+}
+
+fn try_set(
+    alloc: Global,
+    out: &mut impl Write,
+    case: &Case,
+    named: &Schema,
+    set: &PolicySet,
+    asked: &[Asked],
+) -> io::Result<Tally>
+    requires { IsSound set.now }
+{
+    let schema = schema_of(alloc, named, set)?;
+    try_under(alloc, out, case, &schema, set, asked)
+}
+
 fn try_condition(
     alloc: Global,
     out: &mut impl Write,
@@ -132,37 +166,71 @@ fn try_condition(
     asked: &[Asked],
 ) -> io::Result<Tally> {
     let set = set_of(alloc, case)?;
-    let schema = schema_of(alloc, named, &set)?;
-    let query = query_of(alloc, &schema, &set)?;
-    let tried = Tried {
-        schema: &schema,
-        set: &set,
-        query: &query,
-    };
-    try_requests(alloc, out, case, tried, asked)
+    try_set(alloc, out, case, named, &set, asked)
 }
 
-fn try_operator(
+/// An operator with its prefix and its suffix, and the row that has it.
+#[derive(Clone, Copy)]
+struct Operator<'a> {
+    row: Row<'a>,
+    prefix: &'a str,
+    suffix: &'a str,
+}
+
+impl<'a> Operator<'a> {
+    fn with(self, operands: &'a [usize]) -> Case<'a> {
+        Case {
+            row: self.row,
+            prefix: self.prefix,
+            suffix: self.suffix,
+            operands,
+        }
+    }
+}
+
+fn try_lists(
     alloc: Global,
     out: &mut impl Write,
-    row: Row,
-    prefix: &str,
-    suffix: &str,
+    operator: Operator,
+    named: &Schema,
+    asked: &[Asked],
+    lists: &[Vec<usize>],
 ) -> io::Result<Tally> {
-    let many = row.base == "Null" || !prefix.is_empty();
-    let named = schema_with_key(alloc, row.kind, many)?;
-    let asked = requests_of(alloc, &row, many)?;
     let mut tally = Tally::NONE;
-    for operands in short_lists(alloc, parts_in(row.operands), true)? {
-        let case = Case {
-            row,
-            prefix,
-            suffix,
-            operands: operands.as_slice(),
-        };
-        tally.add(try_condition(alloc, out, &case, &named, asked.as_slice())?);
+    for operands in lists {
+        let case = operator.with(operands.as_slice());
+        tally.add(try_condition(alloc, out, &case, named, asked)?);
     }
     Ok(tally)
+}
+
+fn try_under_key(
+    alloc: Global,
+    out: &mut impl Write,
+    operator: Operator,
+    named: &Schema,
+    asked: &[Asked],
+) -> io::Result<Tally> {
+    let lists = short_lists(alloc, parts_in(operator.row.operands), true)?;
+    try_lists(alloc, out, operator, named, asked, lists.as_slice())
+}
+
+fn try_asked(
+    alloc: Global,
+    out: &mut impl Write,
+    operator: Operator,
+    many: bool,
+    asked: &[Asked],
+) -> io::Result<Tally> {
+    let named = schema_with_key(alloc, operator.row.kind, many)?;
+    try_under_key(alloc, out, operator, &named, asked)
+}
+
+fn try_operator(alloc: Global, out: &mut impl Write, operator: Operator) -> io::Result<Tally> {
+    let row = operator.row;
+    let many = row.base == "Null" || !operator.prefix.is_empty();
+    let asked = requests_of(alloc, &row, many)?;
+    try_asked(alloc, out, operator, many, asked.as_slice())
 }
 
 fn affixes_of(row: &Row) -> &'static [(&'static str, &'static str)] {
@@ -176,7 +244,12 @@ fn affixes_of(row: &Row) -> &'static [(&'static str, &'static str)] {
 fn try_row(alloc: Global, out: &mut impl Write, row: Row) -> io::Result<Tally> {
     let mut tally = Tally::NONE;
     for (prefix, suffix) in affixes_of(&row) {
-        tally.add(try_operator(alloc, out, row, *prefix, *suffix)?);
+        let operator = Operator {
+            row,
+            prefix: *prefix,
+            suffix: *suffix,
+        };
+        tally.add(try_operator(alloc, out, operator)?);
     }
     Ok(tally)
 }
@@ -186,19 +259,24 @@ fn try_line(alloc: Global, out: &mut impl Write, line: &str) -> io::Result<Tally
         print_sharing(alloc, out, rest)?;
         return Ok(Tally::NONE);
     }
-    let row = row_of(alloc, line)?;
+    let Some(row) = row_of(line) else {
+        return Err(ErrorKind::InvalidData.into());
+    };
     let tally = try_row(alloc, out, row)?;
     let (base, kind) = (row.base, row.kind);
     writeln!(out, "{base} of {kind:?}: {tally}")?;
     Ok(tally)
 }
 
-fn main(rt: HostRuntime) -> io::Result<()> {
-    let alloc = rt.alloc();
-    let mut out = io::writer(&rt);
+fn try_lines(alloc: Global, out: &mut impl Write, input: &str) -> io::Result<()> {
     let mut total = Tally::NONE;
-    for line in BufReader::new(alloc, rt.reader())?.lines(alloc) {
-        total.add(try_line(alloc, &mut out, line?.as_str())?);
+    for line in input.lines() {
+        total.add(try_line(alloc, out, line)?);
     }
     writeln!(out, "all: {total}")
+}
+
+fn main(rt: HostRuntime) -> io::Result<()> {
+    let input = io::read_to_string(rt.alloc(), rt.reader())?;
+    try_lines(rt.alloc(), &mut io::writer(&rt), input.as_str())
 }

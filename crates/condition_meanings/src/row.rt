@@ -1,9 +1,6 @@
 //! A line of standard input: an operator, the values that a policy gives it, values of requests, and
 //! which of the one meet which of the other.
 use policy_model::Kind;
-use std::alloc::Global;
-use std::io;
-use std::io::ErrorKind;
 
 /// What a line says. The parts of a field stand between semicolons.
 #[derive(Clone, Copy)]
@@ -20,30 +17,27 @@ pub(crate) struct Row<'a> {
     meets: &'a str,
 }
 
-fn kind_named(name: &str) -> io::Result<Kind> {
+fn kind_named(name: &str) -> Option<Kind> {
     match name {
-        "text" => Ok(Kind::Text),
-        "truth" => Ok(Kind::Truth),
-        "number" => Ok(Kind::Number),
-        "address" => Ok(Kind::Address),
-        "bytes" => Ok(Kind::Bytes),
-        _ => Err(ErrorKind::InvalidData.into()),
+        "text" => Some(Kind::Text),
+        "truth" => Some(Kind::Truth),
+        "number" => Some(Kind::Number),
+        "address" => Some(Kind::Address),
+        "bytes" => Some(Kind::Bytes),
+        _ => None,
     }
 }
 
 /// The row of a line `BASE|KIND|OPERANDS|VALUES|MEETS`.
-pub(crate) fn row_of(alloc: Global, line: &str) -> io::Result<Row<'_>> {
-    let fields = line.split('|').collect::<Vec<&str>>(alloc)?;
-    match fields.as_slice() {
-        [base, kind, operands, values, meets] => Ok(Row {
-            base: *base,
-            kind: kind_named(kind)?,
-            operands: *operands,
-            values: *values,
-            meets: *meets,
-        }),
-        _ => Err(ErrorKind::InvalidData.into()),
-    }
+pub(crate) fn row_of(line: &str) -> Option<Row<'_>> {
+    let mut fields = line.split('|');
+    Some(Row {
+        base: fields.next()?,
+        kind: kind_named(fields.next()?)?,
+        operands: fields.next()?,
+        values: fields.next()?,
+        meets: fields.next()?,
+    })
 }
 
 /// How many parts a field has.

@@ -15,41 +15,50 @@ use std::alloc::{AllocError, Global};
 use std::io;
 use std::io::ErrorKind;
 
-/// The list of the condition's operands, as JSON.
-pub(crate) fn operands_text(alloc: Global, case: &Case) -> Result<String, AllocError> {
-    let mut text = String::from_str(alloc, "[")?;
+fn push_operands(text: &mut String, case: &Case) -> Result<(), AllocError> {
     for (i, operand) in case.operands.iter().enumerate() {
-        text.push_str(if i == 0 { "" } else { "," })?;
+        let before = if i == 0 { "[" } else { "," };
+        text.push_str(before)?;
         text.push_str(part_of(case.row.operands, *operand))?;
     }
-    text.push(']')?;
+    text.push_str(if case.operands.is_empty() { "[]" } else { "]" })
+}
+
+/// The list of the condition's operands, as JSON.
+pub(crate) fn operands_text(alloc: Global, case: &Case) -> Result<String, AllocError> {
+    let mut text = String::new(alloc);
+    push_operands(&mut text, case)?;
     Ok(text)
 }
 
+/// What stands before the operator in a file.
+const HEAD: &str =
+    "{\"Version\":\"2012-10-17\",\"Statement\":{\"Effect\":\"Allow\",\"Action\":\"*\",\"Condition\":{\"";
+
 // A file that allows all requests of which the condition holds.
 fn file_of(alloc: Global, case: &Case) -> Result<String, AllocError> {
-    let mut text = String::from_str(alloc, "{\"Version\":\"2012-10-17\",\"Statement\":")?;
-    text.push_str("{\"Effect\":\"Allow\",\"Action\":\"*\",\"Condition\":{\"")?;
-    text.push_str(case.prefix)?;
-    text.push_str(case.row.base)?;
-    text.push_str(case.suffix)?;
-    text.push_str("\":{\"")?;
-    text.push_str(KEY)?;
-    text.push_str("\":")?;
-    text.push_str(operands_text(alloc, case)?.as_str())?;
-    text.push_str("}}}}")?;
-    Ok(text)
+    let operands = operands_text(alloc, case)?;
+    let (prefix, base, suffix) = (case.prefix, case.row.base, case.suffix);
+    format!(in alloc; "{HEAD}{prefix}{base}{suffix}\":{{\"{KEY}\":{operands}}}}}}}}}")
+}
+
+/// The set of a file.
+pub(crate) fn set_read(alloc: Global, file: &str) -> io::Result<PolicySet>
+    ensures { IfOk result IsSound }
+{
+    match read_set(alloc, file.as_bytes()) {
+        Ok(set) => Ok(set),
+        Err(PolicyAnswer::Refused(_)) => Err(ErrorKind::InvalidData.into()),
+        Err(PolicyAnswer::NoMemory) => Err(ErrorKind::OutOfMemory.into()),
+    }
 }
 
 /// The set that allows all requests of which the condition holds.
 pub(crate) fn set_of(alloc: Global, case: &Case) -> io::Result<PolicySet>
     ensures { IfOk result IsSound }
 {
-    match read_set(alloc, file_of(alloc, case)?.as_bytes()) {
-        Ok(set) => Ok(set),
-        Err(PolicyAnswer::Refused(_)) => Err(ErrorKind::InvalidData.into()),
-        Err(PolicyAnswer::NoMemory) => Err(ErrorKind::OutOfMemory.into()),
-    }
+    let file = file_of(alloc, case)?;
+    set_read(alloc, file.as_str())
 }
 
 /// The schema of a run on the set, where it is the named one.

@@ -1,28 +1,21 @@
 //! Which parts of the tree of a set are one formula.
+use crate::sets::{query_of, set_read};
 use formula_tree::Formula;
-use policy_compile::{QueryFault, set_query};
-use policy_json::{PolicyAnswer, read_set};
 use policy_model::{PolicySet, Schema};
 use std::alloc::Global;
 use std::io;
 use std::io::{ErrorKind, Write};
 use std::rc::Rc;
 
-fn set_read(alloc: Global, file: &str) -> io::Result<PolicySet> {
-    match read_set(alloc, file.as_bytes()) {
-        Ok(set) => Ok(set),
-        Err(PolicyAnswer::Refused(_)) => Err(ErrorKind::InvalidData.into()),
-        Err(PolicyAnswer::NoMemory) => Err(ErrorKind::OutOfMemory.into()),
-    }
+fn tree_under(alloc: Global, schema: &Schema, set: &PolicySet) -> io::Result<Rc<Formula>> {
+    let query = query_of(alloc, schema, set)?;
+    Ok(query.formula)
 }
 
 /// The tree of the set of a file, which has no conditions on keys of other kinds than texts.
 fn tree_of_file(alloc: Global, file: &str) -> io::Result<Rc<Formula>> {
-    match set_query(alloc, &Schema::new(alloc), &set_read(alloc, file)?) {
-        Ok(query) => Ok(query.formula),
-        Err(QueryFault::NoMemory) => Err(ErrorKind::OutOfMemory.into()),
-        Err(_) => Err(ErrorKind::InvalidData.into()),
-    }
+    let set = set_read(alloc, file)?;
+    tree_under(alloc, &Schema::new(alloc), &set)
 }
 
 /// The branch at an index, or what a negation is of.
@@ -56,10 +49,15 @@ fn are_one(tree: &Rc<Formula>, places: &str) -> io::Result<bool> {
     }
 }
 
+fn print_letter(out: &mut impl Write, tree: &Rc<Formula>, places: &str) -> io::Result<()> {
+    let shared = are_one(tree, places)?;
+    out.write_all(if shared { b"y" } else { b"n" })
+}
+
 fn print_letters(out: &mut impl Write, tree: &Rc<Formula>, pairs: &str) -> io::Result<()> {
     out.write_all(b"shared: ")?;
     for places in pairs.split(';') {
-        out.write_all(if are_one(tree, places)? { b"y" } else { b"n" })?;
+        print_letter(out, tree, places)?;
     }
     out.write_all(b"\n")
 }
