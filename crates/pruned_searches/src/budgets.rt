@@ -7,6 +7,16 @@ use std::io;
 use std::io::ErrorKind;
 use tree_search::{Budgets, Decided, decide};
 
+// Whether what was decided refutes the query, or nothing where it needs more splits.
+fn is_refuted(decided: &Decided) -> io::Result<Option<bool>> {
+    match decided {
+        Decided::Refuted(_) => Ok(Some(true)),
+        Decided::Met(_) => Ok(Some(false)),
+        Decided::OutOfSplits => Ok(None),
+        Decided::OutOfStates(_) => Err(ErrorKind::InvalidData.into()),
+    }
+}
+
 /// Whether the query is refuted, by a search with so many splits, or nothing where it needs more.
 fn refuted_within(case: &Case, splits: u32) -> io::Result<Option<bool>>
     requires case { IsSoundCase case.now }
@@ -16,12 +26,8 @@ fn refuted_within(case: &Case, splits: u32) -> io::Result<Option<bool>>
         splits,
         states: STATES,
     };
-    match decide(case.alloc, case.schema, case.query, budgets)? {
-        Decided::Refuted(_) => Ok(Some(true)),
-        Decided::Met(_) => Ok(Some(false)),
-        Decided::OutOfSplits => Ok(None),
-        Decided::OutOfStates(_) => Err(ErrorKind::InvalidData.into()),
-    }
+    let decided = decide(case.alloc, case.schema, case.query, budgets)?;
+    is_refuted(&decided)
 }
 
 // Whether the answer of a search agrees with the verdict, and with the least budget that was enough before it.

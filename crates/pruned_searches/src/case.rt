@@ -1,5 +1,6 @@
 //! A query under a schema, and the paths of its answered tests.
-ghost use Rattle.std.specs.Prelude.{◌↔◌, IfOk, IsTrue, OnOk};
+ghost use Rattle.std.specs.Prelude.{IfOk, OnOk};
+ghost use Rattle.policy_model.specs.Soundness.{TestSuits};
 ghost use Rattle.slot_theory.specs.Possible.{PathInRange};
 ghost use Rattle.slot_theory.specs.Slots.{SlotIsIn};
 ghost use Rattle.pruned_searches.specs.Cases.{IsSoundCase};
@@ -53,46 +54,32 @@ pub(crate) fn path_of(alloc: Global, tests: &TestList, answered: Answered) -> io
     Ok(path)
 }
 
-fn is_in(schema: &Schema, slot: &Slot) -> bool
-    ensures { IsTrue result ↔ SlotIsIn schema.now slot.now }
-{
-    match slot {
-        Slot::Principal => true,
-        Slot::Action => true,
-        Slot::Resource => true,
-        Slot::Key(key) => schema.get(key).is_some(),
-    }
-}
-
-// The slot of the test, which the schema has.
-fn known_slot(alloc: Global, schema: &Schema, test: &Test) -> io::Result<Slot>
-    ensures { IfOk result (SlotIsIn schema.now) }
-{
-    let slot = slot_of(alloc, test)?;
-    if !is_in(schema, &slot) {
-        return Err(ErrorKind::InvalidData.into());
-    }
-    Ok(slot)
-}
-
-// Whether some value of the test's slot answers the path's tests of the slot.
-fn slot_is_possible(case: &Case, path: &Path, test: &Test) -> io::Result<bool>
-    requires case { IsSoundCase case.now }
-    requires range { PathInRange case.now.query.now.tests path.now }
-{
-    let slot = known_slot(case.alloc, case.schema, test)?;
-    match possible(
-        case.alloc,
-        case.schema,
-        &case.query.tests,
-        path,
-        &slot,
-        STATES,
-    )? {
+fn is_found(answer: &Possible) -> io::Result<bool> {
+    match answer {
         Possible::Found(_) => Ok(true),
         Possible::Conflict(_, _) => Ok(false),
         Possible::TooMany(_) => Err(ErrorKind::InvalidData.into()),
     }
+}
+
+// Whether some value of the slot answers the path's tests of it.
+fn slot_is_possible(case: &Case, path: &Path, slot: &Slot) -> io::Result<bool>
+    requires case { IsSoundCase case.now }
+    requires range { PathInRange case.now.query.now.tests path.now }
+    requires slot { SlotIsIn case.now.schema.now slot.now }
+{
+    let tests = &case.query.tests;
+    let answer = possible(case.alloc, case.schema, tests, path, slot, STATES)?;
+    is_found(&answer)
+}
+
+fn test_is_possible(case: &Case, path: &Path, test: &Test) -> io::Result<bool>
+    requires case { IsSoundCase case.now }
+    requires range { PathInRange case.now.query.now.tests path.now }
+    requires suits { TestSuits case.now.schema.now test.now }
+{
+    let slot = slot_of(case.alloc, test)?;
+    slot_is_possible(case, path, &slot)
 }
 
 /// Whether some valid request answers the path's tests so, where one does without the answer to the last of
@@ -105,7 +92,7 @@ pub(crate) fn is_possible(case: &Case, path: &Path, last: Option<u32>) -> io::Re
         return Ok(true);
     };
     match case.query.tests.get(last as usize) {
-        Some(test) => slot_is_possible(case, path, test),
+        Some(test) => test_is_possible(case, path, test),
         None => Err(ErrorKind::InvalidData.into()),
     }
 }

@@ -164,7 +164,18 @@ fn found_of_request(case: &Case, request: &Request, runs: Runs) -> io::Result<Fo
     })
 }
 
-// What is decided with the default budgets.
+fn found_of_decided(case: &Case, decided: &Decided, runs: Runs) -> io::Result<Found>
+    requires { IsSoundCase case.now }
+{
+    match decided {
+        Decided::Refuted(refutation) => found_of_refutation(case, refutation, runs),
+        Decided::Met(request) => found_of_request(case, request, runs),
+        Decided::OutOfSplits => Err(ErrorKind::InvalidData.into()),
+        Decided::OutOfStates(_) => Err(ErrorKind::InvalidData.into()),
+    }
+}
+
+// What is found of what the search decides with the default budgets.
 fn found_by_default(case: &Case, runs: Runs) -> io::Result<Found>
     requires { IsSoundCase case.now }
 {
@@ -172,12 +183,8 @@ fn found_by_default(case: &Case, runs: Runs) -> io::Result<Found>
         splits: SPLITS,
         states: STATES,
     };
-    match decide(case.alloc, case.schema, case.query, budgets)? {
-        Decided::Refuted(refutation) => found_of_refutation(case, &refutation, runs),
-        Decided::Met(request) => found_of_request(case, &request, runs),
-        Decided::OutOfSplits => Err(ErrorKind::InvalidData.into()),
-        Decided::OutOfStates(_) => Err(ErrorKind::InvalidData.into()),
-    }
+    let decided = decide(case.alloc, case.schema, case.query, budgets)?;
+    found_of_decided(case, &decided, runs)
 }
 
 /// What is found of a query.

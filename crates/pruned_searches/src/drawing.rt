@@ -24,6 +24,17 @@ pub(crate) struct Form {
     pub(crate) literals: u32,
 }
 
+impl Form {
+    // With more statements, of fewer literals.
+    fn wider(self) -> Form {
+        Form {
+            tests: self.tests,
+            parts: self.parts.saturating_mul(2),
+            literals: self.literals.saturating_sub(1),
+        }
+    }
+}
+
 /// Every so-manieth test from one on, round a list of tests.
 #[derive(Clone, Copy)]
 pub(crate) struct Chosen {
@@ -282,8 +293,26 @@ impl Draw {
         chosen.both(alloc, set, guard)
     }
 
-    // What a first set allows and a second doesn't. The second has more statements, of fewer literals, and at
-    // times it allows all that the first does.
+    // What a set with more statements, of fewer literals, allows, which at times allows all that a first does.
+    fn second_set(
+        &mut self,
+        alloc: Global,
+        chosen: Chosen,
+        form: Form,
+        first: &Rc<Formula>,
+    ) -> Result<Rc<Formula>, NoMemory>
+        requires some { 0 < chosen.all }
+        requires first { IsOverTests chosen.all first.now.value }
+        ensures { IfOk result (λ f. IsOverTests chosen.all f.value) }
+    {
+        let second = self.set(alloc, chosen, form.wider())?;
+        if self.below(4) != 0 {
+            return Ok(second);
+        }
+        chosen.either(alloc, first.clone()?, second)
+    }
+
+    // What a first set allows and a second doesn't.
     fn comparison(
         &mut self,
         alloc: Global,
@@ -294,17 +323,8 @@ impl Draw {
         ensures { IfOk result (λ f. IsOverTests chosen.all f.value) }
     {
         let first = self.set(alloc, chosen, form)?;
-        let wider = Form {
-            tests: form.tests,
-            parts: form.parts.saturating_mul(2),
-            literals: form.literals.saturating_sub(1),
-        };
-        let second = self.set(alloc, chosen, wider)?;
-        if self.below(4) != 0 {
-            return chosen.but_not(alloc, first, second);
-        }
-        let more = chosen.either(alloc, first.clone()?, second)?;
-        chosen.but_not(alloc, first, more)
+        let second = self.second_set(alloc, chosen, form, &first)?;
+        chosen.but_not(alloc, first, second)
     }
 
     /// A formula of the form over the chosen tests.

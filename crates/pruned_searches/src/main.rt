@@ -42,7 +42,7 @@ use policy_model::EqualClone;
 use pool::{Pool, pool_of};
 use std::alloc::Global;
 use std::io;
-use std::io::{BufRead, BufReader, ErrorKind, Write};
+use std::io::{ErrorKind, Write};
 use tally::{Found, Refutations, Splits, Tally};
 
 /// What all numbers are drawn from.
@@ -50,12 +50,10 @@ const SEED: u64 = 2026;
 
 /// What stands behind the word at the front of a line of a group.
 fn behind<'a>(lines: &'a str, word: &str) -> &'a str {
-    for line in lines.lines() {
-        if let Some(rest) = line.strip_prefix(word) {
-            return rest;
-        }
-    }
-    ""
+    lines
+        .lines()
+        .find_map(|line| line.strip_prefix(word))
+        .unwrap_or("")
 }
 
 /// The number behind the word at the front of a line of a group.
@@ -150,6 +148,20 @@ fn write_tally(out: &mut impl Write, name: &str, tally: Tally) -> io::Result<()>
     writeln!(out, "  refutations: {refutations}")
 }
 
+fn try_pool(
+    alloc: Global,
+    out: &mut impl Write,
+    draw: &mut Draw,
+    group: Group,
+    pool: &Pool,
+) -> io::Result<Tally>
+    requires { IsPool pool.now }
+{
+    let tally = try_queries(alloc, out, draw, group, pool)?;
+    write_tally(out, group.name, tally)?;
+    Ok(tally)
+}
+
 fn try_group(
     alloc: Global,
     out: &mut impl Write,
@@ -158,27 +170,19 @@ fn try_group(
 ) -> io::Result<Tally> {
     let group = group_of(lines)?;
     let pool = pool_of(alloc, behind(lines, "schema "), behind(lines, "set "))?;
-    let tally = try_queries(alloc, out, draw, group, &pool)?;
-    write_tally(out, group.name, tally)?;
-    Ok(tally)
+    try_pool(alloc, out, draw, group, &pool)
+}
+
+fn try_groups(alloc: Global, out: &mut impl Write, input: &str) -> io::Result<()> {
+    let mut draw = Draw::new(SEED);
+    let mut total = Tally::NONE;
+    for group in input.split("\n\n") {
+        total.add(try_group(alloc, out, &mut draw, group)?);
+    }
+    write_tally(out, "all", total)
 }
 
 fn main(rt: HostRuntime) -> io::Result<()> {
-    let alloc = rt.alloc();
-    let mut out = io::writer(&rt);
-    let mut draw = Draw::new(SEED);
-    let mut total = Tally::NONE;
-    let mut group = String::new(alloc);
-    for line in BufReader::new(alloc, rt.reader())?.lines(alloc) {
-        let line = line?;
-        if line.is_empty() {
-            total.add(try_group(alloc, &mut out, &mut draw, group.as_str())?);
-            group.clear();
-        } else {
-            group.push_str(line.as_str())?;
-            group.push('\n')?;
-        }
-    }
-    total.add(try_group(alloc, &mut out, &mut draw, group.as_str())?);
-    write_tally(&mut out, "all", total)
+    let input = io::read_to_string(rt.alloc(), rt.reader())?;
+    try_groups(rt.alloc(), &mut io::writer(&rt), input.as_str())
 }

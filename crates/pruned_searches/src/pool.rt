@@ -79,11 +79,18 @@ fn pool_for(alloc: Global, named: &Schema, set: &PolicySet) -> io::Result<Pool>
     Ok(Pool { schema, tests })
 }
 
+fn pool_under(alloc: Global, named: &Schema, set: &str) -> io::Result<Pool>
+    requires { SchemaIsSound named.now }
+    ensures { IfOk result IsPool }
+{
+    let set = set_of(alloc, set)?;
+    pool_for(alloc, named, &set)
+}
+
 /// The tests of the set of a file, under the keys of a schema file, or of none where that is empty.
 pub(crate) fn pool_of(alloc: Global, schema: &str, set: &str) -> io::Result<Pool>
     ensures { IfOk result IsPool }
 {
     let named = named_schema(alloc, schema)?;
-    let set = set_of(alloc, set)?;
-    pool_for(alloc, &named, &set)
+    pool_under(alloc, &named, set)
 }
