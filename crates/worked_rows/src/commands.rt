@@ -66,12 +66,22 @@ fn print_printed(
     print_asked(alloc, out, folder, words_of_check(schema))
 }
 
-// Puts a set of so many actions into the folder, with the certificate that splits on each of them.
-fn hold_deep(alloc: Global, folder: &mut MemoryFolder, count: u32, labels: bool) -> io::Result<()> {
+fn hold_twice(folder: &mut MemoryFolder, set: &[u8]) -> io::Result<()> {
+    folder.hold("first", set)?;
+    folder.hold("second", set)?;
+    Ok(())
+}
+
+// Puts a set of so many actions into the folder, as both of its sets.
+fn hold_sets(alloc: Global, folder: &mut MemoryFolder, count: u32) -> io::Result<()> {
     let set = set_of_actions(alloc, count)?;
-    folder.hold("first", set.as_bytes())?;
-    folder.hold("second", set.as_bytes())?;
-    folder.hold("proof", chain_of_splits(alloc, count, labels)?.as_bytes())?;
+    hold_twice(folder, set.as_bytes())
+}
+
+// Puts the certificate that splits on each of so many actions into the folder.
+fn hold_deep(alloc: Global, folder: &mut MemoryFolder, count: u32, labels: bool) -> io::Result<()> {
+    let certificate = chain_of_splits(alloc, count, labels)?;
+    folder.hold("proof", certificate.as_bytes())?;
     Ok(())
 }
 
@@ -86,6 +96,7 @@ fn print_deep(
     let Ok(count) = number.parse::<u32>() else {
         return Err(ErrorKind::InvalidData.into());
     };
+    hold_sets(alloc, folder, count)?;
     hold_deep(alloc, folder, count, labels)?;
     print_asked(alloc, out, folder, words_of_check(false))
 }

@@ -14,8 +14,26 @@ pub(crate) enum Change {
 }
 
 fn push_line(text: &mut String, line: &str) -> io::Result<()> {
-    text.push_str(line)?;
-    text.push('\n')?;
+    writeln!(text, "{line}")?;
+    Ok(())
+}
+
+fn push_times(text: &mut String, line: &str, times: usize) -> io::Result<()> {
+    for _ in 0..times {
+        push_line(text, line)?;
+    }
+    Ok(())
+}
+
+fn push_repeated(
+    text: &mut String,
+    certificate: &str,
+    index: usize,
+    times: usize,
+) -> io::Result<()> {
+    for (i, line) in certificate.lines().enumerate() {
+        push_times(text, line, if i == index { times } else { 1 })?;
+    }
     Ok(())
 }
 
@@ -27,66 +45,58 @@ pub(crate) fn repeated(
     times: usize,
 ) -> io::Result<String> {
     let mut text = String::new(alloc);
+    push_repeated(&mut text, certificate, index, times)?;
+    Ok(text)
+}
+
+fn line_at(certificate: &str, index: usize) -> &str {
+    certificate.lines().nth(index).unwrap_or("")
+}
+
+fn push_swapped(text: &mut String, certificate: &str, index: usize) -> io::Result<()> {
     for (i, line) in certificate.lines().enumerate() {
-        let here = if i == index { times } else { 1 };
-        for _ in 0..here {
-            push_line(&mut text, line)?;
+        if i != index {
+            push_line(text, line)?;
+        }
+        if i == index.saturating_add(1) {
+            push_line(text, line_at(certificate, index))?;
         }
     }
-    Ok(text)
+    Ok(())
 }
 
 /// The certificate with its line at this index behind the next one.
 pub(crate) fn swapped(alloc: Global, certificate: &str, index: usize) -> io::Result<String> {
     let mut text = String::new(alloc);
-    let mut kept = None;
-    for (i, line) in certificate.lines().enumerate() {
-        if i == index {
-            kept = Some(line);
-            continue;
-        }
-        push_line(&mut text, line)?;
-        if let Some(before) = kept.take() {
-            push_line(&mut text, before)?;
-        }
-    }
+    push_swapped(&mut text, certificate, index)?;
     Ok(text)
 }
 
-/// The certificate with another line at this index.
-pub(crate) fn replaced(
-    alloc: Global,
-    certificate: &str,
-    index: usize,
-    other: &str,
-) -> io::Result<String> {
-    let mut text = String::new(alloc);
-    for (i, line) in certificate.lines().enumerate() {
-        push_line(&mut text, if i == index { other } else { line })?;
-    }
-    Ok(text)
+fn is_digit(c: char) -> bool {
+    c.is_ascii_digit()
 }
 
-/// What stands before the first number of a text, its digits, and what stands behind it.
-fn around_number(text: &str) -> Option<(&str, &str, &str)> {
-    let from = text.trim_start_matches(|c: char| !c.is_ascii_digit());
-    let behind = from.trim_start_matches(|c: char| c.is_ascii_digit());
-    if from.is_empty() {
-        return None;
-    }
-    Some((text.strip_suffix(from)?, from.strip_suffix(behind)?, behind))
+/// What stands before the first number of a text, and what stands from there on.
+fn before_number(text: &str) -> Option<(&str, &str)> {
+    let at = text.find(is_digit)?;
+    text.split_at_checked(at)
 }
 
-/// How many numbers a line has.
-pub(crate) fn count_of_numbers(line: &str) -> usize {
-    let mut rest = line;
-    for count in 0..line.len() {
-        let Some((_, _, behind)) = around_number(rest) else {
+/// What stands behind the number at the front of a text.
+fn behind_number(text: &str) -> &str {
+    text.trim_start_matches(is_digit)
+}
+
+/// How many numbers a text has.
+pub(crate) fn count_of_numbers(text: &str) -> usize {
+    let mut rest = text;
+    for count in 0..text.len() {
+        let Some((_, from)) = before_number(rest) else {
             return count;
         };
-        rest = behind;
+        rest = behind_number(from);
     }
-    line.len()
+    text.len()
 }
 
 fn changed_number(digits: &str, change: Change) -> io::Result<Option<u64>> {
@@ -97,31 +107,44 @@ fn changed_number(digits: &str, change: Change) -> io::Result<Option<u64>> {
     }
 }
 
-/// What stands behind so many numbers of a line.
-fn behind_numbers(line: &str, count: usize) -> &str {
-    let mut rest = line;
+/// What stands behind so many numbers of a text.
+fn behind_numbers(text: &str, count: usize) -> &str {
+    let mut rest = text;
     for _ in 0..count {
-        if let Some((_, _, behind)) = around_number(rest) {
-            rest = behind;
+        if let Some((_, from)) = before_number(rest) {
+            rest = behind_number(from);
         }
     }
     rest
 }
 
-/// The line in which the number behind so many others is changed, or none where it has no change.
+/// A text with the number at its front changed, behind another text, or none where it has no change.
+fn with_change(
+    alloc: Global,
+    before: &str,
+    from: &str,
+    change: Change,
+) -> io::Result<Option<String>> {
+    let behind = behind_number(from);
+    let digits = from.strip_suffix(behind).unwrap_or("");
+    match changed_number(digits, change)? {
+        Some(number) => Ok(Some(format!(in alloc; "{before}{number}{behind}")?)),
+        None => Ok(None),
+    }
+}
+
+/// The certificate in which the number behind so many others is changed, or none where it has no change.
 pub(crate) fn changed(
     alloc: Global,
-    line: &str,
+    certificate: &str,
     count: usize,
     change: Change,
 ) -> io::Result<Option<String>> {
-    let rest = behind_numbers(line, count);
-    let Some((before, digits, behind)) = around_number(rest) else {
-        return Ok(None);
-    };
-    let Some(number) = changed_number(digits, change)? else {
-        return Ok(None);
-    };
-    let front = line.strip_suffix(rest).unwrap_or("");
-    Ok(Some(format!(in alloc; "{front}{before}{number}{behind}")?))
+    match before_number(behind_numbers(certificate, count)) {
+        Some((_, from)) => {
+            let before = certificate.strip_suffix(from).unwrap_or("");
+            with_change(alloc, before, from, change)
+        }
+        None => Ok(None),
+    }
 }

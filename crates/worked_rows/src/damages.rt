@@ -1,6 +1,6 @@
 //! The answers of `check` to damaged certificates.
 use crate::commands::words_of_check;
-use crate::damage::{Change, changed, count_of_numbers, repeated, replaced, swapped};
+use crate::damage::{Change, changed, count_of_numbers, repeated, swapped};
 use crate::memory::{arguments_of, hold_files, unpacked, written_by, written_by_words};
 use pol_outside::MemoryFolder;
 use std::alloc::Global;
@@ -27,16 +27,25 @@ fn certificate_of(
 
 fn print_answer(out: &mut impl Write, answer: &str) -> io::Result<()> {
     let answer = answer.trim_end();
-    match answer.split_once(" line ") {
-        Some((what, number)) => {
-            let code = what.strip_prefix("bad proof: ").unwrap_or(what);
-            write!(out, " | {code} {number}")
-        }
-        None => write!(out, " | {answer}"),
+    out.write_all(b" | ")?;
+    let answer = answer.strip_prefix("bad proof: ").unwrap_or(answer);
+    for part in answer.split(" line") {
+        out.write_all(part.as_bytes())?;
     }
+    Ok(())
 }
 
-/// Prints the answer to a certificate of the folder's files.
+/// The answer to a certificate of the folder's files.
+fn answer_to(
+    alloc: Global,
+    folder: &mut MemoryFolder,
+    arguments: &[String],
+    certificate: &str,
+) -> io::Result<String> {
+    folder.hold("proof", certificate.as_bytes())?;
+    written_by(alloc, folder, arguments)
+}
+
 fn print_check(
     alloc: Global,
     out: &mut impl Write,
@@ -44,25 +53,19 @@ fn print_check(
     arguments: &[String],
     certificate: &str,
 ) -> io::Result<()> {
-    folder.hold("proof", certificate.as_bytes())?;
-    print_answer(out, written_by(alloc, folder, arguments)?.as_str())
+    let answer = answer_to(alloc, folder, arguments, certificate)?;
+    print_answer(out, answer.as_str())
 }
 
-/// Prints the answers to a certificate with each line left out or doubled.
+/// Prints the answers to a certificate with each line so many times.
 fn print_repeated(
     alloc: Global,
     out: &mut impl Write,
     folder: &mut MemoryFolder,
     arguments: &[String],
     certificate: &str,
-    twice: bool,
+    times: usize,
 ) -> io::Result<()> {
-    let (name, times) = if twice {
-        ("doubled", 2)
-    } else {
-        ("left out", 0)
-    };
-    write!(out, "\n{name}")?;
     for index in 0..certificate.lines().count() {
         let text = repeated(alloc, certificate, index, times)?;
         print_check(alloc, out, folder, arguments, text.as_str())?;
@@ -78,7 +81,6 @@ fn print_swapped(
     arguments: &[String],
     certificate: &str,
 ) -> io::Result<()> {
-    out.write_all(b"\nswapped")?;
     for (index, _) in certificate.lines().skip(1).enumerate() {
         let text = swapped(alloc, certificate, index)?;
         print_check(alloc, out, folder, arguments, text.as_str())?;
@@ -86,29 +88,7 @@ fn print_swapped(
     Ok(())
 }
 
-/// The certificate in which a number of a line is changed, or none where it has no change.
-fn with_change(
-    alloc: Global,
-    certificate: &str,
-    index: usize,
-    count: usize,
-    change: Change,
-) -> io::Result<Option<String>> {
-    let line = certificate.lines().nth(index).unwrap_or("");
-    match changed(alloc, line, count, change)? {
-        Some(other) => Ok(Some(replaced(alloc, certificate, index, other.as_str())?)),
-        None => Ok(None),
-    }
-}
-
-fn name_of(change: Change) -> &'static str {
-    match change {
-        Change::More => "one more",
-        Change::Less => "one less",
-    }
-}
-
-/// Prints the answers to a certificate with each number of each line changed.
+/// Prints the answers to a certificate with each of its numbers changed.
 fn print_changed(
     alloc: Global,
     out: &mut impl Write,
@@ -117,31 +97,51 @@ fn print_changed(
     certificate: &str,
     change: Change,
 ) -> io::Result<()> {
-    let name = name_of(change);
-    write!(out, "\n{name}")?;
-    for (index, line) in certificate.lines().enumerate() {
-        for count in 0..count_of_numbers(line) {
-            if let Some(text) = with_change(alloc, certificate, index, count, change)? {
-                print_check(alloc, out, folder, arguments, text.as_str())?;
-            }
+    for count in 0..count_of_numbers(certificate) {
+        if let Some(text) = changed(alloc, certificate, count, change)? {
+            print_check(alloc, out, folder, arguments, text.as_str())?;
         }
     }
     Ok(())
 }
 
-/// Prints a certificate in one line, and its answer.
-fn print_itself(
+/// Prints a certificate in one line.
+fn print_in_one_line(out: &mut impl Write, certificate: &str) -> io::Result<()> {
+    for line in certificate.lines() {
+        write!(out, "{line}/")?;
+    }
+    out.write_all(b"\nas it is")
+}
+
+/// Prints the answers to a certificate that has other lines.
+fn print_other_lines(
     alloc: Global,
     out: &mut impl Write,
     folder: &mut MemoryFolder,
     arguments: &[String],
     certificate: &str,
 ) -> io::Result<()> {
-    for line in certificate.lines() {
-        write!(out, "{line}/")?;
-    }
-    out.write_all(b"\nas it is")?;
-    print_check(alloc, out, folder, arguments, certificate)
+    out.write_all(b"\nleft out")?;
+    print_repeated(alloc, out, folder, arguments, certificate, 0)?;
+    out.write_all(b"\ndoubled")?;
+    print_repeated(alloc, out, folder, arguments, certificate, 2)?;
+    out.write_all(b"\nswapped")?;
+    print_swapped(alloc, out, folder, arguments, certificate)
+}
+
+/// Prints the answers to a certificate that has other numbers.
+fn print_other_numbers(
+    alloc: Global,
+    out: &mut impl Write,
+    folder: &mut MemoryFolder,
+    arguments: &[String],
+    certificate: &str,
+) -> io::Result<()> {
+    out.write_all(b"\none more")?;
+    print_changed(alloc, out, folder, arguments, certificate, Change::More)?;
+    out.write_all(b"\none less")?;
+    print_changed(alloc, out, folder, arguments, certificate, Change::Less)?;
+    out.write_all(b"\n")
 }
 
 /// Prints a certificate of the folder's files, its answer and those to all its damages.
@@ -152,13 +152,10 @@ fn print_answers(
     arguments: &[String],
     certificate: &str,
 ) -> io::Result<()> {
-    print_itself(alloc, out, folder, arguments, certificate)?;
-    print_repeated(alloc, out, folder, arguments, certificate, false)?;
-    print_repeated(alloc, out, folder, arguments, certificate, true)?;
-    print_swapped(alloc, out, folder, arguments, certificate)?;
-    print_changed(alloc, out, folder, arguments, certificate, Change::More)?;
-    print_changed(alloc, out, folder, arguments, certificate, Change::Less)?;
-    out.write_all(b"\n")
+    print_in_one_line(out, certificate)?;
+    print_check(alloc, out, folder, arguments, certificate)?;
+    print_other_lines(alloc, out, folder, arguments, certificate)?;
+    print_other_numbers(alloc, out, folder, arguments, certificate)
 }
 
 // Prints the answers by the arguments that check the certificate.

@@ -37,13 +37,13 @@ use commands::print_command;
 use real::print_real;
 use rows::{print_file, print_row, print_words};
 use std::io;
-use std::io::{BufRead, BufReader, Write};
+use std::io::Write;
 
 fn print_line(rt: &HostRuntime, out: &mut impl Write, case: &str, line: &str) -> io::Result<()> {
     let alloc = rt.alloc();
-    if let Some(words) = line.strip_prefix('$') {
+    if line.starts_with('$') {
         writeln!(out, "{line}")?;
-        return print_words(alloc, out, case, words);
+        return print_words(alloc, out, case, line);
     }
     if let Some(first) = line.strip_prefix("set ") {
         return print_row(alloc, out, case, first);
@@ -72,19 +72,15 @@ fn print_case(rt: &HostRuntime, out: &mut impl Write, case: &str) -> io::Result<
     Ok(())
 }
 
-fn main(rt: HostRuntime) -> io::Result<()> {
-    let alloc = rt.alloc();
-    let mut out = io::writer(&rt);
-    let mut case = String::new(alloc);
-    for line in BufReader::new(alloc, rt.reader())?.lines(alloc) {
-        let line = line?;
-        if line.is_empty() {
-            print_case(&rt, &mut out, case.as_str())?;
-            case.clear();
-        } else {
-            case.push_str(line.as_str())?;
-            case.push_str("\n")?;
-        }
+fn print_cases(rt: &HostRuntime, input: &str) -> io::Result<()> {
+    let mut out = io::writer(rt);
+    for case in input.split("\n\n") {
+        print_case(rt, &mut out, case)?;
     }
-    print_case(&rt, &mut out, case.as_str())
+    Ok(())
+}
+
+fn main(rt: HostRuntime) -> io::Result<()> {
+    let input = io::read_to_string(rt.alloc(), rt.reader())?;
+    print_cases(&rt, input.as_str())
 }

@@ -1,6 +1,6 @@
 //! Runs over folders and sinks in memory.
 use compare_cli::{exit_number, run};
-use pol_outside::{MemoryFolder, MemorySink};
+use pol_outside::{Folder, MemoryFolder, MemorySink, Sink};
 use std::alloc::Global;
 use std::io::{ErrorKind, Write};
 use std::{io, str};
@@ -24,6 +24,16 @@ fn text_of(alloc: Global, bytes: &[u8]) -> io::Result<String> {
     }
 }
 
+/// The exit number of the run of the arguments.
+pub(crate) fn number_of_run<F: Folder, S: Sink>(
+    alloc: Global,
+    arguments: &[String],
+    folder: &mut F,
+    sink: &mut S,
+) -> u8 {
+    exit_number(run(alloc, arguments, folder, sink))
+}
+
 /// What the run of the arguments over the folder writes.
 pub(crate) fn written_by(
     alloc: Global,
@@ -31,7 +41,7 @@ pub(crate) fn written_by(
     arguments: &[String],
 ) -> io::Result<String> {
     let mut sink = MemorySink::new(alloc, ROOM, ROOM)?;
-    run(alloc, arguments, folder, &mut sink);
+    number_of_run(alloc, arguments, folder, &mut sink);
     text_of(alloc, sink.written())
 }
 
@@ -54,7 +64,7 @@ fn print_number(
     words: &str,
 ) -> io::Result<()> {
     let arguments = arguments_of(alloc, words)?;
-    let number = exit_number(run(alloc, arguments.as_slice(), folder, sink));
+    let number = number_of_run(alloc, arguments.as_slice(), folder, sink);
     write!(out, "{number} ")
 }
 

@@ -1,8 +1,7 @@
 //! Runs over the files and faults of a case, and comparisons of its sets.
 ghost use Rattle.std.specs.Prelude.{◌<◌, IfOk};
 
-use crate::memory::{arguments_of, written_by_words};
-use compare_cli::{exit_number, run};
+use crate::memory::{arguments_of, number_of_run, written_by_words};
 use line_expansion::expand;
 use pol_outside::{MemoryFolder, MemorySink, SafeFolder, SafeSink};
 use std::alloc::Global;
@@ -42,17 +41,19 @@ fn most_of(case: &str) -> io::Result<usize>
     }
 }
 
-fn hold(alloc: Global, folder: &mut MemoryFolder, case: &str, name: &str) -> io::Result<()> {
-    if let Some(text) = behind(case, name) {
-        folder.hold(name, expand(alloc, text.trim_start())?.as_bytes())?;
-    }
+// Puts a file into the folder, of which the text is expanded.
+fn hold(alloc: Global, folder: &mut MemoryFolder, name: &str, text: &str) -> io::Result<()> {
+    let file = expand(alloc, text)?;
+    folder.hold(name, file.as_bytes())?;
     Ok(())
 }
 
 // Puts the files of a case into the folder, and makes its call of the case's number fail.
 fn fill(alloc: Global, folder: &mut MemoryFolder, case: &str) -> io::Result<()> {
     for name in ["first", "second", "schema"] {
-        hold(alloc, folder, case, name)?;
+        if let Some(text) = behind(case, name) {
+            hold(alloc, folder, name, text.trim_start())?;
+        }
     }
     folder.fail_at(number_behind(case, "take ", 0)?)?;
     Ok(())
@@ -82,7 +83,7 @@ fn print_over(
     arguments: &[String],
 ) -> io::Result<()> {
     let mut sink = sink_of(alloc, case)?;
-    let number = exit_number(run(alloc, arguments, folder, &mut sink));
+    let number = number_of_run(alloc, arguments, folder, &mut sink);
     print_end(out, number, sink.written())
 }
 
@@ -98,28 +99,18 @@ fn print_run(
     print_over(alloc, out, &mut folder, case, arguments)
 }
 
-// The words behind the first space.
-fn arguments_behind(alloc: Global, words: &str) -> io::Result<Vec<String>> {
-    match words.strip_prefix(' ') {
-        Some(words) => arguments_of(alloc, words),
-        None => Ok(Vec::new(alloc)),
-    }
-}
-
-/// Prints the exit number of the run in memory of the words, and what it wrote.
+/// Prints the exit number of the run in memory of a line's words behind its first, and what it wrote.
 pub(crate) fn print_words(
     alloc: Global,
     out: &mut impl Write,
     case: &str,
-    words: &str,
+    line: &str,
 ) -> io::Result<()> {
-    let arguments = arguments_behind(alloc, words)?;
-    print_run(alloc, out, case, arguments.as_slice())
-}
-
-/// The exit number of a comparison of the folder's files, over a sink that never fails.
-fn safe_number(alloc: Global, folder: &mut SafeFolder, arguments: &[String]) -> u8 {
-    exit_number(run(alloc, arguments, folder, &mut SafeSink::new()))
+    let words = arguments_of(alloc, line)?;
+    match words.as_slice().split_first() {
+        Some((_, arguments)) => print_run(alloc, out, case, arguments),
+        None => Ok(()),
+    }
 }
 
 fn words_of_sets(schema: bool) -> &'static str {
@@ -128,6 +119,19 @@ fn words_of_sets(schema: bool) -> &'static str {
     } else {
         "compare first second"
     }
+}
+
+// Prints the exit number of the folder's first file against a set.
+fn print_number(
+    alloc: Global,
+    out: &mut impl Write,
+    folder: &mut SafeFolder,
+    second: &str,
+    arguments: &[String],
+) -> io::Result<()> {
+    folder.hold("second", second.as_bytes())?;
+    let number = number_of_run(alloc, arguments, folder, &mut SafeSink::new());
+    write!(out, "{number}")
 }
 
 // Prints the exit number of the folder's first file against each set of a case.
@@ -140,9 +144,7 @@ fn print_numbers(
 ) -> io::Result<()> {
     for line in case.lines() {
         if let Some(second) = line.strip_prefix("set ") {
-            folder.hold("second", second.as_bytes())?;
-            let number = safe_number(alloc, folder, arguments);
-            write!(out, "{number}")?;
+            print_number(alloc, out, folder, second, arguments)?;
         }
     }
     out.write_all(b"\n")
@@ -174,10 +176,18 @@ pub(crate) fn print_row(
     print_first(alloc, out, &mut SafeFolder::new(alloc), case, first)
 }
 
+fn print_held(
+    alloc: Global,
+    out: &mut impl Write,
+    folder: &mut MemoryFolder,
+    line: &str,
+) -> io::Result<()> {
+    hold(alloc, folder, "file", line)?;
+    let written = written_by_words(alloc, folder, "compare file file")?;
+    out.write_all(written.as_bytes())
+}
+
 /// Prints what the comparison of a file with itself writes.
 pub(crate) fn print_file(alloc: Global, out: &mut impl Write, line: &str) -> io::Result<()> {
-    let mut folder = MemoryFolder::new(alloc);
-    folder.hold("file", expand(alloc, line)?.as_bytes())?;
-    let written = written_by_words(alloc, &mut folder, "compare file file")?;
-    out.write_all(written.as_bytes())
+    print_held(alloc, out, &mut MemoryFolder::new(alloc), line)
 }
