@@ -16,14 +16,19 @@ fn byte_of(c: char) -> Option<u8> {
     }
 }
 
+fn push_byte(bytes: &mut Vec<u8>, c: char) -> io::Result<()> {
+    let Some(byte) = byte_of(c) else {
+        return Err(ErrorKind::InvalidData.into());
+    };
+    bytes.push(byte)?;
+    Ok(())
+}
+
 /// The certificate of a text.
 fn bytes_of(alloc: Global, text: &str) -> io::Result<Vec<u8>> {
     let mut bytes = Vec::new(alloc);
     for c in text.chars() {
-        let Some(byte) = byte_of(c) else {
-            return Err(ErrorKind::InvalidData.into());
-        };
-        bytes.push(byte)?;
+        push_byte(&mut bytes, c)?;
     }
     Ok(bytes)
 }
@@ -31,16 +36,13 @@ fn bytes_of(alloc: Global, text: &str) -> io::Result<Vec<u8>> {
 fn fault_line(alloc: Global, fault: ProofFault) -> Result<String, AllocError> {
     let code = fault.code;
     let line = fault.line;
-    format!(in alloc; "{code:?} line {line}\n")
+    format!(in alloc; "{code:?} line {line}")
 }
 
 fn read_line(alloc: Global, read: &ReadProof) -> Result<String, AllocError> {
     let nodes = read.lines.len();
-    let last = match read.lines.as_slice().last() {
-        Some(line) => *line,
-        None => 0,
-    };
-    format!(in alloc; "read, {nodes} nodes, the last at line {last}\n")
+    let last = read.lines.as_slice().last().copied().unwrap_or(0);
+    format!(in alloc; "read, {nodes} nodes, the last at line {last}")
 }
 
 fn answer(alloc: Global, tests: u32, version: u32, bytes: &[u8]) -> Result<String, AllocError>
@@ -53,12 +55,16 @@ fn answer(alloc: Global, tests: u32, version: u32, bytes: &[u8]) -> Result<Strin
     }
 }
 
-fn text_answer(alloc: Global, tests: u32, version: u32, text: &str) -> io::Result<String> {
-    let bytes = bytes_of(alloc, text)?;
+fn bytes_answer(alloc: Global, tests: u32, version: u32, bytes: &[u8]) -> io::Result<String> {
     if bytes.len() as u64 > MOST_PROOF_BYTES {
         return Err(ErrorKind::InvalidData.into());
     }
-    Ok(answer(alloc, tests, version, bytes.as_slice())?)
+    Ok(answer(alloc, tests, version, bytes)?)
+}
+
+fn text_answer(alloc: Global, tests: u32, version: u32, text: &str) -> io::Result<String> {
+    let bytes = bytes_of(alloc, text)?;
+    bytes_answer(alloc, tests, version, bytes.as_slice())
 }
 
 fn number_of(word: &str) -> io::Result<u32> {

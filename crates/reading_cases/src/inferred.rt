@@ -3,11 +3,12 @@ ghost use Rattle.std.specs.Prelude.{IfOk, IfSome};
 ghost use Rattle.policy_model.specs.Soundness.{IsSound};
 
 use crate::schemas::named_schema;
-use crate::texts::{quoted, string_of};
+use crate::texts::quoted;
 use policy_json::{PolicyAnswer, read_set};
 use policy_model::{KeyRule, Kind, PolicySet, Schema};
 use request_schema::{InferAnswer, InferFault, infer};
 use std::alloc::{AllocError, Global};
+use wildcard_lang::Text;
 
 fn kind_word(kind: Kind) -> &'static str {
     match kind {
@@ -19,26 +20,27 @@ fn kind_word(kind: Kind) -> &'static str {
     }
 }
 
-fn push_key(out: &mut String, key: &str, rule: &KeyRule) -> Result<(), AllocError> {
-    out.push_str("; ")?;
-    out.push_str(key)?;
-    out.push(' ')?;
-    out.push_str(kind_word(rule.kind))?;
-    if rule.many {
-        out.push_str(" several")?;
+fn push_key(out: &mut String, key: &Text, rule: &KeyRule) -> Result<(), AllocError> {
+    let key = key.to_utf8()?;
+    let kind = kind_word(rule.kind);
+    let several = if rule.many { " several" } else { "" };
+    write!(out, "; {key} {kind}{several}")
+}
+
+fn push_keys(out: &mut String, named: &Schema, schema: &Schema) -> Result<(), AllocError> {
+    out.push_str("keys")?;
+    for (key, rule) in schema.iter() {
+        if named.get(key).is_none() {
+            push_key(out, key, rule)?;
+        }
     }
     Ok(())
 }
 
 /// The keys that the named schema lacks.
 fn keys_line(alloc: Global, named: &Schema, schema: &Schema) -> Result<String, AllocError> {
-    let mut out = String::from_str(alloc, "keys")?;
-    for (key, rule) in schema.iter() {
-        if named.get(key).is_none() {
-            push_key(&mut out, string_of(alloc, key)?.as_str(), rule)?;
-        }
-    }
-    out.push('\n')?;
+    let mut out = String::new(alloc);
+    push_keys(&mut out, named, schema)?;
     Ok(out)
 }
 
@@ -53,7 +55,7 @@ fn fault_line(alloc: Global, fault: &InferFault) -> Result<String, AllocError> {
     let document = name.document;
     let statement = name.statement;
     let key = quoted(alloc, &fault.key)?;
-    format!(in alloc; "{role} {code} {document} {statement} {key}\n")
+    format!(in alloc; "{role} {code} {document} {statement} {key}")
 }
 
 /// The set of a file, or none where it is refused.
@@ -93,7 +95,7 @@ fn answer_of(
 {
     match set_of(alloc, second)? {
         Some(second) => inferred(alloc, named, first, &second),
-        None => String::from_str(alloc, "no second set\n"),
+        None => String::from_str(alloc, "no second set"),
     }
 }
 
@@ -105,7 +107,7 @@ fn answer_under(
 ) -> Result<String, AllocError> {
     match set_of(alloc, first)? {
         Some(first) => answer_of(alloc, named, &first, second),
-        None => String::from_str(alloc, "no first set\n"),
+        None => String::from_str(alloc, "no first set"),
     }
 }
 
@@ -113,13 +115,13 @@ fn answer_under(
 /// keys with their kinds, or the first use of a key that is refused.
 pub(crate) fn inferred_answer(alloc: Global, files: &str) -> Result<String, AllocError> {
     let Some((first, others)) = files.split_once('\t') else {
-        return String::from_str(alloc, "no second set\n");
+        return String::from_str(alloc, "no second set");
     };
     let Some((second, file)) = others.split_once('\t') else {
-        return String::from_str(alloc, "no schema\n");
+        return String::from_str(alloc, "no schema");
     };
     match named_schema(alloc, file)? {
         Some(named) => answer_under(alloc, &named, first, second),
-        None => String::from_str(alloc, "no schema\n"),
+        None => String::from_str(alloc, "no schema"),
     }
 }

@@ -37,7 +37,7 @@ use requests::request_answer;
 use schemas::schema_answer;
 use std::alloc::Global;
 use std::io;
-use std::io::{BufRead, BufReader, ErrorKind, Write};
+use std::io::{ErrorKind, Write};
 use words::words_answer;
 
 fn answer_to(alloc: Global, line: &str) -> io::Result<String> {
@@ -53,13 +53,24 @@ fn answer_to(alloc: Global, line: &str) -> io::Result<String> {
     }
 }
 
-fn main(rt: HostRuntime) -> io::Result<()> {
-    let alloc = rt.alloc();
-    let mut out = io::writer(&rt);
-    for line in BufReader::new(alloc, rt.reader())?.lines(alloc) {
-        let line = expand(alloc, line?.as_str())?;
-        let answer = answer_to(alloc, line.as_str())?;
-        out.write_all(answer.as_bytes())?;
+fn print_answer(alloc: Global, out: &mut impl Write, line: &str) -> io::Result<()> {
+    let answer = answer_to(alloc, line)?;
+    writeln!(out, "{answer}")
+}
+
+fn print_expanded(alloc: Global, out: &mut impl Write, line: &str) -> io::Result<()> {
+    let line = expand(alloc, line)?;
+    print_answer(alloc, out, line.as_str())
+}
+
+fn print_answers(alloc: Global, out: &mut impl Write, input: &str) -> io::Result<()> {
+    for line in input.lines() {
+        print_expanded(alloc, out, line)?;
     }
     Ok(())
+}
+
+fn main(rt: HostRuntime) -> io::Result<()> {
+    let input = io::read_to_string(rt.alloc(), rt.reader())?;
+    print_answers(rt.alloc(), &mut io::writer(&rt), input.as_str())
 }

@@ -8,7 +8,7 @@ use std::alloc::{AllocError, Global};
 fn fault_line(alloc: Global, fault: &RequestFault) -> Result<String, AllocError> {
     let code = fault.code;
     let element = quoted(alloc, &fault.element)?;
-    format!(in alloc; "{code:?} {element}\n")
+    format!(in alloc; "{code:?} {element}")
 }
 
 // The request of a text, as it is written, or its first fault.
@@ -24,9 +24,9 @@ fn written_again(alloc: Global, schema: &Schema, text: &str) -> Result<String, A
 fn text_line(alloc: Global, schema: &Schema, text: &str) -> Result<String, AllocError> {
     let again = written_again(alloc, schema, text)?;
     if again.as_str() == text {
-        format!(in alloc; "{text}\n")
+        Ok(again)
     } else {
-        format!(in alloc; "another: {text}\n")
+        format!(in alloc; "another: {text}")
     }
 }
 
@@ -48,10 +48,10 @@ fn file_answer(alloc: Global, schema: &Schema, file: &str) -> Result<String, All
 /// the request as it is written. A request whose text isn't read again as itself has a word before it.
 pub(crate) fn request_answer(alloc: Global, files: &str) -> Result<String, AllocError> {
     let Some((schema, file)) = files.split_once('\t') else {
-        return String::from_str(alloc, "no request\n");
+        return String::from_str(alloc, "no request");
     };
     match named_schema(alloc, schema)? {
         Some(schema) => file_answer(alloc, &schema, file),
-        None => String::from_str(alloc, "no schema\n"),
+        None => String::from_str(alloc, "no schema"),
     }
 }

@@ -7,13 +7,13 @@ use std::alloc::{AllocError, Global};
 fn fault_line(alloc: Global, fault: &SchemaFault) -> Result<String, AllocError> {
     let code = fault.code;
     let element = quoted(alloc, &fault.element)?;
-    format!(in alloc; "{code:?} {element}\n")
+    format!(in alloc; "{code:?} {element}")
 }
 
 /// The first fault of a schema file: its code and its element; or `none`.
 pub(crate) fn schema_answer(alloc: Global, file: &str) -> Result<String, AllocError> {
     match read_schema(alloc, file.as_bytes()) {
-        Ok(_) => String::from_str(alloc, "none\n"),
+        Ok(_) => String::from_str(alloc, "none"),
         Err(SchemaAnswer::Refused(fault)) => fault_line(alloc, &fault),
         Err(SchemaAnswer::NoMemory) => Err(AllocError),
     }

@@ -7,27 +7,39 @@ use std::alloc::{AllocError, Global};
 use std::io;
 use std::io::ErrorKind;
 
-/// The words of a line.
-fn words_of(alloc: Global, line: &str) -> io::Result<Vec<String>> {
-    let Ok(Value::Array(items)) = Value::from_str(alloc, line) else {
+fn add_word(alloc: Global, words: &mut Vec<String>, item: &Value) -> io::Result<()> {
+    let Some(word) = item.as_str() else {
         return Err(ErrorKind::InvalidData.into());
     };
+    words.push(String::from_str(alloc, word)?)?;
+    Ok(())
+}
+
+fn words_in(alloc: Global, items: &[Value]) -> io::Result<Vec<String>> {
     let mut words = Vec::new(alloc);
-    for item in items.as_slice() {
-        let Some(word) = item.as_str() else {
-            return Err(ErrorKind::InvalidData.into());
-        };
-        words.push(String::from_str(alloc, word)?)?;
+    for item in items {
+        add_word(alloc, &mut words, item)?;
     }
     Ok(words)
 }
 
+/// The words of a line.
+fn words_of(alloc: Global, line: &str) -> io::Result<Vec<String>> {
+    match Value::from_str(alloc, line) {
+        Ok(Value::Array(items)) => words_in(alloc, items.as_slice()),
+        _ => Err(ErrorKind::InvalidData.into()),
+    }
+}
+
+fn name_quoted(alloc: Global, name: &str) -> Result<String, AllocError> {
+    let name = Value::String(String::from_str(alloc, name)?);
+    name.to_string(alloc)
+}
+
 /// Adds a name as JSON, behind a space.
 fn push_name(alloc: Global, out: &mut String, name: &str) -> Result<(), AllocError> {
-    let name = Value::String(String::from_str(alloc, name)?);
-    let quoted = name.to_string(alloc)?;
-    out.push(' ')?;
-    out.push_str(quoted.as_str())
+    let name = name_quoted(alloc, name)?;
+    write!(out, " {name}")
 }
 
 fn push_schema(alloc: Global, out: &mut String, schema: Option<&str>) -> Result<(), AllocError> {
@@ -38,19 +50,10 @@ fn push_schema(alloc: Global, out: &mut String, schema: Option<&str>) -> Result<
     push_name(alloc, out, name)
 }
 
-fn push_numbers(
-    alloc: Global,
-    out: &mut String,
-    asked: &CompareArguments,
-) -> Result<(), AllocError> {
-    let splits = asked.splits;
-    let states = asked.states;
-    let numbers = format!(in alloc; " splits {splits} states {states}")?;
-    out.push_str(numbers.as_str())?;
-    if asked.certified {
-        out.push_str(" proof")?;
-    }
-    Ok(())
+fn push_numbers(out: &mut String, asked: &CompareArguments) -> Result<(), AllocError> {
+    let (splits, states) = (asked.splits, asked.states);
+    let proof = if asked.certified { " proof" } else { "" };
+    write!(out, " splits {splits} states {states}{proof}")
 }
 
 fn push_comparison(
@@ -62,7 +65,7 @@ fn push_comparison(
     push_name(alloc, out, asked.names.first.as_str())?;
     push_name(alloc, out, asked.names.second.as_str())?;
     push_schema(alloc, out, asked.names.schema.as_deref())?;
-    push_numbers(alloc, out, asked)
+    push_numbers(out, asked)
 }
 
 fn push_check(alloc: Global, out: &mut String, asked: &CheckArguments) -> Result<(), AllocError> {
@@ -73,16 +76,9 @@ fn push_check(alloc: Global, out: &mut String, asked: &CheckArguments) -> Result
     push_schema(alloc, out, asked.names.schema.as_deref())
 }
 
-fn push_budgets(
-    alloc: Global,
-    out: &mut String,
-    asked: &SummaryArguments,
-) -> Result<(), AllocError> {
-    let splits = asked.splits;
-    let states = asked.states;
-    let findings = asked.findings;
-    let numbers = format!(in alloc; " splits {splits} states {states} findings {findings}")?;
-    out.push_str(numbers.as_str())
+fn push_budgets(out: &mut String, asked: &SummaryArguments) -> Result<(), AllocError> {
+    let (splits, states, findings) = (asked.splits, asked.states, asked.findings);
+    write!(out, " splits {splits} states {states} findings {findings}")
 }
 
 fn push_summary(
@@ -97,12 +93,7 @@ fn push_summary(
         push_name(alloc, out, dimension.as_str())?;
     }
     push_schema(alloc, out, asked.schema.as_deref())?;
-    push_budgets(alloc, out, asked)
-}
-
-fn push_load(alloc: Global, out: &mut String, keys: u32) -> Result<(), AllocError> {
-    let line = format!(in alloc; "load {keys}")?;
-    out.push_str(line.as_str())
+    push_budgets(out, asked)
 }
 
 fn push_evaluation(
@@ -116,22 +107,31 @@ fn push_evaluation(
     push_schema(alloc, out, asked.schema.as_deref())
 }
 
+fn push_command(alloc: Global, out: &mut String, command: &Command) -> Result<(), AllocError> {
+    match command {
+        Command::Compare(asked) => push_comparison(alloc, out, asked),
+        Command::Check(asked) => push_check(alloc, out, asked),
+        Command::Summary(asked) => push_summary(alloc, out, asked),
+        Command::Eval(asked) => push_evaluation(alloc, out, asked),
+        Command::Load(keys) => write!(out, "load {keys}"),
+    }
+}
+
 fn push_answer(alloc: Global, out: &mut String, words: &[String]) -> Result<(), AllocError> {
     match read_words(alloc, words)? {
-        Some(Command::Compare(asked)) => push_comparison(alloc, out, &asked)?,
-        Some(Command::Check(asked)) => push_check(alloc, out, &asked)?,
-        Some(Command::Summary(asked)) => push_summary(alloc, out, &asked)?,
-        Some(Command::Eval(asked)) => push_evaluation(alloc, out, &asked)?,
-        Some(Command::Load(keys)) => push_load(alloc, out, keys)?,
-        None => out.push_str("usage")?,
+        Some(command) => push_command(alloc, out, &command),
+        None => out.push_str("usage"),
     }
-    out.push('\n')
+}
+
+fn command_text(alloc: Global, words: &[String]) -> Result<String, AllocError> {
+    let mut out = String::new(alloc);
+    push_answer(alloc, &mut out, words)?;
+    Ok(out)
 }
 
 /// What the words of a JSON list ask, or `usage`.
 pub(crate) fn words_answer(alloc: Global, line: &str) -> io::Result<String> {
     let words = words_of(alloc, line)?;
-    let mut out = String::new(alloc);
-    push_answer(alloc, &mut out, words.as_slice())?;
-    Ok(out)
+    Ok(command_text(alloc, words.as_slice())?)
 }
