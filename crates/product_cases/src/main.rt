@@ -20,7 +20,7 @@ use pattern_automata::{
 use std::alloc::Global;
 use std::io::{ErrorKind, Write};
 use std::{env, io};
-use wildcard_lang::{Pattern, PatternList, read_glob};
+use wildcard_lang::{Pattern, PatternList, Text, read_glob};
 
 fn read(alloc: Global, text: &str) -> io::Result<Pattern> {
     match read_glob(alloc, text, false, false) {
@@ -45,13 +45,21 @@ fn push_pattern(alloc: Global, patterns: &mut PatternList, text: &str) -> io::Re
     Ok(())
 }
 
-fn patterns_of(alloc: Global, texts: [&str; 3]) -> io::Result<PatternList>
+/// The patterns that a line has as texts.
+#[derive(Clone, Copy)]
+struct Texts<'a> {
+    yes: &'a str,
+    no: &'a str,
+    other: &'a str,
+}
+
+fn patterns_of(alloc: Global, texts: Texts) -> io::Result<PatternList>
     ensures { IfOk result (λ p. length p ≡ 3) }
 {
     let mut patterns = PatternList::new(alloc);
-    push_pattern(alloc, &mut patterns, texts[0])?;
-    push_pattern(alloc, &mut patterns, texts[1])?;
-    push_pattern(alloc, &mut patterns, texts[2])?;
+    push_pattern(alloc, &mut patterns, texts.yes)?;
+    push_pattern(alloc, &mut patterns, texts.no)?;
+    push_pattern(alloc, &mut patterns, texts.other)?;
     Ok(patterns)
 }
 
@@ -66,7 +74,7 @@ fn clauses_of(alloc: Global) -> io::Result<ClauseList>
 }
 
 /// That the first pattern matches and the others don't.
-fn wants_of(alloc: Global, texts: [&str; 3]) -> io::Result<Wants>
+fn wants_of(alloc: Global, texts: Texts) -> io::Result<Wants>
     ensures { IfOk result (λ w. InRange (length w.patterns) w.clauses) }
 {
     let patterns = patterns_of(alloc, texts)?;
@@ -158,20 +166,21 @@ fn write_set(alloc: Global, wants: &Wants, closed: &Closed, line: &mut String) -
     Ok(())
 }
 
+fn write_text(text: &Text, line: &mut String) -> io::Result<()> {
+    let text = text.to_utf8()?;
+    write!(line, "text {text}")?;
+    Ok(())
+}
+
 /// Writes what the product answers.
-fn write_answer(alloc: Global, wants: &Wants, limit: u32, line: &mut String) -> io::Result<()>
-    requires range { InRange (length wants.now.patterns) wants.now.clauses }
-    requires some { 1 ≤ limit }
+fn write_answer(alloc: Global, wants: &Wants, answer: &Product, line: &mut String) -> io::Result<()>
+    requires { InRange (length wants.now.patterns) wants.now.clauses }
 {
-    match product(alloc, wants, limit)? {
-        Product::Found(text) => {
-            line.push_str("text ")?;
-            line.push_str(text.to_utf8()?.as_str())?;
-            Ok(())
-        }
+    match answer {
+        Product::Found(text) => write_text(text, line),
         Product::Empty(closed) => {
             line.push_str("closed")?;
-            write_set(alloc, wants, &closed, line)
+            write_set(alloc, wants, closed, line)
         }
         Product::TooMany(texts) => {
             let count = texts.len();
@@ -181,54 +190,68 @@ fn write_answer(alloc: Global, wants: &Wants, limit: u32, line: &mut String) -> 
     }
 }
 
-fn answer_to_wants(alloc: Global, wants: &Wants, limit: u32) -> io::Result<String>
+/// Writes what the product of the wants answers.
+fn write_product(alloc: Global, wants: &Wants, limit: u32, line: &mut String) -> io::Result<()>
     requires range { InRange (length wants.now.patterns) wants.now.clauses }
     requires some { 1 ≤ limit }
 {
-    let mut line = String::new(alloc);
-    write_answer(alloc, wants, limit, &mut line)?;
+    let answer = product(alloc, wants, limit)?;
+    write_answer(alloc, wants, &answer, line)
+}
+
+fn write_within(alloc: Global, limit: &str, texts: Texts, line: &mut String) -> io::Result<()> {
+    match limit.parse::<u32>() {
+        Ok(limit) if limit > 0 => write_product(alloc, &wants_of(alloc, texts)?, limit, line),
+        _ => Err(ErrorKind::InvalidData.into()),
+    }
+}
+
+/// The texts of three words.
+fn texts_of(words: &str) -> Option<Texts<'_>> {
+    let mut words = words.split(' ');
+    Some(Texts {
+        yes: words.next()?,
+        no: words.next()?,
+        other: words.next()?,
+    })
+}
+
+fn write_of_words(alloc: Global, words: &str, line: &mut String) -> io::Result<()> {
+    let (limit, texts) = words.split_once(' ').unwrap_or((words, ""));
+    match texts_of(texts) {
+        Some(texts) => write_within(alloc, limit, texts, line),
+        None => Err(ErrorKind::InvalidData.into()),
+    }
+}
+
+// Writes the answer to a line.
+fn write_of_line(rt: &HostRuntime, asked: &str, timed: bool, line: &mut String) -> io::Result<()> {
+    match asked.strip_prefix("states ") {
+        Some(words) => push_made(rt, line, words, timed),
+        None => write_of_words(rt.alloc(), asked, line),
+    }
+}
+
+fn answer_to_line(rt: &HostRuntime, asked: &str, timed: bool) -> io::Result<String> {
+    let mut line = String::new(rt.alloc());
+    write_of_line(rt, asked, timed, &mut line)?;
     Ok(line)
 }
 
-fn answer_within(alloc: Global, limit: &str, texts: [&str; 3]) -> io::Result<String> {
-    match limit.parse::<u32>() {
-        Ok(limit) if limit > 0 => answer_to_wants(alloc, &wants_of(alloc, texts)?, limit),
-        _ => Err(ErrorKind::InvalidData.into()),
-    }
-}
-
-/// The answer to the words of a line.
-fn answer_to(alloc: Global, words: &[&str]) -> io::Result<String> {
-    match words {
-        [limit, yes, no, other] => answer_within(alloc, limit, [*yes, *no, *other]),
-        _ => Err(ErrorKind::InvalidData.into()),
-    }
-}
-
-fn answer_to_words(alloc: Global, line: &str) -> io::Result<String> {
-    let words: Vec<&str> = line.split(' ').collect(alloc)?;
-    answer_to(alloc, words.as_slice())
-}
-
-fn answer_of_made(rt: &HostRuntime, words: &str, timed: bool) -> io::Result<String> {
-    let mut answer = String::new(rt.alloc());
-    push_made(rt, &mut answer, words, timed)?;
-    Ok(answer)
-}
-
-// The answer to a line.
-fn answer_to_line(rt: &HostRuntime, line: &str, timed: bool) -> io::Result<String> {
-    match line.strip_prefix("states ") {
-        Some(words) => answer_of_made(rt, words, timed),
-        None => answer_to_words(rt.alloc(), line),
-    }
+fn print_answer(
+    rt: &HostRuntime,
+    out: &mut impl Write,
+    asked: &str,
+    timed: bool,
+) -> io::Result<()> {
+    let answer = answer_to_line(rt, asked, timed)?;
+    writeln!(out, "{answer}")
 }
 
 fn print_answers(rt: &HostRuntime, input: &str, timed: bool) -> io::Result<()> {
     let mut out = io::writer(rt);
     for line in input.lines() {
-        let answer = answer_to_line(rt, line, timed)?;
-        writeln!(out, "{answer}")?;
+        print_answer(rt, &mut out, line, timed)?;
     }
     Ok(())
 }
