@@ -8,37 +8,31 @@ ghost use Rattle.slot_cases.specs.Cases.{IsCase};
 use crate::cases::{Case, key_tests_of, path_of, slot_named, tests_of};
 use crate::schemas::{key_schema_of, schema_of};
 use formula_tree::Path;
-use policy_model::{Schema, Slot, Test, TestList};
+use policy_model::{Schema, Slot, TestList};
 use slot_theory::{
-    Core, KindProof, Possible, SlotProof, SlotValue, accepts, meets, possible, slot_of,
+    Core, KindProof, Possible, SlotProof, SlotValue, accepts, is_on, meets, possible,
 };
 use std::alloc::Global;
 use std::io;
 use std::io::ErrorKind;
 use wildcard_lang::Text;
 
-// Whether the value gives the test its answer, where that is on the slot.
-fn is_answered(
-    alloc: Global,
-    slot: &Slot,
-    value: &SlotValue,
-    test: &Test,
-    answer: bool,
-) -> io::Result<bool> {
-    let own = slot_of(alloc, test)?;
-    Ok(own != *slot || meets(value, test) == answer)
+// Whether the value gives the test of the number its answer, where that is on the slot.
+fn is_answered(case: &Case, slot: &Slot, value: &SlotValue, n: u32, answer: bool) -> bool {
+    match case.tests.get(n as usize) {
+        Some(test) => !is_on(slot, test) || meets(value, test) == answer,
+        None => true,
+    }
 }
 
 // Whether the value gives each test of the slot its answer.
-fn answers(alloc: Global, case: &Case, slot: &Slot, value: &SlotValue) -> io::Result<bool> {
+fn answers(case: &Case, slot: &Slot, value: &SlotValue) -> bool {
     for (n, answer) in case.path.as_slice() {
-        if let Some(test) = case.tests.get(*n as usize) {
-            if !is_answered(alloc, slot, value, test, *answer)? {
-                return Ok(false);
-            }
+        if !is_answered(case, slot, value, *n, *answer) {
+            return false;
         }
     }
-    Ok(true)
+    true
 }
 
 fn word(holds: bool) -> &'static str {
@@ -104,13 +98,27 @@ fn accepted_by_nothing(alloc: Global, case: &Case, core: &Core) -> io::Result<&'
     accepted(alloc, case, case.path, core, &never)
 }
 
-// The kind of the proof, and the numbers of the core's tests.
-fn core_text(alloc: Global, core: &Core, proof: &SlotProof) -> io::Result<String> {
-    let mut text = String::from_str(alloc, name_of(proof))?;
+// Adds the kind of the proof, the numbers of the core's tests, and what is accepted.
+fn push_core(
+    text: &mut String,
+    core: &Core,
+    proof: &SlotProof,
+    accepted: &[&str],
+) -> io::Result<()> {
+    text.push_str(name_of(proof))?;
     for n in core.as_slice() {
         write!(text, " {n}")?;
     }
-    Ok(text)
+    text.push(':')?;
+    push_words(text, accepted)
+}
+
+// Adds words, each behind a blank.
+fn push_words(text: &mut String, words: &[&str]) -> io::Result<()> {
+    for word in words {
+        write!(text, " {word}")?;
+    }
+    Ok(())
 }
 
 // The core, whether it is accepted, and whether what differs from it in one thing is.
@@ -121,13 +129,14 @@ fn judged(alloc: Global, case: &Case, core: &Core, proof: &SlotProof) -> io::Res
     let other = accepted(alloc, case, case.other, core, proof)?;
     let fewer = accepted_shorter(alloc, case, core, proof)?;
     let fixed = accepted_by_nothing(alloc, case, core)?;
-    let text = core_text(alloc, core, proof)?;
-    Ok(format!(in alloc; "{text}: {own} {other} {fewer} {fixed}")?)
+    let mut text = String::new(alloc);
+    push_core(&mut text, core, proof, &[own, other, fewer, fixed])?;
+    Ok(text)
 }
 
 // Whether the value gives the path's answers.
 fn found(alloc: Global, case: &Case, slot: &Slot, value: &SlotValue) -> io::Result<String> {
-    let right = word(answers(alloc, case, slot, value)?);
+    let right = word(answers(case, slot, value));
     Ok(format!(in alloc; "found: {right}")?)
 }
 

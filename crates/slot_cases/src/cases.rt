@@ -123,10 +123,11 @@ pub(crate) fn key_tests_of(alloc: Global, schema: &Schema, words: [&str; 3]) -> 
     Ok(tests)
 }
 
-// The word behind its answer.
+// The word behind its answer, which is one character.
 fn asked_in(word: &str) -> &str {
-    word.strip_prefix(|c| c == '+' || c == '-' || c == '.')
-        .unwrap_or(word)
+    let mut rest = word.chars();
+    rest.next();
+    rest.as_str()
 }
 
 // The answer of the word, or its contrary.

@@ -2,6 +2,7 @@
 ghost use Rattle.std.specs.Prelude.{All, IfOk};
 ghost use Rattle.policy_model.specs.Conds.{IsCondOf};
 ghost use Rattle.policy_model.specs.Soundness.{RuleIsSound, TestSuits};
+ghost use Rattle.policy_model.specs.declared.value.Kind.TheVariants.{Truth};
 ghost use Rattle.slot_cases.specs.Cases.{AreShortTexts, IsShortText, IsTestOf};
 
 use policy_model::{Cond, CondList, KeyRule, Kind, Schema, Test, Value, ValueList};
@@ -100,15 +101,26 @@ pub(crate) fn rule_of(alloc: Global, words: [&str; 3]) -> io::Result<KeyRule>
     }
 }
 
+fn truth_of(word: &str) -> io::Result<Cond>
+    ensures { IfOk result (IsCondOf Truth) }
+{
+    match word {
+        "true" => Ok(Cond::Flag(true, false)),
+        "false" => Ok(Cond::Flag(false, true)),
+        _ => Err(ErrorKind::InvalidData.into()),
+    }
+}
+
 // A pattern of a text, or a truth value.
 fn cond_of(alloc: Global, kind: Kind, word: &str) -> io::Result<Cond>
     ensures { IfOk result (IsCondOf kind) }
 {
-    match (kind, word) {
-        (Kind::Text, _) => Ok(Cond::Matches(glob(alloc, word)?)),
-        (Kind::Truth, "true") => Ok(Cond::Flag(true, false)),
-        (Kind::Truth, "false") => Ok(Cond::Flag(false, true)),
-        _ => Err(ErrorKind::InvalidData.into()),
+    match kind {
+        Kind::Text => Ok(Cond::Matches(glob(alloc, word)?)),
+        Kind::Truth => truth_of(word),
+        Kind::Number => Err(ErrorKind::InvalidData.into()),
+        Kind::Address => Err(ErrorKind::InvalidData.into()),
+        Kind::Bytes => Err(ErrorKind::InvalidData.into()),
     }
 }
 
@@ -117,8 +129,7 @@ fn conds_of(alloc: Global, kind: Kind, text: &str) -> io::Result<CondList>
     ensures { IfOk result (All (IsCondOf kind)) }
 {
     let mut conds = CondList::new(alloc);
-    let words = text.split('|').collect::<Vec<&str>>(alloc)?;
-    for word in words.as_slice() {
+    for word in text.split('|') {
         conds.push(cond_of(alloc, kind, word)?)?;
     }
     Ok(conds)

@@ -29,27 +29,45 @@ use slot_theory::{
 use std::alloc::Global;
 use std::io;
 use std::io::{ErrorKind, Write};
+use wildcard_lang::Text;
 
-// A value as text. Of numbers, addresses and bytes the kind is enough.
-fn text_of(alloc: Global, value: &Value) -> io::Result<String> {
+fn push_word(text: &mut String, word: &Text) -> io::Result<()> {
+    let word = word.to_utf8()?;
+    write!(text, " {word}")?;
+    Ok(())
+}
+
+fn push_value(text: &mut String, value: &Value) -> io::Result<()> {
     match value {
-        Value::Word(text) => Ok(text.to_utf8()?),
-        Value::Truth(truth) => Ok(String::from_str(alloc, if *truth { "true" } else { "false" })?),
-        Value::Number(_) => Ok(String::from_str(alloc, "a number")?),
-        Value::Address(_) => Ok(String::from_str(alloc, "an address")?),
-        Value::Bytes(_) => Ok(String::from_str(alloc, "bytes")?),
+        Value::Word(word) => push_word(text, word),
+        Value::Truth(truth) => Ok(write!(text, " {truth}")?),
+        Value::Number(_) => Ok(text.push_str(" a number")?),
+        Value::Address(_) => Ok(text.push_str(" an address")?),
+        Value::Bytes(_) => Ok(text.push_str(" bytes")?),
     }
 }
 
-// The values of a key, each behind a blank.
-fn written(alloc: Global, values: &ValueList) -> io::Result<String> {
-    let mut text = String::from_str(alloc, "values:")?;
+fn push_values(text: &mut String, values: &ValueList) -> io::Result<()> {
+    text.push_str("values:")?;
     for value in values.as_slice() {
-        let own = text_of(alloc, value)?;
-        text.push_str(" ")?;
-        text.push_str(own.as_str())?;
+        push_value(text, value)?;
     }
+    Ok(())
+}
+
+// The values of a key, each behind a blank. Of numbers, addresses and bytes the kind is enough.
+fn written(alloc: Global, values: &ValueList) -> io::Result<String> {
+    let mut text = String::new(alloc);
+    push_values(&mut text, values)?;
     Ok(text)
+}
+
+fn text_of(alloc: Global, value: &SlotValue) -> io::Result<String> {
+    match value {
+        SlotValue::Principal(_, id) => Ok(id.to_utf8()?),
+        SlotValue::Word(text) => Ok(text.to_utf8()?),
+        SlotValue::Values(values) => written(alloc, values),
+    }
 }
 
 // The stated value of the slot under the schema.
@@ -57,11 +75,8 @@ fn stated_of(alloc: Global, schema: &Schema, slot: &Slot) -> io::Result<String>
     requires sound { SchemaIsSound schema.now }
     requires slot { SlotIsIn schema.now slot.now }
 {
-    match &stated_value(alloc, schema, slot)? {
-        SlotValue::Principal(_, id) => Ok(id.to_utf8()?),
-        SlotValue::Word(text) => Ok(text.to_utf8()?),
-        SlotValue::Values(values) => written(alloc, values),
-    }
+    let value = stated_value(alloc, schema, slot)?;
+    text_of(alloc, &value)
 }
 
 // The stated value of the slot.
@@ -78,26 +93,45 @@ fn stated_key(alloc: Global, rule: [&str; 3]) -> io::Result<String> {
     stated_of(alloc, &schema, &slot)
 }
 
+/// The word at an index of a line, or the empty text behind the last one.
+fn word(line: &str, i: usize) -> &str {
+    line.split(' ').nth(i).unwrap_or("")
+}
+
+fn answer_to_ask(alloc: Global, line: &str) -> io::Result<String> {
+    let (slot, shape, states) = (word(line, 1), word(line, 2), word(line, 3));
+    let tests = [word(line, 4), word(line, 5), word(line, 6)];
+    answer_to_question(alloc, slot, shape, states, tests)
+}
+
+/// The three words of a key's rule.
+fn rule_words(line: &str) -> [&str; 3] {
+    [word(line, 1), word(line, 2), word(line, 3)]
+}
+
+fn answer_to_key(alloc: Global, line: &str) -> io::Result<String> {
+    let tests = [word(line, 5), word(line, 6), word(line, 7)];
+    answer_on_key(alloc, rule_words(line), word(line, 4), tests)
+}
+
 fn answer_to(alloc: Global, line: &str) -> io::Result<String> {
-    let words = line.split(' ').collect::<Vec<&str>>(alloc)?;
-    match words.as_slice() {
-        ["stated", slot, shape] => stated(alloc, slot, shape),
-        ["ask", slot, shape, states, first, second, third] => {
-            answer_to_question(alloc, slot, shape, states, [first, second, third])
-        }
-        ["stated-key", kind, flags, values] => stated_key(alloc, [kind, flags, values]),
-        ["key", kind, flags, values, states, first, second, third] => {
-            let rule = [*kind, *flags, *values];
-            answer_on_key(alloc, rule, states, [first, second, third])
-        }
+    match word(line, 0) {
+        "stated" => stated(alloc, word(line, 1), word(line, 2)),
+        "ask" => answer_to_ask(alloc, line),
+        "stated-key" => stated_key(alloc, rule_words(line)),
+        "key" => answer_to_key(alloc, line),
         _ => Err(ErrorKind::InvalidData.into()),
     }
 }
 
+fn print_answer(alloc: Global, out: &mut impl Write, line: &str) -> io::Result<()> {
+    let answer = answer_to(alloc, line)?;
+    writeln!(out, "{answer}")
+}
+
 fn print_answers(alloc: Global, out: &mut impl Write, input: &str) -> io::Result<()> {
     for line in input.lines() {
-        let answer = answer_to(alloc, line)?;
-        writeln!(out, "{answer}")?;
+        print_answer(alloc, out, line)?;
     }
     Ok(())
 }

@@ -1,9 +1,9 @@
 //! Schemas with one shape, and schemas with two keys.
-ghost use Rattle.std.specs.Prelude.{IfOk};
-ghost use Rattle.policy_model.specs.Soundness.{RuleIsSound, SchemaIsSound, WordShapeIsSound};
+ghost use Rattle.std.specs.Prelude.{IfOk, OnOk};
+ghost use Rattle.policy_model.specs.Soundness.{SchemaIsSound, WordShapeIsSound};
 
 use crate::keys::rule_of;
-use policy_model::{KeyRule, KeyRules, Schema, Shapes};
+use policy_model::{KeyRules, Schema, Shapes};
 use std::alloc::Global;
 use std::io;
 use std::io::ErrorKind;
@@ -45,15 +45,23 @@ pub(crate) fn schema_of(alloc: Global, text: &str) -> io::Result<Schema>
     })
 }
 
-// The schema with one more key.
-fn with_key(alloc: Global, mut schema: Schema, name: &str, rule: KeyRule) -> io::Result<Schema>
-    requires sound { SchemaIsSound schema }
-    requires rule { RuleIsSound rule }
-    ensures { IfOk result SchemaIsSound }
+// Adds a key with the rule of three words to the schema.
+fn add_key(alloc: Global, schema: &mut Schema, name: &str, rule: [&str; 3]) -> io::Result<()>
+    requires { SchemaIsSound schema.old }
+    ensures { OnOk result (SchemaIsSound schema.new) }
 {
     let key = Text::of(alloc, name)?.folded()?;
+    let rule = rule_of(alloc, rule)?;
     schema.insert(key, rule)?;
-    Ok(schema)
+    Ok(())
+}
+
+fn add_keys(alloc: Global, schema: &mut Schema, rule: [&str; 3]) -> io::Result<()>
+    requires { SchemaIsSound schema.old }
+    ensures { OnOk result (SchemaIsSound schema.new) }
+{
+    add_key(alloc, schema, "k", rule)?;
+    add_key(alloc, schema, "j", ["text", "-", "-"])
 }
 
 /// The schema of which the key `k` has the rule of three words, and `j` is a text key with at most one
@@ -61,6 +69,7 @@ fn with_key(alloc: Global, mut schema: Schema, name: &str, rule: KeyRule) -> io:
 pub(crate) fn key_schema_of(alloc: Global, rule: [&str; 3]) -> io::Result<Schema>
     ensures { IfOk result SchemaIsSound }
 {
-    let schema = with_key(alloc, Schema::new(alloc), "k", rule_of(alloc, rule)?)?;
-    with_key(alloc, schema, "j", rule_of(alloc, ["text", "-", "-"])?)
+    let mut schema = Schema::new(alloc);
+    add_keys(alloc, &mut schema, rule)?;
+    Ok(schema)
 }
