@@ -2,7 +2,7 @@
 ghost use Rattle.std.specs.Prelude.{◌<◌, ◌^◌, length};
 
 /// Where the drawing of numbers stands.
-#[derive(Drop)]
+#[derive(Clone, Copy)]
 pub struct Draw {
     state: u64,
 }

@@ -20,7 +20,6 @@ mod sets;
 
 use pairs::print_pair;
 use rows::{Asked, print_line};
-use std::io::{BufRead, BufReader};
 use std::{env, io};
 
 /// What stands behind the word at the front of a line of a case, below its name.
@@ -59,23 +58,23 @@ fn is_asked(rt: &HostRuntime, word: &str) -> io::Result<bool> {
     Ok(env::args(rt)?.any(|argument| argument.as_str() == word))
 }
 
-fn main(rt: HostRuntime) -> io::Result<()> {
-    let alloc = rt.alloc();
-    let asked = Asked {
-        full: is_asked(&rt, "full")?,
-        proof: is_asked(&rt, "proof")?,
-        timed: is_asked(&rt, "time")?,
-    };
-    let mut case = String::new(alloc);
-    for line in BufReader::new(alloc, rt.reader())?.lines(alloc) {
-        let line = line?;
-        if line.is_empty() {
-            print_case(&rt, asked, case.as_str())?;
-            case.clear();
-        } else {
-            case.push_str(line.as_str())?;
-            case.push_str("\n")?;
-        }
+fn asked_of(rt: &HostRuntime) -> io::Result<Asked> {
+    Ok(Asked {
+        full: is_asked(rt, "full")?,
+        proof: is_asked(rt, "proof")?,
+        timed: is_asked(rt, "time")?,
+    })
+}
+
+fn print_cases(rt: &HostRuntime, asked: Asked, input: &str) -> io::Result<()> {
+    for case in input.split("\n\n") {
+        print_case(rt, asked, case)?;
     }
-    print_case(&rt, asked, case.as_str())
+    Ok(())
+}
+
+fn main(rt: HostRuntime) -> io::Result<()> {
+    let asked = asked_of(&rt)?;
+    let input = io::read_to_string(rt.alloc(), rt.reader())?;
+    print_cases(&rt, asked, input.as_str())
 }

@@ -17,17 +17,22 @@ fn is_decided(alloc: Global, folder: &mut SafeFolder, splits: u32) -> io::Result
     Ok(status != Status::Undecided)
 }
 
-/// The least budget of splits that decides the folder's pair, by doubling and then by halves.
-fn least_splits(alloc: Global, folder: &mut SafeFolder) -> io::Result<u32> {
-    let mut short = 0u32;
+/// A power of two of splits that decides the folder's pair, where half of it doesn't; or the greatest budget.
+fn doubled_splits(alloc: Global, folder: &mut SafeFolder) -> io::Result<u32> {
     let mut enough = 1u32;
     for _ in 0..20u32 {
         if enough >= MOST_SPLITS || is_decided(alloc, folder, enough)? {
             break;
         }
-        short = enough;
         enough = enough.saturating_mul(2).min(MOST_SPLITS);
     }
+    Ok(enough)
+}
+
+/// The least budget of splits that decides the folder's pair, by doubling and then by halves.
+fn least_splits(alloc: Global, folder: &mut SafeFolder) -> io::Result<u32> {
+    let mut enough = doubled_splits(alloc, folder)?;
+    let mut short = enough / 2;
     for _ in 0..20u32 {
         let middle = short / 2 + enough / 2 + (short % 2 + enough % 2) / 2;
         if middle <= short || middle >= enough {

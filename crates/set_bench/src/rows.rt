@@ -4,6 +4,7 @@ use crate::runs::{print_time, timed_run, word_of};
 use crate::sets::{Change, Kind, push_set};
 use compare_cli::Status;
 use pol_outside::{MemorySink, SafeFolder, SafeSink};
+use std::alloc::Global;
 use std::io::ErrorKind;
 use std::{io, str};
 
@@ -116,27 +117,34 @@ fn print_sets(rt: &HostRuntime, asked: Asked, folder: &mut SafeFolder) -> io::Re
     print_certificate(rt, folder, &mut sink, asked.timed)
 }
 
+/// The text of a set of a row, changed.
+fn text_of(alloc: Global, row: Row, change: Change) -> io::Result<String> {
+    let mut text = String::new(alloc);
+    push_set(&mut text, row.kind, row.count, change)?;
+    Ok(text)
+}
+
 /// Puts a set of a row, changed, into the folder.
 fn hold(
+    alloc: Global,
     folder: &mut SafeFolder,
     name: &str,
-    text: &mut String,
     row: Row,
     change: Change,
 ) -> io::Result<()> {
-    text.clear();
-    push_set(text, row.kind, row.count, change)?;
+    let text = text_of(alloc, row, change)?;
     folder.hold(name, text.as_bytes())?;
     Ok(())
 }
 
+fn print_over(rt: &HostRuntime, asked: Asked, folder: &mut SafeFolder, row: Row) -> io::Result<()> {
+    hold(rt.alloc(), folder, "first", row, Change::Itself)?;
+    hold(rt.alloc(), folder, "second", row, row.change)?;
+    print_sets(rt, asked, folder)
+}
+
 fn print_row(rt: &HostRuntime, asked: Asked, row: Row) -> io::Result<()> {
-    let alloc = rt.alloc();
-    let mut folder = SafeFolder::new(alloc);
-    let mut text = String::new(alloc);
-    hold(&mut folder, "first", &mut text, row, Change::Itself)?;
-    hold(&mut folder, "second", &mut text, row, row.change)?;
-    print_sets(rt, asked, &mut folder)
+    print_over(rt, asked, &mut SafeFolder::new(rt.alloc()), row)
 }
 
 /// Prints a row, and how its sets compare.

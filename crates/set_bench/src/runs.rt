@@ -13,6 +13,27 @@ fn arguments_of(alloc: Global, words: &str) -> io::Result<Vec<String>> {
     Ok(arguments)
 }
 
+fn status_over<S: Sink>(
+    alloc: Global,
+    arguments: &[String],
+    folder: &mut SafeFolder,
+    sink: &mut S,
+) -> Status {
+    run(alloc, arguments, folder, sink)
+}
+
+fn timed_status<S: Sink>(
+    rt: &HostRuntime,
+    arguments: &[String],
+    folder: &mut SafeFolder,
+    sink: &mut S,
+) -> io::Result<(Status, u128)> {
+    let start = rt.process_cpu_time()?.as_micros();
+    let status = status_over(rt.alloc(), arguments, folder, sink);
+    let end = rt.process_cpu_time()?.as_micros();
+    Ok((status, end.saturating_sub(start)))
+}
+
 /// How the command of the words ends, with its processor time in microseconds.
 pub(crate) fn timed_run<S: Sink>(
     rt: &HostRuntime,
@@ -20,18 +41,15 @@ pub(crate) fn timed_run<S: Sink>(
     folder: &mut SafeFolder,
     sink: &mut S,
 ) -> io::Result<(Status, u128)> {
-    let alloc = rt.alloc();
-    let arguments = arguments_of(alloc, words)?;
-    let start = rt.process_cpu_time()?.as_micros();
-    let status = run(alloc, arguments.as_slice(), folder, sink);
-    let end = rt.process_cpu_time()?.as_micros();
-    Ok((status, end.saturating_sub(start)))
+    let arguments = arguments_of(rt.alloc(), words)?;
+    timed_status(rt, arguments.as_slice(), folder, sink)
 }
 
 /// How the command of the words ends.
 pub(crate) fn status_of(alloc: Global, words: &str, folder: &mut SafeFolder) -> io::Result<Status> {
     let arguments = arguments_of(alloc, words)?;
-    Ok(run(alloc, arguments.as_slice(), folder, &mut SafeSink::new()))
+    let status = status_over(alloc, arguments.as_slice(), folder, &mut SafeSink::new());
+    Ok(status)
 }
 
 /// The answer to a comparison that ends so.
