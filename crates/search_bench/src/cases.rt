@@ -71,12 +71,13 @@ fn print_looked(
 fn print_tree(
     alloc: Global,
     out: &mut impl Write,
+    line: &str,
     tree: &Formula,
     clauses: &Clauses,
-    path: &Path,
 ) -> io::Result<()> {
-    let conflict = conflict_word(alloc, clauses, path)?;
-    print_looked(out, tree, path, conflict)
+    let path = answers_of(alloc, field(line, 3))?;
+    let conflict = conflict_word(alloc, clauses, &path)?;
+    print_looked(out, tree, &path, conflict)
 }
 
 fn print_clause(out: &mut impl Write, literals: &[(u32, bool)]) -> io::Result<()> {
@@ -160,16 +161,21 @@ fn print_of_clauses(
 ) -> io::Result<()> {
     match field(line, 0) {
         "clauses" => print_clauses(out, clauses),
-        "tree" => print_tree(
-            alloc,
-            out,
-            tree,
-            clauses,
-            &answers_of(alloc, field(line, 3))?,
-        ),
+        "tree" => print_tree(alloc, out, line, tree, clauses),
         "replay" => print_replay(alloc, out, line, clauses),
         _ => Err(bad_line()),
     }
+}
+
+// Whether the hints of a line replay from the path.
+fn replayed_word(
+    alloc: Global,
+    line: &str,
+    clauses: &Clauses,
+    path: &Path,
+) -> io::Result<&'static str> {
+    let hints = hints_of(alloc, field(line, 4))?;
+    are_replayed(alloc, clauses, path, &hints)
 }
 
 fn print_replay(
@@ -179,18 +185,15 @@ fn print_replay(
     clauses: &Clauses,
 ) -> io::Result<()> {
     let path = answers_of(alloc, field(line, 3))?;
-    let hints = hints_of(alloc, field(line, 4))?;
-    let word = are_replayed(alloc, clauses, &path, &hints)?;
+    let word = replayed_word(alloc, line, clauses, &path)?;
     writeln!(out, "{word}")
 }
 
 /// Prints what a line gives.
 pub(crate) fn print_case(alloc: Global, out: &mut impl Write, line: &str) -> io::Result<()> {
-    match field(line, 0) {
-        "hit" => print_hit_of(alloc, out, line),
-        _ => {
-            let tree = tree_of(alloc, field(line, 1))?;
-            print_of_tree(alloc, out, line, &tree)
-        }
+    if field(line, 0) == "hit" {
+        return print_hit_of(alloc, out, line);
     }
+    let tree = tree_of(alloc, field(line, 1))?;
+    print_of_tree(alloc, out, line, &tree)
 }

@@ -34,7 +34,7 @@ fn put(alloc: Global, list: &mut Branches, formula: Formula) -> Result<(), NoMem
 }
 
 /// Numbers that look as if drawn by chance.
-#[derive(Drop)]
+#[derive(Clone, Copy)]
 struct Draw {
     state: u64,
 }
@@ -205,12 +205,25 @@ struct Drawn {
     one_in: u32,
 }
 
+fn put_path(
+    alloc: Global,
+    draw: &mut Draw,
+    paths: &mut Vec<Path>,
+    drawn: Drawn,
+) -> Result<(), NoMemory>
+    requires { 0 < drawn.one_in }
+{
+    let path = draw.path(alloc, drawn.length, drawn.one_in)?;
+    paths.push(path)?;
+    Ok(())
+}
+
 fn draw_paths(alloc: Global, draw: &mut Draw, drawn: Drawn) -> Result<Vec<Path>, NoMemory>
     requires { 0 < drawn.one_in }
 {
     let mut paths = Vec::new(alloc);
     for _ in 0..drawn.calls {
-        paths.push(draw.path(alloc, drawn.length, drawn.one_in)?)?;
+        put_path(alloc, draw, &mut paths, drawn)?;
     }
     Ok(paths)
 }
@@ -387,17 +400,22 @@ fn run_hits_of_length(
 }
 
 /// Looks for hits with paths of each length.
-fn run_hits(rt: &HostRuntime, one_in: u32, calls: u32, timed: bool) -> io::Result<()>
+fn run_hits_of_lengths(
+    rt: &HostRuntime,
+    draw: &mut Draw,
+    store: &Store<Always>,
+    one_in: u32,
+    calls: u32,
+    timed: bool,
+) -> io::Result<()>
     requires { 0 < one_in }
 {
-    let mut draw = Draw { state: 2026 };
-    let store = store(rt.alloc(), &mut draw)?;
     println!(rt; "{LISTS} lists, one answer in {one_in} yes")?;
     for length in LENGTHS {
         run_hits_of_length(
             rt,
-            &mut draw,
-            &store,
+            draw,
+            store,
             Drawn {
                 calls,
                 length,
@@ -407,6 +425,15 @@ fn run_hits(rt: &HostRuntime, one_in: u32, calls: u32, timed: bool) -> io::Resul
         )?;
     }
     Ok(())
+}
+
+/// Looks for hits in a store of drawn lists.
+fn run_hits(rt: &HostRuntime, one_in: u32, calls: u32, timed: bool) -> io::Result<()>
+    requires { 0 < one_in }
+{
+    let mut draw = Draw { state: 2026 };
+    let store = store(rt.alloc(), &mut draw)?;
+    run_hits_of_lengths(rt, &mut draw, &store, one_in, calls, timed)
 }
 
 fn print_expanded(alloc: Global, out: &mut impl Write, line: &str) -> io::Result<()> {

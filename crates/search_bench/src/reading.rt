@@ -29,11 +29,16 @@ fn add_branches(list: &mut Branches, trees: &[Rc<Formula>]) -> Result<(), NoMemo
     Ok(())
 }
 
+fn branches_of(alloc: Global, trees: &[Rc<Formula>]) -> Result<Branches, NoMemory> {
+    let mut list = Branches::new(alloc);
+    add_branches(&mut list, trees)?;
+    Ok(list)
+}
+
 /// Takes the last so many trees, in their order.
 fn taken(alloc: Global, trees: &mut Vec<Rc<Formula>>, count: &str) -> io::Result<Branches> {
     let from = trees.len().saturating_sub(number_of(count)? as usize);
-    let mut list = Branches::new(alloc);
-    add_branches(&mut list, &trees.as_slice()[from..])?;
+    let list = branches_of(alloc, &trees.as_slice()[from..])?;
     trees.truncate(from);
     Ok(list)
 }
@@ -115,10 +120,15 @@ pub(crate) fn answers_of(alloc: Global, words: &str) -> io::Result<Path> {
     Ok(path)
 }
 
+fn add_hint(hints: &mut Hints, word: &str) -> io::Result<()> {
+    hints.push(number_of(word)?)?;
+    Ok(())
+}
+
 pub(crate) fn hints_of(alloc: Global, words: &str) -> io::Result<Hints> {
     let mut hints = Hints::new(alloc);
     for word in words.split_whitespace() {
-        hints.push(number_of(word)?)?;
+        add_hint(&mut hints, word)?;
     }
     Ok(hints)
 }
