@@ -5,7 +5,7 @@ use plain_lists::EqualClone;
 
 /// An IPv4 or an IPv6 address, as the number whose bits are those of the address, the first bit of
 /// the address being the highest.
-#[derive(Clone, Copy, Debug, PartialEq, Eq, PartialOrd, Ord, Hash)]
+#[derive(Clone, Copy, PartialEq, Eq, Hash)]
 pub enum Address {
     /// An IPv4 address: 32 bits.
     V4(u32),
@@ -18,5 +18,5 @@ impl EqualClone for Address {
 }
 
 /// The answer of a reader where the text isn't of its form.
-#[derive(Clone, Copy, Debug, PartialEq, Eq)]
+#[derive(Clone, Copy)]
 pub struct BadAddress;

@@ -9,7 +9,7 @@ use plain_lists::EqualClone;
 /// The addresses of one family whose first `prefix` bits are those of `first` (RFC 4632 for IPv4,
 /// RFC 4291 section 2.3 for IPv6). The prefix length is at most 32 or 128, and the bits of `first`
 /// after the prefix are zero, so `first` is the least address of the block.
-#[derive(Clone, Copy, Debug, PartialEq, Eq, PartialOrd, Ord, Hash)]
+#[derive(Clone, Copy, PartialEq, Eq, Hash)]
 pub struct Block {
     /// The least address of the block.
     pub first: Address,

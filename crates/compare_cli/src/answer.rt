@@ -8,7 +8,7 @@ use request_schema::{InferFault, SchemaFault};
 use wildcard_lang::Text;
 
 /// Which of the files.
-#[derive(Clone, Copy, Debug, PartialEq, Eq)]
+#[derive(Clone, Copy)]
 pub enum Role {
     First,
     Second,
@@ -61,7 +61,7 @@ pub enum Shortage {
 }
 
 /// Why a set doesn't allow a request.
-#[derive(Clone, Copy, Debug, PartialEq, Eq)]
+#[derive(Clone, Copy)]
 pub enum Denial {
     /// The first Deny statement that applies.
     ByStatement(StatementName),

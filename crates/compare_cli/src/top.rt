@@ -15,7 +15,7 @@ use pol_outside::{Folder, Sink, put_all};
 use std::alloc::{AllocError, Global};
 
 /// How a run ends.
-#[derive(Clone, Copy, Debug, PartialEq, Eq)]
+#[derive(Clone, Copy)]
 pub enum Status {
     /// The answer is yes: `not more permissive`, `accepted` or `allowed`; or it is a summary.
     Holds,

@@ -11,7 +11,7 @@ use crate::formula::{Branches, Formula};
 use crate::path::Path;
 
 /// A truth value, or that it isn't known yet.
-#[derive(Clone, Copy, Debug, PartialEq, Eq)]
+#[derive(Clone, Copy, Debug)]
 pub enum Three {
     Yes,
     No,

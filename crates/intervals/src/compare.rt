@@ -7,7 +7,7 @@ use crate::scaled::Scaled;
 use plain_lists::EqualClone;
 
 /// How a value stands to a bound.
-#[derive(Clone, Copy, PartialEq, Eq, Hash, Debug, Drop)]
+#[derive(Clone, Copy, PartialEq, Eq, Hash, Drop)]
 pub enum Compare {
     /// It is the bound.
     Equal,

@@ -9,7 +9,7 @@ use crate::digits::number;
 use crate::scaled::{Scaled, from_whole};
 
 /// The answer where a text is no moment.
-#[derive(Clone, Copy, PartialEq, Eq, Debug, Drop)]
+#[derive(Clone, Copy, Drop)]
 pub struct BadDate;
 
 /// The moment that the text stands for, in units of 10^-9 s since 1970-01-01T00:00:00Z. `BadDate`

@@ -10,7 +10,7 @@ use plain_lists::EqualClone;
 use std::marker::Model;
 
 /// A whole number of units of 10^-9, less than 10^27 in size. Contracts see the number of units.
-#[derive(Clone, Copy, PartialEq, Eq, PartialOrd, Ord, Hash, Debug, Drop)]
+#[derive(Clone, Copy, PartialEq, Eq, Hash, Drop)]
 pub struct Scaled {
     units: i128,
 }
@@ -33,7 +33,7 @@ impl EqualClone for Scaled {
 }
 
 /// The answer where a text is no decimal, or a number isn't small enough.
-#[derive(Clone, Copy, PartialEq, Eq, Debug, Drop)]
+#[derive(Clone, Copy, Drop)]
 pub struct BadNumber;
 
 impl Scaled {

@@ -4,7 +4,7 @@ use plain_lists::List;
 use wildcard_lang::PatternList;
 
 /// A pattern by its number, counted from 0, and whether it is to match.
-#[derive(Clone, Copy, Debug, PartialEq, Eq)]
+#[derive(Clone, Copy)]
 pub struct Literal {
     /// The number of the pattern.
     pub pattern: u32,

@@ -9,7 +9,7 @@ use std::alloc::Global;
 pub const MOST_TAKEN: u64 = 67_108_864;
 
 /// Why a file was not given.
-#[derive(Clone, Copy, Debug, PartialEq, Eq)]
+#[derive(Clone, Copy)]
 pub enum TakeFault {
     /// A fault of the folder: the name isn't there, or reading failed. The folder's count rose.
     Failed,

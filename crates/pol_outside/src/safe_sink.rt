@@ -5,7 +5,7 @@ ghost use Rattle.pol_outside.specs.Sink.{Puts};
 use crate::{Sink, SinkFault};
 
 /// A sink that never fails: its count of faults is 0. It keeps no bytes and tells none.
-#[derive(Clone, Copy, Debug, PartialEq, Eq)]
+#[derive(Clone, Copy)]
 pub struct SafeSink;
 
 impl SafeSink {

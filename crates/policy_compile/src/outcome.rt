@@ -12,7 +12,7 @@ pub struct Query {
 }
 
 /// Why there is no query.
-#[derive(Clone, Copy, Debug, PartialEq, Eq)]
+#[derive(Clone, Copy)]
 pub enum QueryFault {
     /// There are more than 1,000 different tests.
     TooManyTests,

@@ -2,7 +2,7 @@
 use policy_model::StatementName;
 
 /// What decides on a request under a set of policies.
-#[derive(Clone, Copy, Debug, PartialEq, Eq)]
+#[derive(Clone, Copy)]
 pub enum Decider {
     /// The first Deny statement that applies, or where the set allows the request the first Allow
     /// statement of the grants that applies.

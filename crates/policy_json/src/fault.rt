@@ -8,7 +8,7 @@ use std::alloc::{AllocError, Global};
 use wildcard_lang::Text;
 
 /// What is wrong with a file.
-#[derive(Clone, Copy, Debug, PartialEq, Eq)]
+#[derive(Clone, Copy, Debug)]
 pub enum PolicyCode {
     /// The file has no reading as a JSON value (RFC 8259) by `serde_json`, which takes values nested at
     /// most 127 deep and numbers up to the greatest float.
@@ -49,7 +49,7 @@ pub enum PolicyCode {
 /// A file's first fault, with the numbers of its document and of its statement there, both counted from
 /// 1, and the element. Each number is 0 where the fault lies in no document or in no statement, and the
 /// element is empty where it lies in none.
-#[derive(Drop, PartialEq, Eq)]
+#[derive(Drop)]
 pub struct PolicyFault {
     pub code: PolicyCode,
     pub document: u32,

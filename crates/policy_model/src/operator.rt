@@ -43,7 +43,7 @@ pub enum Base {
 }
 
 /// The families of operators, whose values have one form.
-#[derive(Clone, Copy, Debug, PartialEq, Eq)]
+#[derive(Clone, Copy)]
 pub enum Family {
     Text,
     Numeric,
@@ -56,7 +56,7 @@ pub enum Family {
 }
 
 /// How an operator asks of the values of a key.
-#[derive(Clone, Copy, Debug, PartialEq, Eq)]
+#[derive(Clone, Copy, PartialEq, Eq)]
 pub enum Quantifier {
     /// Without a prefix: of the one value that there may be.
     Plain,
@@ -67,7 +67,7 @@ pub enum Quantifier {
 }
 
 /// A condition operator.
-#[derive(Clone, Copy, Debug, PartialEq, Eq)]
+#[derive(Clone, Copy, PartialEq, Eq)]
 pub struct Operator {
     pub base: Base,
     pub quantifier: Quantifier,

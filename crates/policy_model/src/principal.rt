@@ -13,7 +13,7 @@ use wildcard_lang::Text;
 pub const ACCOUNT_DIGITS: usize = 12;
 
 /// The four kinds of principals of the IAM policy language.
-#[derive(Clone, Copy, Debug, PartialEq, Eq, PartialOrd, Ord, Hash)]
+#[derive(Clone, Copy, PartialEq, Eq, Hash)]
 pub enum PrincipalKind {
     Aws,
     Service,

@@ -45,19 +45,15 @@ pub type GuardList = List<DocumentList>;
 
 /// A set of policies: documents that grant, and guards that grant nothing and that each have to allow
 /// too, as permission boundaries and service control policies do.
-#[derive(Clone, Drop)]
+#[derive(Drop)]
 pub struct PolicySet {
     pub grants: DocumentList,
     pub guards: GuardList,
 }
 
-impl EqualClone for PolicySet {
-    ghost clones_are_equal = { Prim.search rules };
-}
-
 /// A statement by the numbers of its document and of itself in it, both counted from 1. Documents are
 /// counted through the grants and then through the guards in order.
-#[derive(Clone, Copy, Debug, PartialEq, Eq)]
+#[derive(Clone, Copy)]
 pub struct StatementName {
     pub document: u32,
     pub statement: u32,

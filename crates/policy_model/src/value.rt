@@ -7,7 +7,7 @@ use plain_lists::{EqualClone, List};
 use wildcard_lang::Text;
 
 /// The kinds of values that a condition key may have.
-#[derive(Clone, Copy, Debug, PartialEq, Eq, PartialOrd, Ord, Hash)]
+#[derive(Clone, Copy, Debug, PartialEq, Eq, Hash)]
 pub enum Kind {
     Text,
     Truth,

@@ -5,7 +5,7 @@ ghost use Rattle.proof_text.specs.declared.fault.ProofAnswer.TheVariants.{NoMemo
 use std::alloc::AllocError;
 
 /// What is wrong with a line of a certificate.
-#[derive(Clone, Copy, Debug, PartialEq, Eq)]
+#[derive(Clone, Copy, Debug)]
 pub enum ProofCode {
     /// The line isn't of a form that may stand there, it is missing, or it stands behind the end.
     C1Syntax,
@@ -19,14 +19,14 @@ pub enum ProofCode {
 
 /// The first line that isn't as it must be, counted from the file's first, from 1. The number of a
 /// line that is missing is the one after the last.
-#[derive(Clone, Copy, Debug, PartialEq, Eq)]
+#[derive(Clone, Copy)]
 pub struct ProofFault {
     pub code: ProofCode,
     pub line: u32,
 }
 
 /// What stands instead of a refutation.
-#[derive(Clone, Copy, Debug, PartialEq, Eq)]
+#[derive(Clone, Copy)]
 pub enum ProofAnswer {
     /// The file's first fault.
     Refused(ProofFault),

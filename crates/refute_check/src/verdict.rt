@@ -22,7 +22,7 @@ use slot_theory::accepts;
 use std::alloc::Global;
 
 /// What a check answers.
-#[derive(Clone, Copy, Debug, PartialEq, Eq)]
+#[derive(Clone, Copy, PartialEq, Eq)]
 pub enum Verdict {
     /// The refutation closes the query.
     Closes,
@@ -32,7 +32,7 @@ pub enum Verdict {
 
 /// What a walk through a part of a refutation answers. Numbers beyond the greatest are said to be the
 /// greatest.
-#[derive(Clone, Copy, Debug, PartialEq, Eq)]
+#[derive(Clone, Copy)]
 enum Walked {
     /// The part closes, and has so many nodes.
     Closed(u32),

@@ -7,7 +7,7 @@ use std::alloc::{AllocError, Global};
 use wildcard_lang::Text;
 
 /// What is wrong with a request file.
-#[derive(Clone, Copy, Debug, PartialEq, Eq)]
+#[derive(Clone, Copy, Debug)]
 pub enum RequestCode {
     /// The file has no reading as a JSON value (RFC 8259) by `serde_json`.
     Q1NotJson,
@@ -23,7 +23,7 @@ pub enum RequestCode {
 
 /// A request file's first fault, at a key as written, at the folded name of a required key, at
 /// `Principal`, `Action` or `Resource`, or at the empty text where it is the file as a whole.
-#[derive(Drop, PartialEq, Eq)]
+#[derive(Drop)]
 pub struct RequestFault {
     pub code: RequestCode,
     pub element: Text,

@@ -12,7 +12,7 @@ use wildcard_lang::Text;
 
 /// The first condition that no schema of the run can answer: in the second set or in the first, in
 /// the statement of this name, on the key as written.
-#[derive(Drop, PartialEq, Eq)]
+#[derive(Drop)]
 pub struct InferFault {
     pub second: bool,
     /// An operator without a prefix on a key that the schema gives several values, or else an

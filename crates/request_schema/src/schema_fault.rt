@@ -7,7 +7,7 @@ use std::alloc::{AllocError, Global};
 use wildcard_lang::Text;
 
 /// What is wrong with a schema file.
-#[derive(Clone, Copy, Debug, PartialEq, Eq)]
+#[derive(Clone, Copy, Debug)]
 pub enum SchemaCode {
     /// The file has no reading as a JSON value (RFC 8259) by `serde_json`.
     S1NotJson,
@@ -31,7 +31,7 @@ pub enum SchemaCode {
 
 /// A schema file's first fault, at a key or a name of the file as written, or at the empty text
 /// where it is the file as a whole.
-#[derive(Drop, PartialEq, Eq)]
+#[derive(Drop)]
 pub struct SchemaFault {
     pub code: SchemaCode,
     pub element: Text,

@@ -21,7 +21,7 @@ pub enum Kind {
 }
 
 /// How the set that is compared with another differs from that.
-#[derive(Clone, Copy, PartialEq, Eq)]
+#[derive(Clone, Copy)]
 pub enum Change {
     /// It doesn't.
     Itself,

@@ -5,7 +5,7 @@ use strata::Strata;
 use wildcard_lang::TextList;
 
 /// How much may be done for a summary.
-#[derive(Clone, Copy, Debug, PartialEq, Eq)]
+#[derive(Clone, Copy)]
 pub struct Limits {
     /// The most splits on a test, for the query of each finding.
     pub splits: u32,

@@ -6,7 +6,7 @@ use std::rc::Rc;
 use wildcard_lang::TextList;
 
 /// How much a search may do.
-#[derive(Clone, Copy, Debug, PartialEq, Eq)]
+#[derive(Clone, Copy)]
 pub struct Budgets {
     /// The most splits on a test.
     pub splits: u32,

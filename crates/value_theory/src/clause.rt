@@ -5,7 +5,7 @@ ghost use Rattle.value_theory.specs.Clauses.{literal_holds, OnConditions};
 use plain_lists::List;
 
 /// That a condition is met, or that it isn't.
-#[derive(Clone, Copy, Debug, PartialEq, Eq, Hash, Drop)]
+#[derive(Clone, Copy, PartialEq, Eq, Hash, Drop)]
 pub struct Literal {
     /// The number of the condition in its list, counted from 0.
     pub pattern: u32,

@@ -7,7 +7,7 @@ use intervals::{ByteList, Compare, Scaled};
 use plain_lists::List;
 
 /// What a value is, other than a text.
-#[derive(Clone, Copy, Debug, PartialEq, Eq, Hash)]
+#[derive(Clone, Copy, PartialEq, Eq, Hash)]
 pub enum PlainKind {
     /// True or false.
     Truth,

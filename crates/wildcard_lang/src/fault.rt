@@ -3,7 +3,7 @@
 use std::alloc::AllocError;
 
 /// Why a reader gave no pattern. Where several causes stand together, the first in this order comes.
-#[derive(Clone, Copy, Debug, PartialEq, Eq)]
+#[derive(Clone, Copy)]
 pub enum PatternFault {
     /// A `${` that begins none of the escapes `${*}`, `${?}` and `${$}` stands in the text.
     PolicyVariable,

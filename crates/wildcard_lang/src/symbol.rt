@@ -9,7 +9,7 @@ use plain_lists::List;
 use std::alloc::{AllocError, Global};
 
 /// One symbol of a pattern's text.
-#[derive(Clone, Copy, Debug, PartialEq, Eq)]
+#[derive(Clone, Copy)]
 pub enum Symbol {
     /// A character that stands as it is written.
     Written(char),
