@@ -66,6 +66,26 @@ fn ask_one(
     is_possible(alloc, schema, &tests, &path, slot, states)
 }
 
+// The two tests, in this order.
+fn both(alloc: Global, one: Test, other: Test) -> Result<TestList, NoMemory>
+    ensures { IfOk result (λ tests. tests ≡ one ∷ other ∷ []) }
+{
+    let mut tests = TestList::new(alloc);
+    tests.push(one)?;
+    tests.push(other)?;
+    Ok(tests)
+}
+
+// The path that answers the first test yes and the second no.
+fn passing_first_alone(alloc: Global) -> Result<Path, NoMemory>
+    ensures { IfOk result (λ path. path ≡ (0, true) ∷ (1, false) ∷ []) }
+{
+    let mut path = Path::new(alloc);
+    path.push(0, true)?;
+    path.push(1, false)?;
+    Ok(path)
+}
+
 // Whether a valid request answers the one test yes and the other no.
 fn ask_two(
     alloc: Global,
@@ -83,12 +103,8 @@ fn ask_two(
     ensures { IfOk result (TellsPossible schema.now
         (yes ∷ no ∷ []) ((0, true) ∷ (1, false) ∷ []) slot.now states) }
 {
-    let mut tests = TestList::new(alloc);
-    tests.push(yes)?;
-    tests.push(no)?;
-    let mut path = Path::new(alloc);
-    path.push(0, true)?;
-    path.push(1, false)?;
+    let tests = both(alloc, yes, no)?;
+    let path = passing_first_alone(alloc)?;
     is_possible(alloc, schema, &tests, &path, slot, states)
 }
 
