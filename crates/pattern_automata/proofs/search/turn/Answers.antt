@@ -8,6 +8,11 @@ use Rattle.pattern_automata.proofs.search.turn.Goals as goal
 pub step_into-requires-clause-size : goal.step_into-requires-clause-size
 step_into-requires-clause-size c = ap length c.get.ensures ∙ words-length _ _ _ c.requires.tree _ c.requires.within
 
+pub push-requires : goal.push-requires
+push-requires c = λ h. iff_false c.has.ensures c.if-has.false
+    (subst (λ (x : List ℕ). Contains c.args.search.now.found x)
+    ((c.in_ok-state.ensures.items ∙ c.as_slice-2.ensures.value) ∙ sym c.as_slice.ensures.value) h)
+
 pub returns : goal.returns
 returns c =
     turn-new _ _ _ c.requires.tree _ _ _ _ _ c.requires.within c.requires.does.scalar
