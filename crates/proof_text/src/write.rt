@@ -1,5 +1,5 @@
 //! Writes certificates.
-ghost use Rattle.std.specs.Prelude.{◌≡◌, ◌++◌, ◌∷◌, [], IfOk, OnOk, decimal, map, string_bytes};
+ghost use Rattle.std.specs.Prelude.{◌≡◌, ◌++◌, ◌∷◌, [], if◌then◌else◌, IfOk, OnOk, decimal, map, string_bytes};
 ghost use Rattle.std.specs.List.{flat_map, join_with_byte};
 ghost use Rattle.refute_check.specs.Proofs.{proof_of};
 ghost use Rattle.proof_text.specs.Laws.{AreListsSmall, ArePlacesSmall, AreSmall, HoldsSmallNumbers, IsKindSmall, IsSlotSmall};
@@ -169,13 +169,20 @@ fn put_slot_proof(text: &mut String, proof: &SlotProof) -> Result<(), NoMemory>
     }
 }
 
+// What stands in front of a test that is answered so.
+fn sign(yes: bool) -> &'static str
+    ensures { result.now ≡ 32 ∷ (if yes then 43 else 45) ∷ [] }
+{
+    if yes { " +" } else { " -" }
+}
+
 // Answers to tests, each behind a space.
 fn put_answers(text: &mut String, answers: &[(u32, bool)]) -> Result<(), NoMemory>
     ensures { OnOk result (string_bytes text.new ≡
         string_bytes text.old ++ flat_map (λ p. 32 ∷ answer_part p) answers.now) }
 {
     for (test, yes) in answers {
-        text.push_str(if *yes { " +" } else { " -" })?;
+        text.push_str(sign(*yes))?;
         put_number(text, u64::from(*test))?;
     }
     Ok(())
