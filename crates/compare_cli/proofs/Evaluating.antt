@@ -1,5 +1,5 @@
 -- What decides on a request says what is answered to its evaluation.
-use Rattle.std.proofs.Common.{◌≡◌, ℕ, List, None, Ok, inl, inr, subst}
+use Rattle.std.proofs.Common.{◌≡◌, ℕ, List, Ok, inl, inr}
 use Rattle.policy_model.specs.declared.request.Request.{Request}
 use Rattle.policy_model.specs.declared.schema.Schema.{Schema}
 use Rattle.policy_model.specs.declared.set.PolicySet.{PolicySet}
@@ -14,9 +14,8 @@ use Rattle.compare_cli.specs.declared.answer.Answer.TheVariants as answer
 use Rattle.compare_cli.specs.declared.answer.Denial.{Denial}
 use Rattle.compare_cli.specs.declared.answer.Denial.TheVariants as denial
 use Rattle.request_json.specs.RequestFiles.{request_from}
-use Rattle.request_schema.specs.RunSchemas.{infer_fault}
-use Rattle.compare_cli.specs.Evaluated.{EvaluatesSet, IsEvaluation, IsUngranted, OfRequest}
-use Rattle.compare_cli.specs.SetRun.{OfSetRun, one_schema}
+use Rattle.compare_cli.specs.Evaluated.{IsEvaluation, IsUngranted}
+use Rattle.compare_cli.specs.UnderKeys.{EvaluatesRequest}
 
 module _ (law : DecidersTellWhatIsAllowed) (schema : Schema) (set : PolicySet) (r : Request) (valid : IsValid schema r) where
   pub allowed-by : (name : StatementName) → IsDecider schema set r (by.Statement name) → Allows schema set r → IsEvaluation schema set r (answer.Allowed name)
@@ -35,15 +34,8 @@ module _ (law : DecidersTellWhatIsAllowed) (schema : Schema) (set : PolicySet) (
   pub not-guarded : (g : ℕ) → IsDecider schema set r (by.NoGuard g) → IsEvaluation schema set r (answer.Denied (denial.NoGuard g))
   not-guarded g lacks = (valid, law schema set r (by.NoGuard g) lacks, lacks)
 
--- the schema of the run and the request of the file, of which the evaluation holds
-of-run : (request : List ℕ) (named : Schema) (set : PolicySet) (schema : Schema) (r : Request) (a : Answer) → infer_fault named set None ≡ None → schema ≡ one_schema named set → request_from schema request ≡ Ok r → IsEvaluation schema set r a →
-    OfSetRun named set (λ s. OfRequest s request (λ q. IsEvaluation s set q a))
-of-run request named set schema r a answered run stands is =
-    let P : Schema → Type 0 = λ s. OfRequest s request (λ q. IsEvaluation s set q a) in
-    record { answered = answered; holds = subst P run (record { request = r; stands = stands; holds = is }) }
-
--- an evaluation of the request of a file is what the files may be answered
-pub evaluates : (request : List ℕ) (named : Schema) (set : PolicySet) (schema : Schema) (r : Request) (a : Answer) → infer_fault named set None ≡ None → schema ≡ one_schema named set → request_from schema request ≡ Ok r → IsEvaluation schema set r a → EvaluatesSet request named set a
-evaluates request named set schema r (answer.Allowed name) answered run stands is = of-run request named set schema r (answer.Allowed name) answered run stands is
-evaluates request named set schema r (answer.Denied d) answered run stands is = of-run request named set schema r (answer.Denied d) answered run stands is
-evaluates request named set schema r _ answered run stands is = absurd is
+-- an evaluation of the request of a file is what the file may be answered
+pub evaluates : (request : List ℕ) (set : PolicySet) (schema : Schema) (r : Request) (a : Answer) → request_from schema request ≡ Ok r → IsEvaluation schema set r a → EvaluatesRequest request schema set a
+evaluates request set schema r (answer.Allowed name) stands is = record { request = r; stands = stands; holds = is }
+evaluates request set schema r (answer.Denied d) stands is = record { request = r; stands = stands; holds = is }
+evaluates request set schema r _ stands is = absurd is

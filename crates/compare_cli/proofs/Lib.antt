@@ -8,4 +8,5 @@ mod Naming
 mod PairRuns
 mod Printing
 mod Summarising
+mod UnderKeys
 mod Writing

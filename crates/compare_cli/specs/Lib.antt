@@ -15,3 +15,4 @@ pub mod Summarised
 pub mod Standing
 pub mod Statuses
 pub mod Texts
+pub mod UnderKeys

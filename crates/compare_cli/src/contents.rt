@@ -5,6 +5,7 @@ ghost use Rattle.policy_model.specs.Soundness.{IsSound, SchemaIsSound};
 ghost use Rattle.proof_text.specs.declared.limits.TheConstants.{MOST_PROOF_BYTES};
 ghost use Rattle.compare_cli.specs.Answers.{AnswersCheck, AnswersComparison, IsPairRead, IsRunRead, contents, infer_role};
 ghost use Rattle.compare_cli.specs.Comparison.{IsFitting};
+ghost use Rattle.compare_cli.specs.UnderKeys.{IsReadBehind, IsReadUnder};
 ghost use Rattle.compare_cli.specs.Standing.{IsNamed};
 
 use crate::answer::{Answer, Refusal, Role};
@@ -75,22 +76,48 @@ pub fn read_pair(
         (contents first.now second.now (option_map (λ f. f.now) schema.entry))) }
     ensures fitting { IfOk result (λ r. IfOk r IsFitting) }
 {
-    let named = match named_schema(alloc, schema) {
-        Ok(named) => named,
-        Err(SchemaAnswer::Refused(fault)) => return Ok(Err(Refusal::NoSchema(fault))),
-        Err(SchemaAnswer::NoMemory) => return Err(AllocError),
-    };
-    let one = match read_set(alloc, first) {
-        Ok(set) => set,
-        Err(PolicyAnswer::Refused(fault)) => return Ok(Err(Refusal::NoSet(Role::First, fault))),
-        Err(PolicyAnswer::NoMemory) => return Err(AllocError),
-    };
-    let two = match read_set(alloc, second) {
-        Ok(set) => set,
-        Err(PolicyAnswer::Refused(fault)) => return Ok(Err(Refusal::NoSet(Role::Second, fault))),
-        Err(PolicyAnswer::NoMemory) => return Err(AllocError),
-    };
-    run_pair(alloc, &named, one, two)
+    match named_schema(alloc, schema) {
+        Ok(named) => read_sets(alloc, &named, first, second),
+        Err(SchemaAnswer::Refused(fault)) => Ok(Err(Refusal::NoSchema(fault))),
+        Err(SchemaAnswer::NoMemory) => Err(AllocError),
+    }
+}
+
+// The same, under the keys that were named.
+fn read_sets(
+    alloc: Global,
+    named: &Schema,
+    first: &[u8],
+    second: &[u8],
+) -> Result<Result<Pair, Refusal>, AllocError>
+    requires { SchemaIsSound named.now }
+    ensures read { IfOk result (IsReadUnder named.now first.now second.now) }
+    ensures fitting { IfOk result (λ r. IfOk r IsFitting) }
+{
+    match read_set(alloc, first) {
+        Ok(one) => read_second(alloc, named, one, second),
+        Err(PolicyAnswer::Refused(fault)) => Ok(Err(Refusal::NoSet(Role::First, fault))),
+        Err(PolicyAnswer::NoMemory) => Err(AllocError),
+    }
+}
+
+// The same, behind the first set.
+fn read_second(
+    alloc: Global,
+    named: &Schema,
+    one: PolicySet,
+    second: &[u8],
+) -> Result<Result<Pair, Refusal>, AllocError>
+    requires sound { SchemaIsSound named.now }
+    requires first_sound { IsSound one }
+    ensures read { IfOk result (IsReadBehind named.now one second.now) }
+    ensures fitting { IfOk result (λ r. IfOk r IsFitting) }
+{
+    match read_set(alloc, second) {
+        Ok(two) => run_pair(alloc, named, one, two),
+        Err(PolicyAnswer::Refused(fault)) => Ok(Err(Refusal::NoSet(Role::Second, fault))),
+        Err(PolicyAnswer::NoMemory) => Err(AllocError),
+    }
 }
 
 /// The answer of files that were read, those of two sets and that of a schema where one is named, to a

@@ -3,6 +3,7 @@ ghost use Rattle.std.specs.Prelude.{IfOk, option_map};
 ghost use Rattle.policy_model.specs.Requests.{IsValid};
 ghost use Rattle.policy_model.specs.Soundness.{IsSound, SchemaFits, SchemaIsSound};
 ghost use Rattle.compare_cli.specs.Evaluated.{Evaluates, EvaluatesSet, IsEvaluation, IsUngranted, evaluation_contents};
+ghost use Rattle.compare_cli.specs.UnderKeys.{EvaluatesRequest, EvaluatesUnder};
 
 use crate::answer::{Answer, Denial, Refusal, Role};
 use crate::contents::named_schema;
@@ -55,15 +56,27 @@ fn set_answer(
     requires set_sound { IsSound set.now }
     ensures { IfOk result (EvaluatesSet request.now named.now set.now) }
 {
-    let schema = match infer(alloc, named, set, None) {
-        Ok(schema) => schema,
+    match infer(alloc, named, set, None) {
+        Ok(schema) => request_answer(alloc, &schema, set, request),
         Err(InferAnswer::Refused(fault)) => {
-            return Ok(Answer::Refused(Refusal::NoRun(Role::Set, fault)));
+            Ok(Answer::Refused(Refusal::NoRun(Role::Set, fault)))
         }
-        Err(InferAnswer::NoMemory) => return Err(AllocError),
-    };
-    match read_request(alloc, &schema, request) {
-        Ok(request) => Ok(decision_on(set, &schema, &request)),
+        Err(InferAnswer::NoMemory) => Err(AllocError),
+    }
+}
+
+// The answer of a set under the schema of its run, and of a request file.
+fn request_answer(
+    alloc: Global,
+    schema: &Schema,
+    set: &PolicySet,
+    request: &[u8],
+) -> Result<Answer, AllocError>
+    requires { SchemaFits schema.now set.now }
+    ensures { IfOk result (EvaluatesRequest request.now schema.now set.now) }
+{
+    match read_request(alloc, schema, request) {
+        Ok(request) => Ok(decision_on(set, schema, &request)),
         Err(RequestAnswer::Refused(fault)) => Ok(Answer::Refused(Refusal::NoRequest(fault))),
         Err(RequestAnswer::NoMemory) => Err(AllocError),
     }
@@ -80,17 +93,26 @@ pub fn evaluate(
     ensures { IfOk result (Evaluates (evaluation_contents
         set.now request.now (option_map (λ f. f.now) schema.entry))) }
 {
-    let named = match named_schema(alloc, schema) {
-        Ok(named) => named,
-        Err(SchemaAnswer::Refused(fault)) => return Ok(Answer::Refused(Refusal::NoSchema(fault))),
-        Err(SchemaAnswer::NoMemory) => return Err(AllocError),
-    };
-    let set = match read_set(alloc, set) {
-        Ok(set) => set,
-        Err(PolicyAnswer::Refused(fault)) => {
-            return Ok(Answer::Refused(Refusal::NoSet(Role::Set, fault)));
-        }
-        Err(PolicyAnswer::NoMemory) => return Err(AllocError),
-    };
-    set_answer(alloc, &named, &set, request)
+    match named_schema(alloc, schema) {
+        Ok(named) => evaluate_under(alloc, &named, set, request),
+        Err(SchemaAnswer::Refused(fault)) => Ok(Answer::Refused(Refusal::NoSchema(fault))),
+        Err(SchemaAnswer::NoMemory) => Err(AllocError),
+    }
+}
+
+// The same, under the keys that were named.
+fn evaluate_under(
+    alloc: Global,
+    named: &Schema,
+    set: &[u8],
+    request: &[u8],
+) -> Result<Answer, AllocError>
+    requires { SchemaIsSound named.now }
+    ensures { IfOk result (EvaluatesUnder named.now set.now request.now) }
+{
+    match read_set(alloc, set) {
+        Ok(set) => set_answer(alloc, named, &set, request),
+        Err(PolicyAnswer::Refused(fault)) => Ok(Answer::Refused(Refusal::NoSet(Role::Set, fault))),
+        Err(PolicyAnswer::NoMemory) => Err(AllocError),
+    }
 }

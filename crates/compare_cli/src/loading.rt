@@ -3,6 +3,7 @@ ghost use Rattle.std.specs.Prelude.{◌≡◌, ◌<◌, IfOk, string_bytes};
 ghost use Rattle.command_words.specs.Asked.{texts_in};
 ghost use Rattle.policy_load.specs.Loads.{first_load, second_load};
 ghost use Rattle.policy_model.specs.Soundness.{IsSound, SchemaIsSound};
+ghost use Rattle.request_schema.specs.BuiltIn.{built_in_schema};
 ghost use Rattle.summary_search.specs.Outcomes.{AreInRange};
 ghost use Rattle.compare_cli.specs.Loaded.{AnswersLoad, ComparesSets, IsLineFor, IsLoaded, SummarisesFirst};
 ghost use Rattle.compare_cli.specs.Loaded.{default_budgets, default_limits, first_key, line_of};
@@ -105,14 +106,23 @@ fn first_key(alloc: Global) -> Result<Vec<String>, AllocError>
     Ok(names)
 }
 
-// The first line of the summary of the set under named keys.
+// The summary of the set under named keys by its first key.
+fn first_summary(alloc: Global, named: &Schema, set: &PolicySet) -> Result<Answer, AllocError>
+    requires sound { SchemaIsSound named.now }
+    requires set_sound { IsSound set.now }
+    ensures { IfOk result (SummarisesFirst named.now set.now) }
+{
+    let names = first_key(alloc)?;
+    set_summary(alloc, named, set, names.as_slice(), default_limits())
+}
+
+// The first line of that summary.
 fn summary_line(alloc: Global, named: &Schema, set: &PolicySet) -> Result<String, AllocError>
     requires sound { SchemaIsSound named.now }
     requires set_sound { IsSound set.now }
     ensures { IfOk result (IsLineFor (SummarisesFirst named.now set.now)) }
 {
-    let names = first_key(alloc)?;
-    let answer = set_summary(alloc, named, set, names.as_slice(), default_limits())?;
+    let answer = first_summary(alloc, named, set)?;
     answer_line(alloc, &answer)
 }
 
@@ -152,9 +162,19 @@ fn load_lines(alloc: Global, keys: u32) -> Result<LoadLines, AllocError>
     ensures { IfOk result (IsLoaded keys) }
 {
     let named = built_in(alloc)?;
-    let forth = first_to_second(alloc, &named, keys)?;
-    let back = second_to_first(alloc, &named, keys)?;
-    let summary = first_by_key(alloc, &named, keys)?;
+    lines_under(alloc, &named, keys)
+}
+
+// The same, under the built-in keys.
+fn lines_under(alloc: Global, named: &Schema, keys: u32) -> Result<LoadLines, AllocError>
+    requires built_in { named.now ≡ built_in_schema }
+    requires sound { SchemaIsSound named.now }
+    requires few { keys < 1000 }
+    ensures { IfOk result (IsLoaded keys) }
+{
+    let forth = first_to_second(alloc, named, keys)?;
+    let back = second_to_first(alloc, named, keys)?;
+    let summary = first_by_key(alloc, named, keys)?;
     Ok(LoadLines {
         keys,
         forth,

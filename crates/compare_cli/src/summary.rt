@@ -5,8 +5,10 @@ ghost use Rattle.command_words.specs.Asked.{HasBudgetsInRange, are_dimensions, s
 ghost use Rattle.policy_model.specs.Soundness.{IsSound, SchemaFits, SchemaIsSound};
 ghost use Rattle.findings.specs.Findings.{IsFinding};
 ghost use Rattle.summary_search.specs.Outcomes.{AreInRange};
+ghost use Rattle.compare_cli.specs.declared.answer.Shortage.TheVariants.{SplitsIn, StatesIn};
 ghost use Rattle.compare_cli.specs.Dimensions.{NameSlots, dimension_slots};
-ghost use Rattle.compare_cli.specs.Summarised.{AreLinesOf, HasTexts, IsOutcomeAnswer, IsSetQueried, IsTooManyAnswer};
+ghost use Rattle.compare_cli.specs.UnderKeys.{SummarisesUnderKeys};
+ghost use Rattle.compare_cli.specs.Summarised.{AreLinesOf, HasTexts, IsFindingAnswer, IsFoundAnswer, IsOutcomeAnswer, IsSetQueried, IsTooManyAnswer};
 ghost use Rattle.compare_cli.specs.Summarised.{AnswersSummary, SummarisesKnown, SummarisesSet, SummarisesUnder};
 ghost use Rattle.compare_cli.specs.Summarised.{limits_in, summary_contents, told, told_by};
 
@@ -18,7 +20,7 @@ use findings::{Finding, Summary, finding_text};
 use plain_lists::EqualClone;
 use policy_compile::{Query, QueryFault, set_query};
 use policy_json::{PolicyAnswer, read_set};
-use policy_model::{PolicySet, Request, Schema, SlotList};
+use policy_model::{PolicySet, Request, Schema, Slot, SlotList};
 use request_schema::{InferAnswer, SchemaAnswer, infer};
 use std::alloc::{AllocError, Global};
 use strata::Strata;
@@ -82,6 +84,49 @@ fn too_many(alloc: Global, names: &[String], dimension: u32) -> Result<Answer, A
     Ok(Answer::Refused(Refusal::TooManyPredicates(name)))
 }
 
+// The answer of the findings.
+fn found_answer(
+    alloc: Global,
+    strata: &Strata,
+    summary: &[(Finding, Request)],
+) -> Result<Answer, AllocError>
+    requires { All (λ p. IsFinding strata.now.dimensions p.0) summary.now }
+    ensures { IfOk result (IsFoundAnswer strata.now.dimensions summary.now) }
+{
+    Ok(Answer::Summary(all_lines(alloc, strata, summary)?))
+}
+
+// The answer on a finding whose query needs more splits.
+fn splits_answer(
+    alloc: Global,
+    strata: &Strata,
+    finding: &Finding,
+    limits: Limits,
+) -> Result<Answer, AllocError>
+    requires { IsFinding strata.now.dimensions finding.now }
+    ensures { IfOk result
+        (IsFindingAnswer strata.now.dimensions finding.now (SplitsIn limits.splits)) }
+{
+    let text = finding_text(alloc, strata, finding)?;
+    Ok(Answer::Undecided(Shortage::SplitsIn(limits.splits, text)))
+}
+
+// The answer on a finding whose query needs more states at the slot.
+fn states_answer(
+    alloc: Global,
+    strata: &Strata,
+    finding: &Finding,
+    limits: Limits,
+    slot: Slot,
+) -> Result<Answer, AllocError>
+    requires { IsFinding strata.now.dimensions finding.now }
+    ensures { IfOk result
+        (IsFindingAnswer strata.now.dimensions finding.now (StatesIn limits.states slot)) }
+{
+    let text = finding_text(alloc, strata, finding)?;
+    Ok(Answer::Undecided(Shortage::StatesIn(limits.states, slot, text)))
+}
+
 // The answer to what the summary came to.
 fn outcome_answer(
     alloc: Global,
@@ -93,21 +138,13 @@ fn outcome_answer(
     ensures { IfOk result (IsOutcomeAnswer (texts_in names.now) limits outcome) }
 {
     match outcome {
-        Outcome::Found(strata, summary) => {
-            let lines = all_lines(alloc, &strata, summary.as_slice())?;
-            Ok(Answer::Summary(lines))
-        }
+        Outcome::Found(strata, summary) => found_answer(alloc, &strata, summary.as_slice()),
         Outcome::TooManyPredicates(dimension) => too_many(alloc, names, dimension),
         Outcome::Wide(slot, _) => Ok(Answer::Undecided(Shortage::States(limits.states, slot))),
         Outcome::OutOfFindings => Ok(Answer::Undecided(Shortage::Findings(limits.findings))),
-        Outcome::OutOfSplits(strata, finding) => {
-            let text = finding_text(alloc, &strata, &finding)?;
-            Ok(Answer::Undecided(Shortage::SplitsIn(limits.splits, text)))
-        }
+        Outcome::OutOfSplits(strata, finding) => splits_answer(alloc, &strata, &finding, limits),
         Outcome::OutOfStates(strata, finding, wide) => {
-            let text = finding_text(alloc, &strata, &finding)?;
-            let shortage = Shortage::StatesIn(limits.states, wide.slot, text);
-            Ok(Answer::Undecided(shortage))
+            states_answer(alloc, &strata, &finding, limits, wide.slot)
         }
     }
 }
@@ -207,23 +244,29 @@ pub fn summary_of(
     ensures { IfOk result (AnswersSummary (summarising_in arguments.now)
         (summary_contents set.now (option_map (λ f. f.now) schema.entry))) }
 {
-    let named = match named_schema(alloc, schema) {
-        Ok(named) => named,
-        Err(SchemaAnswer::Refused(fault)) => return Ok(Answer::Refused(Refusal::NoSchema(fault))),
-        Err(SchemaAnswer::NoMemory) => return Err(AllocError),
-    };
-    let set = match read_set(alloc, set) {
-        Ok(set) => set,
-        Err(PolicyAnswer::Refused(fault)) => {
-            return Ok(Answer::Refused(Refusal::NoSet(Role::Set, fault)));
-        }
-        Err(PolicyAnswer::NoMemory) => return Err(AllocError),
-    };
-    set_summary(
-        alloc,
-        &named,
-        &set,
-        arguments.dimensions.as_slice(),
-        limits_of(arguments),
-    )
+    match named_schema(alloc, schema) {
+        Ok(named) => summary_under(alloc, &named, set, arguments),
+        Err(SchemaAnswer::Refused(fault)) => Ok(Answer::Refused(Refusal::NoSchema(fault))),
+        Err(SchemaAnswer::NoMemory) => Err(AllocError),
+    }
+}
+
+// The same, under the keys that were named.
+fn summary_under(
+    alloc: Global,
+    named: &Schema,
+    set: &[u8],
+    arguments: &SummaryArguments,
+) -> Result<Answer, AllocError>
+    requires sound { SchemaIsSound named.now }
+    requires budgets { HasBudgetsInRange arguments.now }
+    requires dimensions { are_dimensions (texts_in arguments.now.dimensions.items) ≡ true }
+    ensures { IfOk result (SummarisesUnderKeys (summarising_in arguments.now) named.now set.now) }
+{
+    let names = arguments.dimensions.as_slice();
+    match read_set(alloc, set) {
+        Ok(set) => set_summary(alloc, named, &set, names, limits_of(arguments)),
+        Err(PolicyAnswer::Refused(fault)) => Ok(Answer::Refused(Refusal::NoSet(Role::Set, fault))),
+        Err(PolicyAnswer::NoMemory) => Err(AllocError),
+    }
 }

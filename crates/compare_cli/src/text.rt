@@ -248,38 +248,52 @@ fn predicates_text(alloc: Global, name: &Text) -> Result<String, AllocError>
     Value::String(element).to_string(alloc)
 }
 
+// The line on a file that is too long.
+#[tactic(auto, unfolding(crate::specs::Texts::refusal_text))]
+fn too_long_text(alloc: Global, role: Role) -> Result<String, AllocError>
+    ensures { IfOk result (λ s. string_bytes s ≡ refusal_text (Refusal.TooLong role)) }
+{
+    let end = too_long_end(alloc, role)?;
+    let end = end.as_str();
+    let role = role_word(role);
+    format!(in alloc; "refused: {role}{end}")
+}
+
+// The line on a dimension of which too many predicates are named.
+#[tactic(auto, unfolding(crate::specs::Texts::refusal_text))]
+fn too_many_text(alloc: Global, name: &Text) -> Result<String, AllocError>
+    ensures { IfOk result (λ s. string_bytes s ≡ refusal_text (Refusal.TooManyPredicates name.now)) }
+{
+    let element = predicates_text(alloc, name)?;
+    let element = element.as_str();
+    format!(in alloc; "refused: query: P17 Limit: document 0, statement 0, {element}\n")
+}
+
+// The line of a refusal of a file, by a fault of it.
+fn refused_line(alloc: Global, file: &str, fault: &str) -> Result<String, AllocError>
+    ensures { IfOk result (λ s. string_bytes s
+        ≡ codes "refused: " ++ file.now ++ codes ": " ++ fault.now ++ codes "\n") }
+{
+    format!(in alloc; "refused: {file}: {fault}\n")
+}
+
 #[tactic(auto, unfolding(crate::specs::Texts::refusal_text))]
 fn refusal_text(alloc: Global, refusal: &Refusal) -> Result<String, AllocError>
     ensures { IfOk result (λ s. string_bytes s ≡ refusal_text refusal.now) }
 {
     match refusal {
-        Refusal::TooLong(role) => {
-            let end = too_long_end(alloc, *role)?;
-            let end = end.as_str();
-            let role = role_word(*role);
-            format!(in alloc; "refused: {role}{end}")
-        }
+        Refusal::TooLong(role) => too_long_text(alloc, *role),
         Refusal::NoSet(role, fault) => {
-            let role = role_word(*role);
-            let fault = fault_text(alloc, fault)?;
-            let fault = fault.as_str();
-            format!(in alloc; "refused: {role}: {fault}\n")
+            refused_line(alloc, role_word(*role), fault_text(alloc, fault)?.as_str())
         }
         Refusal::NoSchema(fault) => {
-            let fault = schema_text(alloc, fault)?;
-            let fault = fault.as_str();
-            format!(in alloc; "refused: schema: {fault}\n")
+            refused_line(alloc, "schema", schema_text(alloc, fault)?.as_str())
         }
         Refusal::NoRequest(fault) => {
-            let fault = request_fault_text(alloc, fault)?;
-            let fault = fault.as_str();
-            format!(in alloc; "refused: request: {fault}\n")
+            refused_line(alloc, "request", request_fault_text(alloc, fault)?.as_str())
         }
         Refusal::NoRun(role, fault) => {
-            let role = role_word(*role);
-            let fault = infer_text(alloc, fault)?;
-            let fault = fault.as_str();
-            format!(in alloc; "refused: {role}: {fault}\n")
+            refused_line(alloc, role_word(*role), infer_text(alloc, fault)?.as_str())
         }
         Refusal::TooManyTests => String::from_str(
             alloc,
@@ -291,14 +305,9 @@ fn refusal_text(alloc: Global, refusal: &Refusal) -> Result<String, AllocError>
         ),
         Refusal::NoDimension(name) => {
             let name = element_text(alloc, name)?;
-            let name = name.as_str();
-            format!(in alloc; "refused: schema: S5 UnknownDimension: {name}\n")
+            refused_line(alloc, "schema: S5 UnknownDimension", name.as_str())
         }
-        Refusal::TooManyPredicates(name) => {
-            let element = predicates_text(alloc, name)?;
-            let element = element.as_str();
-            format!(in alloc; "refused: query: P17 Limit: document 0, statement 0, {element}\n")
-        }
+        Refusal::TooManyPredicates(name) => too_many_text(alloc, name),
     }
 }
 

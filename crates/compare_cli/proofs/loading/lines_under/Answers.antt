@@ -1,14 +1,13 @@
-use Rattle.std.proofs.Common.{◌≡◌, refl, subst}
+use Rattle.std.proofs.Common.{refl, subst}
 use Rattle.policy_load.specs.Loads.{first_load, second_load}
 use Rattle.policy_model.specs.declared.schema.Schema.{Schema}
-use Rattle.request_schema.specs.BuiltIn.{built_in_schema}
 use Rattle.compare_cli.specs.Loaded.{ComparesSets, IsLineFor, SummarisesFirst}
-use Rattle.compare_cli.proofs.loading.load_lines.Goals as goal
+use Rattle.compare_cli.proofs.loading.lines_under.Goals as goal
 
 pub returns : goal.returns
 returns c =
     let keys = c.args.keys in
-    let named : c.in_ok-named.named ≡ built_in_schema = c.in_ok-named.ensures.value in
+    let named = c.requires.built_in in
     record {
       count = refl;
       forth = subst (λ (s : Schema). IsLineFor (ComparesSets s (first_load keys) second_load) c.in_ok-forth.forth) named c.in_ok-forth.ensures;
