@@ -1,4 +1,4 @@
-use Rattle.std.proofs.Common.{◌≡◌, ◌∙◌, List, ℕ, Bool, Option, ap, true, set, sym, subst}
+use Rattle.std.proofs.Common.{◌≡◌, ◌∙◌, List, ℕ, Bool, Option, ap, true, set, sym, subst, rules}
 use Rattle.std.proofs.lemmas.Option.{slice_get_within}
 use Rattle.tree_values.specs.Models.{answer_at}
 use Rattle.tree_values.specs.Nodes.{AreSettled, AreSettledBut, holds_number, list_at}
@@ -23,3 +23,6 @@ returns-clause-settled c =
     (λ i n there h. subst (λ (xs : List ℕ). holds_number xs i ≡ true) (sym own) (c.requires.graph.asked i c.args.test n (slice_get_within nodes i n there) there h)) c.requires.settled in
     let given = subst (λ (t : List (Option Bool)). AreSettledBut nodes (answer_at t) c.args.marks.now.items leaves) (sym c.as_slice-2.ensures.value) but in
     subst (λ (t : List (Option Bool)). AreSettled nodes (answer_at t) c.settle_all.new.marks.items) c.as_slice-2.ensures.value (c.settle_all.ensures.settled given)
+
+pub returns-clause-changed : goal.returns-clause-changed
+returns-clause-changed c = search rules

@@ -18,3 +18,9 @@ returns-then-not-is_no_on-clause-tried c =
     let back = subst (λ (a : Answered). IsSet a c.set-then-not-is_no_on.new.self c.args.tried (Some c.in-Some.answer)) c.is_no_on.ensures.same c.set-then-not-is_no_on.ensures in
     kept-back c.args.self.now c.set.new.self c.args.needed.now c.args.test c.args.sides c.args.tried c.in-Some.answer there (λ b e. none-some b (sym free ∙ e)) c.set.ensures c.set-then-not-is_no_on.new.self back
     (λ given. let bad = c.if-not-is_no_on.ensures.no.1 given in cc)
+
+pub returns-then-is_some-clause-tried : goal.returns-then-is_some-clause-tried
+returns-then-is_some-clause-tried c = search rules
+
+pub returns-else-not-is_no_on-clause-out : goal.returns-else-not-is_no_on-clause-out
+returns-else-not-is_no_on-clause-out c = search rules
