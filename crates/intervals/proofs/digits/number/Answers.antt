@@ -1,4 +1,5 @@
-use Rattle.std.proofs.Common.{sym, ◌∙◌, arith}
+use Rattle.std.proofs.Common.{sym, ◌∙◌, arith, rules}
+use Rattle.std.proofs.lemmas.Grind.{common_steps}
 use Rattle.intervals.proofs.Numbers.{ReadSoFar-step, ReadSoFar-room, ReadSoFar-below}
 use Rattle.intervals.proofs.digits.number.Goals as goal
 
@@ -14,3 +15,9 @@ loop-digit-preserved c =
 
 pub returns-clause-below : goal.returns-clause-below
 returns-clause-below c = ReadSoFar-below _ _ _ _ c.loop-digit.invariant (omega arith)
+
+pub returns-clause-value : goal.returns-clause-value
+returns-clause-value c = grind (arith, common_steps)
+
+pub returns-clause-fits : goal.returns-clause-fits
+returns-clause-fits c = search rules
