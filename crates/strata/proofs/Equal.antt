@@ -1,5 +1,5 @@
 -- Equal predicates.
-use Rattle.std.proofs.Common.{◌≡◌, ◌==◌, ◌&&◌, ℕ, List, Bool, true, false, ap, refl, arith}
+use Rattle.std.proofs.Common.{◌≡◌, ◌==◌, ◌&&◌, ℕ, List, Bool, true, false, ap, refl, sym, true≢false, arith}
 use mathlib.Core.Bool.{beq}
 use Rattle.std.specs.Bool.{Decides}
 use Rattle.std.proofs.lemmas.Grind.{common_steps}
@@ -46,7 +46,7 @@ entries-Decides entries.All entries.All = (λ e. refl, λ e. refl)
 entries-Decides (entries.Kind k) (entries.Kind m) = let same = kinds-Decide k m in (λ e. ap entries.Kind (same.0 e), λ e. same.1 (cc))
 entries-Decides (entries.Account x) (entries.Account y) = let same = texts-Decide x y in (λ e. ap entries.Account (same.0 e), λ e. same.1 (cc))
 entries-Decides (entries.Exact k x) (entries.Exact m y) = both-decide (kinds-Decide k m) (texts-Decide x y) (λ e. (cc, cc)) (λ e f. cc)
-entries-Decides a b = (λ e. absurd (cc), λ e. absurd (cc))
+entries-Decides a b = (λ e. absurd (true≢false (sym e)), λ e. absurd (cc))
 
 conds-Decides : (a b : Cond) → Decides (conds.eq-value.it a b) (a ≡ b)
 conds-Decides (cond.Matches p) (cond.Matches q) = let same = pointwise_decides pieces-Decides p q in (λ e. ap cond.Matches (same.0 e), λ e. same.1 (cc))
@@ -54,11 +54,11 @@ conds-Decides (cond.Compares how m) (cond.Compares way n) = both-decide (compare
 conds-Decides (cond.Inside a) (cond.Inside b) = let same = blocks-Decides a b in (λ e. ap cond.Inside (same.0 e), λ e. same.1 (cc))
 conds-Decides (cond.Flag s t) (cond.Flag u v) = both-decide (flags-Decide s u) (flags-Decide t v) (λ e. (cc, cc)) (λ e f. cc)
 conds-Decides (cond.Equals xs) (cond.Equals ys) = let same = bytes-Decides xs ys in (λ e. ap cond.Equals (same.0 e), λ e. same.1 (cc))
-conds-Decides a b = (λ e. absurd (cc), λ e. absurd (cc))
+conds-Decides a b = (λ e. absurd (true≢false (sym e)), λ e. absurd (cc))
 
 pub predicates-Decides : (a b : Predicate) → Decides (predicate.eq-value.it a b) (a ≡ b)
 predicates-Decides Every Every = (λ e. refl, λ e. refl)
 predicates-Decides (Principal x) (Principal y) = let same = entries-Decides x y in (λ e. ap Principal (same.0 e), λ e. same.1 (cc))
 predicates-Decides (Word x) (Word y) = let same = pointwise_decides pieces-Decides x y in (λ e. ap Word (same.0 e), λ e. same.1 (cc))
 predicates-Decides (Meets x) (Meets y) = let same = conds-Decides x y in (λ e. ap Meets (same.0 e), λ e. same.1 (cc))
-predicates-Decides a b = (λ e. absurd (cc), λ e. absurd (cc))
+predicates-Decides a b = (λ e. absurd (true≢false (sym e)), λ e. absurd (cc))
