@@ -2,7 +2,7 @@ use Rattle.std.proofs.Common.{rules, subst, sym}
 use Rattle.proof_text.specs.declared.fault.ProofFault.{ProofFault}
 use Rattle.compare_cli.specs.declared.answer.Answer.TheVariants.{BadProof}
 use Rattle.compare_cli.specs.Decided.{IsChecked}
-use Rattle.std.proofs.lemmas.Result.{IfOk-weaker}
+use Rattle.std.proofs.lemmas.Result.{IfOk-from_err, IfOk-weaker}
 use Rattle.policy_compile.specs.Queries.{IsQuery}
 use Rattle.proof_text.specs.Reads.{IsReadFrom}
 use Rattle.proof_text.specs.Laws.{limits_of}
@@ -31,3 +31,10 @@ returns-in-Err-Refused c =
     let is : IsQuery (plan_of c.args.pair.now) c.in-Ok.query = search rules in
     subst (λ (f : ProofFault). IsChecked c.args.proof.now c.args.pair.now (BadProof f)) (sym c.in-Err-Refused.fault-is)
     (bad-proof c.args.pair.now c.in-Ok.query c.args.proof.now _ c.in-Err-Refused.field-0 c.in-Err-Refused.fault is c.in-Err-Refused.ensures.read c.in-Err-Refused.field-0-is (search rules))
+
+-- the search finds this unasked; asked for here, a wrong body is refused without a longer search
+pub returns-in-Err : goal.returns-in-Err
+returns-in-Err c = search rules
+
+pub returns-in_err-query : goal.returns-in_err-query
+returns-in_err-query c = IfOk-from_err _ _ c.from_residual.ensures.0

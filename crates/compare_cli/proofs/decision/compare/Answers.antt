@@ -1,5 +1,5 @@
 use Rattle.std.proofs.Common.{rules, ◌≡◌, Bool, false, subst, sym}
-use Rattle.std.proofs.lemmas.Result.{IfOk-weaker}
+use Rattle.std.proofs.lemmas.Result.{IfOk-from_err, IfOk-weaker}
 use Rattle.policy_compile.specs.Queries.{IsQuery}
 use Rattle.compare_cli.specs.Comparison.{plan_of}
 use Rattle.compare_cli.specs.Decided.{IsComparison, IsVerdictOn}
@@ -28,3 +28,16 @@ returns c =
     let is : IsQuery (plan_of c.args.pair.now) c.in-Ok.query = search rules in
     IfOk-weaker c.decision_answer.result _ _ (λ a v. comparison_if_decided c.closed_queries_are_no.ensures c.closing_proofs_are_small.ensures c.closing_proofs_have_no_fault.ensures c.args.pair.now c.in-Ok.query
     c.args.certified c.args.budgets c.in_ok-decided.decided c.requires.fitting is c.in_ok-decided.ensures.decision a v) c.decision_answer.ensures
+
+-- the search finds this unasked; asked for here, a wrong body is refused without a longer search
+pub returns-in-Err : goal.returns-in-Err
+returns-in-Err c = search rules
+
+pub returns-in_err-query : goal.returns-in_err-query
+returns-in_err-query c = IfOk-from_err _ _ c.from_residual.ensures.0
+
+pub returns-in_err-answer : goal.returns-in_err-answer
+returns-in_err-answer c = IfOk-from_err _ _ c.from_residual-in_err-answer.ensures.0
+
+pub returns-in_err-decided : goal.returns-in_err-decided
+returns-in_err-decided c = IfOk-from_err _ _ c.from_residual-in_err-decided.ensures.0
