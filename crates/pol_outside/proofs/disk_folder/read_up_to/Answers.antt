@@ -1,4 +1,5 @@
 use Rattle.std.proofs.Common.{arith}
+use Rattle.std.proofs.lemmas.Grind.{common_steps}
 use Rattle.pol_outside.proofs.Reading.{Gives-longer}
 use Rattle.pol_outside.proofs.disk_folder.read_up_to.Goals as goal
 
@@ -8,3 +9,6 @@ returns g c = record {
   grown = c.loop-left.invariant.1;
   gives = Gives-longer _ _ _ _ c.loop-left.invariant.3 (omega arith);
 }
+
+pub loop-left-preserved : goal.loop-left-preserved
+loop-left-preserved g c = grind (arith, common_steps)
