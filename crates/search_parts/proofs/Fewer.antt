@@ -92,7 +92,7 @@ of-slot core proof r is = ap proof_of is ∙ search (rules, the_lemmas)
 of-clauses : (hints : List ℕ) (r : Refutation) → r ≡ ByClauses hints → proof_of r ≡ by_clauses hints
 of-clauses hints r is = ap proof_of is ∙ search (rules, the_lemmas)
 
-of-label : (n : ℕ) (answers : Answers) (inner : Rc Refutation Global) (r : Refutation) → r ≡ Label n answers inner → proof_of r ≡ label n answers (proof_of inner.value)
+pub of-label : (n : ℕ) (answers : Answers) (inner : Rc Refutation Global) (r : Refutation) → r ≡ Label n answers inner → proof_of r ≡ label n answers (proof_of inner.value)
 of-label n answers inner r is = ap proof_of is ∙ search (rules, the_lemmas)
 
 of-reuse : (n : ℕ) (r : Refutation) → r ≡ Reuse n → proof_of r ≡ reuse n

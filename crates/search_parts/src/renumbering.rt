@@ -1,6 +1,6 @@
 //! Labels numbered by their lines.
 ghost use Rattle.std.specs.Prelude.{◌≡◌, ◌++◌, ◌+◌, ◌<◌, ◌^◌, [], IfOk, OnOk, slice_index_or};
-ghost use Rattle.refute_check.specs.Proofs.{labels, proof_of};
+ghost use Rattle.refute_check.specs.Proofs.{label, labels, proof_of, split};
 ghost use Rattle.search_parts.specs.Making.{part_proof};
 ghost use Rattle.search_parts.specs.Renaming.{line_names, renamed};
 
@@ -32,24 +32,12 @@ pub fn renumbered(
         Refutation::Split { test, yes, no } => {
             let (yes, middle) = renumbered(alloc, yes, names, begun)?;
             let (no, end) = renumbered(alloc, no, names, middle)?;
-            let test = *test;
-            Ok((Rc::new(alloc, Refutation::Split { test, yes, no })?, end))
+            Ok((split_of(alloc, *test, yes, no)?, end))
         }
         Refutation::Label { answers, inner, .. } => {
             let (inner, end) = renumbered(alloc, inner, names, begun + 1)?;
             names.push(begun)?;
-            let answers = copy(alloc, answers)?;
-            Ok((
-                Rc::new(
-                    alloc,
-                    Refutation::Label {
-                        number: begun,
-                        answers,
-                        inner,
-                    },
-                )?,
-                end,
-            ))
+            Ok((label_of(alloc, begun, answers, inner)?, end))
         }
         Refutation::Reuse { number } => {
             let number = name_at(names.as_slice(), *number);
@@ -59,6 +47,40 @@ pub fn renumbered(
         Refutation::BySlot { .. } => Ok((part.clone()?, begun)),
         Refutation::ByClauses { .. } => Ok((part.clone()?, begun)),
     }
+}
+
+// The split on a test.
+fn split_of(
+    alloc: Global,
+    test: u32,
+    yes: Rc<Refutation>,
+    no: Rc<Refutation>,
+) -> Result<Rc<Refutation>, NoMemory>
+    ensures { IfOk result (λ r. proof_of r.value ≡
+        split test (proof_of yes.value) (proof_of no.value)) }
+{
+    Ok(Rc::new(alloc, Refutation::Split { test, yes, no })?)
+}
+
+// The node of a label.
+fn label_of(
+    alloc: Global,
+    number: u32,
+    answers: &AnswerList,
+    inner: Rc<Refutation>,
+) -> Result<Rc<Refutation>, NoMemory>
+    ensures { IfOk result (λ r. proof_of r.value ≡
+        label number answers.now (proof_of inner.value)) }
+{
+    let answers = copy(alloc, answers)?;
+    Ok(Rc::new(
+        alloc,
+        Refutation::Label {
+            number,
+            answers,
+            inner,
+        },
+    )?)
 }
 
 /// The whole refutation, whose labels were numbered in the order in which they end, with its labels

@@ -1,4 +1,5 @@
-use Rattle.std.proofs.Common.{ℕ, Bool, List, true, false, IfOk, IsSome, IsTrue, All, ◌↔◌, subst}
+use Rattle.std.proofs.Common.{ℕ, Bool, List, true, false, IfOk, IsSome, IsTrue, All, ◌↔◌, refl, subst}
+use Rattle.std.proofs.lemmas.Result.{IfOk-from_err}
 use Rattle.formula_tree.specs.Answers.{Answers, answer_of}
 use Rattle.formula_tree.specs.Runs.{answered}
 use Rattle.refute_check.specs.Proofs.{proof_of}
@@ -27,3 +28,28 @@ still_closes-returns-in-BySlot-clause-still t c =
 pub still_closes-returns-in-Label-clause-still : goal.still_closes-returns-in-Label-clause-still
 still_closes-returns-in-Label-clause-still t c =
     still-label c.args.self.now c.args.part.now c.args.path.now c.has_stored.result c.in-Label.number c.in-Label.answers c.in-Label.inner c.in-Label.is c.has_stored.ensures
+
+-- ---- the path, where no side is looked at
+
+pub still_closes-returns-in-ByValue-clause-path : goal.still_closes-returns-in-ByValue-clause-path
+still_closes-returns-in-ByValue-clause-path t c = refl
+
+pub still_closes-returns-in-BySlot-clause-path : goal.still_closes-returns-in-BySlot-clause-path
+still_closes-returns-in-BySlot-clause-path t c = refl
+
+pub still_closes-returns-in-Label-clause-path : goal.still_closes-returns-in-Label-clause-path
+still_closes-returns-in-Label-clause-path t c = refl
+
+pub still_closes-returns-in-Reuse-clause-path : goal.still_closes-returns-in-Reuse-clause-path
+still_closes-returns-in-Reuse-clause-path t c = refl
+
+-- ---- want of memory, of which nothing is said
+
+pub sides-returns-in_err-side : goal.sides-returns-in_err-side
+sides-returns-in_err-side t c = let e = c.from_residual.ensures.0 in record { still = IfOk-from_err _ _ e; path = IfOk-from_err _ _ e }
+
+pub side-returns-in_err-push : goal.side-returns-in_err-push
+side-returns-in_err-push t c = let e = c.from_residual.ensures.0 in record { still = IfOk-from_err _ _ e; path = IfOk-from_err _ _ e }
+
+pub side-returns-in_err-still : goal.side-returns-in_err-still
+side-returns-in_err-still t c = let e = c.from_residual-in_err-still.ensures.0 in record { still = IfOk-from_err _ _ e; path = IfOk-from_err _ _ e }
