@@ -1,6 +1,7 @@
 //! What tests want of a word or of an id, with `?*` and a shape, and products for that.
-ghost use Rattle.std.specs.Prelude.{◌≡◌, ◌++◌, ◌+◌, ◌^◌, ◌≤◌, ◌<◌, ◌↔◌, IfOk, OnOk, IsTrue};
+ghost use Rattle.std.specs.Prelude.{◌≡◌, ◌++◌, ◌+◌, ◌^◌, ◌≤◌, ◌<◌, ◌↔◌, IfOk, OnOk, IsTrue, false, unwrap_or};
 ghost use Rattle.std.specs.Option.{option_to_list};
+ghost use Rattle.formula_tree.specs.Answers.{answer_of};
 ghost use Rattle.slot_theory.specs.Slots.{some_word};
 ghost use Rattle.slot_theory.specs.Question.{AreWanted, IsAskable, IsProductFor};
 ghost use Rattle.slot_theory.specs.Wants.{IsClosedFor, IsWants, patterns_of, shape_clauses, wanted, wanted_clauses};
@@ -81,6 +82,13 @@ fn push_shape_clause(
     clauses.push(wanted(alloc, number, true)?)
 }
 
+/// Whether the path answers the test yes.
+fn is_yes(question: &Question<'_>, test: u32) -> bool
+    ensures { result ≡ unwrap_or (answer_of question.now.path.now test) false }
+{
+    question.path.answer(test).unwrap_or(false)
+}
+
 /// The clauses of the tests, of `?*` and of the shape.
 fn clauses_of(
     alloc: Global,
@@ -94,7 +102,7 @@ fn clauses_of(
 {
     let mut clauses = ClauseList::new(alloc);
     for i in 0..numbers.len() {
-        let holds = question.path.answer(numbers[i]).unwrap_or(false);
+        let holds = is_yes(question, numbers[i]);
         clauses.push(wanted(alloc, i, holds)?)?;
     }
     clauses.push(wanted(alloc, numbers.len(), true)?)?;

@@ -1,4 +1,4 @@
-use Rattle.std.proofs.Common.{◌↔◌, ◌∙◌, ℕ, IsTrue, IfOk, List, Option, sym, subst}
+use Rattle.std.proofs.Common.{rules, ◌↔◌, ◌∙◌, ℕ, IsTrue, IfOk, List, Option, sym, subst}
 use Rattle.wildcard_lang.specs.declared.piece.Piece.{Piece}
 use Rattle.policy_model.specs.Requests.{shape_of}
 use Rattle.slot_theory.specs.Question.{AreWanted}
@@ -17,3 +17,6 @@ returns-in_ok-open-in-Closed c =
     subst (λ (xs : List ℕ). IfOk c.is_closed_for.result (λ yes. IsTrue yes ↔ IsClosedFor q.tests.now q.path.now xs (shape_of q.schema.now.shapes c.args.kind) c.in-Closed.closed)) (c.as_slice.ensures ∙ c.in_ok-open-in-Closed.ensures)
     (subst (λ (shape : Option (List Piece)). IfOk c.is_closed_for.result (λ yes. IsTrue yes ↔ IsClosedFor q.tests.now q.path.now c.as_slice.result.now shape c.in-Closed.closed)) c.shape_of-shape.ensures c.is_closed_for.ensures)
     )
+
+pub returns-in-Never : goal.returns-in-Never
+returns-in-Never c = search rules

@@ -1,4 +1,4 @@
-use Rattle.std.proofs.Common.{◌↔◌, IsTrue, IfOk, All, Bool, sym, subst}
+use Rattle.std.proofs.Common.{rules, ◌↔◌, IsTrue, IfOk, All, Bool, sym, subst}
 use Rattle.set_operators.specs.declared.ask.KeyAsk.{KeyAsk}
 use Rattle.set_operators.specs.Asks.{AskIsOf, Asks}
 use Rattle.set_operators.specs.Shown.{ShowsAbsent, ShowsPoints, ShowsRequired, ShowsSomeMember, ShowsTogether}
@@ -53,3 +53,6 @@ shows_some_member-requires c = record {
 pub returns : goal.returns
 returns c =
     rw c.in-SomeMember.is (subst (λ (asks : Asks). IfOk c.shows_some_member.result (λ yes. IsTrue yes ↔ ShowsSomeMember c.args.rule.now asks c.in-SomeMember.closed)) c.in_ok-asks.ensures c.shows_some_member.ensures)
+
+pub returns-in-Kinds : goal.returns-in-Kinds
+returns-in-Kinds c = search rules
