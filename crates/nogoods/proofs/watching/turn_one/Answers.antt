@@ -1,4 +1,4 @@
-use Rattle.std.proofs.Common.{[], List, ℕ, subst, sym}
+use Rattle.std.proofs.Common.{[], List, ℕ, subst, sym, rules}
 use Rattle.nogoods.specs.Turning.{StayAsHits, TurnsOrStays}
 use Rattle.nogoods.proofs.Watches.{stays, stay-hits}
 use Rattle.nogoods.proofs.watching.turn_one.Goals as goal
@@ -15,3 +15,6 @@ pub returns-in_ok-push-in-None-clause-hits : goal.returns-in_ok-push-in-None-cla
 returns-in_ok-push-in-None-clause-hits c = λ before.
     subst (StayAsHits c.args.lists.now c.args.path.now) (sym c.in_ok-push-in-None.ensures.ok)
     (stay-hits c.args.lists.now c.args.path.now c.args.stay.now c.args.number c.in-Some.answers.now c.in-Some.ensures.lookup.3.0 (sym (c.in-Some.ensures.lookup.3.1 [])) c.in-None.ensures before)
+
+pub returns-in_ok-watch-in-Some-lacking-clause-turned : goal.returns-in_ok-watch-in-Some-lacking-clause-turned
+returns-in_ok-watch-in-Some-lacking-clause-turned c = search rules

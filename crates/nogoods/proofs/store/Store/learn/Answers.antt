@@ -1,4 +1,5 @@
-use Rattle.std.proofs.Common.{◌∙◌, ◌++◌, ◌∷◌, [], ap}
+use Rattle.std.proofs.Common.{◌∙◌, ◌++◌, ◌∷◌, [], ap, arith}
+use Rattle.std.proofs.lemmas.Grind.{common_steps}
 use Rattle.nogoods.proofs.Zipping.{lengths-push, pairs-more, close-more}
 use Rattle.nogoods.proofs.store.Store.learn.Goals as goal
 
@@ -13,3 +14,9 @@ returns-in-Ok-clause-ok g c =
     let lists = c.self.inside.lists in
     let items = c.self.inside.values.items in
     pairs-more lists c.add.new.self items c.push.new.self.items c.args.answers c.args.what c.in-Ok.ensures.ok c.in_ok-push.ensures.items c.self.invariant.0 ∙ ap (λ xs. xs ++ (c.args.answers, c.args.what.value) ∷ []) c.self.view_is
+
+pub invariant_of-self-in-Err : goal.invariant_of-self-in-Err
+invariant_of-self-in-Err g c = grind (arith, common_steps)
+
+pub returns-in-Err-clause-err : goal.returns-in-Err-clause-err
+returns-in-Err-clause-err g c = grind (arith, common_steps)
