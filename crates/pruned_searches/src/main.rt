@@ -48,15 +48,15 @@ use tally::{Found, Refutations, Splits, Tally};
 /// What all numbers are drawn from.
 const SEED: u64 = 2026;
 
-/// What stands behind the word at the front of a line of a group.
+/// What stands in a group behind the word, which begins with the end of the line before it.
 fn behind<'a>(lines: &'a str, word: &str) -> &'a str {
-    lines
-        .lines()
-        .find_map(|line| line.strip_prefix(word))
-        .unwrap_or("")
+    match lines.split_once(word) {
+        Some((_, rest)) => rest.lines().next().unwrap_or(""),
+        None => "",
+    }
 }
 
-/// The number behind the word at the front of a line of a group.
+/// The number behind such a word.
 fn number_behind(lines: &str, word: &str) -> io::Result<u32> {
     let Ok(number) = behind(lines, word).parse::<u32>() else {
         return Err(ErrorKind::InvalidData.into());
@@ -66,9 +66,9 @@ fn number_behind(lines: &str, word: &str) -> io::Result<u32> {
 
 fn form_of(lines: &str) -> io::Result<Form> {
     Ok(Form {
-        tests: number_behind(lines, "tests ")?,
-        parts: number_behind(lines, "parts ")?,
-        literals: number_behind(lines, "literals ")?,
+        tests: number_behind(lines, "\ntests ")?,
+        parts: number_behind(lines, "\nparts ")?,
+        literals: number_behind(lines, "\nliterals ")?,
     })
 }
 
@@ -115,7 +115,7 @@ fn group_of(lines: &str) -> io::Result<Group<'_>> {
     Ok(Group {
         name: lines.lines().next().unwrap_or(""),
         form: form_of(lines)?,
-        count: number_behind(lines, "queries ")?,
+        count: number_behind(lines, "\nqueries ")?,
     })
 }
 
@@ -169,7 +169,7 @@ fn try_group(
     lines: &str,
 ) -> io::Result<Tally> {
     let group = group_of(lines)?;
-    let pool = pool_of(alloc, behind(lines, "schema "), behind(lines, "set "))?;
+    let pool = pool_of(alloc, behind(lines, "\nschema "), behind(lines, "\nset "))?;
     try_pool(alloc, out, draw, group, &pool)
 }
 
