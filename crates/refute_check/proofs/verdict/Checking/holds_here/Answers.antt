@@ -1,7 +1,20 @@
-use Rattle.std.proofs.Common.{◌↔◌, IsTrue, IfOk, sym, subst}
-use Rattle.refute_check.proofs.Walking.{slot-rule}
+use Rattle.std.proofs.Common.{rules, ◌↔◌, IsTrue, IfOk, sym, subst}
+use Rattle.formula_tree.specs.Trees.{tree_of}
+use Rattle.refute_check.specs.Closing.{OwnRule}
+use Rattle.refute_check.specs.Proofs.{Proof}
+use Rattle.refute_check.proofs.Walking.{of-split, of-value, slot-rule}
 use Rattle.refute_check.proofs.verdict.Checking.holds_here.Goals as goal
+
+pub returns-in-ByValue : goal.returns-in-ByValue
+returns-in-ByValue c =
+    let q = c.args.self.now.query.now in
+    subst (λ (p : Proof). IsTrue c.eq.result ↔ OwnRule c.args.self.now.schema.now q.tests (tree_of q.formula.value) c.args.labels.now p c.args.path.now) (sym (of-value c.args.node.now c.in-ByValue.is)) (search rules)
 
 pub returns-in-BySlot : goal.returns-in-BySlot
 returns-in-BySlot c =
     subst (λ (A : Type 0). IfOk c.accepts.result (λ yes. IsTrue yes ↔ A)) (sym (slot-rule c.args.self.now.schema.now c.args.self.now.query.now c.args.labels.now c.in-BySlot.core c.in-BySlot.proof c.args.node.now c.args.path.now c.in-BySlot.is)) c.accepts.ensures
+
+pub returns-then-test-len : goal.returns-then-test-len
+returns-then-test-len c =
+    let q = c.args.self.now.query.now in
+    subst (λ (p : Proof). IsTrue c.is_none.result ↔ OwnRule c.args.self.now.schema.now q.tests (tree_of q.formula.value) c.args.labels.now p c.args.path.now) (sym (of-split c.in-Split.test c.in-Split.yes c.in-Split.no c.args.node.now c.in-Split.is)) (search rules)
