@@ -32,12 +32,19 @@ fn line_of(alloc: Global, text: &str) -> Result<String, AllocError>
     }
 }
 
-// The first line of an answer, without its line feed.
-fn answer_line(alloc: Global, answer: &Answer) -> Result<String, AllocError>
+// The first line of the text of an answer, without its line feed.
+fn text_line(alloc: Global, answer: &Answer) -> Result<String, AllocError>
     ensures { IfOk result (λ s. string_bytes s ≡ line_of (answer_text answer.now)) }
 {
     let text = answer_text(alloc, answer)?;
     line_of(alloc, text.as_str())
+}
+
+// The same of an answer that isn't kept.
+fn answer_line(alloc: Global, answer: Answer) -> Result<String, AllocError>
+    ensures { IfOk result (λ s. string_bytes s ≡ line_of (answer_text answer)) }
+{
+    text_line(alloc, &answer)
 }
 
 // The budgets of a run that names no others.
@@ -82,7 +89,7 @@ fn comparison_line(
     ensures { IfOk result (IsLineFor (ComparesSets named.now first second)) }
 {
     let answer = compared(alloc, named, first, second)?;
-    answer_line(alloc, &answer)
+    answer_line(alloc, answer)
 }
 
 // The limits of a summary that names no others.
@@ -123,7 +130,7 @@ fn summary_line(alloc: Global, named: &Schema, set: &PolicySet) -> Result<String
     ensures { IfOk result (IsLineFor (SummarisesFirst named.now set.now)) }
 {
     let answer = first_summary(alloc, named, set)?;
-    answer_line(alloc, &answer)
+    answer_line(alloc, answer)
 }
 
 // The line of the comparison of the first set of so many keys with the second.
