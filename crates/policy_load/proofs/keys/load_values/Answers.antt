@@ -1,4 +1,4 @@
-use Rattle.std.proofs.Common.{lit≤}
+use Rattle.std.proofs.Common.{rules, lit≤}
 use Rattle.std.specs.Str.{chars}
 use Rattle.policy_load.proofs.keys.load_values.Goals as goal
 
@@ -9,3 +9,6 @@ literal-requires c = lit≤ tt
 pub literal-requires-2 : goal.literal-requires-2
 unfolding chars
 literal-requires-2 c = lit≤ tt
+
+pub returns : goal.returns
+returns c = search rules

@@ -1,7 +1,10 @@
-use Rattle.std.proofs.Common.{lit≤}
+use Rattle.std.proofs.Common.{rules, lit≤}
 use Rattle.std.specs.Str.{chars}
 use Rattle.policy_load.proofs.sets.load_statement.Goals as goal
 
 pub glob-requires : goal.glob-requires
 unfolding chars
 glob-requires c = lit≤ tt
+
+pub returns : goal.returns
+returns c = search rules
