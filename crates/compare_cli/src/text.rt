@@ -262,7 +262,8 @@ fn too_long_text(alloc: Global, role: Role) -> Result<String, AllocError>
 // The line on a dimension of which too many predicates are named.
 #[tactic(auto, unfolding(crate::specs::Texts::refusal_text))]
 fn too_many_text(alloc: Global, name: &Text) -> Result<String, AllocError>
-    ensures { IfOk result (λ s. string_bytes s ≡ refusal_text (Refusal.TooManyPredicates name.now)) }
+    ensures { IfOk result
+        (λ s. string_bytes s ≡ refusal_text (Refusal.TooManyPredicates name.now)) }
 {
     let element = predicates_text(alloc, name)?;
     let element = element.as_str();
