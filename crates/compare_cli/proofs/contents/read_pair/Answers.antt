@@ -9,6 +9,3 @@ returns-in-Ok c =
       read = IfOk-weaker c.read_sets.result _ _ (λ r h. h file c.in-Ok.ensures.value) c.read_sets.ensures.read;
       fitting = c.read_sets.ensures.fitting;
     }
-
-pub returns-in-Err-Refused : goal.returns-in-Err-Refused
-returns-in-Err-Refused c = record { read = rw c.in-Err-Refused.fault-is (rw c.in-Err-Refused.field-0-is at c.in-Err-Refused.ensures.value); fitting = tt }
