@@ -1,4 +1,4 @@
-use Rattle.std.proofs.Common.{arith, rules}
+use Rattle.std.proofs.Common.{arith}
 use Rattle.std.proofs.lemmas.Int.{ints}
 use Rattle.intervals.proofs.scaled.from_whole.Goals as goal
 
@@ -11,9 +11,3 @@ invariant_of-result c = rw c.from.ensures (omega (arith, ints))
 pub returns-then-unsigned_abs-lt-WHOLE_LIMIT-clause-value :
     goal.returns-then-unsigned_abs-lt-WHOLE_LIMIT-clause-value
 returns-then-unsigned_abs-lt-WHOLE_LIMIT-clause-value c = rw c.from.ensures (omega (arith, ints))
-
-pub returns-then-unsigned_abs-lt-WHOLE_LIMIT-clause-bounded : goal.returns-then-unsigned_abs-lt-WHOLE_LIMIT-clause-bounded
-returns-then-unsigned_abs-lt-WHOLE_LIMIT-clause-bounded c = search rules
-
-pub returns-then-unsigned_abs-lt-WHOLE_LIMIT-clause-computed : goal.returns-then-unsigned_abs-lt-WHOLE_LIMIT-clause-computed
-returns-then-unsigned_abs-lt-WHOLE_LIMIT-clause-computed c = search rules

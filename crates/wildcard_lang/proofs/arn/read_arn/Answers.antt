@@ -12,6 +12,3 @@ from_pieces-requires c =
     let made : c.in_ok-wide.wide.items ≡ map (wildcard_of false) c.in_ok-symbols.symbols = search rules in
     let parts : c.in_ok-pieces.pieces.items ≡ narrowed 5 c.in_ok-wide.wide.items = search rules in
     IsPattern-arn c.args.escapes (chars c.args.text.now) _ _ _ (scalars-chars c.args.text.now c.utf8.text) read made parts (omega arith)
-
-pub returns-then-colons_in-lt-COLONS : goal.returns-then-colons_in-lt-COLONS
-returns-then-colons_in-lt-COLONS c = search rules
