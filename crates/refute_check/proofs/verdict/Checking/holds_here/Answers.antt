@@ -2,13 +2,8 @@ use Rattle.std.proofs.Common.{rules, ◌↔◌, IsTrue, IfOk, sym, subst}
 use Rattle.formula_tree.specs.Trees.{tree_of}
 use Rattle.refute_check.specs.Closing.{OwnRule}
 use Rattle.refute_check.specs.Proofs.{Proof}
-use Rattle.refute_check.proofs.Walking.{of-split, of-value, slot-rule}
+use Rattle.refute_check.proofs.Walking.{of-split, slot-rule}
 use Rattle.refute_check.proofs.verdict.Checking.holds_here.Goals as goal
-
-pub returns-in-ByValue : goal.returns-in-ByValue
-returns-in-ByValue c =
-    let q = c.args.self.now.query.now in
-    subst (λ (p : Proof). IsTrue c.eq.result ↔ OwnRule c.args.self.now.schema.now q.tests (tree_of q.formula.value) c.args.labels.now p c.args.path.now) (sym (of-value c.args.node.now c.in-ByValue.is)) (search rules)
 
 pub returns-in-BySlot : goal.returns-in-BySlot
 returns-in-BySlot c =
