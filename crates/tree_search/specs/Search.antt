@@ -17,8 +17,7 @@ use Rattle.policy_model.specs.Soundness.{SchemaIsSound, TestSuits}
 use Rattle.policy_compile.specs.declared.outcome.Query.{Query}
 use Rattle.policy_compile.specs.Queries.{asked_tree}
 use Rattle.slot_theory.specs.declared.outcome.SlotValue.{SlotValue}
-use Rattle.slot_theory.specs.declared.outcome.SlotProof.{SlotProof}
-use Rattle.slot_theory.specs.Cores.{Accepts, HasTest}
+use Rattle.slot_theory.specs.Cores.{HasTest}
 use Rattle.slot_theory.specs.Possible.{IsPossible, PathInRange}
 use Rattle.slot_theory.specs.Slots.{patterns_at}
 use Rattle.request_build.specs.Built.{AreSlotValues}
@@ -150,14 +149,6 @@ pub record IsWideBy (schema : Schema) (query : Query) (store : List Answers) (en
   pub not_no : value w.path (asked_tree query) ≢ No
   pub asked : HasTest query.tests w.path w.slot
   pub texts : ShowWider (patterns_at schema query.tests w.path w.slot) states w.texts
-
--- the core and its proof are accepted under the path
-abbrev pub IsClosedBy : Search → Answers → List ℕ → SlotProof → Type 0
-IsClosedBy s path core proof = Accepts s.schema.now s.query.now.tests path core proof
-
--- the texts show the patterns of the slot at the path wider than the states that there may be
-abbrev pub AreTooMany : Search → Answers → Slot → List (List ℕ) → Type 0
-AreTooMany s path slot texts = ShowWider (patterns_at s.schema.now s.query.now.tests path slot) s.states texts
 
 -- what was stored before a search, what is now, how many splits were left and how many were used
 pub record Spent : Type 0 where

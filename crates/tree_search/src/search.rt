@@ -7,10 +7,9 @@ ghost use Rattle.formula_tree.specs.Values.{value};
 ghost use Rattle.formula_tree.specs.declared.value.Three.TheVariants.{No, Yes};
 ghost use Rattle.policy_compile.specs.Queries.{asked_tree};
 ghost use Rattle.search_parts.specs.Joining.{AreReady};
-ghost use Rattle.slot_theory.specs.Cores.{HasTest};
-ghost use Rattle.slot_theory.specs.Possible.{PathInRange};
 ghost use Rattle.slot_theory.specs.Slots.{slot_of, test_at};
-ghost use Rattle.tree_search.specs.Search.{AreTooMany, Carries, CarriesWith, Follows, IsAhead, IsClosedBy, IsFoundHere, IsFoundThere, IsJoinedHere, IsOneLonger, IsReady, IsRestored, IsSide, MayBeYes, NothingLearned, SaysIfClosed, Stands};
+ghost use Rattle.tree_search.specs.Decisions.{MeetsQuery};
+ghost use Rattle.tree_search.specs.Search.{Carries, CarriesWith, Follows, IsAhead, IsFoundHere, IsFoundThere, IsJoinedHere, IsOneLonger, IsReady, IsRestored, IsSide, MayBeYes, NothingLearned, SaysIfClosed, Stands};
 ghost use Rattle.tree_search.specs.Values.{IsIndexOf};
 
 use crate::found::Found;
@@ -21,14 +20,13 @@ use cnf_clauses::Clauses;
 use formula_tree::Three;
 use plain_lists::NoMemory;
 use policy_compile::Query;
-use policy_model::{Schema, Slot};
+use policy_model::{Request, Schema, Slot};
 use request_build::build;
 use search_parts::{
     Halves, Part, Shortening, clauses_part, join, reuse_part, slot_part, value_part,
 };
-use slot_theory::{Core, Possible, SlotProof, SlotValue, meets, possible, slot_of};
+use slot_theory::{Possible, SlotValue, meets, possible, slot_of};
 use std::alloc::Global;
-use wildcard_lang::TextList;
 
 /// What a search is asked.
 #[derive(Drop)]
@@ -56,7 +54,7 @@ impl<'a> Search<'a> {
         ensures restored { OnOk result (IsRestored self.now state.old state.new) }
     {
         let Some(test) = state.tree.pick() else {
-            return self.met(state);
+            return Ok(Found::Met(self.met(state)?));
         };
         // No clause closes the path, so the propagated run splits here too.
         state.clauses.is_quiet();
@@ -80,15 +78,14 @@ impl<'a> Search<'a> {
     }
 
     /// The request of the values, where their path makes the query yes.
-    fn met(&self, state: &State) -> Result<Found, NoMemory>
+    fn met(&self, state: &State) -> Result<Request, NoMemory>
         requires ready { IsReady self.now }
         requires carries { Carries self.now state.now }
         requires yes { value state.now.path (asked_tree self.now.query.now) ≡ Yes }
-        ensures { IfOk result (IsFoundHere self.now state.now state.now) }
+        ensures { IfOk result (MeetsQuery self.now.schema.now self.now.query.now) }
     {
-        let (schema, tests) = (self.schema, &self.query.tests);
-        let request = build(self.alloc, schema, tests, &state.path, &state.values)?;
-        Ok(Found::Met(request))
+        let tests = &self.query.tests;
+        build(self.alloc, self.schema, tests, &state.path, &state.values)
     }
 
     /// Whether the part that closes the yes side of a split closes without the split's answer.
@@ -229,34 +226,16 @@ impl<'a> Search<'a> {
         let (schema, tests) = (self.schema, &self.query.tests);
         match possible(self.alloc, schema, tests, &state.path, &slot, self.states)? {
             Possible::Found(value) => self.go_on(state, (slot, value), index),
-            Possible::Conflict(core, proof) => self.closed(state, core, proof),
-            Possible::TooMany(texts) => self.too_wide(state, slot, texts),
+            Possible::Conflict(core, proof) => {
+                let part = slot_part(self.alloc, &state.path, core, proof)?;
+                state.cores.keep(&part)?;
+                Ok(Found::Refuted(part))
+            }
+            Possible::TooMany(texts) => {
+                let path = state.path.copy()?;
+                Ok(Found::OutOfStates(Wide { path, slot, texts }))
+            }
         }
-    }
-
-    /// The part that a core closes at the path, kept where there is room.
-    fn closed(&self, state: &mut State, core: Core, proof: SlotProof) -> Result<Found, NoMemory>
-        requires ready { IsReady self.now }
-        requires stands { Stands self.now state.old }
-        requires range { PathInRange self.now.query.now.tests state.old.path }
-        requires accepted { IsClosedBy self.now state.old.path core proof }
-        ensures found { IfOk result (IsFoundHere self.now state.old state.new) }
-        ensures restored { OnOk result (IsRestored self.now state.old state.new) }
-    {
-        let part = slot_part(self.alloc, &state.path, core, proof)?;
-        state.cores.keep(&part)?;
-        Ok(Found::Refuted(part))
-    }
-
-    /// A slot that the path asks about and whose patterns have more states than there may be.
-    fn too_wide(&self, state: &State, slot: Slot, texts: TextList) -> Result<Found, NoMemory>
-        requires asked { HasTest self.now.query.now.tests state.now.path slot }
-        requires may { MayBeYes self.now state.now }
-        requires wide { AreTooMany self.now state.now.path slot texts }
-        ensures { IfOk result (IsFoundHere self.now state.now state.now) }
-    {
-        let path = state.path.copy()?;
-        Ok(Found::OutOfStates(Wide { path, slot, texts }))
     }
 
     /// The search with one more value, or with one in place of that at the index.

@@ -1,6 +1,5 @@
 use Rattle.std.proofs.Common.{◌≡◌, ◌≢◌, ◌∙◌, ◌↔◌, [], ◌∷◌, ◌++◌, IsTrue, ◌<◌, ◌-◌, true, false, None, length, refl, sym, subst, arith, rules, append-nil}
 use Rattle.std.proofs.lemmas.List.{length-set}
-use Rattle.std.proofs.lemmas.Result.{IfOk-from_err, IfOk-weaker}
 use Rattle.formula_tree.specs.Answers.{Contained, answer_of}
 use Rattle.formula_tree.specs.Runs.{answered}
 use Rattle.formula_tree.specs.Values.{pick, value}
@@ -8,10 +7,12 @@ use Rattle.formula_tree.specs.declared.value.Three.TheVariants.{No}
 use Rattle.policy_compile.specs.Queries.{asked_tree}
 use Rattle.cnf_clauses.specs.Following.{IsConflictAt}
 use Rattle.nogoods.specs.Hits.{NoHit, answers_at}
+use Rattle.wildcard_lang.specs.Places.{ShowWider}
 use Rattle.policy_model.specs.declared.test.Slot.{Slot}
 use Rattle.policy_model.specs.declared.test.Test.TheVariants.{Action}
 use Rattle.slot_theory.specs.declared.outcome.SlotValue.{SlotValue}
-use Rattle.slot_theory.specs.Slots.{SlotIsIn, ValueMeets, test_at}
+use Rattle.slot_theory.specs.Slots.{SlotIsIn, ValueMeets, patterns_at, test_at}
+use Rattle.slot_theory.specs.Cores.{IsConflict}
 use Rattle.slot_theory.proofs.Laws.{own-test, slot-in}
 use Rattle.search_parts.specs.Parts.{ClosesByStore}
 use Rattle.search_parts.specs.Making.{part_proof}
@@ -22,8 +23,9 @@ use Rattle.tree_search.specs.Values.{IsHeldAt}
 use Rattle.tree_search.proofs.Carrying.{here, longer-asked, longer-kept, longer-range, longer-with, popped, put-back}
 use Rattle.tree_search.proofs.Finding.{found-at, found-join, found-no, found-short, found-skip, found-yes, joined-stands, ready-join, restored-then, side-made, test-open, test-within}
 use Rattle.tree_search.proofs.Following.{back-there, conflict-there, followed-there, new-there}
+use Rattle.tree_search.proofs.Keeping.{kept-with, slot-kept, slot-within}
 use Rattle.tree_search.proofs.Picking.{waits-for-none}
-use Rattle.tree_search.proofs.Searching.{clauses-refuted, kept-refuted, reuse-refuted, value-refuted}
+use Rattle.tree_search.proofs.Searching.{clauses-refuted, kept-refuted, reuse-refuted, slot-refuted, value-refuted, wide-here}
 use Rattle.tree_search.proofs.Standing.{at-deeper, pick-said, restored-back, restored-same, restored-split, spent-back, value-said}
 use Rattle.tree_search.proofs.search.Search.+search.Goals as goal
 
@@ -206,21 +208,53 @@ renew-go_on-requires t c =
     let with = longer-with c.args.self.now.schema.now c.args.self.now.query.now c.args.state.now.path c.args.state.now.values c.args.test c.args.answer c.requires.longer c.args.slot c.in-Found.value c.args.index c.requires.slot c.requires.index (rw c.in-Found.is at c.in_ok-value.ensures.outcome) in
     (search rules, (c.requires.ready, (c.requires.stands, (c.requires.index, (with, (c.requires.follows, (c.requires.may, c.requires.nothing)))))))
 
-pub renew-closed-requires-clause-range : goal.renew-closed-requires-clause-range
-renew-closed-requires-clause-range t c = longer-range c.args.self.now.schema.now c.args.self.now.query.now c.args.state.now.path c.args.state.now.values c.args.test c.args.answer c.requires.longer
+pub renew-keep-requires : goal.renew-keep-requires
+renew-keep-requires t c = slot-within c.args.self.now.schema.now c.args.self.now.query.now.tests c.args.state.now.path c.args.state.now.cores.lists.path c.in-Conflict.core c.in-Conflict.proof c.in_ok-part-in-Conflict.part c.in_ok-part-in-Conflict.ensures c.requires.stands.cores_path
 
-pub renew-closed-requires-clause-accepted : goal.renew-closed-requires-clause-accepted
-renew-closed-requires-clause-accepted t c = record { slot = c.args.slot; conflict = rw c.in-Conflict.is at c.in_ok-value.ensures.outcome }
+pub renew-returns-in_ok-keep-in-Conflict-clause-found : goal.renew-returns-in_ok-keep-in-Conflict-clause-found
+renew-returns-in_ok-keep-in-Conflict-clause-found t c =
+    let schema = c.args.self.now.schema.now in
+    let query = c.args.self.now.query.now in
+    let path = c.args.state.now.path in
+    let conflict : IsConflict schema query.tests path c.args.slot c.in-Conflict.core c.in-Conflict.proof = rw c.in-Conflict.is at c.in_ok-value.ensures.outcome in
+    let range = longer-range schema query path c.args.state.now.values c.args.test c.args.answer c.requires.longer in
+    slot-refuted schema query path c.args.state.now.learned.lists c.requires.ready.asked.below range (c.args.state.now.left - c.args.state.now.left) c.in_ok-part-in-Conflict.part c.in-Conflict.core c.in-Conflict.proof (omega arith) c.in_ok-part-in-Conflict.ensures c.requires.ready.asked.suit (record { slot = c.args.slot; conflict = conflict })
 
-pub renew-too_wide-requires-clause-asked : goal.renew-too_wide-requires-clause-asked
-renew-too_wide-requires-clause-asked t c =
-    longer-asked c.args.self.now.schema.now c.args.self.now.query.now c.args.state.now.path c.args.state.now.values c.args.test c.args.answer c.requires.longer c.args.slot c.requires.slot
+pub renew-returns-in_ok-keep-in-Conflict-clause-restored : goal.renew-returns-in_ok-keep-in-Conflict-clause-restored
+renew-returns-in_ok-keep-in-Conflict-clause-restored t c =
+    let schema = c.args.self.now.schema.now in
+    let query = c.args.self.now.query.now in
+    let path = c.args.state.now.path in
+    let stands = c.requires.stands in
+    let conflict : IsConflict schema query.tests path c.args.slot c.in-Conflict.core c.in-Conflict.proof = rw c.in-Conflict.is at c.in_ok-value.ensures.outcome in
+    let kept = c.in_ok-keep-in-Conflict.ensures in
+    let core = slot-kept schema query.tests (asked_tree query) path c.in-Conflict.core c.in-Conflict.proof c.in_ok-part-in-Conflict.part c.in_ok-part-in-Conflict.ensures (record { slot = c.args.slot; conflict = conflict }) in
+    record {
+      path = refl;
+      values = refl;
+      clauses = refl;
+      left = omega arith;
+      stands = record {
+        evaluated = stands.evaluated;
+        stored = stands.stored;
+        cores_path = kept.path ∙ stands.cores_path;
+        kept = kept-with schema query.tests c.args.state.now.cores c.in_ok-part-in-Conflict.part c.keep.new.self kept core stands.kept;
+      };
+      more = [];
+      grows = sym (append-nil c.args.state.now.learned.lists);
+    }
 
-pub renew-too_wide-requires-clause-wide : goal.renew-too_wide-requires-clause-wide
-renew-too_wide-requires-clause-wide t c = rw c.in-TooMany.is at c.in_ok-value.ensures.outcome
+pub renew-returns-in_ok-path-in-TooMany-clause-found : goal.renew-returns-in_ok-path-in-TooMany-clause-found
+renew-returns-in_ok-path-in-TooMany-clause-found t c =
+    let schema = c.args.self.now.schema.now in
+    let query = c.args.self.now.query.now in
+    let path = c.args.state.now.path in
+    let wide : ShowWider (patterns_at schema query.tests path c.args.slot) c.args.self.now.states c.in-TooMany.texts = rw c.in-TooMany.is at c.in_ok-value.ensures.outcome in
+    let asked = longer-asked schema query path c.args.state.now.values c.args.test c.args.answer c.requires.longer c.args.slot c.requires.slot in
+    wide-here schema query path c.args.state.now.learned.lists c.args.self.now.states (c.args.state.now.left - c.args.state.now.left) c.in_ok-path-in-TooMany.path c.args.slot c.in-TooMany.texts c.in_ok-path-in-TooMany.ensures c.requires.may asked wide
 
-pub renew-returns-in-TooMany : goal.renew-returns-in-TooMany
-renew-returns-in-TooMany t c = record { found = c.too_wide.ensures; restored = IfOk-weaker c.too_wide.result _ _ (λ f is. restored-same c.args.self.now c.args.state.now c.requires.stands) c.too_wide.ensures }
+pub renew-returns-in_ok-path-in-TooMany-clause-restored : goal.renew-returns-in_ok-path-in-TooMany-clause-restored
+renew-returns-in_ok-path-in-TooMany-clause-restored t c = restored-same c.args.self.now c.args.state.now c.requires.stands
 
 pub search-met-requires-clause-yes : goal.search-met-requires-clause-yes
 search-met-requires-clause-yes t c =
@@ -229,8 +263,8 @@ search-met-requires-clause-yes t c =
     let none : pick path (asked_tree query) ≡ None = pick-said query path c.args.state.now.tree c.pick.result c.requires.stands.evaluated c.pick.ensures.value ∙ c.in_default.is in
     waits-for-none path (asked_tree query) none c.requires.may
 
-pub search-returns-in_default : goal.search-returns-in_default
-search-returns-in_default t c = record { found = c.met.ensures; restored = IfOk-weaker c.met.result _ _ (λ f is. restored-same c.args.self.now c.args.state.now c.requires.stands) c.met.ensures }
+pub search-returns-in_default-clause-restored : goal.search-returns-in_default-clause-restored
+search-returns-in_default-clause-restored t c = restored-same c.args.self.now c.args.state.now c.requires.stands
 
 pub search-returns-then-state-eq0-clause-found : goal.search-returns-then-state-eq0-clause-found
 search-returns-then-state-eq0-clause-found t c =
@@ -438,73 +472,3 @@ side-returns-clause-found t c =
 pub side-returns-clause-restored : goal.side-returns-clause-restored
 side-returns-clause-restored t c =
     restored-back c.args.self.now c.args.state.now c.go_down.new.self c.enter.new.state c.go_back.new.self c.args.test c.args.answer c.requires.new c.in_ok-go_down.ensures c.in_ok-found.ensures.restored c.go_back.ensures
-
--- ---- want of memory, of which nothing is said
-
-pub enter-returns-in_err-value_part : goal.enter-returns-in_err-value_part
-enter-returns-in_err-value_part t c = let e = c.from_residual.ensures.0 in record { found = IfOk-from_err _ _ e; restored = IfOk-from_err _ _ e }
-
-pub enter-returns-in_err-conflict : goal.enter-returns-in_err-conflict
-enter-returns-in_err-conflict t c = let e = c.from_residual-in_err-conflict.ensures.0 in record { found = IfOk-from_err _ _ e; restored = IfOk-from_err _ _ e }
-
-pub enter-returns-in_err-clauses_part : goal.enter-returns-in_err-clauses_part
-enter-returns-in_err-clauses_part t c = let e = c.from_residual-in_err-clauses_part.ensures.0 in record { found = IfOk-from_err _ _ e; restored = IfOk-from_err _ _ e }
-
-pub enter-returns-in_err-found : goal.enter-returns-in_err-found
-enter-returns-in_err-found t c = let e = c.from_residual-in_err-found.ensures.0 in record { found = IfOk-from_err _ _ e; restored = IfOk-from_err _ _ e }
-
-pub go_in-returns-in_err-part : goal.go_in-returns-in_err-part
-go_in-returns-in_err-part t c = let e = c.from_residual.ensures.0 in record { found = IfOk-from_err _ _ e; restored = IfOk-from_err _ _ e }
-
-pub go_in-returns-in_err-part-2 : goal.go_in-returns-in_err-part-2
-go_in-returns-in_err-part-2 t c = let e = c.from_residual-in_err-part-2.ensures.0 in record { found = IfOk-from_err _ _ e; restored = IfOk-from_err _ _ e }
-
-pub go_on-returns-in_err-push : goal.go_on-returns-in_err-push
-go_on-returns-in_err-push t c = let e = c.from_residual.ensures.0 in record { found = IfOk-from_err _ _ e; restored = IfOk-from_err _ _ e }
-
-pub go_on-returns-in_err-found : goal.go_on-returns-in_err-found
-go_on-returns-in_err-found t c = let e = c.from_residual-in_err-found.ensures.0 in record { found = IfOk-from_err _ _ e; restored = IfOk-from_err _ _ e }
-
-pub go_on-returns-in_err-found-2 : goal.go_on-returns-in_err-found-2
-go_on-returns-in_err-found-2 t c = let e = c.from_residual-in_err-found-2.ensures.0 in record { found = IfOk-from_err _ _ e; restored = IfOk-from_err _ _ e }
-
-pub renew-returns-in_err-value : goal.renew-returns-in_err-value
-renew-returns-in_err-value t c = let e = c.from_residual.ensures.0 in record { found = IfOk-from_err _ _ e; restored = IfOk-from_err _ _ e }
-
-pub search-returns-in_err-yes : goal.search-returns-in_err-yes
-search-returns-in_err-yes t c = let e = c.from_residual.ensures.0 in record { found = IfOk-from_err _ _ e; restored = IfOk-from_err _ _ e }
-
-pub search-returns-in_err-needless : goal.search-returns-in_err-needless
-search-returns-in_err-needless t c = let e = c.from_residual-in_err-needless.ensures.0 in record { found = IfOk-from_err _ _ e; restored = IfOk-from_err _ _ e }
-
-pub search-returns-in_err-no : goal.search-returns-in_err-no
-search-returns-in_err-no t c = let e = c.from_residual-in_err-no.ensures.0 in record { found = IfOk-from_err _ _ e; restored = IfOk-from_err _ _ e }
-
-pub search-returns-in_err-joined : goal.search-returns-in_err-joined
-search-returns-in_err-joined t c = let e = c.from_residual-in_err-joined.ensures.0 in record { found = IfOk-from_err _ _ e; restored = IfOk-from_err _ _ e }
-
-pub settle-returns-in_err-slot : goal.settle-returns-in_err-slot
-settle-returns-in_err-slot t c = let e = c.from_residual.ensures.0 in record { found = IfOk-from_err _ _ e; restored = IfOk-from_err _ _ e }
-
-pub side-returns-in_err-go_down : goal.side-returns-in_err-go_down
-side-returns-in_err-go_down t c = let e = c.from_residual.ensures.0 in record { found = IfOk-from_err _ _ e; restored = IfOk-from_err _ _ e }
-
-pub side-returns-in_err-found : goal.side-returns-in_err-found
-side-returns-in_err-found t c = let e = c.from_residual-in_err-found.ensures.0 in record { found = IfOk-from_err _ _ e; restored = IfOk-from_err _ _ e }
-
--- ---- what the last step answers
-
-pub go_in-returns : goal.go_in-returns
-go_in-returns t c = record { found = c.settle.ensures.found; restored = c.settle.ensures.restored }
-
-pub settle-returns-then-meets-answer : goal.settle-returns-then-meets-answer
-settle-returns-then-meets-answer t c = record { found = c.search.ensures.found; restored = c.search.ensures.restored }
-
-pub settle-returns : goal.settle-returns
-settle-returns t c = record { found = c.renew.ensures.found; restored = c.renew.ensures.restored }
-
-pub renew-returns-in-Found : goal.renew-returns-in-Found
-renew-returns-in-Found t c = record { found = c.go_on.ensures.found; restored = c.go_on.ensures.restored }
-
-pub renew-returns-in-Conflict : goal.renew-returns-in-Conflict
-renew-returns-in-Conflict t c = record { found = c.closed.ensures.found; restored = c.closed.ensures.restored }
