@@ -44,7 +44,7 @@ use Rattle.compare_cli.specs.declared.answer.Answer.{Answer}
 use Rattle.compare_cli.specs.declared.answer.Answer.TheVariants as answer
 use Rattle.compare_cli.specs.declared.pair.Pair.{Pair}
 use Rattle.compare_cli.specs.Certified.{Certifies, ClosesAll, ClosesBy, FailsAtLine}
-use Rattle.compare_cli.specs.Comparison.{Covers, FewTestsAreDecided, IsFitting, IsWitness, paired, plan_of}
+use Rattle.compare_cli.specs.Comparison.{Covers, FewTestsAreDecided, HasKeysOnce, IsFitting, IsWitness, paired, plan_of}
 use Rattle.compare_cli.specs.Decided.{IsChecked, IsComparison, IsDecisionAnswer, IsRefutedAnswer, IsVerdictOn, IsVerdictAnswer, IsVerdictIn}
 
 pub query_tests : (pair : Pair) (q : Query) → IsFitting pair → IsQuery (plan_of pair) q → All (TestSuits pair.schema) q.tests
@@ -68,11 +68,11 @@ covers_if_closed law pair q p fitting is closes r valid allowed =
     ]
 
 -- a request that makes the query yes is one that only the first set allows
-pub witness_if_met : (pair : Pair) (q : Query) (r : Request) → IsFitting pair → IsQuery (plan_of pair) q → IsValid pair.schema r → MakesYes q.tests (asked_tree q) r → IsWitness pair r
-witness_if_met pair q r fitting is valid (total, answers, met) =
+pub witness_if_met : (pair : Pair) (q : Query) (r : Request) → IsFitting pair → IsQuery (plan_of pair) q → IsValid pair.schema r → MakesYes q.tests (asked_tree q) r → HasKeysOnce r → IsWitness pair r
+witness_if_met pair q r fitting is valid (total, answers, met) once =
     let whole_says = holds-numbered total r q.tests answers (plan_of pair) (asked_tree q) is.tree in
     let both = (query-holds pair.schema r pair.first pair.second fitting.first fitting.second valid).0 (whole_says.0 met) in
-    record { valid = valid; allowed = both.0; refused = both.1 }
+    record { once = once; valid = valid; allowed = both.0; refused = both.1 }
 
 -- the certificate of a refutation that closes the query is read again
 certifies : ClosingProofsAreSmall → ClosingProofsHaveNoFault → (pair : Pair) (q : Query) (budgets : Budgets) (p : Proof) (text : List ℕ) → IsQuery (plan_of pair) q → pair.schema.version ≤ MOST_NUMBER → IsRefutation pair.schema q budgets.splits p → text ≡ spell pair.schema.version p → HoldsSmallNumbers p → Certifies pair.schema q text
@@ -102,7 +102,7 @@ refuted_if_closed law sizes read pair q certified budgets p fitting is h _ v = a
 
 pub comparison_if_decided : ClosedQueriesAreNo → ClosingProofsAreSmall → ClosingProofsHaveNoFault → (pair : Pair) (q : Query) (certified : Bool) (budgets : Budgets) (d : Decided) → IsFitting pair → IsQuery (plan_of pair) q → IsDecision pair.schema q budgets d → (a : Answer) → IsDecisionAnswer certified pair.schema.version budgets d a → IsComparison certified budgets pair a
 comparison_if_decided law sizes read pair q certified budgets (decided.Refuted r) fitting is h a v = refuted_if_closed law sizes read pair q certified budgets (proof_of r.value) fitting is h a v
-comparison_if_decided law sizes read pair q certified budgets (decided.Met r) fitting is h a v = subst (λ (x : Answer). IsComparison certified budgets pair x) (sym v) ((q, is), witness_if_met pair q r fitting is h.valid h.meets)
+comparison_if_decided law sizes read pair q certified budgets (decided.Met r) fitting is h a v = subst (λ (x : Answer). IsComparison certified budgets pair x) (sym v.0) ((q, is), witness_if_met pair q r fitting is h.valid h.meets v.1)
 comparison_if_decided law sizes read pair q certified budgets decided.OutOfSplits fitting is h a v = subst (λ (x : Answer). IsComparison certified budgets pair x) (sym v) (refl, record { query = q; is = is; plain = h.plain; propagated = h.propagated })
 comparison_if_decided law sizes read pair q certified budgets (decided.OutOfStates w) fitting is h a v = subst (λ (x : Answer). IsComparison certified budgets pair x) (sym v) (refl, record { query = q; is = is; path = w.path; node = h.node; not_no = h.not_no; asked = h.asked; wider = (w.texts, h.texts) })
 
@@ -114,8 +114,8 @@ pub verdict_if_decided : ClosedQueriesAreNo → (pair : Pair) (first : PolicySet
 verdict_if_decided law pair first q budgets (decided.Refuted r) fitting same is h o v =
     subst (λ (x : Option Answer). IfSome x (IsVerdictOn pair)) (sym v) (covers-too pair first same (covers_if_closed law (paired pair.schema first pair.second) q (proof_of r.value) fitting is h.closes))
 verdict_if_decided law pair first q budgets (decided.Met r) fitting same is h o v =
-    let found = witness_if_met (paired pair.schema first pair.second) q r fitting is h.valid h.meets in
-    subst (λ (x : Option Answer). IfSome x (IsVerdictOn pair)) (sym v) (record { valid = found.valid; allowed = same.within pair.schema r found.allowed; refused = found.refused })
+    let found = witness_if_met (paired pair.schema first pair.second) q r fitting is h.valid h.meets v.1 in
+    subst (λ (x : Option Answer). IfSome x (IsVerdictOn pair)) (sym v.0) (record { once = found.once; valid = found.valid; allowed = same.within pair.schema r found.allowed; refused = found.refused })
 verdict_if_decided law pair first q budgets decided.OutOfSplits fitting same is h o v = subst (λ (x : Option Answer). IfSome x (IsVerdictOn pair)) (sym v) tt
 verdict_if_decided law pair first q budgets (decided.OutOfStates w) fitting same is h o v = subst (λ (x : Option Answer). IfSome x (IsVerdictOn pair)) (sym v) tt
 

@@ -61,7 +61,7 @@ wide-at schema set ds f states w fails = record {
 pub said-of-outcome : (names : List (List ℕ)) (limits : Limits) (schema : Schema) (set : PolicySet) (q : Query) (o : Outcome) → IsSummaryOutcome schema set q (dimension_slots names) limits o → (a : Answer) → IsOutcomeAnswer names limits o a → IsSummaryAnswer names limits schema set q a
 said-of-outcome names limits schema set q (outcome.Found strata summary) is a v =
     subst (λ (x : Answer). IsSummaryAnswer names limits schema set q x) (sym v.is)
-    (record { strata = strata; are = is.0; holds = record { summary = summary; is = is.1; lines = v.lines } })
+    (record { strata = strata; are = is.0; holds = record { summary = summary; is = is.1; lines = v.lines; once = v.once } })
 said-of-outcome names limits schema set q (outcome.TooManyPredicates d) is a v =
     subst (λ (x : Answer). IsSummaryAnswer names limits schema set q x) (sym v.is) (record { dimension = d; first = is; name = v.name; at = v.at; written = refl })
 said-of-outcome names limits schema set q (outcome.Wide s texts) is a v =

@@ -43,7 +43,7 @@ whole asked r w (answer.Loaded lines) given written = with_status asked r w (ans
 
 pub promised : (asked : Option Asked) (r : Reading) (w : Writing) (a : Answer) (s : Status) → IsAnswer asked r a → IsWritten a w s
     → Promises asked r w s
-promised asked r w a WriteFault given ends = record { rose = ends.0; answer = a; given = given; count = ends.1.0; written = ends.1.1 }
+promised asked r w a WriteFault given ends = record { rose = ends.0; answer = a; given = given; count = ends.1.0; less = ends.1.1; written = ends.1.2 }
 promised asked r w a NoMemory given ends = ends
 promised asked r w a Holds given ends = subst (Promises asked r w) ends.0 (whole asked r w a given ends.1)
 promised asked r w a Fails given ends = subst (Promises asked r w) ends.0 (whole asked r w a given ends.1)

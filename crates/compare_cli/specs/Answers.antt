@@ -203,6 +203,12 @@ IsAnswer None r Usage = r.last ≡ r.last_before
 IsAnswer None r _ = ⊥
 IsAnswer (Some asked) r answer = IsAnswerTo asked r answer
 
+-- the arguments name no file: they ask for nothing, or for a load
+abbrev pub NameNoFile : Option Asked → Type 0
+NameNoFile None = ⊤
+NameNoFile (Some (a_load keys)) = ⊤
+NameNoFile (Some _) = ⊥
+
 -- what a fault of reading is answered by
 abbrev pub IsFaultAnswer : Role → TakeFault → Result Answer AllocError → Type 0
 IsFaultAnswer role Failed result = result ≡ Ok (ReadFault role)

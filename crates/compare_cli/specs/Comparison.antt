@@ -10,6 +10,8 @@ use Rattle.policy_model.specs.declared.request.Request.{Request}
 use Rattle.policy_model.specs.declared.schema.Schema.{Schema}
 use Rattle.policy_model.specs.declared.set.PolicySet.{PolicySet}
 use Rattle.policy_model.specs.declared.test.Slot.{Slot}
+use Rattle.text_table.specs.Table.{IsInOrder}
+use Rattle.policy_model.specs.Keys.{AllHaveValues, AreFolded}
 use Rattle.policy_model.specs.Requests.{IsValid}
 use Rattle.policy_model.specs.Sets.{Allows}
 use Rattle.policy_model.specs.Soundness.{SchemaFits, SchemaIsSound}
@@ -29,8 +31,16 @@ use Rattle.compare_cli.specs.declared.pair.Pair.{Pair}
 abbrev pub paired : Schema → PolicySet → PolicySet → Pair
 paired schema first second = record { schema = schema; first = first; second = second }
 
+-- each key of the request stands there once, in the order of the keys, without capitals, and has values: so the request's text says of
+-- each key what the request has
+pub record HasKeysOnce (r : Request) : Type 0 where
+  pub ordered : IsInOrder r.context
+  pub folded : AreFolded r.context
+  pub some : AllHaveValues r.context
+
 -- a valid request that the first set allows and the second doesn't
 pub record IsWitness (pair : Pair) (r : Request) : Type 0 where
+  pub once : HasKeysOnce r
   pub valid : IsValid pair.schema r
   pub allowed : Allows pair.schema pair.first r
   pub refused : ¬ Allows pair.schema pair.second r

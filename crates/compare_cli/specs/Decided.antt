@@ -20,7 +20,7 @@ use Rattle.compare_cli.specs.declared.answer.Answer.TheVariants.{Refused, Undeci
 use Rattle.compare_cli.specs.declared.answer.Answer.TheVariants.{Accepted, NotClosing, BadProof}
 use Rattle.compare_cli.specs.declared.pair.Pair.{Pair}
 use Rattle.compare_cli.specs.Certified.{Certifies, ClosesAll, ClosesBy, FailsAll, FailsAtLine, HasProofFault}
-use Rattle.compare_cli.specs.Comparison.{Covers, HasQuery, IsWitness, NeedsSplits, NeedsStates, OfQuery, TooManyPieces}
+use Rattle.compare_cli.specs.Comparison.{Covers, HasKeysOnce, HasQuery, IsWitness, NeedsSplits, NeedsStates, OfQuery, TooManyPieces}
 use Rattle.compare_cli.specs.Comparison.{TooManyTests, plan_of}
 
 -- a limit that the query is past
@@ -65,7 +65,7 @@ IsRefutedAnswer certified version proof _ = ⊥
 -- the answer to what a search decided
 abbrev pub IsDecisionAnswer : Bool → ℕ → Budgets → Decided → Answer → Type 0
 IsDecisionAnswer certified version budgets (decided.Refuted r) answer = IsRefutedAnswer certified version (proof_of r.value) answer
-IsDecisionAnswer certified version budgets (decided.Met q) answer = answer ≡ More q
+IsDecisionAnswer certified version budgets (decided.Met q) answer = (answer ≡ More q) × HasKeysOnce q
 IsDecisionAnswer certified version budgets decided.OutOfSplits answer = answer ≡ Undecided (Splits budgets.splits)
 IsDecisionAnswer certified version budgets (decided.OutOfStates w) answer = answer ≡ Undecided (States budgets.states w.slot)
 
@@ -78,7 +78,7 @@ IsVerdictOn pair _ = ⊥
 -- the verdict in what a search decided, where there is one
 abbrev pub IsVerdictIn : Decided → Option Answer → Type 0
 IsVerdictIn (decided.Refuted r) answer = answer ≡ Some NotMore
-IsVerdictIn (decided.Met q) answer = answer ≡ Some (More q)
+IsVerdictIn (decided.Met q) answer = (answer ≡ Some (More q)) × HasKeysOnce q
 IsVerdictIn decided.OutOfSplits answer = answer ≡ None
 IsVerdictIn (decided.OutOfStates w) answer = answer ≡ None
 

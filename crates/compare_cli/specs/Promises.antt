@@ -1,5 +1,5 @@
 -- What a run promises, by the status that it ends with.
-use Rattle.std.specs.Prelude.{◌≡◌, ℕ, List, take, Option, ⊤}
+use Rattle.std.specs.Prelude.{◌≡◌, ◌<◌, ℕ, List, length, take, Option, ⊤}
 use Rattle.command_words.specs.Asked.{Asked}
 use Rattle.pol_outside.specs.Faults.{Rose}
 use Rattle.pol_outside.specs.Sink.{Appends}
@@ -27,12 +27,13 @@ pub record Says (asked : Option Asked) (r : Reading) (w : Writing) (answer : Ans
   pub given : IsAnswer asked r answer
   pub written : Appends w.before (answer_text answer) w.now
 
--- the sink's count of faults rose, and the first bytes of the text of an answer that may be given were written
+-- the sink's count of faults rose, and the first bytes of the text of an answer that may be given were written, but not all
 pub record Breaks (asked : Option Asked) (r : Reading) (w : Writing) : Type 0 where
   pub rose : Rose w.faults_before w.faults
   pub answer : Answer
   pub given : IsAnswer asked r answer
   pub count : ℕ
+  pub less : count < length (answer_text answer)
   pub written : Appends w.before (take count (answer_text answer)) w.now
 
 -- how a run may end whose arguments ask for nothing
@@ -69,7 +70,7 @@ Promises asked r w Undecided = (shortage : Shortage) × Says asked r w (answer.U
 Promises asked r w Usage = Says asked r w answer.Usage
 -- the folder failed in this run, and at the file of the role that the line names last
 Promises asked r w ReadFault = (role : Role) × Says asked r w (answer.ReadFault role)
--- a prefix of an answer's text was written
+-- of an answer's text the beginning was written, and not the whole
 Promises asked r w WriteFault = Breaks asked r w
 -- nothing was written
 Promises asked r w NoMemory = w.now ≡ w.before
@@ -78,6 +79,8 @@ Promises asked r w BadProof = SaysWith asked r w BadProof
 
 -- how the writing of an answer's text ends, by the status
 abbrev pub IsWritten : Answer → Writing → Status → Type 0
-IsWritten a w WriteFault = Rose w.faults_before w.faults × ((count : ℕ) × Appends w.before (take count (answer_text a)) w.now)
+IsWritten a w WriteFault =
+    Rose w.faults_before w.faults ×
+    ((count : ℕ) × (count < length (answer_text a)) × Appends w.before (take count (answer_text a)) w.now)
 IsWritten a w NoMemory = w.now ≡ w.before
 IsWritten a w status = (status_of a ≡ status) × Appends w.before (answer_text a) w.now

@@ -36,6 +36,7 @@ use Rattle.compare_cli.specs.declared.answer.Refusal.TheVariants.{TooManyTests, 
 use Rattle.compare_cli.specs.declared.answer.Role.TheVariants.{Set as set_file}
 use Rattle.compare_cli.specs.declared.answer.Shortage.{Shortage}
 use Rattle.compare_cli.specs.declared.answer.Shortage.TheVariants.{Splits, States, Findings, SplitsIn, StatesIn}
+use Rattle.compare_cli.specs.Comparison.{HasKeysOnce}
 use Rattle.compare_cli.specs.Dimensions.{NameSlots, IsFirstUnknown, dimension_slots}
 use Rattle.compare_cli.specs.SetRun.{OfSet, OfSetRun}
 use Rattle.compare_cli.specs.Standing.{HasSchema, SchemaFails}
@@ -63,11 +64,16 @@ told_by lines = (string_bytes lines.finding, lines.request)
 abbrev pub AreLinesOf : List Stratum → List (List ℕ × Request) → List FoundLines → Type 0
 AreLinesOf ds summary found = map told_by found ≡ map (told ds) summary
 
+-- each request that is printed has each of its keys once
+abbrev pub HaveKeysOnce : List FoundLines → Type 0
+HaveKeysOnce found = All (λ lines. HasKeysOnce lines.request) found
+
 -- the summary of the set is printed: its findings in their order, each with a request of its own
 pub record Prints (schema : Schema) (set : PolicySet) (found : List FoundLines) (ds : List Stratum) : Type 0 where
   pub summary : List (List ℕ × Request)
   pub is : IsSummary schema set ds summary
   pub lines : AreLinesOf ds summary found
+  pub once : HaveKeysOnce found
 
 -- the text is that of a finding that must be looked at, and of its query this holds
 pub record IsFailingText (schema : Schema) (set : PolicySet) (text : List ℕ) (P : Query → Type 0) (ds : List Stratum)
@@ -172,6 +178,7 @@ pub record IsFindingAnswer (ds : List Stratum) (f : List ℕ) (short : String Gl
 pub record IsFoundAnswer (ds : List Stratum) (summary : List (List ℕ × Request)) (answer : Answer) : Type 0 where
   pub found : List FoundLines
   pub lines : AreLinesOf ds summary found
+  pub once : HaveKeysOnce found
   pub is : answer ≡ Summary found
 
 -- the answer to what a summary came to

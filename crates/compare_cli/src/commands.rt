@@ -1,8 +1,8 @@
 //! What each command answers. Its files are read in the order of its line, the schema last.
-ghost use Rattle.std.specs.Prelude.{◌≡◌, ◌≤◌, true, IfOk};
+ghost use Rattle.std.specs.Prelude.{◌≡◌, ◌≤◌, true, IfOk, Some};
 ghost use Rattle.command_words.specs.Asked.{HasBudgetsInRange, IsInRange, a_check, a_comparison, a_summary, an_evaluation};
 ghost use Rattle.command_words.specs.Asked.{are_dimensions, asked_in, checking_in, comparing_in, evaluating_in, summarising_in, texts_in};
-ghost use Rattle.compare_cli.specs.Answers.{IsAnswerTo, IsFaultAnswer, reading_of};
+ghost use Rattle.compare_cli.specs.Answers.{IsAnswerTo, IsFaultAnswer, NameNoFile, reading_of};
 
 use crate::answer::{Answer, Refusal, Role};
 use crate::contents::{check_of, comparison_of};
@@ -153,6 +153,7 @@ pub fn answer_to<F: Folder>(
     requires { IsInRange command.now }
     ensures given { IfOk result (IsAnswerTo (asked_in command.now)
         (reading_of F.held F.faults F.last_fault folder.old folder.new)) }
+    ensures untouched { NameNoFile (Some (asked_in command.now)) → folder.new ≡ folder.old }
     ensures held { F.held folder.new ≡ F.held folder.old }
     ensures later { F.faults folder.old ≤ F.faults folder.new }
 {

@@ -12,6 +12,7 @@ ghost use Rattle.compare_cli.specs.Decided.{IsChecked, IsComparison, IsDecisionA
 
 use crate::answer::{Answer, Refusal, Shortage};
 use crate::pair::Pair;
+use crate::request_keys::keys_stand_once;
 use policy_compile::{Query, QueryFault, query};
 use policy_difference::{shared_statements_add_nothing, without_shared};
 use policy_model::{PolicySet, Schema};
@@ -63,7 +64,10 @@ fn decision_answer(
 {
     match decided {
         Decided::Refuted(refutation) => refuted_answer(alloc, &refutation, version, certified),
-        Decided::Met(request) => Ok(Answer::More(request)),
+        Decided::Met(request) => {
+            keys_stand_once(&request);
+            Ok(Answer::More(request))
+        }
         Decided::OutOfSplits => Ok(Answer::Undecided(Shortage::Splits(budgets.splits))),
         Decided::OutOfStates(wide) => Ok(Answer::Undecided(Shortage::States(
             budgets.states,
@@ -152,7 +156,10 @@ fn verdict_in(decided: Decided) -> Option<Answer>
 {
     match decided {
         Decided::Refuted(_) => Some(Answer::NotMore),
-        Decided::Met(request) => Some(Answer::More(request)),
+        Decided::Met(request) => {
+            keys_stand_once(&request);
+            Some(Answer::More(request))
+        }
         Decided::OutOfSplits => None,
         Decided::OutOfStates(_) => None,
     }

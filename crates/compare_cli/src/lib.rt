@@ -13,6 +13,7 @@ mod evaluation;
 mod files;
 mod loading;
 mod pair;
+mod request_keys;
 mod summary;
 mod text;
 mod top;

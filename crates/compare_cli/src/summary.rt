@@ -6,15 +6,17 @@ ghost use Rattle.policy_model.specs.Soundness.{IsSound, SchemaFits, SchemaIsSoun
 ghost use Rattle.findings.specs.Findings.{IsFinding};
 ghost use Rattle.summary_search.specs.Outcomes.{AreInRange};
 ghost use Rattle.compare_cli.specs.declared.answer.Shortage.TheVariants.{SplitsIn, StatesIn};
+ghost use Rattle.compare_cli.specs.Comparison.{HasKeysOnce};
 ghost use Rattle.compare_cli.specs.Dimensions.{NameSlots, dimension_slots};
 ghost use Rattle.compare_cli.specs.UnderKeys.{SummarisesUnderKeys};
-ghost use Rattle.compare_cli.specs.Summarised.{AreLinesOf, HasTexts, IsFindingAnswer, IsFoundAnswer, IsOutcomeAnswer, IsSetQueried, IsTooManyAnswer};
+ghost use Rattle.compare_cli.specs.Summarised.{AreLinesOf, HasTexts, HaveKeysOnce, IsFindingAnswer, IsFoundAnswer, IsOutcomeAnswer, IsSetQueried, IsTooManyAnswer};
 ghost use Rattle.compare_cli.specs.Summarised.{AnswersSummary, SummarisesKnown, SummarisesSet, SummarisesUnder};
 ghost use Rattle.compare_cli.specs.Summarised.{limits_in, summary_contents, told, told_by};
 
 use crate::answer::{Answer, FoundLines, FoundList, Refusal, Role, Shortage};
 use crate::contents::named_schema;
 use crate::dimensions::slots_of;
+use crate::request_keys::keys_stand_once;
 use command_words::SummaryArguments;
 use findings::{Finding, Summary, finding_text};
 use plain_lists::EqualClone;
@@ -34,8 +36,10 @@ fn lines_of(
     found: &(Finding, Request),
 ) -> Result<FoundLines, AllocError>
     requires { IsFinding strata.now.dimensions found.now.0 }
-    ensures { IfOk result (λ l. told_by l ≡ told strata.now.dimensions found.now) }
+    ensures told { IfOk result (λ l. told_by l ≡ told strata.now.dimensions found.now) }
+    ensures once { IfOk result (λ l. HasKeysOnce l.request) }
 {
+    keys_stand_once(&found.1);
     Ok(FoundLines {
         finding: finding_text(alloc, strata, &found.0)?,
         request: found.1.copy()?,
@@ -49,7 +53,8 @@ fn all_lines(
     summary: &[(Finding, Request)],
 ) -> Result<FoundList, AllocError>
     requires { All (λ p. IsFinding strata.now.dimensions p.0) summary.now }
-    ensures { IfOk result (AreLinesOf strata.now.dimensions summary.now) }
+    ensures lines { IfOk result (AreLinesOf strata.now.dimensions summary.now) }
+    ensures once { IfOk result HaveKeysOnce }
 {
     let mut lines = FoundList::new(alloc);
     for found in summary {

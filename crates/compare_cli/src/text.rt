@@ -15,7 +15,7 @@ use serde_json::Value;
 use std::alloc::{AllocError, Global};
 use wildcard_lang::Text;
 
-/// The line that says how the program is called. It names the commands that come next too.
+/// The line that says how the program is called: the form of each command, without options.
 const USAGE: &str = "usage: compare FIRST SECOND | summary SET DIMENSION.. | \
     check FIRST SECOND PROOF | eval SET REQUEST | load N\n";
 

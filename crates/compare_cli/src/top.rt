@@ -2,7 +2,7 @@
 ghost use Rattle.std.specs.Prelude.{◌≡◌, ◌≤◌, None, IfOk};
 ghost use Rattle.pol_outside.specs.Faults.{Rose};
 ghost use Rattle.command_words.specs.Asked.{asked_by};
-ghost use Rattle.compare_cli.specs.Answers.{IsAnswer, reading_of};
+ghost use Rattle.compare_cli.specs.Answers.{IsAnswer, NameNoFile, reading_of};
 ghost use Rattle.compare_cli.specs.Complete.{IsAccepted, IsDecided};
 ghost use Rattle.compare_cli.specs.Promises.{IsUsageOrFault, IsWritten, Promises};
 ghost use Rattle.compare_cli.specs.Statuses.{exit_number, status_of};
@@ -17,7 +17,8 @@ use std::alloc::{AllocError, Global};
 /// How a run ends.
 #[derive(Clone, Copy)]
 pub enum Status {
-    /// The answer is yes: `not more permissive`, `accepted` or `allowed`; or it is a summary.
+    /// The answer is yes: `not more permissive`, `accepted` or `allowed`; or it is a summary, or the lines
+    /// of a load.
     Holds,
     /// The answer is no: `more permissive` or `denied`.
     Fails,
@@ -61,7 +62,7 @@ fn answer<F: Folder>(
 ) -> Result<Answer, AllocError>
     ensures given { IfOk result (IsAnswer (asked_by arguments.now)
         (reading_of F.held F.faults F.last_fault folder.old folder.new)) }
-    ensures untouched { asked_by arguments.now ≡ None → folder.new ≡ folder.old }
+    ensures untouched { NameNoFile (asked_by arguments.now) → folder.new ≡ folder.old }
     ensures held { F.held folder.new ≡ F.held folder.old }
     ensures later { F.faults folder.old ≤ F.faults folder.new }
 {
@@ -128,8 +129,9 @@ fn write_answer<S: Sink>(alloc: Global, answer: &Answer, out: &mut S) -> Status
 ///   reading and the usage line come only by their cause, with their line. With `ReadFault` the folder's
 ///   count of faults rose in this call, with `WriteFault` the sink's, and with every other answer the name
 ///   of the folder's last fault is as it was.
-/// - `usage`, `untouched`: where the arguments ask for nothing, nothing else than `Usage` comes but for
-///   want of memory or of room, and the folder is as before.
+/// - `usage`: where the arguments ask for nothing, nothing else than `Usage` comes but for want of memory
+///   or of room.
+/// - `untouched`: where they ask for nothing, or for a load, the folder is as before.
 /// - `held`, `reads`, `writes`: what the folder holds stays as it is, and no count of faults falls.
 /// - `complete`: accepted files whose sets have a schema, dimensions that it has, budgets that aren't below
 ///   the need of the plain runs, of the predicates and of the findings that must be looked at, and no fault
@@ -150,7 +152,7 @@ pub fn run<F: Folder, S: Sink>(
         })
         result }
     ensures usage { asked_by arguments.now ≡ None → IsUsageOrFault result }
-    ensures untouched { asked_by arguments.now ≡ None → folder.new ≡ folder.old }
+    ensures untouched { NameNoFile (asked_by arguments.now) → folder.new ≡ folder.old }
     ensures held { F.held folder.new ≡ F.held folder.old }
     ensures reads { F.faults folder.old ≤ F.faults folder.new }
     ensures writes { S.faults out.old ≤ S.faults out.new }

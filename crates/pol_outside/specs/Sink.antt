@@ -14,10 +14,10 @@ abbrev pub Puts : Result ℕ SinkFault → List ℕ → Option (List ℕ) → Op
 Puts (Ok n) piece old new = (0 < n) × (n ≤ length piece) × Appends old (take n piece) new
 Puts (Err e) piece old new = Keeps old new
 
--- all the bytes were added; or the first of them were, maybe none
+-- all the bytes were added; or the first of them were, maybe none and never all
 abbrev pub PutsAll : Result Unit SinkFault → List ℕ → Option (List ℕ) → Option (List ℕ) → Type 0
 PutsAll (Ok u) bytes old new = Appends old bytes new
-PutsAll (Err e) bytes old new = (n : ℕ) × (n ≤ length bytes) × Appends old (take n bytes) new
+PutsAll (Err e) bytes old new = (n : ℕ) × (n < length bytes) × Appends old (take n bytes) new
 
 -- a fault is answered only where the count rose
 abbrev pub RisesAtFault : {T : Type 0} → Result T SinkFault → ℕ → ℕ → Type 0

@@ -24,7 +24,7 @@ pub trait Sink {
 }
 
 /// Writes all the bytes. `SinkFault` only where the sink's count of faults rose in this call: then
-/// the first of them were written, maybe none.
+/// the first of them were written, maybe none and never all.
 pub fn put_all<S: Sink>(out: &mut S, bytes: &[u8]) -> Result<(), SinkFault>
     ensures puts { PutsAll result bytes.now (S.written out.old) (S.written out.new) }
     ensures cause { RisesAtFault result (S.faults out.old) (S.faults out.new) }
