@@ -5,7 +5,7 @@
 ghost use Rattle.std.specs.Prelude.{◌≡◌, [], length, slice_get, option_map, OnOk, OnErr};
 ghost use Rattle.std.specs.Option.{option_copied};
 ghost use Rattle.std.proofs.Common.{rules};
-ghost use Rattle.text_table.specs.Table.{IsInOrder, item_at, with_item};
+ghost use Rattle.text_table.specs.Table.{IsInOrder, KeysAreTexts, item_at, with_item};
 
 use plain_lists::{EqualClone, NoMemory};
 use std::alloc::Global;
@@ -22,11 +22,13 @@ pub struct Table<V> {
 }
 
 impl<V> Model for Table<V> {
-    ghost use Rattle.text_table.specs.Table.{Entries};
+    ghost use Rattle.text_table.specs.Table.{Entries, KeysAreTexts};
 
     ghost Value = { Entries V };
 
     ghost view = { λ t. t.entries.entries };
+
+    ghost invariant = { λ t. KeysAreTexts t.entries.entries };
 }
 
 impl<V> Table<V> {
@@ -45,6 +47,14 @@ impl<V> Table<V> {
         ensures ordered { IsInOrder self.now }
     {
         self.entries.len()
+    }
+
+    /// Each key is a text: a law of the type, without work.
+    pub fn keys_are_texts(&self)
+        ensures { KeysAreTexts self.now }
+    {
+        // Once a field is read, the type's invariant is known.
+        self.entries.len();
     }
 
     /// The item of a key, or none where the key isn't there.
@@ -79,6 +89,8 @@ impl<V: Drop> Table<V> {
         ensures ok { OnOk result (self.new ≡ with_item self.old key item) }
         ensures err { OnErr result (self.new ≡ self.old) }
     {
+        // Asked for its length, the key is known to be a text.
+        key.len();
         self.entries.insert(key, item)?;
         Ok(())
     }
