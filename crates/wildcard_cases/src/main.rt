@@ -1,7 +1,9 @@
 //! Answers each line of standard input, whose words stand between tabs: a kind, a pattern and texts.
 //! The answer is the pattern that was read, written again, and a mark for each text: `y` where the
 //! pattern matches it and `n` where it doesn't; or why the pattern is refused. For the kind `text` it
-//! is the texts, folded.
+//! is the texts, folded. For the kind `pair` there are two patterns, each behind its kind, and the
+//! answer is three marks: whether the first covers the second, whether the second covers the first, and
+//! whether they clash.
 #![tactic(auto)]
 
 use std::alloc::Global;
@@ -9,16 +11,16 @@ use std::io;
 use std::io::{BufRead, BufReader, Write};
 use std::str::Split;
 use wildcard_lang::{
-    MOST_PIECES, Pattern, PatternFault, Text, matches, matches_str, read_arn, read_glob,
-    read_literal, write_pattern,
+    MOST_PIECES, NoMemory, Pattern, PatternFault, Text, clashes, covers, matches, matches_str,
+    read_arn, read_glob, read_literal, write_action, write_pattern,
 };
 
 /// The pattern of a kind: `glob`, `literal` or `arn`, in capitals with escapes, and with `+` folded;
-/// `itself` takes the characters of the text as they are.
+/// `itself` takes the characters of the text as they are, and `action` is folded.
 fn read(alloc: Global, kind: &str, own: &str) -> Result<Pattern, PatternFault> {
     match kind {
         "glob" => read_glob(alloc, own, false, false),
-        "glob+" => read_glob(alloc, own, true, false),
+        "glob+" | "action" => read_glob(alloc, own, true, false),
         "GLOB" => read_glob(alloc, own, false, true),
         "GLOB+" => read_glob(alloc, own, true, true),
         "literal" => read_literal(alloc, own, false, false),
@@ -56,13 +58,22 @@ fn mark(pattern: &Pattern, chars: &Text, text: &str) -> char {
     }
 }
 
+/// The pattern of a kind, written again: that of an action without escapes.
+fn written(alloc: Global, kind: &str, pattern: &Pattern) -> Result<Text, NoMemory> {
+    match kind {
+        "action" => write_action(alloc, pattern),
+        _ => write_pattern(alloc, &pattern.copy()?),
+    }
+}
+
 fn show(
     alloc: Global,
     answer: &mut String,
+    kind: &str,
     pattern: &Pattern,
     texts: Split<'_, char>,
 ) -> io::Result<()> {
-    answer.push_str(&write_pattern(alloc, &pattern.copy()?)?.to_utf8()?)?;
+    answer.push_str(&written(alloc, kind, pattern)?.to_utf8()?)?;
     answer.push('\t')?;
     for text in texts {
         answer.push(mark(pattern, &Text::of(alloc, text)?, text))?;
@@ -78,14 +89,45 @@ fn show_folded(alloc: Global, answer: &mut String, texts: Split<'_, char>) -> io
     Ok(())
 }
 
+fn told(is: bool) -> char {
+    if is { 'y' } else { 'n' }
+}
+
+fn push_told(answer: &mut String, first: &Pattern, second: &Pattern) -> io::Result<()> {
+    answer.push(told(covers(first, second)))?;
+    answer.push(told(covers(second, first)))?;
+    answer.push(told(clashes(first, second)))?;
+    Ok(())
+}
+
+fn show_pair(alloc: Global, answer: &mut String, mut words: Split<'_, char>) -> io::Result<()> {
+    let first = read(
+        alloc,
+        words.next().unwrap_or(""),
+        words.next().unwrap_or(""),
+    );
+    let second = read(
+        alloc,
+        words.next().unwrap_or(""),
+        words.next().unwrap_or(""),
+    );
+    match (first, second) {
+        (Ok(first), Ok(second)) => push_told(answer, &first, &second),
+        _ => Ok(answer.push_str("refused")?),
+    }
+}
+
 fn answer_to(alloc: Global, answer: &mut String, line: &str) -> io::Result<()> {
     let mut words = line.split('\t');
     let kind = words.next().unwrap_or("");
     if kind == "text" {
         return show_folded(alloc, answer, words);
     }
+    if kind == "pair" {
+        return show_pair(alloc, answer, words);
+    }
     match read(alloc, kind, words.next().unwrap_or("")) {
-        Ok(pattern) => show(alloc, answer, &pattern, words),
+        Ok(pattern) => show(alloc, answer, kind, &pattern, words),
         Err(fault) => Ok(answer.push_str(fault_name(fault))?),
     }
 }

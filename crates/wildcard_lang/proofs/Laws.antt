@@ -24,3 +24,22 @@ pub use Rattle.wildcard_lang.proofs.Literals.{exact-matched, exact-matches}
 pub use Rattle.wildcard_lang.proofs.PatternRules.{IsPattern-literals, narrow-literals}
 -- two patterns one behind the other are one, where the first has no wildcard that takes colons
 pub use Rattle.wildcard_lang.proofs.PatternRules.{IsPattern-append}
+-- what a pattern matches is matched by each pattern that covers it; each covers itself, and a star alone covers all
+pub use Rattle.wildcard_lang.proofs.Including.{covering-includes, covers-itself, star-covers}
+-- no text is matched by patterns that clash
+pub use Rattle.wildcard_lang.proofs.Including.{clashing-apart}
+-- the patterns that cover the literals of a text are those that match it
+pub use Rattle.wildcard_lang.proofs.Including.{literals-covered}
+-- the tests whether a pattern covers another, and whether it clashes with it, answer that
+pub use Rattle.wildcard_lang.proofs.Covered.{Decides-covers}
+pub use Rattle.wildcard_lang.proofs.Including.{Decides-clashes}
+-- what is written of a pattern is a text
+pub use Rattle.wildcard_lang.proofs.Written.{IsText-written, IsText-action}
+-- a pattern that was read is what its written form is read as
+pub use Rattle.wildcard_lang.proofs.ReadAgain.{globs-again, literals-again, arns-again, actions-again}
+-- what is read without escapes is read of some text with escapes too
+pub use Rattle.wildcard_lang.proofs.ReadAgain.{globs-with_escapes, literals-with_escapes, arns-with_escapes}
+-- the patterns with wildcards are all lists of plain characters and of wildcards that take colons
+pub use Rattle.wildcard_lang.proofs.ReadAgain.{globs-pieces, literals-globs, arns-globs}
+-- two patterns that one reader made are equal where their written forms are
+pub use Rattle.wildcard_lang.proofs.ReadAgain.{globs-apart, literals-apart, arns-apart, actions-apart}

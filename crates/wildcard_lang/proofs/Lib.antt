@@ -5,6 +5,7 @@ mod ReadSymbols
 mod PatternRules
 mod Narrow
 mod Written
+mod ReadAgain
 mod Inversions
 mod Literals
 mod Forms
@@ -12,3 +13,6 @@ mod Parts
 mod Fronts
 mod Escapes
 mod Stepping
+mod Sharing
+mod Including
+mod Covered

@@ -3,6 +3,7 @@ use Rattle.std.proofs.Common.{◌≡◌, ℕ, zero, suc, ◌+◌, ◌<◌, ◌�
 use Rattle.std.proofs.lemmas.List.{append-nil, at_drop_more, drop_all}
 use Rattle.std.proofs.lemmas.Bool.{and_parts}
 use Rattle.std.specs.List.{list_all, flat_map}
+use Rattle.wildcard_lang.specs.declared.pattern.TheConstants.{MOST_PIECES}
 use Rattle.wildcard_lang.specs.declared.piece.Piece.{Piece}
 use Rattle.wildcard_lang.specs.declared.piece.Piece.TheVariants.{Lit, LitFold, One, Many, OneNoColon, ManyNoColon}
 use Rattle.wildcard_lang.specs.declared.symbol.Symbol.{Symbol}
@@ -67,7 +68,7 @@ narrow_first-narrowed zero (p ∷ ps) h = rw (narrowed-none ps) (narrow_first-no
 narrow_first-narrowed (suc k) (p ∷ ps) h =
     rw (wide-narrow p) (narrow_first-narrowed (left_behind (suc k) p) ps ((and_parts _ _ h).1))
 
-pub IsPattern-narrowed : (k : ℕ) (ps : List Piece) → IsText (flat_map own ps) → list_all is_lower ps ≡ true → list_all is_not_narrow ps ≡ true → length (narrowed k ps) ≤ 2048 → IsPattern (narrowed k ps)
+pub IsPattern-narrowed : (k : ℕ) (ps : List Piece) → IsText (flat_map own ps) → list_all is_lower ps ≡ true → list_all is_not_narrow ps ≡ true → length (narrowed k ps) ≤ MOST_PIECES → IsPattern (narrowed k ps)
 IsPattern-narrowed k ps text lower wide fits = record {
   fits = fits;
   scalars = rw (own-narrowed k ps) text;
@@ -77,11 +78,11 @@ IsPattern-narrowed k ps text lower wide fits = record {
 
 -- what the reader of ARNs hands to a pattern
 pub IsPattern-arn : (escapes : Bool) (cs : List ℕ) (ss : List Symbol) (wide ps : List Piece) → IsText cs → symbols escapes cs ≡ Some ss →
-    wide ≡ map (wildcard_of false) ss → ps ≡ narrowed 5 wide → length ps ≤ 2048 → IsPattern ps
+    wide ≡ map (wildcard_of false) ss → ps ≡ narrowed 5 wide → length ps ≤ MOST_PIECES → IsPattern ps
 IsPattern-arn escapes cs ss wide ps text read made parts fits =
     let each : Keeps (wildcard_of false) = Keeps-wildcard false in
     let own : IsText (map character ss) = IsText-read escapes cs ss text read in
-    let short : length (narrowed 5 (map (wildcard_of false) ss)) ≤ 2048 = subst (λ qs. length (narrowed 5 qs) ≤ 2048) made (subst (λ qs. length qs ≤ 2048) parts fits) in
+    let short : length (narrowed 5 (map (wildcard_of false) ss)) ≤ MOST_PIECES = subst (λ qs. length (narrowed 5 qs) ≤ MOST_PIECES) made (subst (λ qs. length qs ≤ MOST_PIECES) parts fits) in
     rw (parts, made) (IsPattern-narrowed 5 (map (wildcard_of false) ss) (IsText-pieces (wildcard_of false) each ss own) (list_all-pieces (wildcard_of false) is_lower each.lower ss) (list_all-pieces (wildcard_of false) is_not_narrow each.wide ss) short)
 
 -- one more piece

@@ -8,6 +8,7 @@ use Rattle.std.specs.Char.{to_ascii_lowercase, is_ascii_alphabetic, is_ascii_low
 use Rattle.std.proofs.lemmas.List.{length-map}
 use Rattle.std.specs.Bool.{OnFalse}
 use Rattle.std.specs.List.{list_all, flat_map}
+use Rattle.wildcard_lang.specs.declared.pattern.TheConstants.{MOST_PIECES}
 use Rattle.wildcard_lang.specs.declared.piece.Piece.{Piece}
 use Rattle.wildcard_lang.specs.declared.piece.Piece.TheVariants.{Lit, LitFold, One, Many}
 use Rattle.wildcard_lang.specs.declared.symbol.Symbol.{Symbol}
@@ -85,7 +86,7 @@ narrow_first-none (p ∷ ps) h =
     let parts : (is_not_narrow p ≡ true) × (list_all is_not_narrow ps ≡ true) = and_parts _ _ h in
     cond_both (is_wide p) (list_all is_not_narrow ps) (narrow_first ps) (λ b. b ≡ true) (λ e. parts.1) (λ e. narrow_first-none ps parts.1)
 
-pub IsPattern-pieces : (piece : Symbol → Piece) → Keeps piece → (ss : List Symbol) → IsText (map character ss) → length ss ≤ 2048 → IsPattern (map piece ss)
+pub IsPattern-pieces : (piece : Symbol → Piece) → Keeps piece → (ss : List Symbol) → IsText (map character ss) → length ss ≤ MOST_PIECES → IsPattern (map piece ss)
 IsPattern-pieces piece keeps ss text fits = record {
   fits = grind (arith, common_steps);
   scalars = IsText-pieces piece keeps ss text;
@@ -153,7 +154,7 @@ pub IsText-read : (escapes : Bool) (cs : List ℕ) (ss : List Symbol) → IsText
 IsText-read escapes cs ss text read = subst (λ o. IsText (characters o)) read (IsText-symbols escapes cs text)
 
 pub IsPattern-read : (piece : Symbol → Piece) → Keeps piece → (escapes : Bool) (cs : List ℕ) (ss : List Symbol) (ps : List Piece) → IsText cs →
-    symbols escapes cs ≡ Some ss → ps ≡ map piece ss → length ss ≤ 2048 → IsPattern ps
+    symbols escapes cs ≡ Some ss → ps ≡ map piece ss → length ss ≤ MOST_PIECES → IsPattern ps
 IsPattern-read piece keeps escapes cs ss ps text read made fits =
     rw made (IsPattern-pieces piece keeps ss (IsText-read escapes cs ss text read) fits)
 
@@ -167,7 +168,7 @@ pub wildcards_of-written : (fold : Bool) (cs : List ℕ) → map (wildcard_of fo
 wildcards_of-written fold [] = refl
 wildcards_of-written fold (c ∷ cs) = ap (λ (ps : List Piece). wildcard fold c ∷ ps) (wildcards_of-written fold cs)
 
-pub IsPattern-literals : (fold : Bool) (cs : List ℕ) → IsText cs → length cs ≤ 2048 → IsPattern (literals fold cs)
+pub IsPattern-literals : (fold : Bool) (cs : List ℕ) → IsText cs → length cs ≤ MOST_PIECES → IsPattern (literals fold cs)
 IsPattern-literals fold cs text fits =
     let own : IsText (map character (map Written cs)) = rw (character-written cs) text in
     let long : length (map Written cs) ≡ length cs = length-map cs Written in
@@ -175,7 +176,7 @@ IsPattern-literals fold cs text fits =
 
 -- what is read without escapes, where one symbol is one character
 pub plain_read : (piece : Symbol → Piece) (plain : ℕ → Piece) → ((cs : List ℕ) → map piece (map Written cs) ≡ map plain cs) → (escapes : Bool) (cs : List ℕ) (ss : List Symbol) (ps : List Piece) →
-    symbols escapes cs ≡ Some ss → ps ≡ map piece ss → length ss ≤ 2048 → OnFalse escapes ((ps ≡ map plain cs) × (length cs ≤ 2048))
+    symbols escapes cs ≡ Some ss → ps ≡ map piece ss → length ss ≤ MOST_PIECES → OnFalse escapes ((ps ≡ map plain cs) × (length cs ≤ MOST_PIECES))
 plain_read piece plain same true cs ss ps read made fits = tt
 plain_read piece plain same false cs ss ps read made fits =
     let own : ss ≡ map Written cs = cc in
@@ -198,7 +199,7 @@ narrow_first-append (p ∷ ps) qs h k =
     let parts = and_parts (not (is_wide p)) (list_all (λ q. not (is_wide q)) ps) h in
     cond-false (is_wide p) _ _ (not-true (is_wide p) parts.0) ∙ narrow_first-append ps qs parts.1 k
 
-pub IsPattern-append : (ps qs : List Piece) → list_all (λ p. not (is_wide p)) ps ≡ true → IsPattern ps → IsPattern qs → length (ps ++ qs) ≤ 2048 → IsPattern (ps ++ qs)
+pub IsPattern-append : (ps qs : List Piece) → list_all (λ p. not (is_wide p)) ps ≡ true → IsPattern ps → IsPattern qs → length (ps ++ qs) ≤ MOST_PIECES → IsPattern (ps ++ qs)
 IsPattern-append ps qs narrow front behind fits = record {
   fits = fits;
   scalars = rw (flat_map-append ps qs) (IsText-append (flat_map own ps) (flat_map own qs) front.scalars behind.scalars);

@@ -9,7 +9,7 @@ use Rattle.wildcard_lang.specs.declared.piece.Piece.TheVariants.{Lit, LitFold, O
 use Rattle.wildcard_lang.specs.Text.{IsText}
 use Rattle.wildcard_lang.specs.Patterns.{own}
 use Rattle.wildcard_lang.specs.Symbols.{is_mark}
-use Rattle.wildcard_lang.specs.Writing.{plain_form, piece_form, written_form}
+use Rattle.wildcard_lang.specs.Writing.{plain_form, piece_form, written_form, piece_character, action_form}
 use Rattle.wildcard_lang.proofs.PatternRules.{IsText-append}
 
 IsText-plain : (c : ℕ) → scalar c ≡ true → IsText (plain_form c)
@@ -42,3 +42,18 @@ pub IsText-all : (ps qs : List Piece) (written : List ℕ) (i : ℕ) → qs ≡ 
 IsText-all ps qs written i same text made end =
     let whole : length ps ≤ i = omega (arith, ap length same) in
     rw (made, take_all i ps whole) (IsText-written ps text)
+
+-- what is written of an action is a text
+scalar-character : (p : Piece) → IsText (own p) → scalar (piece_character p) ≡ true
+scalar-character (Lit c) h = (and_parts _ _ h).0
+scalar-character (LitFold c) h = (and_parts _ _ h).0
+scalar-character One h = refl
+scalar-character Many h = refl
+scalar-character OneNoColon h = refl
+scalar-character ManyNoColon h = refl
+
+pub IsText-action : (ps : List Piece) → IsText (flat_map own ps) → IsText (action_form ps)
+IsText-action [] h = refl
+IsText-action (p ∷ ps) h =
+    let parts : IsText (own p) × IsText (flat_map own ps) = IsText-front (own p) (flat_map own ps) h in
+    and_from _ _ (scalar-character p parts.0) (IsText-action ps parts.1)

@@ -1,12 +1,15 @@
 pub mod Text
 pub mod Matching
 pub mod Patterns
+pub mod Limits
 pub mod Accepts
 pub mod Symbols
 pub mod Reading
 pub mod SymbolFaults
 pub mod Arns
 pub mod Writing
+pub mod WrittenAgain
 pub mod Meanings
 pub mod Escapes
 pub mod Places
+pub mod Covering

@@ -2,7 +2,7 @@
 #![tactic(auto)]
 
 mod arn;
-mod char_source;
+mod covering;
 mod equal;
 mod fault;
 mod matching;
@@ -12,11 +12,18 @@ mod pattern;
 mod piece;
 mod places;
 mod reading;
+mod source;
 mod symbol;
+mod taken;
 mod text;
 mod writing;
+mod written_again;
 
 pub use arn::read_arn;
+pub use covering::{
+    clashes, clashing_is_disjoint, covering_is_inclusion, covering_is_reflexive, covers,
+    literals_are_covered,
+};
 pub use fault::PatternFault;
 pub use matching::{accepts_is_matches, matches, matches_str};
 pub use meanings::{
@@ -31,4 +38,8 @@ pub use plain_lists::NoMemory;
 pub use reading::{read_glob, read_literal};
 pub use symbol::Symbol;
 pub use text::{Text, TextList};
-pub use writing::write_pattern;
+pub use writing::{write_action, write_pattern};
+pub use written_again::{
+    globs_are_of_their_pieces, pattern_limits, patterns_are_found_with_escapes,
+    patterns_are_read_again, patterns_are_written_apart,
+};

@@ -1,6 +1,6 @@
 //! Writing patterns.
 ghost use Rattle.std.specs.Prelude.{◌≡◌, ◌++◌, IfOk};
-ghost use Rattle.wildcard_lang.specs.Writing.{plain_form, piece_form, written_form};
+ghost use Rattle.wildcard_lang.specs.Writing.{plain_form, piece_form, written_form, piece_character, action_form};
 
 use crate::pattern::Pattern;
 use crate::piece::Piece;
@@ -44,4 +44,28 @@ fn write_plain(written: &mut Vec<char>, c: char) -> Result<(), NoMemory>
     written.push(c)?;
     written.push('}')?;
     Ok(())
+}
+
+/// The text of an action's pattern, in which no escapes are read: a wildcard as `?` or `*`, and every
+/// other character as itself. A folded letter stands as its lower case.
+pub fn write_action(alloc: Global, pattern: &Pattern) -> Result<Text, NoMemory>
+    ensures { IfOk result (λ t. t ≡ action_form pattern.now) }
+{
+    let chars: Vec<char> = pattern
+        .as_slice()
+        .iter()
+        .map(|piece| piece_character(*piece))
+        .collect(alloc)?;
+    Ok(Text::from_chars(chars))
+}
+
+// The character of a piece where no escapes are read.
+fn piece_character(piece: Piece) -> char
+    ensures { result ≡ piece_character piece }
+{
+    match piece {
+        Piece::Lit(c) | Piece::LitFold(c) => c,
+        Piece::One | Piece::OneNoColon => '?',
+        Piece::Many | Piece::ManyNoColon => '*',
+    }
 }

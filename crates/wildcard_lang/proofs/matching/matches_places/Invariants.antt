@@ -1,10 +1,10 @@
-use Rattle.std.proofs.Common.{◌≡◌, ℕ, List, ◌++◌, length}
+use Rattle.std.proofs.Common.{◌≡◌, List, ◌++◌, length}
 use Rattle.wildcard_lang.specs.Accepts.{ArePlaces}
 use Rattle.wildcard_lang.proofs.matching.matches_places.Given as goal
 
--- the marks are the places of the text so far
+-- the marks are the places of what was taken so far
 abbrev pub invariant-text : goal.invariant-text
-invariant-text g l = (done : List ℕ) × (g.S.CharSource.left l.fn.text ≡ done ++ g.S.CharSource.left l.left) × ArePlaces l.pieces done l.places
+invariant-text g l = (done : List _) × (g.S.Source.left l.fn.text ≡ done ++ g.S.Source.left l.left) × ArePlaces g.X.Taken.taken l.pieces done l.places
 
 abbrev pub decreases-text : goal.decreases-text
-decreases-text g l = length (g.S.CharSource.left l.left)
+decreases-text g l = length (g.S.Source.left l.left)

@@ -1,31 +1,31 @@
-//! The characters of a text, taken from its front one by one.
+//! The characters of a text or the pieces of a pattern, taken from the front one by one.
 ghost use Rattle.std.specs.Prelude.{◌≡◌, ℕ, List, [], ◌∷◌, IfSome, IfNone};
 ghost use Rattle.std.specs.Str.{chars};
 
-// What gives the characters of a text. Matching goes over it, so that a `Text` and a `str` share it.
-pub(crate) trait CharSource: Drop {
-    // The characters that are left.
-    ghost left: { Self → List ℕ };
+// What gives items one by one. Matching goes over it, so that a `Text`, a `str` and a pattern share it.
+pub(crate) trait Source<X>: Drop {
+    // The items that are left.
+    ghost left: { Self → List X };
 
-    fn next_char(&mut self) -> Option<char>
-        ensures some { IfSome result (λ c. left self.old ≡ c ∷ left self.new) }
+    fn next_item(&mut self) -> Option<X>
+        ensures some { IfSome result (λ x. left self.old ≡ x ∷ left self.new) }
         ensures none { IfNone result (left self.old ≡ []) };
 }
 
-impl<'a> CharSource for &'a [char] {
+impl<'a, X: Copy> Source<X> for &'a [X] {
     ghost left = { λ s. s.now };
 
-    fn next_char(&mut self) -> Option<char> {
-        let (c, rest) = self.split_first()?;
+    fn next_item(&mut self) -> Option<X> {
+        let (x, rest) = self.split_first()?;
         *self = rest;
-        Some(*c)
+        Some(*x)
     }
 }
 
-impl<'a> CharSource for &'a str {
+impl<'a> Source<char> for &'a str {
     ghost left = { λ s. chars s.now };
 
-    fn next_char(&mut self) -> Option<char> {
+    fn next_item(&mut self) -> Option<char> {
         let (c, rest) = split_first(*self)?;
         *self = rest;
         Some(c)

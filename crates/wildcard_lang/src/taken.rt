@@ -1,0 +1,41 @@
+//! What the pieces of a pattern take: the characters of a text, or the pieces of another pattern.
+ghost use Rattle.std.specs.Prelude.{◌≡◌, Bool, true, refl};
+ghost use Rattle.wildcard_lang.specs.declared.piece.Piece.{Piece};
+ghost use Rattle.wildcard_lang.specs.declared.piece.Piece.TheVariants.{Lit, LitFold, One, Many, OneNoColon, ManyNoColon};
+ghost use Rattle.wildcard_lang.specs.Matching.{takes};
+ghost use Rattle.wildcard_lang.specs.Covering.{takes_next};
+
+use crate::covering::takes_next;
+use crate::piece::Piece;
+
+// What a piece may take.
+pub(crate) trait Taken: Copy {
+    // Whether the piece takes it.
+    ghost taken: { Piece → Self → Bool };
+
+    fn is_taken(self, piece: Piece) -> bool
+        ensures { result ≡ taken piece self };
+
+    // A star takes it.
+    ghost star: { (x : Self) → taken Many x ≡ true };
+}
+
+impl Taken for char {
+    ghost taken = { takes };
+
+    fn is_taken(self, piece: Piece) -> bool {
+        piece.takes(self)
+    }
+
+    ghost star = { λ x. refl };
+}
+
+impl Taken for Piece {
+    ghost taken = { takes_next };
+
+    fn is_taken(self, piece: Piece) -> bool {
+        takes_next(piece, self)
+    }
+
+    ghost star = { λ x. elim x as (λ k. takes_next Many k ≡ true) [ Lit c ↦ refl | LitFold c ↦ refl | One ↦ refl | Many ↦ refl | OneNoColon ↦ refl | ManyNoColon ↦ refl ] };
+}
