@@ -6,3 +6,4 @@ pub mod DecimalTexts
 pub mod Moments
 pub mod MomentTexts
 pub mod Laws
+pub mod Limits

@@ -22,7 +22,7 @@ pub use moment::{BadDate, read_moment};
 use plain_lists::List;
 pub use plain_lists::NoMemory;
 pub use scaled::{BadNumber, Scaled, from_whole};
-pub use units::UNITS;
+pub use units::{UNITS, units_are_plain_numbers};
 pub use write::write_decimal;
 
 /// A list of bytes, as a binary value has.

@@ -1,4 +1,5 @@
 //! The unit in which numbers and moments are counted, and how many there may be.
+ghost use Rattle.intervals.specs.Limits.{SizesOfNumbers, TimesInUnits};
 
 /// How many units a whole number has, and a second: one is 10^-9.
 pub const UNITS: u64 = 1_000_000_000;
@@ -14,3 +15,9 @@ pub(crate) const WHOLE_LIMIT: u128 = 1_000_000_000_000_000_000;
 
 /// 10^27, which a number of units is less than in size.
 pub(crate) const SIZE_LIMIT: u128 = WHOLE_LIMIT * UNITS as u128;
+
+/// The constants of units as plain numbers: a law without a body.
+pub fn units_are_plain_numbers()
+    ensures times { TimesInUnits }
+    ensures sizes { SizesOfNumbers }
+{}
