@@ -8,3 +8,4 @@ pub mod Tests
 pub mod Sets
 pub mod StatementNames
 pub mod Soundness
+pub mod Limits

@@ -2,10 +2,17 @@
 use Rattle.std.specs.Prelude.{◌≡◌, ⊤, ℕ, List, [], ◌∷◌, ◌++◌, Bool, false, ◌==◌, Option, Some, None, codes, if◌then◌else◌, option_and_then}
 use Rattle.std.specs.List.{list_any}
 use Rattle.policy_model.specs.declared.principal.PrincipalKind.{PrincipalKind}
-use Rattle.policy_model.specs.declared.principal.PrincipalKind.TheVariants.{Aws}
+use Rattle.policy_model.specs.declared.principal.PrincipalKind.TheVariants.{Aws, Service, Federated, CanonicalUser}
 use Rattle.policy_model.specs.declared.principal.Entry.{Entry}
 use Rattle.policy_model.specs.declared.principal.Entry.TheVariants.{All, Kind, Account, Exact}
 use Rattle.policy_model.specs.declared.request.Request.{Request}
+
+-- the name of a kind of principals in a policy and in a request
+abbrev pub kind_word : PrincipalKind → List ℕ
+kind_word Aws = codes "AWS"
+kind_word Service = codes "Service"
+kind_word Federated = codes "Federated"
+kind_word CanonicalUser = codes "CanonicalUser"
 
 -- whether a colon stands in the text
 abbrev pub has_colon : List ℕ → Bool

@@ -4,7 +4,7 @@ use Rattle.std.specs.Prelude.{◌≡◌, ◌≢◌, ◌≤◌, ◌<◌, ◌⊎�
 use Rattle.std.specs.Prelude.{Option, Some, None, MatchOption}
 use Rattle.intervals.specs.Scaled.{IsScaled}
 use Rattle.cidr_bits.specs.Numbers.{IsAddress}
-use Rattle.text_table.specs.Table.{Entries, item_at}
+use Rattle.text_table.specs.Table.{Entries, IsInOrder, KeysAreTexts, item_at}
 use Rattle.wildcard_lang.specs.Text.{IsText}
 use Rattle.wildcard_lang.specs.Matching.{Matches}
 use Rattle.wildcard_lang.specs.declared.piece.Piece.{Piece}
@@ -18,6 +18,7 @@ use Rattle.policy_model.specs.declared.schema.KeyRule.{KeyRule}
 use Rattle.policy_model.specs.declared.schema.Shapes.{Shapes}
 use Rattle.policy_model.specs.declared.schema.Schema.{Schema}
 use Rattle.policy_model.specs.declared.request.Request.{Request}
+use Rattle.policy_model.specs.Keys.{AllHaveValues, AreFolded}
 
 -- the text matches the shape, where one is given
 abbrev pub FitsShape : Option (List Piece) → List ℕ → Type 0
@@ -103,3 +104,15 @@ pub record IsValid (schema : Schema) (r : Request) : Type 0 where
 -- some request is valid
 abbrev pub HasValidRequest : Schema → Type 0
 HasValidRequest schema = (r : Request) × IsValid schema r
+
+-- each key of the request stands there once, in the order of the keys, without capitals, and has values: so the request's text says
+-- of each key what the request has
+pub record HasKeysOnce (r : Request) : Type 0 where
+  pub ordered : IsInOrder r.context
+  pub folded : AreFolded r.context
+  pub some : AllHaveValues r.context
+
+-- and each key is a text: so it is with every request that a program holds
+pub record IsWellKept (r : Request) : Type 0 where
+  pub once : HasKeysOnce r
+  pub texts : KeysAreTexts r.context

@@ -1,7 +1,7 @@
 //! The condition keys of a request.
 ghost use Rattle.std.specs.Prelude.{◌≡◌, ◌≢◌, [], length, slice_get, option_map, IfSome, OnOk, OnErr};
 ghost use Rattle.std.specs.Option.{option_copied};
-ghost use Rattle.text_table.specs.Table.{IsInOrder, item_at, with_item};
+ghost use Rattle.text_table.specs.Table.{IsInOrder, KeysAreTexts, item_at, with_item};
 ghost use Rattle.std.proofs.Common.{rules};
 ghost use Rattle.policy_model.specs.Keys.{AllHaveValues, AreFolded, IsFolded};
 
@@ -62,6 +62,18 @@ impl Context {
         ensures ordered { IsInOrder self.now }
     {
         self.entries.len()
+    }
+
+    /// Each key stands once, in the order of the keys, is a text without ASCII capitals, and has values: a
+    /// law of the type, without work.
+    pub fn keys_are_well_kept(&self)
+        ensures ordered { IsInOrder self.now }
+        ensures texts { KeysAreTexts self.now }
+        ensures folded { AreFolded self.now }
+        ensures some { AllHaveValues self.now }
+    {
+        self.entries.len();
+        self.entries.keys_are_texts();
     }
 
     /// The values of a key, of which there is at least one, or none where the key isn't there.

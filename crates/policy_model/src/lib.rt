@@ -27,7 +27,8 @@ pub use operator::{
 pub use parts::{behind_colon, behind_prefix};
 pub use plain_lists::{EqualClone, List, NoMemory};
 pub use principal::{
-    ACCOUNT_DIGITS, Entry, EntryList, PrincipalKind, entry_holds, entry_names, is_account,
+    ACCOUNT_DIGITS, Entry, EntryList, PrincipalKind, accounts_have_twelve_digits, entry_holds,
+    entry_names, is_account,
 };
 pub use request::Request;
 pub use schema::{KeyRule, KeyRules, Schema, Shapes};

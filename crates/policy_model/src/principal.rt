@@ -1,7 +1,8 @@
 //! Principals of requests, and the entries of a policy that name them.
 ghost use Rattle.std.specs.Prelude.{◌≡◌, ◌↔◌, IsTrue};
 ghost use Rattle.std.proofs.Common.{rules};
-ghost use Rattle.policy_model.specs.Principals.{EntryHolds, EntryNames, IsOfAccount, account_test};
+ghost use Rattle.policy_model.specs.Limits.{AccountsHaveTwelveDigits};
+ghost use Rattle.policy_model.specs.Principals.{EntryHolds, EntryNames, IsOfAccount, account_test, kind_word};
 ghost use Rattle.policy_model.specs.Soundness.{IsAccount};
 
 use crate::parts::{behind_colon, behind_prefix};
@@ -19,6 +20,20 @@ pub enum PrincipalKind {
     Service,
     Federated,
     CanonicalUser,
+}
+
+impl PrincipalKind {
+    /// The name of the kind in a policy and in a request.
+    pub fn word(self) -> &'static str
+        ensures { result.now ≡ kind_word self }
+    {
+        match self {
+            PrincipalKind::Aws => "AWS",
+            PrincipalKind::Service => "Service",
+            PrincipalKind::Federated => "Federated",
+            PrincipalKind::CanonicalUser => "CanonicalUser",
+        }
+    }
 }
 
 /// One principal entry of a policy.
@@ -40,6 +55,11 @@ impl EqualClone for Entry {
 
 /// A list of principal entries.
 pub type EntryList = List<Entry>;
+
+/// How many digits an account has, as a plain number: a law without a body.
+pub fn accounts_have_twelve_digits()
+    ensures { AccountsHaveTwelveDigits }
+{}
 
 /// Whether the text is an account: twelve ASCII digits. It takes no memory.
 pub fn is_account(text: &[char]) -> bool

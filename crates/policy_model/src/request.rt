@@ -2,6 +2,7 @@
 ghost use Rattle.std.specs.Prelude.{◌≡◌};
 ghost use Rattle.std.proofs.Common.{rules};
 ghost use Rattle.policy_model.specs.Conditions.{values_at};
+ghost use Rattle.policy_model.specs.Requests.{IsWellKept};
 
 use crate::context::Context;
 use crate::principal::PrincipalKind;
@@ -25,6 +26,14 @@ impl EqualClone for Request {
 }
 
 impl Request {
+    /// Each key stands once, in the order of the keys, is a text without ASCII capitals, and has values: a
+    /// law of the type, without work.
+    pub fn keys_are_well_kept(&self)
+        ensures { IsWellKept self.now }
+    {
+        self.context.keys_are_well_kept();
+    }
+
     /// The values of a key: none where it is absent. It takes no memory.
     pub fn values_at(&self, key: &Text) -> &[Value]
         ensures { result.now ≡ values_at self.now key.now }
