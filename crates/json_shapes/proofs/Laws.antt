@@ -1,5 +1,11 @@
--- What readers that stand above need: the first fault of a list of checks by its parts, and loops over the members of a list or of an
--- object, each read by its own checks.
+-- What readers that stand above need: the first fault of a list of checks by its parts, loops over the members of a list or of an
+-- object, each read by its own checks, and texts that are read again.
+-- what holds of each member of an object and of one that is put in holds of all
+pub use Rattle.json_shapes.proofs.Rising.{each-put}
+-- the compact text of a value that is spelled is read as that value, alone and with a line feed behind it
+pub use Rattle.json_shapes.proofs.Spelling.{read-again}
+-- an object that is spelled is so still where a member that is spelled is put in
+pub use Rattle.json_shapes.proofs.Spelling.{spelled-put}
 use Rattle.std.proofs.Common.{◌≡◌, ◌≤◌, ◌<◌, ◌+◌, ℕ, List, [], ◌∷◌, ◌++◌, Bool, true, false, Option, Some, None, map, length, drop, get_or, append-nil, String, Global, string_bytes, refl, ap, sym, ◌∙◌, if◌then◌else◌}
 use Rattle.std.proofs.lemmas.List.{append_assoc, drop_more, drop_all}
 use Rattle.std.specs.List.{flat_map}

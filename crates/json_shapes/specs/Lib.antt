@@ -1,3 +1,4 @@
 pub mod Json
 pub mod Shapes
 pub mod Checks
+pub mod Spelled

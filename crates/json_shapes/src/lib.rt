@@ -2,11 +2,13 @@
 //! forms of their own stand on it.
 #![tactic(auto)]
 
+mod compact;
 mod elements;
 mod names;
 mod read;
 mod shapes;
 
+pub use compact::compact_texts_are_read_again;
 pub use elements::{are_strings, list_under, members, text_of, values_in};
 pub use names::is_among;
 pub use read::read_json;

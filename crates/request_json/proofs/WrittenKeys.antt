@@ -14,7 +14,8 @@ use Rattle.wildcard_lang.specs.Text.{IsText, folded_text}
 use Rattle.json_shapes.specs.Checks.{first_fault}
 use Rattle.json_shapes.specs.Json.{pairs_of}
 use Rattle.json_shapes.specs.Shapes.{are_strings}
-use Rattle.json_shapes.proofs.Laws.{first_fault-rest}
+use Rattle.json_shapes.specs.Spelled.{EachMember}
+use Rattle.json_shapes.proofs.Laws.{each-put, first_fault-rest}
 use Rattle.policy_model.specs.declared.schema.KeyRule.{KeyRule}
 use Rattle.policy_model.specs.declared.value.Value.{Value}
 use Rattle.policy_model.specs.Keys.{IsFolded}
@@ -33,21 +34,7 @@ use Rattle.request_json.proofs.WrittenValues.{chars-encoded, key-passes, strings
 abbrev cmp : List ℕ → List ℕ → Ordering
 cmp = slice_cmp nat_cmp
 
--- ---- what holds of each member
-
-abbrev pub EachMember : (List ℕ → Data → Type 0) → Members → Type 0
-EachMember P no_members = Unit {0}
-EachMember P (member l d ms) = P l d × EachMember P ms
-
-each-at : (P : List ℕ → Data → Type 0) (o : Ordering) (n l : List ℕ) (d e : Data) (ms : Members) → cmp n l ≡ o → P n d → P l e → EachMember P ms → EachMember P (put n d ms) → EachMember P (match_ordering o (member n d (member l e ms)) (member l d ms) (member l e (put n d ms)))
-each-at P Less n l d e ms is here there rest later = (here, (there, rest))
-each-at P Equal n l d e ms is here there rest later = (subst (λ (own : List ℕ). P own d) (equal-keys n l is) here, rest)
-each-at P Greater n l d e ms is here there rest later = (there, later)
-
--- what holds of each member and of one that is put in holds of all
-pub each-put : (P : List ℕ → Data → Type 0) (n : List ℕ) (d : Data) (ms : Members) → P n d → EachMember P ms → EachMember P (put n d ms)
-each-put P n d no_members here rest = (here, tt)
-each-put P n d (member l e ms) here rest = each-at P (cmp n l) n l d e ms refl here rest.0 rest.1 (each-put P n d ms here rest.1)
+-- ---- names that are different keys
 
 -- no member is this key
 abbrev Lacks : List ℕ → Members → Type 0

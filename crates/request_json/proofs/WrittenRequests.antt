@@ -21,14 +21,14 @@ use Rattle.policy_model.specs.declared.schema.Schema.{Schema}
 use Rattle.policy_model.specs.declared.schema.Shapes.{Shapes}
 use Rattle.policy_model.specs.declared.value.Value.{Value}
 use Rattle.policy_model.specs.Keys.{IsFolded}
-use Rattle.policy_model.specs.Requests.{EntryIsValid, IsThere, IsValid, IsWord, PermitsValues, WordsAreValid, shape_of}
+use Rattle.policy_model.specs.Principals.{kind_word}
+use Rattle.policy_model.specs.Requests.{EntryIsValid, IsThere, IsValid, IsWellKept, IsWord, PermitsValues, WordsAreValid, shape_of}
 use Rattle.request_schema.specs.SchemaHeads.{is_object_of}
-use Rattle.request_json.specs.Laws.{IsWellKept}
 use Rattle.request_json.specs.RequestChecks.{request_check}
 use Rattle.request_json.specs.RequestFiles.{context_of, is_word, request_checks, request_of, request_or, request_read, request_with, whole_checks, word_checks_of}
 use Rattle.request_json.specs.RequestKeys.{context_checks, fits_shape, required_checks}
 use Rattle.request_json.specs.RequestShapes.{are_apart, has_form, has_words, have_values, is_context, is_one_id, is_request, keys_of_request, kind_of_name, names_of, request_names}
-use Rattle.request_json.specs.RequestTexts.{context_members, kind_word, request_data}
+use Rattle.request_json.specs.RequestTexts.{context_members, request_data}
 use Rattle.request_json.specs.declared.fault.RequestCode.{RequestCode}
 use Rattle.request_json.specs.declared.fault.RequestFault.{RequestFault}
 use Rattle.request_json.proofs.KeysRead.{Keys}
@@ -63,7 +63,7 @@ kept-written keys (e ∷ es) kept = All-cons AreWritten e es (record { name = ke
 
 -- its names and values are of UTF-8
 pub keys-written : (schema : Schema) (r : Request) → IsWellKept r → IsValid schema r → All AreWritten r.context
-keys-written schema r kept valid = kept-written schema.keys r.context (kept-keys schema.keys r.context kept.texts kept.folded kept.some valid.keys.each)
+keys-written schema r kept valid = kept-written schema.keys r.context (kept-keys schema.keys r.context kept.texts kept.once.folded kept.once.some valid.keys.each)
 
 -- ---- single checks
 
@@ -140,11 +140,11 @@ pub data-again : (schema : Schema) (r : Request) → IsWellKept r → IsValid sc
 unfolding request_checks
 data-again schema r kept valid =
     let d = request_data r in
-    let keys = kept-keys schema.keys r.context kept.texts kept.folded kept.some valid.keys.each in
-    let context : context_of schema d ≡ r.context = keys-again schema.keys r.context kept.ordered keys in
+    let keys = kept-keys schema.keys r.context kept.texts kept.once.folded kept.once.some valid.keys.each in
+    let context : context_of schema d ≡ r.context = keys-again schema.keys r.context kept.once.ordered keys in
     let stands : request_of schema d ≡ r = ap (request_with d) context ∙ request-again r valid.words.id.text valid.words.action.text valid.words.resource.text in
-    let whole = one-passes (is_request d) _ _ (shaped r (keys-strings schema.keys r.context kept.ordered keys) (keys-apart schema.keys r.context kept.ordered keys)) in
-    let given = keys-pass schema.keys r.context kept.ordered keys in
+    let whole = one-passes (is_request d) _ _ (shaped r (keys-strings schema.keys r.context kept.once.ordered keys) (keys-apart schema.keys r.context kept.once.ordered keys)) in
+    let given = keys-pass schema.keys r.context kept.once.ordered keys in
     let required = passes_at (λ (c : Keys). required_checks schema.keys c) r.context (context_of schema d) (sym context) (required-pass schema.keys r.context valid.keys.required) in
     let words = passes_at (λ (q : Request). word_checks_of schema.shapes q) r (request_of schema d) (sym stands) (words-pass schema.shapes r valid.words) in
     let passed : first_fault (request_checks schema d) ≡ None =

@@ -11,18 +11,10 @@ use Rattle.cidr_bits.specs.Texts.{address_text}
 use Rattle.intervals.specs.DecimalTexts.{written_decimal}
 use Rattle.text_table.specs.Table.{Entries}
 use Rattle.policy_model.specs.Operators.{truth_word}
-use Rattle.policy_model.specs.declared.principal.PrincipalKind.{PrincipalKind}
-use Rattle.policy_model.specs.declared.principal.PrincipalKind.TheVariants.{Aws, Service, Federated, CanonicalUser}
+use Rattle.policy_model.specs.Principals.{kind_word}
 use Rattle.policy_model.specs.declared.request.Request.{Request}
 use Rattle.policy_model.specs.declared.value.Value.{Value}
 use Rattle.policy_model.specs.declared.value.Value.TheVariants.{Word, Truth, Number, Address, Bytes}
-
--- the name of a kind of principals in a policy and in a request
-abbrev pub kind_word : PrincipalKind → List ℕ
-kind_word Aws = codes "AWS"
-kind_word Service = codes "Service"
-kind_word Federated = codes "Federated"
-kind_word CanonicalUser = codes "CanonicalUser"
 
 -- the text of a value: a text itself, `true` or `false`, a number in decimal, an address in its one form, bytes in Base64 with
 -- its padding (RFC 4648)

@@ -5,13 +5,13 @@ ghost use Rattle.serde_json.specs.Data.{object, put, string};
 ghost use Rattle.serde_json.specs.Read.{read};
 ghost use Rattle.serde_json.specs.View.{members_view, view};
 ghost use Rattle.policy_model.specs.Operators.{truth_word};
-ghost use Rattle.request_json.specs.RequestTexts.{context_members, kind_word, principal_data, request_data, request_text, value_data, value_text, values_data, with_parts};
+ghost use Rattle.request_json.specs.RequestTexts.{context_members, principal_data, request_data, request_text, value_data, value_text, values_data, with_parts};
 
 use base64::engine::general_purpose::STANDARD;
 use cidr_bits::write_address;
 use intervals::write_decimal;
 use plain_lists::NoMemory;
-use policy_model::{Context, PrincipalKind, Request, Value, ValueList};
+use policy_model::{Context, Request, Value, ValueList};
 use serde_json::{Map, Value as Json};
 use std::alloc::Global;
 use wildcard_lang::Text;
@@ -79,18 +79,6 @@ fn context_json(alloc: Global, context: &Context) -> Result<Json, NoMemory>
     Ok(Json::Object(members))
 }
 
-// The name of a kind of principals.
-fn kind_word(kind: PrincipalKind) -> &'static str
-    ensures { result.now ≡ kind_word kind }
-{
-    match kind {
-        PrincipalKind::Aws => "AWS",
-        PrincipalKind::Service => "Service",
-        PrincipalKind::Federated => "Federated",
-        PrincipalKind::CanonicalUser => "CanonicalUser",
-    }
-}
-
 // A text as JSON.
 fn text_json(text: &Text) -> Result<Json, NoMemory>
     ensures { IfOk result (λ v. view v ≡ string (encode_utf8_all text.now)) }
@@ -120,7 +108,7 @@ fn principal_json(alloc: Global, request: &Request) -> Result<Json, NoMemory>
     put_at(
         alloc,
         &mut members,
-        kind_word(request.kind),
+        request.kind.word(),
         text_json(&request.id)?,
     )?;
     Ok(Json::Object(members))
