@@ -1,4 +1,4 @@
--- The lemmas that crates above may cite: what numbered trees and the plans of sets say, and the ranges of numbers and tests.
+-- The lemmas that crates above may cite: what numbered trees and the plans of sets say, the ranges of numbers and tests, and limits.
 use Rattle.std.proofs.Common.{◌≡◌, ℕ, Bool, false, List, All, IsTrue, ◌↔◌, length}
 use Rattle.formula_tree.specs.Trees as tree
 use Rattle.formula_tree.specs.Values.{AreBelow, holds}
@@ -9,6 +9,7 @@ use Rattle.policy_model.specs.declared.test.Test.{Test}
 use Rattle.policy_model.specs.Requests.{IsValid}
 use Rattle.policy_model.specs.Sets.{Allows}
 use Rattle.policy_model.specs.Soundness.{SchemaFits, TestSuits}
+use Rattle.policy_compile.specs.Asked.{IsAskedBy, SomeStatementOf}
 use Rattle.policy_compile.specs.Laws.{AsksPair}
 use Rattle.policy_compile.specs.Meaning.{AnswersAs}
 use Rattle.policy_compile.specs.Numbering.{Collects, IsNumbered}
@@ -17,6 +18,14 @@ use Rattle.policy_compile.specs.Sets.{query_plan, set_plan}
 use Rattle.policy_compile.proofs.Covering as covering
 use Rattle.policy_compile.proofs.Meanings as meanings
 use Rattle.policy_compile.proofs.Ranges as ranges
+-- plans with the same tests meet limits alike, and a query is past no limit
+pub use Rattle.policy_compile.proofs.Within.{same-limits, query-within}
+-- what is got of tests that were read has no test twice, and those that were read and no others
+pub use Rattle.policy_compile.proofs.Within.{apart-collects, had-read, read-had}
+-- the query of a set and of a part of it has the tests of the set's query
+pub use Rattle.policy_compile.proofs.Members.{part-asks}
+-- what a list in which nothing stands twice sums up to within a longer one; two such lists with the same items
+pub use Rattle.policy_compile.proofs.Distinct.{IsApart, sum-within, sum-same}
 
 -- a numbered tree holds under the request's answers where its plan does of the request
 pub holds-numbered : (answers : ℕ → Bool) (r : Request) (tests : List Test) → AnswersAs answers r tests → (p : Plan) (t : tree.Tree) → IsNumbered tests p t → (IsTrue (holds answers t) ↔ PlanHolds r p)
@@ -47,3 +56,7 @@ All-collects = ranges.All-collects
 -- the tests of a query's plan suit a schema that fits both sets
 pub suit-query : (schema : Schema) (first second : PolicySet) → SchemaFits schema first → SchemaFits schema second → All (TestSuits schema) (tests_in (query_plan schema first second))
 suit-query = ranges.suit-query
+
+-- each test of a set's plan is asked by a statement of the set
+pub set-asked : (schema : Schema) (set : PolicySet) → All (λ t. SomeStatementOf (IsAskedBy schema t) set) (tests_in (set_plan schema set))
+set-asked = ranges.set-asked

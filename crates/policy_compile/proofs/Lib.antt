@@ -1,6 +1,8 @@
 mod Asking
 mod Collecting
 mod Covering
+mod Distinct
+mod Each
 mod Entries
 mod Equal
 mod Finishing
@@ -8,11 +10,13 @@ mod Grouping
 mod Items
 pub mod Laws
 mod Meanings
+mod Members
 mod Operating
+mod Origins
 mod Pieces
 mod Ranges
 mod Single
 mod Standing
 mod Steps
 mod Suiting
-mod Suits
+mod Within

@@ -1,11 +1,10 @@
 -- The numbers and the tests in queries are in their ranges.
-use Rattle.std.proofs.Common.{List, [], ◌∷◌, ◌++◌, length, Bool, true, false, Option, Some, None}
-use Rattle.std.specs.Prelude.{⊤, All}
-use Rattle.std.proofs.lemmas.List.Elements.{All-cons, All-head, All-nil, All-tail}
+use Rattle.std.proofs.Common.{List, [], ◌∷◌, ◌++◌, length, get_or, Option, Some, None, inl, inr}
+use Rattle.std.specs.Prelude.{All, Any, Contains}
+use Rattle.std.proofs.lemmas.List.Elements.{All-append, All-cons, All-contains, All-head, All-nil, All-tail, Contains-get_or}
 use Rattle.std.proofs.lemmas.Option.{slice_get_within}
 use Rattle.formula_tree.specs.Trees as tree
 use Rattle.formula_tree.specs.Values.{AreBelow, EachBelow}
-use Rattle.wildcard_lang.specs.declared.piece.Piece.{Piece}
 use Rattle.policy_model.specs.Soundness.{ConditionFits, ConditionIsSound, DocumentFits, DocumentIsSound, EntryIsSound, PrincipalIsSound, SchemaFits, StatementIsSound, TestSuits}
 use Rattle.policy_model.specs.declared.matcher.Matcher.{Matcher}
 use Rattle.policy_model.specs.declared.principal.Entry.{Entry}
@@ -14,15 +13,14 @@ use Rattle.policy_model.specs.declared.set.Statement.{Statement}
 use Rattle.policy_model.specs.declared.set.Document.{Document}
 use Rattle.policy_model.specs.declared.set.PolicySet.{PolicySet}
 use Rattle.policy_model.specs.declared.test.Test.{Test}
-use Rattle.policy_model.specs.declared.test.Test.TheVariants.{Principal, Action, Resource}
-use Rattle.policy_compile.specs.declared.elements.RequestWord.{RequestWord}
-use Rattle.policy_compile.specs.declared.elements.RequestWord.TheVariants as word
-use Rattle.policy_compile.specs.Conditions.{conditions_plan}
+use Rattle.policy_model.specs.declared.test.Test.TheVariants.{Principal, Action, Resource, Present, SomeMeets, SomeMeetsNone}
+use Rattle.policy_compile.specs.Asked.{ConditionAsks, HasItem, IsAskedBy, SomeStatementIn, SomeStatementOf}
 use Rattle.policy_compile.specs.Plans.{Plan, Plans, yes, ask, not, all, one_of, none, more, tests_in}
-use Rattle.policy_compile.specs.Sets.{entry_plans, pattern_test, pattern_plans, some_or_none, patterns_plan, principal_plan, resource_plan, statement_plan, where_same, statement_plans, document_plans, guard_plans, guard_deny_plans, grants_plan, deny_plans, no_deny_plan, set_plan, query_plan}
+use Rattle.policy_compile.specs.Sets.{query_plan, set_plan, statement_plan}
 use Rattle.policy_compile.specs.Numbering.{Collects, nothing, again, anew, IsNumbered, AreNumbered, numbered_yes, numbered_ask, numbered_not, numbered_all, numbered_one_of, numbered_none, numbered_more}
-use Rattle.policy_compile.proofs.Suiting.{suit-conditions}
-use Rattle.policy_compile.proofs.Suits.{All-append, Suit, suit-append, suit-items, suit-more, suit-none, suit-one}
+use Rattle.policy_compile.proofs.Origins.{statement-asks}
+use Rattle.policy_compile.proofs.Members.{Any-where, Has, set-has}
+use Rattle.policy_compile.proofs.Suiting.{asked-suits}
 
 mutual
   pub below-numbered : (tests : List Test) (p : Plan) (t : tree.Tree) → IsNumbered tests p t → AreBelow (length tests) t
@@ -63,87 +61,73 @@ All-collects P had [] got nothing h k = h
 All-collects P had (t ∷ read) got (again old rest) h k = All-collects P had read got rest h (All-tail P t read k)
 All-collects P had (t ∷ read) got (anew new rest) h k = All-collects P (had ++ t ∷ []) read got rest (All-append P had (t ∷ []) h (All-cons P t [] (All-head P t read k) (All-nil P))) (All-tail P t read k)
 
-suit-some_or_none : (schema : Schema) (n : Bool) (ps : List Plan) → Suit schema ps → All (TestSuits schema) (tests_in (some_or_none n ps))
-suit-some_or_none schema true ps h = h
-suit-some_or_none schema false ps h = h
+-- ---- where tests come from
 
-All-of-nothing : {T : Type 0} (xs : List T) → All (λ x. ⊤) xs
-All-of-nothing xs = λ k d h. tt
+-- a test that a statement's plan has is asked by the statement
+has-asked : (schema : Schema) (t : Test) (s : Statement) → Has schema t s → IsAskedBy schema t s
+has-asked schema t s at = All-contains (λ u. IsAskedBy schema u s) (tests_in (statement_plan schema s)) t (statement-asks schema s) at
 
-suit-principal : (schema : Schema) (m : Option (Matcher Entry)) → PrincipalIsSound m → All (TestSuits schema) (tests_in (principal_plan m))
-suit-principal schema None h = All-nil (TestSuits schema)
-suit-principal schema (Some m) h = suit-some_or_none schema m.not (entry_plans m.items) (suit-items schema (λ e. ask (Principal e) ∷ []) EntryIsSound (λ e s. suit-one schema (Principal e) s) m.items h)
+asked-in : (schema : Schema) (t : Test) (documents : List Document) → SomeStatementIn (Has schema t) documents → SomeStatementIn (IsAskedBy schema t) documents
+asked-in schema t documents h =
+    Any-where (λ d. Any (Has schema t) d.statements) (λ d. Any (IsAskedBy schema t) d.statements) documents
+    (λ d some. Any-where (Has schema t) (IsAskedBy schema t) d.statements (has-asked schema t) some) h
 
-suit-pattern : (schema : Schema) (part : RequestWord) (p : List Piece) → Suit schema (ask (pattern_test part p) ∷ [])
-suit-pattern schema word.Resource p = suit-one schema (Resource p) tt
-suit-pattern schema word.Action p = suit-one schema (Action p) tt
+asked-of : (schema : Schema) (t : Test) (set : PolicySet) → SomeStatementOf (Has schema t) set → SomeStatementOf (IsAskedBy schema t) set
+asked-of schema t set (inl h) = inl (asked-in schema t set.grants h)
+asked-of schema t set (inr h) = inr (Any-where (SomeStatementIn (Has schema t)) (SomeStatementIn (IsAskedBy schema t)) set.guards (asked-in schema t) h)
 
-suit-patterns : (schema : Schema) (part : RequestWord) (m : Matcher (List Piece)) → All (TestSuits schema) (tests_in (patterns_plan part m))
-suit-patterns schema part m =
-    suit-some_or_none schema m.not (pattern_plans part m.items) (suit-items schema (λ p. ask (pattern_test part p) ∷ []) (λ p. ⊤) (λ p s. suit-pattern schema part p) m.items (All-of-nothing m.items))
+-- each test of a set's plan is asked by a statement of the set
+pub set-asked : (schema : Schema) (set : PolicySet) → All (λ t. SomeStatementOf (IsAskedBy schema t) set) (tests_in (set_plan schema set))
+set-asked schema set = λ i d within.
+    let t = get_or (tests_in (set_plan schema set)) i d in
+    asked-of schema t set ((set-has schema t set).0 (Contains-get_or (tests_in (set_plan schema set)) i d within))
 
-suit-resource : (schema : Schema) (m : Option (Matcher (List Piece))) → All (TestSuits schema) (tests_in (resource_plan m))
-suit-resource schema None = All-nil (TestSuits schema)
-suit-resource schema (Some m) = suit-patterns schema word.Resource m
+-- ---- they suit
 
 -- what the parts of a set are where it is sound and the schema fits it
 abbrev FineStatement : Schema → Statement → Type 0
 FineStatement schema s = StatementIsSound s × All (ConditionFits schema) s.conditions
 
-abbrev FineDocument : Schema → Document → Type 0
-FineDocument schema d = DocumentIsSound d × DocumentFits schema d
+abbrev FineDocuments : Schema → List Document → Type 0
+FineDocuments schema documents = All DocumentIsSound documents × All (DocumentFits schema) documents
 
-abbrev FineGuard : Schema → List Document → Type 0
-FineGuard schema g = All DocumentIsSound g × All (DocumentFits schema) g
+listed-sound : (element : Option (Matcher Entry)) (e : Entry) → PrincipalIsSound element → HasItem element e → EntryIsSound e
+listed-sound None e sound at = absurd at
+listed-sound (Some m) e sound at = All-contains EntryIsSound m.items e sound at
 
-together : {X : Type 0} (P Q : X → Type 0) (xs : List X) → All P xs → All Q xs → All (λ x. P x × Q x) xs
-together P Q xs h k = λ i d within. (h i d within, k i d within)
+condition-suits : (schema : Schema) (t : Test) (s : Statement) → FineStatement schema s → Any (ConditionAsks schema t) s.conditions → TestSuits schema t
+condition-suits schema t s fine h =
+    let at : Contains s.conditions h.1 = (h.0, h.2, h.3) in
+    asked-suits schema h.1 (All-contains (ConditionFits schema) s.conditions h.1 fine.1 at, All-contains ConditionIsSound s.conditions h.1 fine.0.conditions at) t h.4
 
-suit-statement : (schema : Schema) (s : Statement) → FineStatement schema s → Suit schema (statement_plan schema s ∷ [])
-suit-statement schema s fine =
-    let conditions = conditions_plan schema s.conditions in
-    suit-more schema (statement_plan schema s) []
-    (suit-more schema (principal_plan s.principal) (patterns_plan word.Action s.action ∷ resource_plan s.resource ∷ conditions ∷ []) (suit-principal schema s.principal fine.0.principal)
-    (suit-more schema (patterns_plan word.Action s.action) (resource_plan s.resource ∷ conditions ∷ []) (suit-patterns schema word.Action s.action)
-    (suit-more schema (resource_plan s.resource) (conditions ∷ []) (suit-resource schema s.resource)
-    (suit-more schema conditions [] (suit-conditions schema s.conditions (together (ConditionFits schema) ConditionIsSound s.conditions fine.1 fine.0.conditions)) (suit-none schema)))))
-    (suit-none schema)
+statement-suits : (schema : Schema) (t : Test) (s : Statement) → FineStatement schema s → IsAskedBy schema t s → TestSuits schema t
+statement-suits schema (Principal entry) s fine h = listed-sound s.principal entry fine.0.principal h
+statement-suits schema (Action pattern) s fine h = tt
+statement-suits schema (Resource pattern) s fine h = tt
+statement-suits schema (Present key) s fine h = condition-suits schema (Present key) s fine h
+statement-suits schema (SomeMeets key asked) s fine h = condition-suits schema (SomeMeets key asked) s fine h
+statement-suits schema (SomeMeetsNone key asked) s fine h = condition-suits schema (SomeMeetsNone key asked) s fine h
 
-suit-same : (schema : Schema) (allow own : Bool) (ps : List Plan) → Suit schema ps → Suit schema (where_same allow own ps)
-suit-same schema true true ps h = h
-suit-same schema true false ps h = suit-none schema
-suit-same schema false true ps h = suit-none schema
-suit-same schema false false ps h = h
+documents-suit : (schema : Schema) (t : Test) (documents : List Document) → FineDocuments schema documents → SomeStatementIn (IsAskedBy schema t) documents → TestSuits schema t
+documents-suit schema t documents fine h =
+    let at : Contains documents h.1 = (h.0, h.2, h.3) in
+    let sound = All-contains DocumentIsSound documents h.1 fine.0 at in
+    let fits = All-contains (DocumentFits schema) documents h.1 fine.1 at in
+    let some = h.4 in
+    let inside : Contains h.1.statements some.1 = (some.0, some.2, some.3) in
+    statement-suits schema t some.1 (All-contains StatementIsSound h.1.statements some.1 sound.each inside, All-contains (λ s. All (ConditionFits schema) s.conditions) h.1.statements some.1 fits inside) some.4
 
-suit-document : (schema : Schema) (allow : Bool) (d : Document) → FineDocument schema d → Suit schema (statement_plans schema allow d.statements)
-suit-document schema allow d fine =
-    suit-items schema (λ s. where_same allow s.allow (statement_plan schema s ∷ [])) (FineStatement schema) (λ s one. suit-same schema allow s.allow (statement_plan schema s ∷ []) (suit-statement schema s one)) d.statements
-    (together StatementIsSound (λ s. All (ConditionFits schema) s.conditions) d.statements fine.0.each fine.1)
+asked-suit : (schema : Schema) (t : Test) (set : PolicySet) → SchemaFits schema set → SomeStatementOf (IsAskedBy schema t) set → TestSuits schema t
+asked-suit schema t set fits (inl h) = documents-suit schema t set.grants (fits.sound.granting, fits.granting) h
+asked-suit schema t set fits (inr h) =
+    let at : Contains set.guards h.1 = (h.0, h.2, h.3) in
+    documents-suit schema t h.1 (All-contains (λ g. All DocumentIsSound g) set.guards h.1 fits.sound.guarding at, All-contains (λ g. All (DocumentFits schema) g) set.guards h.1 fits.guarding at) h.4
 
-suit-documents : (schema : Schema) (allow : Bool) (documents : List Document) → FineGuard schema documents → Suit schema (document_plans schema allow documents)
-suit-documents schema allow documents fine =
-    suit-items schema (λ d. statement_plans schema allow d.statements) (FineDocument schema) (λ d one. suit-document schema allow d one) documents (together DocumentIsSound (DocumentFits schema) documents fine.0 fine.1)
-
-suit-guards : (schema : Schema) (guards : List (List Document)) → All (FineGuard schema) guards → Suit schema (guard_plans schema guards)
-suit-guards schema guards fine =
-    suit-items schema (λ g. grants_plan schema g ∷ []) (FineGuard schema)
-    (λ g one. suit-more schema (grants_plan schema g) [] (suit-documents schema true g one) (suit-none schema)) guards fine
-
-fine-guards : (schema : Schema) (set : PolicySet) → SchemaFits schema set → All (FineGuard schema) set.guards
-fine-guards schema set fits = together (λ g. All DocumentIsSound g) (λ g. All (DocumentFits schema) g) set.guards fits.sound.guarding fits.guarding
-
-suit-denies : (schema : Schema) (set : PolicySet) → SchemaFits schema set → Suit schema (deny_plans schema set)
-suit-denies schema set fits =
-    suit-append schema (document_plans schema false set.grants) (guard_deny_plans schema set.guards) (suit-documents schema false set.grants (fits.sound.granting, fits.granting))
-    (suit-items schema (λ g. document_plans schema false g) (FineGuard schema) (λ g one. suit-documents schema false g one) set.guards (fine-guards schema set fits))
-
+-- the tests of a set's plan suit a schema that fits the set
 pub suit-set : (schema : Schema) (set : PolicySet) → SchemaFits schema set → All (TestSuits schema) (tests_in (set_plan schema set))
-suit-set schema set fits =
-    suit-more schema (grants_plan schema set.grants) (guard_plans schema set.guards ++ no_deny_plan schema set ∷ []) (suit-documents schema true set.grants (fits.sound.granting, fits.granting))
-    (suit-append schema (guard_plans schema set.guards) (no_deny_plan schema set ∷ []) (suit-guards schema set.guards (fine-guards schema set fits))
-    (suit-more schema (no_deny_plan schema set) [] (suit-denies schema set fits) (suit-none schema)))
+suit-set schema set fits = λ i d within. asked-suit schema (get_or (tests_in (set_plan schema set)) i d) set fits (set-asked schema set i d within)
 
 pub suit-query : (schema : Schema) (first second : PolicySet) → SchemaFits schema first → SchemaFits schema second → All (TestSuits schema) (tests_in (query_plan schema first second))
-suit-query schema first second fits also_fits =
-    suit-more schema (set_plan schema first) (not (set_plan schema second) ∷ []) (suit-set schema first fits)
-    (suit-more schema (not (set_plan schema second)) [] (suit-set schema second also_fits) (suit-none schema))
+suit-query schema first second fits also =
+    All-append (TestSuits schema) (tests_in (set_plan schema first)) (tests_in (set_plan schema second) ++ []) (suit-set schema first fits)
+    (All-append (TestSuits schema) (tests_in (set_plan schema second)) [] (suit-set schema second also) (All-nil (TestSuits schema)))

@@ -1,11 +1,11 @@
--- The tests of conditions suit a schema that fits.
-use Rattle.std.proofs.Common.{◌≡◌, List, [], ◌∷◌, get_or, map, Bool, true, false, Option, Some, None, refl, ap, subst, sym}
-use Rattle.std.specs.Prelude.{◌≢◌, ⊤, IsTrue, All, MatchOption, if◌then◌else◌, option_map, unwrap_or}
-use Rattle.std.proofs.lemmas.List.Elements.{All-cons, All-head, All-nil, All-tail}
+-- The tests that conditions ask suit a schema that fits.
+use Rattle.std.proofs.Common.{◌≡◌, List, [], ◌∷◌, get_or, map, false, Option, Some, None, refl, ap, subst, sym}
+use Rattle.std.specs.Prelude.{◌≢◌, ⊤, ℕ, IsTrue, All, Contains, MatchOption, option_map, unwrap_or}
+use Rattle.std.proofs.lemmas.List.Elements.{All-cons, All-contains, All-head, All-nil, All-tail}
 use Rattle.text_table.specs.Table.{item_at}
 use Rattle.policy_model.specs.Conds.{IsCondOf}
 use Rattle.policy_model.specs.Conditions.{conds_of, kind_at}
-use Rattle.policy_model.specs.Operators.{IsOperandOf, cond_of, family_of, is_negated, is_null, takes_family}
+use Rattle.policy_model.specs.Operators.{IsOperandOf, cond_of, family_of, is_null, takes_family}
 use Rattle.policy_model.specs.Soundness.{ConditionFits, ConditionIsSound, IsKeyWith, RuleTakes, TestSuits}
 use Rattle.policy_model.specs.declared.cond.Cond.{Cond}
 use Rattle.policy_model.specs.declared.operator.Base.{Base}
@@ -15,17 +15,13 @@ use Rattle.policy_model.specs.declared.operator.Family.{Family}
 use Rattle.policy_model.specs.declared.operator.Family.TheVariants as family
 use Rattle.policy_model.specs.declared.operator.Operand.{Operand}
 use Rattle.policy_model.specs.declared.operator.Operand.TheVariants as operand
-use Rattle.policy_model.specs.declared.operator.Quantifier.{Quantifier}
-use Rattle.policy_model.specs.declared.operator.Quantifier.TheVariants.{Plain, ForAll, ForAny}
 use Rattle.policy_model.specs.declared.schema.KeyRule.{KeyRule}
 use Rattle.policy_model.specs.declared.schema.Schema.{Schema}
-use Rattle.policy_model.specs.declared.test.Test.TheVariants.{Present, SomeMeets, SomeMeetsNone}
+use Rattle.policy_model.specs.declared.test.Test.{Test}
+use Rattle.policy_model.specs.declared.test.Test.TheVariants.{Principal, Action, Resource, Present, SomeMeets, SomeMeetsNone}
 use Rattle.policy_model.specs.declared.value.Kind.{Kind}
 use Rattle.policy_model.specs.declared.value.Kind.TheVariants as kind
-use Rattle.policy_compile.specs.Conditions.{absent, condition_plan, conditions_plan, group_plan, meets_plan, meets_plans, null_plan, null_plans, nulls_plans, operator_groups, operator_plan, optional_plans, presence_plan, present, quantified_plan, some_meets_none}
-use Rattle.policy_compile.specs.Plans.{of_plans, one_of, tests_in}
-use Rattle.policy_compile.proofs.Grouping.{groups-all}
-use Rattle.policy_compile.proofs.Suits.{Suit, suit-items, suit-more, suit-none, suit-one}
+use Rattle.policy_compile.specs.Asked.{ConditionAsks}
 
 -- what a value asks by an operator of the family f is asked of values of the kind, where that takes the family
 cond-suits : (k : Kind) (f : Family) (b : Base) (o : Operand) → IsTrue (takes_family k f) → f ≢ family.Null → IsOperandOf f o → IsCondOf k (cond_of k b o)
@@ -159,71 +155,33 @@ module _ (schema : Schema) (c : Condition) (fine : Fine schema c) where
   test-suits : (Q : KeyRule → Type 0) → ((rule : KeyRule) → item_at c.key schema.keys ≡ Some rule → RuleTakes rule c.operator → Q rule) → IsKeyWith schema Q c.key
   test-suits Q suits = found-suits (item_at c.key schema.keys) (λ rule. RuleTakes rule c.operator) Q suits fine.0
 
-  suit-present : Suit schema (present c ∷ [])
-  suit-present = suit-one schema (Present c.key) (test-suits (λ rule. ⊤) (λ rule found takes. tt))
-
-  suit-presence : (is_absent : Bool) → Suit schema (presence_plan c is_absent ∷ [])
-  suit-presence true = suit-present
-  suit-presence false = suit-present
-
-  suit-null-operand : (o : Operand) → Suit schema (null_plans c o)
-  suit-null-operand (operand.Truth is_absent) = suit-presence is_absent
-  suit-null-operand (operand.Pattern p) = suit-none schema
-  suit-null-operand (operand.Number n) = suit-none schema
-  suit-null-operand (operand.Block block) = suit-none schema
-  suit-null-operand (operand.Bytes bytes) = suit-none schema
-
-  suit-nulls : Suit schema (nulls_plans c)
-  suit-nulls = suit-items schema (null_plans c) (λ o. ⊤) (λ o any. suit-null-operand o) c.values (λ i o within. tt)
-
   -- what a value asks is asked of values of the rule's kind
   rule-suits : is_null c.operator.base ≡ false → (rule : KeyRule) → item_at c.key schema.keys ≡ Some rule → RuleTakes rule c.operator → (o : Operand) → Form c o → IsCondOf rule.kind (Asked schema c o)
   rule-suits other rule found takes o form =
       subst (λ (k : Kind). IsCondOf rule.kind (cond_of k c.operator.base o)) (sym (ap kind_found found))
       (cond-suits rule.kind (family_of c.operator.base) c.operator.base o takes.kind (not-null c.operator.base other) form)
 
-  suit-meets : is_null c.operator.base ≡ false → Suit schema (meets_plans (kind_at schema c.key) c)
-  suit-meets other =
-      suit-items schema (λ o. meets_plan (kind_at schema c.key) c o ∷ []) (Form c)
-      (λ o form. suit-one schema (SomeMeets c.key (Asked schema c o)) (test-suits (λ rule. IsCondOf rule.kind (Asked schema c o)) (λ rule found takes. rule-suits other rule found takes o form))) c.values fine.1.values
+  value-suits : is_null c.operator.base ≡ false → (o : Operand) → Form c o → IsKeyWith schema (λ rule. IsCondOf rule.kind (Asked schema c o)) c.key
+  value-suits other o form = test-suits (λ rule. IsCondOf rule.kind (Asked schema c o)) (λ rule found takes. rule-suits other rule found takes o form)
 
-  suit-meets_none : is_null c.operator.base ≡ false → Suit schema (some_meets_none (kind_at schema c.key) c ∷ [])
-  suit-meets_none other =
-      suit-one schema (SomeMeetsNone c.key (conds_of (kind_at schema c.key) c)) (test-suits (λ rule. All (IsCondOf rule.kind) (conds_of (kind_at schema c.key) c))
-      (λ rule found takes. All-mapped (IsCondOf rule.kind) (Asked schema c) c.values (λ i o within. rule-suits other rule found takes (get_or c.values i o) (fine.1.values i o within))))
+  values-suit : is_null c.operator.base ≡ false → IsKeyWith schema (λ rule. All (IsCondOf rule.kind) (conds_of (kind_at schema c.key) c)) c.key
+  values-suit other =
+      test-suits (λ rule. All (IsCondOf rule.kind) (conds_of (kind_at schema c.key) c))
+      (λ rule found takes. All-mapped (IsCondOf rule.kind) (Asked schema c) c.values (λ i o within. rule-suits other rule found takes (get_or c.values i o) (fine.1.values i o within)))
 
-  suit-quantified : is_null c.operator.base ≡ false → (q : Quantifier) (negated : Bool) → All (TestSuits schema) (tests_in (quantified_plan q negated (kind_at schema c.key) c))
-  suit-quantified other Plain false = suit-meets other
-  suit-quantified other Plain true = suit-meets other
-  suit-quantified other ForAll false = suit-meets_none other
-  suit-quantified other ForAll true = suit-meets other
-  suit-quantified other ForAny false = suit-meets other
-  suit-quantified other ForAny true = suit-meets_none other
+  value-form : (o : Operand) → Contains c.values o → Form c o
+  value-form o at = All-contains (Form c) c.values o fine.1.values at
 
-  suit-operator-by : (n : Bool) → is_null c.operator.base ≡ n →
-      All (TestSuits schema) (tests_in (if n then null_plan c else quantified_plan c.operator.quantifier (is_negated c.operator.base) (kind_at schema c.key) c))
-  suit-operator-by true is = suit-nulls
-  suit-operator-by false is = suit-quantified is c.operator.quantifier (is_negated c.operator.base)
-
-  suit-operator : All (TestSuits schema) (tests_in (operator_plan (kind_at schema c.key) c))
-  suit-operator = suit-operator-by (is_null c.operator.base) refl
-
-  suit-optional : (optional : Bool) → All (TestSuits schema) (tests_in (if optional then one_of (of_plans (optional_plans (kind_at schema c.key) c)) else operator_plan (kind_at schema c.key) c))
-  suit-optional true =
-      suit-more schema (absent c) (operator_plan (kind_at schema c.key) c ∷ []) suit-present
-      (suit-more schema (operator_plan (kind_at schema c.key) c) [] suit-operator (suit-none schema))
-  suit-optional false = suit-operator
-
-  suit-condition : Suit schema (condition_plan schema c ∷ [])
-  suit-condition = suit-more schema (condition_plan schema c) [] (suit-optional c.operator.if_exists) (suit-none schema)
-
--- ---- the tests of a statement's conditions
-
-suit-group : (schema : Schema) (group : List Condition) → All (Fine schema) group → Suit schema (group_plan schema group ∷ [])
-suit-group schema group fine =
-    suit-more schema (group_plan schema group) []
-    (suit-items schema (λ c. condition_plan schema c ∷ []) (Fine schema) (λ c one. suit-condition schema c one) group fine) (suit-none schema)
-
-pub suit-conditions : (schema : Schema) (cs : List Condition) → All (Fine schema) cs → All (TestSuits schema) (tests_in (conditions_plan schema cs))
-suit-conditions schema cs fine =
-    suit-items schema (λ group. group_plan schema group ∷ []) (λ group. All (Fine schema) group) (λ group each. suit-group schema group each) (operator_groups cs) ((groups-all (Fine schema) cs).1 fine)
+  -- a test that the condition asks suits
+  pub asked-suits : (t : Test) → ConditionAsks schema t c → TestSuits schema t
+  asked-suits (Principal entry) h = absurd h
+  asked-suits (Action pattern) h = absurd h
+  asked-suits (Resource pattern) h = absurd h
+  asked-suits (Present key) h = subst (λ (k : List ℕ). IsKeyWith schema (λ rule. ⊤) k) h (test-suits (λ rule. ⊤) (λ rule found takes. tt))
+  asked-suits (SomeMeets key asked) h =
+      let some = h.value in
+      subst (λ (k : List ℕ). IsKeyWith schema (λ rule. IsCondOf rule.kind asked) k) h.key_is
+      (subst (λ (x : Cond). IsKeyWith schema (λ rule. IsCondOf rule.kind x) c.key) (sym some.4) (value-suits h.compares some.1 (value-form some.1 (some.0, some.2, some.3))))
+  asked-suits (SomeMeetsNone key asked) h =
+      subst (λ (k : List ℕ). IsKeyWith schema (λ rule. All (IsCondOf rule.kind) asked) k) h.key_is
+      (subst (λ (xs : List Cond). IsKeyWith schema (λ rule. All (IsCondOf rule.kind) xs) c.key) (sym h.values) (values-suit h.compares))

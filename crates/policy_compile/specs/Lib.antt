@@ -7,3 +7,5 @@ pub mod Building
 pub mod Meaning
 pub mod Queries
 pub mod Laws
+pub mod Asked
+pub mod Limits
