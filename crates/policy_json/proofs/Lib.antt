@@ -1,6 +1,9 @@
 mod Answering
 mod Choosing
 mod Files
+mod FormsOfSets
+mod FormsOfValues
+pub mod Laws
 mod Lists
 mod Numbering
 mod OperatorNaming

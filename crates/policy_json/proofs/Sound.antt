@@ -17,21 +17,36 @@ use Rattle.policy_json.specs.Checks.{PolicyCheck}
 use Rattle.json_shapes.specs.Json.{one_or_more, pairs_in, text_of}
 use Rattle.json_shapes.specs.Shapes.{is_object}
 use Rattle.policy_json.specs.Principals.{account_of, account_or_exact, entries_of, entries_of_kind, entry_of, id_checks, is_star_id, kind_checks, kind_of, principal_checks}
-use Rattle.json_shapes.proofs.Laws.{first_fault-rest}
+use Rattle.json_shapes.proofs.Laws.{first_fault-rest, front_passes, front_passes-none}
 use Rattle.policy_json.proofs.Roots.{account_of-is}
 
 -- ---- checks without a fault
 
-front_passes : (b : Bool) (own : PolicyFault) (front more : Option PolicyFault) → (more ≡ None → front ≡ None) → (if b then more else Some own) ≡ None → (if b then front else Some own) ≡ None
-front_passes true own front more step e = step e
-front_passes false own front more step e = e
+front_step : (b : Bool) (own : PolicyFault) (front more : Option PolicyFault) → (more ≡ None → front ≡ None) → (if b then more else Some own) ≡ None → (if b then front else Some own) ≡ None
+front_step true own front more step e = step e
+front_step false own front more step e = e
 
 pub none-front : (front rest : List PolicyCheck) → first_fault (front ++ rest) ≡ None → first_fault front ≡ None
 none-front [] rest e = refl
-none-front (c ∷ cs) rest e = front_passes c.passes c.fault (first_fault cs) (first_fault (cs ++ rest)) (none-front cs rest) e
+none-front (c ∷ cs) rest e = front_step c.passes c.fault (first_fault cs) (first_fault (cs ++ rest)) (none-front cs rest) e
 
 pub none-rest : (front rest : List PolicyCheck) → first_fault (front ++ rest) ≡ None → first_fault rest ≡ None
 none-rest front rest e = sym (first_fault-rest front rest (none-front front rest e)) ∙ e
+
+abbrev pub behind : List PolicyCheck → List PolicyCheck
+behind [] = []
+behind (c ∷ cs) = cs
+
+pub none-behind : (checks : List PolicyCheck) → first_fault checks ≡ None → first_fault (behind checks) ≡ None
+none-behind [] e = refl
+none-behind (c ∷ cs) e = none-rest (c ∷ []) cs e
+
+-- the second check is passed, and the third
+pub second_of : (checks : List PolicyCheck) → first_fault checks ≡ None → front_passes (behind checks) ≡ true
+second_of checks e = front_passes-none (behind checks) (none-behind checks e)
+
+pub third_of : (checks : List PolicyCheck) → first_fault checks ≡ None → front_passes (behind (behind checks)) ≡ true
+third_of checks e = second_of (behind checks) (none-behind checks e)
 
 -- what follows from each member's checks holds of all members
 pub each_sound : {A : Type 0} (checks : A → List PolicyCheck) (P : A → Type 0) → ((a : A) → first_fault (checks a) ≡ None → P a) → (all : List A) → first_fault (flat_map checks all) ≡ None → Each P all
@@ -59,36 +74,37 @@ entry_sound Service id short = either_sound (is_star_id id) (Kind Service) (Exac
 entry_sound Federated id short = either_sound (is_star_id id) (Kind Federated) (Exact Federated id) tt short
 entry_sound CanonicalUser id short = either_sound (is_star_id id) (Kind CanonicalUser) (Exact CanonicalUser id) tt short
 
-third_passes : (a b c : Bool) (x y z : PolicyFault) → (if a then (if b then (if c then None else Some z) else Some y) else Some x) ≡ None → c ≡ true
-third_passes true true true x y z e = refl
-third_passes true true false x y z e = cc
-third_passes true false c x y z e = cc
-third_passes false b c x y z e = cc
-
 id_sound : (location : Location) (name : List ℕ) (kind : PrincipalKind) (d : Data) → first_fault (id_checks location name d) ≡ None → EntryIsSound (entry_of kind (text_of d))
-id_sound location name kind d e = entry_sound kind (text_of d) (leb-true (length (text_of d)) MOST_PIECES (third_passes _ _ _ _ _ _ e))
+id_sound location name kind d e = entry_sound kind (text_of d) (leb-true (length (text_of d)) MOST_PIECES (third_of (id_checks location name d) e))
 
 pub second_passes : (a b : Bool) (x y : PolicyFault) (rest : Option PolicyFault) → (if a then (if b then rest else Some y) else Some x) ≡ None → rest ≡ None
 second_passes true true x y rest e = e
 second_passes true false x y rest e = cc
 second_passes false b x y rest e = cc
 
-kind_sound : (location : Location) (name : List ℕ) (pair : List ℕ × Data) → first_fault (kind_checks location name pair) ≡ None → Each EntryIsSound (entries_of_kind pair)
-kind_sound location name pair e =
-    let passed : first_fault (flat_map (id_checks location name) (one_or_more pair.1)) ≡ None = second_passes _ _ _ _ _ e in
-    All-map EntryIsSound (λ (d : Data). entry_of (kind_of pair.0) (text_of d)) (one_or_more pair.1) (each_sound (id_checks location name) (λ d. EntryIsSound (entry_of (kind_of pair.0) (text_of d))) (id_sound location name (kind_of pair.0)) (one_or_more pair.1) passed)
-
 pub first_passes : (a : Bool) (x : PolicyFault) (rest : Option PolicyFault) → (if a then rest else Some x) ≡ None → rest ≡ None
 first_passes true x rest e = e
 first_passes false x rest e = cc
 
-either_each : (b : Bool) (xs ys : List Entry) → Each EntryIsSound xs → Each EntryIsSound ys → Each EntryIsSound (if b then xs else ys)
-either_each true xs ys h k = h
-either_each false xs ys h k = k
+-- ---- what holds of the entry of each id that passes its checks
+
+module _ (P : Entry → Type 0) (location : Location) (name : List ℕ) (of_id : (kind : PrincipalKind) (d : Data) → first_fault (id_checks location name d) ≡ None → P (entry_of kind (text_of d))) where
+  kind_each : (pair : List ℕ × Data) → first_fault (kind_checks location name pair) ≡ None → Each P (entries_of_kind pair)
+  kind_each pair e =
+      let passed : first_fault (flat_map (id_checks location name) (one_or_more pair.1)) ≡ None = second_passes _ _ _ _ _ e in
+      All-map P (λ (d : Data). entry_of (kind_of pair.0) (text_of d)) (one_or_more pair.1) (each_sound (id_checks location name) (λ d. P (entry_of (kind_of pair.0) (text_of d))) (of_id (kind_of pair.0)) (one_or_more pair.1) passed)
+
+  either_each : (b : Bool) (xs ys : List Entry) → Each P xs → Each P ys → Each P (if b then xs else ys)
+  either_each true xs ys h k = h
+  either_each false xs ys h k = k
+
+  -- holds of the entries of an element that passes its checks
+  pub entries_each : P All → (d : Data) → first_fault (principal_checks location name (Some d)) ≡ None → Each P (entries_of d)
+  entries_each every d e =
+      let passed : first_fault (flat_map (kind_checks location name) (pairs_in d)) ≡ None = first_passes _ _ _ e in
+      let each = each_sound (kind_checks location name) (λ pair. Each P (entries_of_kind pair)) kind_each (pairs_in d) passed in
+      either_each (is_object d) (flat_map entries_of_kind (pairs_in d)) (All ∷ []) (each_flat entries_of_kind P (pairs_in d) each) (All-cons P All [] every (All-nil P))
 
 -- the entries of an element that passes its checks
 pub entries_sound : (location : Location) (name : List ℕ) (d : Data) → first_fault (principal_checks location name (Some d)) ≡ None → Each EntryIsSound (entries_of d)
-entries_sound location name d e =
-    let passed : first_fault (flat_map (kind_checks location name) (pairs_in d)) ≡ None = first_passes _ _ _ e in
-    let each = each_sound (kind_checks location name) (λ pair. Each EntryIsSound (entries_of_kind pair)) (kind_sound location name) (pairs_in d) passed in
-    either_each (is_object d) (flat_map entries_of_kind (pairs_in d)) (All ∷ []) (each_flat entries_of_kind EntryIsSound (pairs_in d) each) (All-cons EntryIsSound All [] tt (All-nil EntryIsSound))
+entries_sound location name d e = entries_each EntryIsSound location name (id_sound location name) tt d e

@@ -10,6 +10,7 @@ use Rattle.wildcard_lang.specs.Text.{folded_text}
 use Rattle.policy_model.specs.declared.operator.Base.{Base}
 use Rattle.policy_model.specs.declared.operator.Base.TheVariants.{Null}
 use Rattle.policy_model.specs.declared.operator.Quantifier.TheVariants.{Plain}
+use Rattle.policy_model.specs.declared.operator.Condition.{Condition}
 use Rattle.policy_model.specs.declared.operator.Operator.{Operator}
 use Rattle.policy_model.specs.declared.operator.Family.{Family}
 use Rattle.policy_model.specs.declared.operator.Family.TheVariants as family
@@ -54,7 +55,7 @@ folded_twice : (t : List ℕ) → folded_text (folded_text t) ≡ folded_text t
 folded_twice [] = refl
 folded_twice (c ∷ cs) = ap (λ (d : ℕ). d ∷ folded_text (folded_text cs)) (lowercase-lowercase c) ∙ ap (λ (ds : List ℕ). to_ascii_lowercase c ∷ ds) (folded_twice cs)
 
-key_sound : (location : Location) (o : Operator) (escapes : Bool) → OperatorIsSound o → (key : List ℕ × Data) → first_fault (key_checks location o escapes key) ≡ None → ConditionIsSound (condition_of o escapes key)
+pub key_sound : (location : Location) (o : Operator) (escapes : Bool) → OperatorIsSound o → (key : List ℕ × Data) → first_fault (key_checks location o escapes key) ≡ None → ConditionIsSound (condition_of o escapes key)
 key_sound location o escapes sound key e =
     let passed : first_fault (flat_map (value_checks location key.0 o.base escapes) (one_or_more key.1)) ≡ None = first_passes _ _ _ e in
     record {
@@ -68,16 +69,23 @@ named_sound : (name : List ℕ) (o : Option Operator) → operator_of name ≡ o
 named_sound name None is e = absurd cc
 named_sound name (Some o) is e = (operator_of-is name o is).1
 
-operator_sound : (location : Location) (escapes : Bool) (named : List ℕ × Data) → first_fault (operator_checks location escapes named) ≡ None → Each ConditionIsSound (conditions_under escapes named)
-operator_sound location escapes named e =
-    let o = operator_named named.0 in
-    let sound : OperatorIsSound o = named_sound named.0 (operator_of named.0) refl (front_passes-none (operator_checks location escapes named) e) in
-    let passed : first_fault (flat_map (key_checks location o escapes) (pairs_in named.1)) ≡ None = second_passes _ _ _ _ _ e in
-    All-map ConditionIsSound (condition_of o escapes) (pairs_in named.1) (each_sound (key_checks location o escapes) (λ key. ConditionIsSound (condition_of o escapes key)) (key_sound location o escapes sound) (pairs_in named.1) passed)
+-- ---- what holds of the condition of each key that passes its checks
+
+module _ (P : Condition → Type 0) (location : Location) (escapes : Bool) (of_key : (o : Operator) → OperatorIsSound o → (key : List ℕ × Data) → first_fault (key_checks location o escapes key) ≡ None → P (condition_of o escapes key)) where
+  operator_each : (named : List ℕ × Data) → first_fault (operator_checks location escapes named) ≡ None → Each P (conditions_under escapes named)
+  operator_each named e =
+      let o = operator_named named.0 in
+      let sound : OperatorIsSound o = named_sound named.0 (operator_of named.0) refl (front_passes-none (operator_checks location escapes named) e) in
+      let passed : first_fault (flat_map (key_checks location o escapes) (pairs_in named.1)) ≡ None = second_passes _ _ _ _ _ e in
+      All-map P (condition_of o escapes) (pairs_in named.1) (each_sound (key_checks location o escapes) (λ key. P (condition_of o escapes key)) (of_key o sound) (pairs_in named.1) passed)
+
+  -- holds of the conditions of an element that passes its checks
+  pub conditions_each : (element : Option Data) → first_fault (condition_checks location escapes element) ≡ None → Each P (conditions_of escapes element)
+  conditions_each None e = All-nil P
+  conditions_each (Some d) e =
+      let passed : first_fault (flat_map (operator_checks location escapes) (pairs_in d)) ≡ None = first_passes _ _ _ e in
+      each_flat (conditions_under escapes) P (pairs_in d) (each_sound (operator_checks location escapes) (λ named. Each P (conditions_under escapes named)) operator_each (pairs_in d) passed)
 
 -- the conditions of an element that passes its checks
 pub conditions_sound : (location : Location) (escapes : Bool) (element : Option Data) → first_fault (condition_checks location escapes element) ≡ None → Each ConditionIsSound (conditions_of escapes element)
-conditions_sound location escapes None e = All-nil ConditionIsSound
-conditions_sound location escapes (Some d) e =
-    let passed : first_fault (flat_map (operator_checks location escapes) (pairs_in d)) ≡ None = first_passes _ _ _ e in
-    each_flat (conditions_under escapes) ConditionIsSound (pairs_in d) (each_sound (operator_checks location escapes) (λ named. Each ConditionIsSound (conditions_under escapes named)) (operator_sound location escapes) (pairs_in d) passed)
+conditions_sound location escapes element e = conditions_each ConditionIsSound location escapes (λ o sound key passed. key_sound location o escapes sound key passed) element e

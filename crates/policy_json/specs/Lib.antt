@@ -10,3 +10,4 @@ pub mod Statements
 pub mod Documents
 pub mod Sets
 pub mod Laws
+pub mod ReadForms

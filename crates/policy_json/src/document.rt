@@ -20,7 +20,8 @@ use policy_model::{Document, List, StatementList};
 use serde_json::Value;
 use std::alloc::Global;
 
-const MOST_DOCUMENTS: u32 = 32;
+/// The most documents of a set, those of its guards included.
+pub const MOST_DOCUMENTS: u32 = 32;
 
 // The document is one of the first of its set, and an object with known names.
 fn check_object(alloc: Global, location: Location, document: &Value) -> Result<(), PolicyAnswer>

@@ -23,7 +23,8 @@ use policy_model::{DocumentList, GuardList, List, PolicySet};
 use serde_json::Value;
 use std::alloc::Global;
 
-const MOST_GUARDS: usize = 16;
+/// The most guards of a set.
+pub const MOST_GUARDS: usize = 16;
 
 // Whether each of the values is a list.
 fn are_lists(values: &[Value]) -> bool

@@ -17,7 +17,8 @@ use policy_model::Statement;
 use serde_json::Value;
 use std::alloc::Global;
 
-const MOST_STATEMENTS: usize = 2000;
+/// The most statements of a set.
+pub const MOST_STATEMENTS: usize = 2000;
 
 // The statement is one of the first of its set, and an object with known names.
 fn check_form(
