@@ -1,4 +1,5 @@
 mod Answering
+mod Determined
 mod Equal
 mod Gathering
 mod Keeping

@@ -25,7 +25,7 @@ use Rattle.strata.specs.Below.{AreKeptAmong}
 use Rattle.strata.specs.Causes.{AreFew, AreStrataOf, HaveWidePair, IsFirstTooMany, NamesTooMany, NamesWide}
 use Rattle.strata.specs.Making.{AreAllNamed, AreFewNamed, AreStrataAmong, IsStratumOf, MakesAll, MakesStratum, NamesAll, SuitSlots, named_at, slot_at}
 use Rattle.strata.specs.Predicates.{AreNamed, SuitsSlot, read_in}
-use Rattle.strata.specs.Rows.{AreSized, AreToldMaximal}
+use Rattle.strata.specs.Rows.{AreToldMaximal, TellOrder}
 use Rattle.strata.specs.Settling.{AreKeptSoFar, FailsAmong}
 use Rattle.strata.specs.Strata.{AreStrata, IsOrder, IsStratum}
 use Rattle.strata.proofs.Gathering.{gathers-unique}
@@ -33,7 +33,7 @@ use Rattle.strata.proofs.Keeping.{kept-few}
 use Rattle.strata.proofs.Ordering.{gathers-begins}
 use Rattle.strata.proofs.Standing.{in-cases}
 use Rattle.strata.proofs.Suiting.{named-suit}
-use Rattle.strata.proofs.Telling.{told-order, told-sized}
+use Rattle.strata.proofs.Telling.{told-order}
 
 -- ---- what is named in all slots
 
@@ -88,18 +88,16 @@ pub stratum-fails : (schema : Schema) (states : ℕ) (s : Slot) (names xs : List
 stratum-fails schema states s names xs (Ok x) e is same h = absurd is
 stratum-fails schema states s names xs (Err f) e is same h = subst (FailsAmong schema states s names) (sym is) (subst (λ (ns : List Predicate). FailsAmong schema states s ns e) same h)
 
-pub kept-sized : (schema : Schema) (s : Slot) (names : List Predicate) (kept : Kept) (rows : List Row) → rows ≡ kept.rows → AreKeptSoFar schema s names kept → AreSized rows
-kept-sized schema s names kept rows same h = subst AreSized (sym same) (told-sized schema s kept.predicates kept.rows h.told)
-
 pub kept-fits : (schema : Schema) (s : Slot) (names xs : List Predicate) (kept : Kept) (rows : List Row) → rows ≡ kept.rows → xs ≡ names → length names ≤ MOST_PREDICATES → AreKeptSoFar schema s xs kept → length rows < 2 ^ 32
 kept-fits schema s names xs kept rows same whole few h =
     omega (arith, ap (λ (ys : List Row). length ys) same, ap (λ (ns : List Predicate). length ns) whole, h.told.count, kept-few schema s [] xs kept.predicates h.keeps)
 
-pub stratum-made : (schema : Schema) (s copied : Slot) (names xs : List Predicate) (kept : Kept) (rows : List Row) (lists : List (List ℕ)) → copied ≡ s → rows ≡ kept.rows → xs ≡ names → AreKeptSoFar schema s xs kept → AreToldMaximal rows (length rows) lists → IsStratumOf schema s names (record { slot = copied; predicates = kept.predicates; below = lists })
+pub stratum-made : (schema : Schema) (s copied : Slot) (names xs : List Predicate) (kept : Kept) (rows : List Row) (lists : List (List ℕ)) → copied ≡ s → rows ≡ kept.rows → xs ≡ names → AreKeptSoFar schema s xs kept → AreToldMaximal rows (length rows) lists → IsStratumOf schema s names (record { slot = copied; predicates = kept.predicates; below = lists; rows = kept.rows })
 stratum-made schema s copied names xs kept rows lists copy same whole h told = record {
   slot = copy;
   kept = subst (λ (ns : List Predicate). AreKeptAmong schema s ns kept.predicates) whole h.keeps;
   order = told-order schema s kept.predicates kept.rows lists h.told (subst (λ (ys : List Row). AreToldMaximal ys (length ys) lists) same told);
+  told = h.told;
 }
 
 -- ---- all strata
@@ -164,7 +162,7 @@ strata-of schema query slots all strata h made = record {
     each-slot : (k : ℕ) (d : Slot) → k < length (map (λ (x : Stratum). x.slot) strata.dimensions) → get_or (map (λ (x : Stratum). x.slot) strata.dimensions) k d ≡ get_or slots k d
     each-slot k d l =
         let within : k < length strata.dimensions = omega (arith, length-map strata.dimensions (λ (x : Stratum). x.slot)) in
-        let some : Stratum = record { slot = d; predicates = []; below = [] } in
+        let some : Stratum = record { slot = d; predicates = []; below = []; rows = [] } in
         get_or-map (λ (x : Stratum). x.slot) strata.dimensions k some d within ∙
         ((made.each k some (omega (arith, made.count))).slot ∙ get_or_default slots k slot.Principal d (omega (arith, made.count)))
 
@@ -176,6 +174,7 @@ strata-of schema query slots all strata h made = record {
         kept = subst (λ (t : Slot). AreKeptAmong schema t names x.predicates) (sym is.slot) is.kept;
       };
       order = subst (λ (t : Slot). IsOrder schema t x.predicates x.below) (sym is.slot) is.order;
+      told = subst (λ (t : Slot). TellOrder schema t x.predicates x.rows) (sym is.slot) is.told;
     }
 
 wide-named : (schema : Schema) (states : ℕ) (s : Slot) (tests : List Test) (names : List Predicate) (texts : List (List ℕ)) → AreNamed s tests names → HaveWidePair schema states s (Every ∷ names) texts → NamesWide schema tests states s texts

@@ -1,16 +1,19 @@
 -- What rows tell of the order.
-use Rattle.std.proofs.Common.{◌≡◌, ◌≢◌, ℕ, ◌+◌, ◌<◌, ◌≤◌, List, [], length, get_or, Bool, true, false, true≢false, not, nat_eq, nat_lt, IsTrue, ◌↔◌, sym, ap, ◌∙◌, subst, inl, inr, arith}
+use Rattle.std.proofs.Common.{◌≡◌, ◌≢◌, ℕ, ◌+◌, ◌<◌, ◌≤◌, List, [], length, get_or, Option, Some, None, Bool, true, false, true≢false, not, nat_eq, nat_lt, IsTrue, ◌↔◌, sym, ap, ◌∙◌, subst, inl, inr, arith}
 use Rattle.std.proofs.lemmas.Bool.{and_from, and_parts, cases_Bool, cases_eq, cases_lt}
 use Rattle.std.proofs.lemmas.Bool.Decides.{nat_tests}
 use Rattle.std.proofs.lemmas.List.Elements.{All-contains}
-use Rattle.std.proofs.lemmas.Option.{slice_get_within, get_or_from_slice_get}
+use Rattle.std.specs.Prelude.{slice_get, unwrap_or}
+use Rattle.std.proofs.lemmas.Option.{slice_get_within, get_or_from_slice_get, unwrap_or-slice_get}
 use Rattle.policy_model.specs.declared.schema.Schema.{Schema}
 use Rattle.policy_model.specs.declared.test.Slot.{Slot}
 use Rattle.strata.specs.declared.predicate.Predicate.{Predicate}
 use Rattle.strata.specs.declared.rows.Row.{Row}
+use Rattle.strata.specs.declared.stratum.Strata.{Strata}
+use Rattle.strata.specs.declared.stratum.Stratum.{Stratum}
 use Rattle.strata.specs.Covers.{AreMaximalBelow, IsBelowAt, OrderIsDecided, IsMaximalBelow, IsStrictlyBelow, predicate_at}
-use Rattle.strata.specs.Rows.{AreListed, AreSized, AreToldMaximal, IsNothingAmong, IsNothingTold, IsToldMaximal, TellOrder, TellsBelow, empty_row, tells_below, tells_between, tells_strictly}
-use Rattle.strata.specs.Strata.{IsOrder}
+use Rattle.strata.specs.Rows.{AreListed, AreToldMaximal, IsNothingAmong, IsNothingTold, IsToldBelow, IsToldMaximal, TellOrder, TellsBelow, empty_row, tells_below, tells_between, tells_strictly}
+use Rattle.strata.specs.Strata.{AnswersOrderIn, AnswersOrderOf, IsBelowIn, IsOrder, IsStratum}
 use Rattle.strata.proofs.Answering.{below-says, says-below}
 use Rattle.strata.proofs.Ordering.{below-self}
 
@@ -25,10 +28,6 @@ lt-true a b h = grind (arith, nat_tests)
 
 lt-false : (a b : ℕ) → b ≤ a → nat_lt a b ≡ false
 lt-false a b h = grind (arith, nat_tests)
-
--- each row answers for those before it
-pub told-sized : (schema : Schema) (s : Slot) (kept : List Predicate) (rows : List Row) → TellOrder schema s kept rows → AreSized rows
-told-sized schema s kept rows h i d l = let row = h.each i d l in (row.below.count, row.above.count)
 
 -- the answers of the rows are right
 tells-below : (schema : Schema) (s : Slot) (kept : List Predicate) (rows : List Row) (j i : ℕ) → TellOrder schema s kept rows → j < length rows → i < length rows → TellsBelow schema s (predicate_at kept j) (predicate_at kept i) (tells_below rows j i)
@@ -106,6 +105,46 @@ told-order schema s kept rows lists h told = record {
       subst (λ (ns : List ℕ). AreMaximalBelow schema s kept i ns) here (listed-maximal schema s kept rows i (get_or lists i []) h (told.each i [] (omega (arith, told.count))));
   decided = told-decided schema s kept rows h;
 }
+
+-- ---- the order that is asked of
+
+-- a number that isn't there is answered no
+pub answer-none : (answers : List Bool) (n : ℕ) → slice_get answers n ≡ None → false ≡ get_or answers n false
+answer-none answers n none = ap (λ (o : Option Bool). unwrap_or o false) (sym none) ∙ unwrap_or-slice_get answers n false
+
+-- what the rows of a stratum tell is its order
+pub order-of : (x : Stratum) (rows : List Row) (j i : ℕ) (b : Bool) → rows ≡ x.rows → IsTrue b ↔ IsToldBelow rows j i → AnswersOrderOf x j i b
+order-of x rows j i b same told schema tests is = (
+  λ on.
+      let h = subst (λ (rs : List Row). IsToldBelow rs j i) same (told.0 on) in
+      record {
+        lower = omega (arith, is.told.count, h.lower);
+        upper = omega (arith, is.told.count, h.upper);
+        below = says-below schema x.slot (predicate_at x.predicates j) (predicate_at x.predicates i) (tells_below x.rows j i) (tells-below schema x.slot x.predicates x.rows j i is.told h.lower h.upper) h.told;
+      },
+  λ h.
+      let wj : j < length x.rows = omega (arith, is.told.count, h.lower) in
+      let wi : i < length x.rows = omega (arith, is.told.count, h.upper) in
+      told.1 (subst (λ (rs : List Row). IsToldBelow rs j i) (sym same) (record {
+        lower = wj;
+        upper = wi;
+        told = below-says schema x.slot (predicate_at x.predicates j) (predicate_at x.predicates i) (tells_below x.rows j i) (tells-below schema x.slot x.predicates x.rows j i is.told wj wi) h.below;
+      })),
+)
+
+-- and so is what the stratum of a dimension answers
+pub order-in : (strata : Strata) (d j i : ℕ) (x : Stratum) (b : Bool) → slice_get strata.dimensions d ≡ Some x → AnswersOrderOf x j i b → AnswersOrderIn strata d j i b
+order-in strata d j i x b at answers schema tests each =
+    let within : d < length strata.dimensions = slice_get_within strata.dimensions d x at in
+    let is : IsStratum schema tests x = subst (IsStratum schema tests) (get_or_from_slice_get strata.dimensions d x x at) (each d x within) in
+    let told = answers schema tests is in (
+      λ on. record { stratum = x; at = at; below = told.0 on },
+      λ h. let both : Some h.stratum ≡ Some x = sym h.at ∙ at in let same : h.stratum ≡ x = cc in told.1 (subst (λ (y : Stratum). IsBelowIn schema y j i) same h.below),
+    )
+
+-- a dimension that isn't there has no order
+pub order-nowhere : (strata : Strata) (d j i : ℕ) → slice_get strata.dimensions d ≡ None → AnswersOrderIn strata d j i false
+order-nowhere strata d j i none schema tests each = (λ on. absurd (cc), λ h. let both : None ≡ Some h.stratum = sym none ∙ h.at in absurd (cc))
 
 -- ---- none of the numbers so far is between
 

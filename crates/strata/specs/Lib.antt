@@ -8,3 +8,4 @@ pub mod Causes
 pub mod Rows
 pub mod Settling
 pub mod Making
+pub mod Laws

@@ -27,11 +27,6 @@ pub record TellOrder (schema : Schema) (s : Slot) (kept : List Predicate) (rows 
   pub count : length rows ≡ length kept
   pub each : (i : ℕ) (d : Row) → i < length rows → IsRow schema s kept i (predicate_at kept i) (slice_index_or rows i d)
 
--- each row answers for those before it
-abbrev pub AreSized : List Row → Type 0
-AreSized rows = (i : ℕ) (d : Row) → i < length rows →
-    (length (slice_index_or rows i d).below ≡ i) × (length (slice_index_or rows i d).above ≡ i)
-
 abbrev pub empty_row : Row
 empty_row = record { below = []; above = [] }
 
@@ -41,6 +36,12 @@ tells_below rows j i =
     (if nat_eq j i then true
     else if nat_lt j i then slice_index_or (slice_index_or rows i empty_row).above j false
     else slice_index_or (slice_index_or rows j empty_row).below i false)
+
+-- both numbers are there, and by the rows number j is below number i
+pub record IsToldBelow (rows : List Row) (j i : ℕ) : Type 0 where
+  pub lower : j < length rows
+  pub upper : i < length rows
+  pub told : tells_below rows j i ≡ true
 
 -- and whether it is strictly below it
 abbrev pub tells_strictly : List Row → ℕ → ℕ → Bool

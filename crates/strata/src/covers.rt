@@ -1,6 +1,6 @@
 //! For each predicate that is kept those that are maximal strictly below it.
 ghost use Rattle.std.specs.Prelude.{◌+◌, ◌<◌, ◌^◌, IfOk, OnOk, length};
-ghost use Rattle.strata.specs.Rows.{AreListed, AreSized, AreToldMaximal, IsToldMaximal};
+ghost use Rattle.strata.specs.Rows.{AreListed, AreToldMaximal, IsToldMaximal};
 
 use crate::rows::{Row, is_maximal_below};
 use crate::stratum::NumberList;
@@ -9,7 +9,6 @@ use std::alloc::Global;
 
 // Adds number j where it is maximal strictly below number i.
 fn look_at(rows: &[Row], i: usize, j: usize, numbers: &mut NumberList) -> Result<(), NoMemory>
-    requires sized { AreSized rows.now }
     requires few { length rows.now < 2 ^ 32 }
     requires upper { i < length rows.now }
     requires lower { j < length rows.now }
@@ -25,7 +24,6 @@ fn look_at(rows: &[Row], i: usize, j: usize, numbers: &mut NumberList) -> Result
 
 // The numbers of those that are maximal strictly below number i.
 fn covered(alloc: Global, rows: &[Row], i: usize) -> Result<NumberList, NoMemory>
-    requires sized { AreSized rows.now }
     requires few { length rows.now < 2 ^ 32 }
     requires upper { i < length rows.now }
     ensures { IfOk result (AreListed (IsToldMaximal rows.now i) (length rows.now)) }
@@ -39,8 +37,7 @@ fn covered(alloc: Global, rows: &[Row], i: usize) -> Result<NumberList, NoMemory
 
 // The same of each number.
 pub(crate) fn all_covered(alloc: Global, rows: &[Row]) -> Result<List<NumberList>, NoMemory>
-    requires sized { AreSized rows.now }
-    requires few { length rows.now < 2 ^ 32 }
+    requires { length rows.now < 2 ^ 32 }
     ensures { IfOk result (AreToldMaximal rows.now (length rows.now)) }
 {
     let mut lists = List::new(alloc);

@@ -6,6 +6,7 @@ mod asking;
 mod covers;
 mod inclusion;
 mod kept;
+mod meaning;
 mod names;
 mod outcome;
 mod predicate;
@@ -14,6 +15,7 @@ mod search;
 mod stratum;
 
 pub use inclusion::{Inclusion, Within};
+pub use meaning::{strata_are_determined, strata_limits};
 pub use names::MOST_PREDICATES;
 pub use outcome::StrataFault;
 pub use predicate::{Predicate, PredicateList, test_of};

@@ -1,6 +1,6 @@
 //! Rows of answers: for each predicate that is kept, how it stands to those before it.
-ghost use Rattle.std.specs.Prelude.{◌≡◌, ◌<◌, ◌↔◌, [], IsTrue, length};
-ghost use Rattle.strata.specs.Rows.{AreSized, IsNothingTold, IsToldMaximal, tells_below, tells_between, tells_strictly};
+ghost use Rattle.std.specs.Prelude.{◌≡◌, ◌<◌, ◌↔◌, [], IsTrue, false, length, slice_index_or};
+ghost use Rattle.strata.specs.Rows.{IsNothingTold, IsToldBelow, IsToldMaximal, tells_below, tells_between, tells_strictly};
 
 use plain_lists::List;
 use std::alloc::Global;
@@ -26,9 +26,18 @@ impl Row {
     }
 }
 
+// The answer of a number, or no where it isn't there.
+fn answer_at(answers: &List<bool>, number: usize) -> bool
+    ensures { result ≡ slice_index_or answers.now number false }
+{
+    match answers.get(number) {
+        Some(answer) => *answer,
+        None => false,
+    }
+}
+
 // Whether number j is below number i.
 fn is_below(rows: &[Row], j: usize, i: usize) -> bool
-    requires sized { AreSized rows.now }
     requires lower { j < length rows.now }
     requires upper { i < length rows.now }
     ensures { result ≡ tells_below rows.now j i }
@@ -37,15 +46,21 @@ fn is_below(rows: &[Row], j: usize, i: usize) -> bool
         return true;
     }
     if j < i {
-        rows[i].above.as_slice()[j]
+        answer_at(&rows[i].above, j)
     } else {
-        rows[j].below.as_slice()[i]
+        answer_at(&rows[j].below, i)
     }
+}
+
+// Whether both numbers are there and number j is below number i.
+pub(crate) fn is_told_below(rows: &[Row], j: usize, i: usize) -> bool
+    ensures { IsTrue result ↔ IsToldBelow rows.now j i }
+{
+    j < rows.len() && i < rows.len() && is_below(rows, j, i)
 }
 
 // Whether number j is strictly below number i.
 fn is_strictly_below(rows: &[Row], j: usize, i: usize) -> bool
-    requires sized { AreSized rows.now }
     requires lower { j < length rows.now }
     requires upper { i < length rows.now }
     ensures { result ≡ tells_strictly rows.now j i }
@@ -55,7 +70,6 @@ fn is_strictly_below(rows: &[Row], j: usize, i: usize) -> bool
 
 // Whether number k is strictly between number j and number i.
 fn is_between(rows: &[Row], j: usize, k: usize, i: usize) -> bool
-    requires sized { AreSized rows.now }
     requires lower { j < length rows.now }
     requires between { k < length rows.now }
     requires upper { i < length rows.now }
@@ -66,7 +80,6 @@ fn is_between(rows: &[Row], j: usize, k: usize, i: usize) -> bool
 
 // Whether nothing lies strictly between number j and number i.
 fn is_nothing_between(rows: &[Row], j: usize, i: usize) -> bool
-    requires sized { AreSized rows.now }
     requires lower { j < length rows.now }
     requires upper { i < length rows.now }
     ensures { IsTrue result ↔ IsNothingTold rows.now j i }
@@ -81,7 +94,6 @@ fn is_nothing_between(rows: &[Row], j: usize, i: usize) -> bool
 
 // Whether number j is maximal strictly below number i.
 pub(crate) fn is_maximal_below(rows: &[Row], j: usize, i: usize) -> bool
-    requires sized { AreSized rows.now }
     requires lower { j < length rows.now }
     requires upper { i < length rows.now }
     ensures { IsTrue result ↔ IsToldMaximal rows.now i j }

@@ -67,6 +67,7 @@ fn stratum<I: Inclusion>(
         slot: copied,
         predicates: kept.predicates,
         below,
+        rows: kept.rows,
     })
 }
 

@@ -2,8 +2,10 @@
 ghost use Rattle.std.specs.Prelude.{◌≡◌, length, slice_get};
 ghost use Rattle.std.specs.Option.{option_copied};
 ghost use Rattle.strata.specs.Dimensions.{below_in, predicates_in, slot_in};
+ghost use Rattle.strata.specs.Strata.{AnswersOrderIn, AnswersOrderOf};
 
 use crate::predicate::{Predicate, PredicateList};
+use crate::rows::{Row, is_told_below};
 use plain_lists::List;
 use policy_model::Slot;
 
@@ -18,6 +20,18 @@ pub struct Stratum {
     pub predicates: PredicateList,
     /// For each predicate the numbers of those that are maximal strictly below it, in rising order.
     pub below: List<NumberList>,
+    // For each predicate how it stands to those before it.
+    pub(crate) rows: List<Row>,
+}
+
+impl Stratum {
+    /// Whether every valid request that meets the predicate of the one number meets that of the other. It
+    /// is false where one of the numbers isn't there.
+    pub fn is_below(&self, one: usize, other: usize) -> bool
+        ensures { AnswersOrderOf self.now one other result }
+    {
+        is_told_below(self.rows.as_slice(), one, other)
+    }
 }
 
 /// The predicates of each dimension and their order.
@@ -65,6 +79,17 @@ impl Strata {
         match self.dimensions.get(d) {
             Some(stratum) => stratum.below.get(n as usize),
             None => None,
+        }
+    }
+
+    /// Whether every valid request that meets the predicate of the one number meets that of the other, both
+    /// in one dimension. It is false where the dimension or one of the numbers isn't there.
+    pub fn is_below(&self, dimension: usize, one: usize, other: usize) -> bool
+        ensures { AnswersOrderIn self.now dimension one other result }
+    {
+        match self.dimensions.get(dimension) {
+            Some(stratum) => stratum.is_below(one, other),
+            None => false,
         }
     }
 }

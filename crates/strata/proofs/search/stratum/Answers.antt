@@ -1,7 +1,7 @@
 use Rattle.std.proofs.Common.{List, All, sym, subst}
 use Rattle.strata.specs.declared.predicate.Predicate.{Predicate}
 use Rattle.strata.specs.Predicates.{SuitsSlot}
-use Rattle.strata.proofs.Making.{kept-fits, kept-sized, stratum-fails, stratum-made}
+use Rattle.strata.proofs.Making.{kept-fits, stratum-fails, stratum-made}
 use Rattle.strata.proofs.search.stratum.Goals as goal
 
 pub kept_of-requires-clause-names : goal.kept_of-requires-clause-names
@@ -12,11 +12,8 @@ pub returns-in_err-kept-clause-makes : goal.returns-in_err-kept-clause-makes
 returns-in_err-kept-clause-makes g c =
     stratum-fails (g.I.Inclusion.schema c.args.by.now) (g.I.Inclusion.states c.args.by.now) c.args.slot.now c.args.names.now c.as_slice.result.now c.from_residual.result c.in_err-kept.field-0.0 c.from_residual.ensures.1 c.as_slice.ensures c.in_err-kept.ensures.keeps
 
-pub all_covered-requires-clause-sized : goal.all_covered-requires-clause-sized
-all_covered-requires-clause-sized g c = kept-sized (g.I.Inclusion.schema c.args.by.now) c.args.slot.now c.as_slice.result.now c.in_ok-kept.kept c.as_slice-2.result.now c.as_slice-2.ensures c.in_ok-kept.ensures.keeps
-
-pub all_covered-requires-clause-few : goal.all_covered-requires-clause-few
-all_covered-requires-clause-few g c =
+pub all_covered-requires : goal.all_covered-requires
+all_covered-requires g c =
     kept-fits (g.I.Inclusion.schema c.args.by.now) c.args.slot.now c.args.names.now c.as_slice.result.now c.in_ok-kept.kept c.as_slice-2.result.now c.as_slice-2.ensures c.as_slice.ensures c.requires.few c.in_ok-kept.ensures.keeps
 
 pub returns-clause-makes : goal.returns-clause-makes
