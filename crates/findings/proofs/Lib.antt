@@ -1,3 +1,4 @@
+mod Counted
 mod Covering
 mod Deciding
 mod Entered

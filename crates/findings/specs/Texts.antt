@@ -14,11 +14,11 @@ use Rattle.intervals.specs.declared.compare.Compare.TheVariants.{Equal, Less, Le
 use Rattle.wildcard_lang.specs.declared.piece.Piece.{Piece}
 use Rattle.wildcard_lang.specs.declared.piece.Piece.TheVariants.{Lit, LitFold, One, Many, OneNoColon, ManyNoColon}
 use Rattle.wildcard_lang.specs.Writing.{written_form}
+use Rattle.policy_model.specs.Principals.{kind_word}
 use Rattle.policy_model.specs.declared.cond.Cond.{Cond}
 use Rattle.policy_model.specs.declared.cond.Cond.TheVariants.{Matches, Compares, Inside, Flag, Equals}
 use Rattle.policy_model.specs.declared.principal.Entry.{Entry}
 use Rattle.policy_model.specs.declared.principal.Entry.TheVariants.{All, Kind, Account, Exact}
-use Rattle.request_json.specs.RequestTexts.{kind_word}
 use Rattle.strata.specs.declared.predicate.Predicate.{Predicate}
 use Rattle.strata.specs.declared.predicate.Predicate.TheVariants.{Every, Principal, Word, Meets}
 use Rattle.strata.specs.declared.stratum.Stratum.{Stratum}
@@ -32,13 +32,13 @@ entry_text (Kind kind) = codes "kind " ++ kind_word kind
 entry_text (Exact kind id) = kind_word kind ++ codes " " ++ encode_utf8_all id
 
 -- a wildcard that takes no colon
-abbrev pub takes_no_colon : Piece → Bool
-takes_no_colon (Lit c) = false
-takes_no_colon (LitFold c) = false
-takes_no_colon One = false
-takes_no_colon Many = false
-takes_no_colon OneNoColon = true
-takes_no_colon ManyNoColon = true
+abbrev pub is_narrow : Piece → Bool
+is_narrow (Lit c) = false
+is_narrow (LitFold c) = false
+is_narrow One = false
+is_narrow Many = false
+is_narrow OneNoColon = true
+is_narrow ManyNoColon = true
 
 -- a letter that is taken in either case
 abbrev pub takes_either_case : Piece → Bool
@@ -52,7 +52,7 @@ takes_either_case ManyNoColon = false
 -- `arn` where a wildcard takes no colon, else `fold` where a letter is taken in either case, else `like`
 abbrev pub pattern_word : List Piece → List ℕ
 pattern_word ps =
-    (if list_any takes_no_colon ps then codes "arn "
+    (if list_any is_narrow ps then codes "arn "
     else (if list_any takes_either_case ps then codes "fold " else codes "like "))
 
 abbrev pub pattern_text : List Piece → List ℕ

@@ -1,5 +1,5 @@
 //! Summaries.
-ghost use Rattle.std.specs.Prelude.{◌≡◌, IfErr, IfOk, OnOk};
+ghost use Rattle.std.specs.Prelude.{◌≡◌, ◌≤◌, IfErr, IfOk, OnOk, length};
 ghost use Rattle.std.specs.Cmp.Lexicographic.{slice_cmp};
 ghost use Rattle.std.specs.List.Sorted.{IsStrictlySortedBy};
 ghost use Rattle.std.specs.Ordering.{nat_cmp};
@@ -43,6 +43,7 @@ fn look_at_each<D: Decide>(
     requires start { StartsAt strata.now.dimensions walk.old }
     ensures ended { OnOk result
         (HasEnded (D.schema asks.old) base.now strata.now walk.new) }
+    ensures few { OnOk result (length walk.new.looked.keys ≤ findings) }
     ensures fault { IfErr result (SummaryFails (D.schema asks.old) base.now strata.now
         (D.splits asks.old) (D.states asks.old) findings) }
     ensures schema { D.schema asks.new ≡ D.schema asks.old }
@@ -64,8 +65,8 @@ fn look_at_each<D: Decide>(
 }
 
 /// The summary of the set whose query is `base`: the irreducible findings that have no irreducible one
-/// strictly above, in the order of their numbers, each with a request of its own. `strata` are those of
-/// `base`, under the schema that `asks` answers for.
+/// strictly above, in the order of their numbers, each with a request of its own. They are at most
+/// `findings`. `strata` are those of `base`, under the schema that `asks` answers for.
 ///
 /// `OutOfFindings` comes only where more than `findings` findings have no irreducible one strictly above.
 /// `OutOfSplits` and `OutOfStates` hold such a finding, and come only where the numbers of `asks` are too
@@ -81,6 +82,7 @@ pub fn summarise<D: Decide>(
     ensures summary { (set : PolicySet) → AreMadeFor (D.schema asks.old) set base.now strata.now →
         IsSummarised (D.schema asks.old) set strata.now.dimensions
         (D.splits asks.old) (D.states asks.old) findings result }
+    ensures few { IfOk result (λ summary. length summary ≤ findings) }
     ensures schema { D.schema asks.new ≡ D.schema asks.old }
     ensures splits { D.splits asks.new ≡ D.splits asks.old }
     ensures states { D.states asks.new ≡ D.states asks.old }

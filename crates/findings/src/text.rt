@@ -3,9 +3,8 @@ ghost use Rattle.std.specs.Prelude.{◌≡◌, ◌<◌, ◌++◌, IfOk, length, 
 ghost use Rattle.std.specs.List.{list_any};
 ghost use Rattle.serde_json.specs.Data.{string};
 ghost use Rattle.serde_json.specs.View.{view};
-ghost use Rattle.request_json.specs.RequestTexts.{kind_word};
 ghost use Rattle.findings.specs.Findings.{IsFinding};
-ghost use Rattle.findings.specs.Texts.{compare_word, cond_text, entry_text, finding_data, finding_text, flag_text, number_text, pattern_text, pattern_word, predicate_text, takes_either_case, takes_no_colon};
+ghost use Rattle.findings.specs.Texts.{compare_word, cond_text, entry_text, finding_data, finding_text, flag_text, number_text, pattern_text, pattern_word, predicate_text, takes_either_case, is_narrow};
 
 use crate::outcome::Finding;
 use crate::reading::{dimension_at, predicate_number_at};
@@ -13,22 +12,11 @@ use base64::engine::general_purpose::STANDARD;
 use cidr_bits::write_block;
 use intervals::{Compare, write_decimal};
 use plain_lists::NoMemory;
-use policy_model::{Cond, Entry, PrincipalKind};
+use policy_model::{Cond, Entry};
 use serde_json::Value;
 use std::alloc::Global;
 use strata::{Predicate, Strata, Stratum};
 use wildcard_lang::{Pattern, Piece, write_pattern};
-
-fn kind_word(kind: PrincipalKind) -> &'static str
-    ensures { result.now ≡ kind_word kind }
-{
-    match kind {
-        PrincipalKind::Aws => "AWS",
-        PrincipalKind::Service => "Service",
-        PrincipalKind::Federated => "Federated",
-        PrincipalKind::CanonicalUser => "CanonicalUser",
-    }
-}
 
 // A text behind a word that says what it is.
 fn behind(alloc: Global, word: &str, text: &str) -> Result<String, NoMemory>
@@ -46,18 +34,18 @@ fn entry_text(alloc: Global, entry: &Entry) -> Result<String, NoMemory>
             let account = account.to_utf8()?;
             format!(in alloc; "account {account}")
         }
-        Entry::Kind(kind) => behind(alloc, "kind ", kind_word(*kind)),
+        Entry::Kind(kind) => behind(alloc, "kind ", kind.word()),
         Entry::Exact(kind, id) => {
             let id = id.to_utf8()?;
-            let kind = kind_word(*kind);
+            let kind = kind.word();
             let id = id.as_str();
             format!(in alloc; "{kind} {id}")
         }
     }
 }
 
-fn takes_no_colon(piece: Piece) -> bool
-    ensures { result ≡ takes_no_colon piece }
+fn is_narrow(piece: Piece) -> bool
+    ensures { result ≡ is_narrow piece }
 {
     match piece {
         Piece::OneNoColon | Piece::ManyNoColon => true,
@@ -74,10 +62,10 @@ fn takes_either_case(piece: Piece) -> bool
     }
 }
 
-fn some_takes_no_colon(pieces: &[Piece]) -> bool
-    ensures { result ≡ list_any takes_no_colon pieces.now }
+fn some_is_narrow(pieces: &[Piece]) -> bool
+    ensures { result ≡ list_any is_narrow pieces.now }
 {
-    pieces.iter().any(|piece| takes_no_colon(*piece))
+    pieces.iter().any(|piece| is_narrow(*piece))
 }
 
 fn some_takes_either_case(pieces: &[Piece]) -> bool
@@ -89,7 +77,7 @@ fn some_takes_either_case(pieces: &[Piece]) -> bool
 fn pattern_word(pattern: &Pattern) -> &'static str
     ensures { result.now ≡ pattern_word pattern.now }
 {
-    if some_takes_no_colon(pattern.as_slice()) {
+    if some_is_narrow(pattern.as_slice()) {
         return "arn ";
     }
     if some_takes_either_case(pattern.as_slice()) {

@@ -2,6 +2,7 @@ use Rattle.std.proofs.Common.{arith, refl, subst, sym, ◌∙◌}
 use Rattle.std.proofs.lemmas.Result.{err_from_is_err_and}
 use Rattle.policy_model.specs.declared.schema.Schema.{Schema}
 use Rattle.findings.specs.Walked.{IsNextFinding, IsTaken, StandsAt}
+use Rattle.findings.proofs.Counted.{no-more-looked}
 use Rattle.findings.proofs.Passing.{none-of}
 use Rattle.findings.proofs.Summing.{fails-summarised, looked-more, looked-start, next-findings, next-numbered, next-taken, one-too-many}
 use Rattle.findings.proofs.summary.look_at_each.Goals as goal
@@ -27,6 +28,9 @@ returns-in_default-clause-ended g c = record {
   next = subst (IsNextFinding c.args.strata.now.dimensions c.findings.walk c.next.new.self) (none-of c.in_ok-finding.field-0 c.in_default.not-Some) c.in_ok-finding.ensures.next;
   same = c.in_ok-finding.ensures.same;
 }
+
+pub returns-in_default-clause-few : goal.returns-in_default-clause-few
+returns-in_default-clause-few g c = no-more-looked c.findings.walk c.next.new.self c.findings.counter c.args.findings (omega (arith, c.findings-test.true)) c.findings.invariant.walked.count c.in_ok-finding.ensures.same
 
 pub look_at-requires-clause-due : goal.look_at-requires-clause-due
 look_at-requires-clause-due g c =
@@ -62,6 +66,9 @@ returns-clause-ended g c = record {
   next = subst (IsNextFinding c.args.strata.now.dimensions c.findings.walk c.next-2.new.self) c.in-None.is c.in_ok-further.ensures.next;
   same = c.in_ok-further.ensures.same;
 }
+
+pub returns-clause-few : goal.returns-clause-few
+returns-clause-few g c = no-more-looked c.findings.walk c.next-2.new.self c.findings.counter c.args.findings (omega arith) c.findings.invariant.walked.count c.in_ok-further.ensures.same
 
 pub returns-in-Some-further-clause-fault : goal.returns-in-Some-further-clause-fault
 returns-in-Some-further-clause-fault g c =

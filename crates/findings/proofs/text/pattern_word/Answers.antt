@@ -2,5 +2,5 @@
 use Rattle.std.proofs.Common.{rules}
 use Rattle.findings.proofs.text.pattern_word.Goals as goal
 
-pub returns-then-some_takes_no_colon : goal.returns-then-some_takes_no_colon
-returns-then-some_takes_no_colon c = search rules
+pub returns-then-some_is_narrow : goal.returns-then-some_is_narrow
+returns-then-some_is_narrow c = search rules
