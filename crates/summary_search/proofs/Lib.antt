@@ -4,5 +4,4 @@ mod Plainly
 mod Within
 mod Deciding
 mod Coming
-mod Folding
 mod Sampling

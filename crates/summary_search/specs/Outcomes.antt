@@ -52,11 +52,13 @@ pub record OfStrata (schema : Schema) (query : Query) (slots : List Slot) (P : L
   pub are : AreStrataWithin schema query slots strata
   pub holds : P strata.dimensions
 
--- the summary of the set by the slots; or the first slot in which too many predicates are named; or, where there is none, that
--- two predicates of a slot, the number of findings or the query of a finding that must be looked at needs more than a limit
+-- the summary of the set by the slots, of no more findings than may be looked at; or the first slot in which too many predicates
+-- are named; or, where there is none, that two predicates of a slot, the number of findings or the query of a finding that must be
+-- looked at needs more than a limit
 abbrev pub IsSummaryOutcome : Schema → PolicySet → Query → List Slot → Limits → Outcome → Type 0
 IsSummaryOutcome schema set query slots limits (Found strata summary) =
-    AreStrataWithin schema query slots strata × IsSummary schema set strata.dimensions summary
+    AreStrataWithin schema query slots strata × IsSummary schema set strata.dimensions summary ×
+    (length summary ≤ limits.findings)
 IsSummaryOutcome schema set query slots limits (TooManyPredicates d) = IsFirstTooMany query.tests slots d
 IsSummaryOutcome schema set query slots limits (Wide s texts) =
     Contains slots s × AreFew query.tests slots × NamesWide schema query.tests limits.states s texts

@@ -1,8 +1,6 @@
 -- Predicates of which one lies below the other whatever the schema is.
-use Rattle.std.specs.Prelude.{ℕ, List, Bool, true, false, ◌==◌}
-use Rattle.std.specs.Char.{to_ascii_uppercase}
+use Rattle.std.specs.Prelude.{ℕ, List}
 use Rattle.wildcard_lang.specs.declared.piece.Piece.{Piece}
-use Rattle.wildcard_lang.specs.declared.piece.Piece.TheVariants.{Lit, LitFold, One, Many, OneNoColon, ManyNoColon}
 use Rattle.wildcard_lang.specs.Matching.{Matches}
 use Rattle.policy_model.specs.declared.cond.Cond.{Cond}
 use Rattle.policy_model.specs.declared.principal.Entry.{Entry}
@@ -30,30 +28,3 @@ EachMeets one other = (v : Value) → CondMeets v one → CondMeets v other
 -- every request that meets the one in a slot meets the other there
 abbrev pub IsPlainlyBelow : Predicate → Predicate → Type 0
 IsPlainlyBelow one other = (s : Slot) (r : Request) → MeetsPredicate s one r → MeetsPredicate s other r
-
--- a piece for one character alone
-abbrev pub is_exact_piece : Piece → Bool
-is_exact_piece (Lit c) = true
-is_exact_piece (LitFold c) = false
-is_exact_piece One = false
-is_exact_piece Many = false
-is_exact_piece OneNoColon = false
-is_exact_piece ManyNoColon = false
-
--- or for a letter in either case
-abbrev pub is_literal_piece : Piece → Bool
-is_literal_piece (Lit c) = true
-is_literal_piece (LitFold c) = true
-is_literal_piece One = false
-is_literal_piece Many = false
-is_literal_piece OneNoColon = false
-is_literal_piece ManyNoColon = false
-
--- a piece that takes the capital of each letter that it takes
-abbrev pub takes_capitals : Piece → Bool
-takes_capitals (Lit c) = to_ascii_uppercase c == c
-takes_capitals (LitFold c) = true
-takes_capitals One = true
-takes_capitals Many = true
-takes_capitals OneNoColon = true
-takes_capitals ManyNoColon = true

@@ -86,7 +86,7 @@ impl<'a> Inclusion for ByProducts<'a> {
         one: &Predicate,
         other: &Predicate,
     ) -> Result<Within, NoMemory> {
-        if is_plainly_below(alloc, one, other)? {
+        if is_plainly_below(one, other) {
             return Ok(Within::Yes);
         }
         let Some(test) = test_of(alloc, slot, other)? else {

@@ -5,7 +5,6 @@
 mod asking;
 mod finding;
 mod inclusion;
-mod literals;
 mod outcome;
 mod plain;
 mod questions;

@@ -1,12 +1,10 @@
 //! Predicates of which one plainly lies below the other, without a product.
-ghost use Rattle.std.specs.Prelude.{IfOk, IsTrue};
-ghost use Rattle.summary_search.specs.Plain.{EachNames, IsPlainlyBelow};
+ghost use Rattle.std.specs.Prelude.{IsTrue};
+ghost use Rattle.summary_search.specs.Plain.{EachMeets, EachNames, IsPlainlyBelow};
 
-use crate::literals::{is_condition_below, is_literal_below};
-use plain_lists::NoMemory;
-use policy_model::{Entry, PrincipalKind, entry_names};
-use std::alloc::Global;
+use policy_model::{Cond, Entry, PrincipalKind, entry_names};
 use strata::Predicate;
+use wildcard_lang::covers;
 
 // Whether each principal of the one entry plainly is one of the other.
 fn is_entry_below(one: &Entry, other: &Entry) -> bool
@@ -20,23 +18,28 @@ fn is_entry_below(one: &Entry, other: &Entry) -> bool
     }
 }
 
-/// Whether every request that meets the one plainly meets the other: everything lies below `Every`,
-/// entries lie below one another by kind and account, and a pattern without wildcards lies below one that
-/// matches its text.
-pub fn is_plainly_below(alloc: Global, one: &Predicate, other: &Predicate) -> Result<bool, NoMemory>
-    ensures { IfOk result (λ is. IsTrue is → IsPlainlyBelow one.now other.now) }
+// Whether each value that meets the one condition plainly meets the other.
+fn is_condition_below(one: &Cond, other: &Cond) -> bool
+    ensures { IsTrue result → EachMeets one.now other.now }
 {
     match (one, other) {
-        (_, Predicate::Every) => Ok(true),
+        (Cond::Matches(first), Cond::Matches(second)) => covers(second, first),
+        _ => false,
+    }
+}
+
+/// Whether every request that meets the one plainly meets the other: everything lies below `Every`,
+/// entries lie below one another by kind and account, and a pattern lies below one that covers it.
+pub fn is_plainly_below(one: &Predicate, other: &Predicate) -> bool
+    ensures { IsTrue result → IsPlainlyBelow one.now other.now }
+{
+    match (one, other) {
+        (_, Predicate::Every) => true,
         (Predicate::Principal(first), Predicate::Principal(second)) => {
-            Ok(is_entry_below(first, second))
+            is_entry_below(first, second)
         }
-        (Predicate::Word(first), Predicate::Word(second)) => {
-            is_literal_below(alloc, first, second)
-        }
-        (Predicate::Meets(first), Predicate::Meets(second)) => {
-            is_condition_below(alloc, first, second)
-        }
-        _ => Ok(false),
+        (Predicate::Word(first), Predicate::Word(second)) => covers(second, first),
+        (Predicate::Meets(first), Predicate::Meets(second)) => is_condition_below(first, second),
+        _ => false,
     }
 }

@@ -1,5 +1,5 @@
-use Rattle.std.proofs.Common.{◌≡◌, ℕ, List, Ok, Err, rules}
-use Rattle.std.specs.Prelude.{Result}
+use Rattle.std.proofs.Common.{◌≡◌, ◌≤◌, ℕ, List, Ok, Err, length, rules, subst}
+use Rattle.std.specs.Prelude.{IfOk, Result}
 use Rattle.policy_model.specs.declared.request.Request.{Request}
 use Rattle.findings.specs.declared.outcome.SummaryFault.{SummaryFault}
 use Rattle.findings.specs.declared.outcome.SummaryFault.TheVariants as fault
@@ -19,7 +19,8 @@ returns-in-Ok c = λ set of.
     c.new-asks.ensures.schema c.new-asks.ensures.splits c.new-asks.ensures.states made (c.summarise.ensures.summary set) in
     let known : Came = Ok c.in-Ok.summary in
     let is : c.summarise.result ≡ known = search rules in
-    (c.requires.made, come-to schema set c.args.made c.args.limits c.summarise.result known is told)
+    let few = subst (λ (r : Came). IfOk r (λ summary. length summary ≤ c.args.limits.findings)) is c.summarise.ensures.few in
+    (c.requires.made, come-to schema set c.args.made c.args.limits c.summarise.result known is told, few)
 
 pub returns-in-Err-OutOfFindings : goal.returns-in-Err-OutOfFindings
 returns-in-Err-OutOfFindings c = λ set of.
