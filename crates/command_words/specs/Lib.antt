@@ -3,3 +3,4 @@ pub mod Asked
 pub mod Forms
 pub mod Named
 pub mod Parsing
+pub mod Ranges

@@ -8,6 +8,7 @@ mod forms;
 mod limits;
 mod names;
 mod parsing;
+mod ranges;
 mod reading;
 
 pub use asked::{
@@ -18,4 +19,5 @@ pub use limits::{
     MOST_SPLITS, MOST_STATES,
 };
 pub use plain_lists::NoMemory;
+pub use ranges::word_limits;
 pub use reading::read_words;

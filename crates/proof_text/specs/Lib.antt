@@ -7,3 +7,4 @@ pub mod Laws
 pub mod Steps
 pub mod Around
 pub mod SlotLines
+pub mod Sizes

@@ -11,6 +11,7 @@ mod nodes;
 mod numbers;
 mod parts;
 mod read;
+mod sizes;
 mod slots;
 mod states;
 mod write;
@@ -20,4 +21,5 @@ pub use laws::{closing_proofs_are_small, closing_proofs_have_no_fault, one_proof
 pub use limits::{MOST_NESTING, MOST_NUMBER, MOST_PROOF_BYTES};
 pub use plain_lists::NoMemory;
 pub use read::{LineList, ReadProof, read_proof};
+pub use sizes::certificate_limits;
 pub use write::write_proof;

@@ -6,3 +6,4 @@ pub mod Making
 pub mod Joining
 pub mod Renaming
 pub mod Shortening
+pub mod Learned

@@ -12,7 +12,7 @@ mod renumbering;
 mod shortening;
 
 pub use joining::join;
-pub use learning::MOST_LEARNED;
+pub use learning::{MOST_LEARNED, search_limits};
 pub use least::least_answers;
 pub use leaves::{answers_to, clauses_part, kept_part, reuse_part, slot_part, value_part};
 pub use part::{Halves, Needs, Part};
