@@ -1,15 +1,28 @@
--- The query of a comparison without the Allow statements that both sets share.
-use Rattle.std.specs.Prelude.{◌≡◌, ◌⊎◌, List, [], ◌∷◌, Any, All, true, false}
+-- The query of a comparison without what the second set allows too, as single statements of both sets tell.
+use Rattle.std.specs.Prelude.{◌≡◌, ◌⊎◌, ℕ, ◌+◌, ◌*◌, ◌≤◌, List, [], ◌∷◌, length, sum_by, Any, All, Bool, true, false, MatchBool}
+use Rattle.std.specs.Prelude.{Option, Some, None}
+use Rattle.wildcard_lang.specs.declared.piece.Piece.{Piece}
+use Rattle.wildcard_lang.specs.declared.piece.Piece.TheVariants.{Many}
+use Rattle.wildcard_lang.specs.Covering.{CoversPattern, Clash}
 use Rattle.policy_model.specs.Sets.{Allows}
 use Rattle.policy_model.specs.Soundness.{SchemaFits}
+use Rattle.policy_model.specs.declared.matcher.Matcher.{Matcher}
+use Rattle.policy_model.specs.declared.operator.Condition.{Condition}
+use Rattle.policy_model.specs.declared.principal.Entry.TheVariants.{All as AnyPrincipal}
 use Rattle.policy_model.specs.declared.request.Request.{Request}
 use Rattle.policy_model.specs.declared.schema.Schema.{Schema}
 use Rattle.policy_model.specs.declared.set.Document.{Document}
 use Rattle.policy_model.specs.declared.set.PolicySet.{PolicySet}
 use Rattle.policy_model.specs.declared.set.Statement.{Statement}
+use Rattle.policy_difference.specs.declared.difference.TheConstants.{MOST_PAIRS}
+use Rattle.policy_difference.specs.Entries.{CoversEntry, ClashEntry}
+use Rattle.policy_difference.specs.Elements.{CoversElement, CoversMatcher, ClashElement, ClashMatcher}
+use Rattle.policy_difference.specs.Implications.{Implies}
 
--- what the one set allows the second allows or the other, and what the other allows the one allows; so of each request the one and
--- the other differ from the second alike
+-- ---- what is left says the same
+
+-- what the one set allows the second allows or the other, and what the other allows the one allows; so of each request the one
+-- and the other differ from the second alike
 pub record AskTheSame (one other second : PolicySet) : Type 0 where
   pub split : (schema : Schema) (r : Request) → Allows schema one r → Allows schema second r ⊎ Allows schema other r
   pub within : (schema : Schema) (r : Request) → Allows schema other r → Allows schema one r
@@ -18,40 +31,66 @@ pub record AskTheSame (one other second : PolicySet) : Type 0 where
 abbrev pub FitsToo : PolicySet → PolicySet → Type 0
 FitsToo one other = (schema : Schema) → SchemaFits schema one → SchemaFits schema other
 
--- the statement stands in one of the documents
-abbrev pub StandsIn : Statement → List Document → Type 0
-StandsIn s documents = Any (λ d. Any (λ t. t ≡ s) d.statements) documents
+-- ---- statements
 
--- the statement denies nothing, or stands in one of the documents
-abbrev pub DeniesToo : List Document → Statement → Type 0
-DeniesToo documents s = s.allow ≡ false → StandsIn s documents
-
--- each Deny statement of the second set's grants stands in those of the first, and each of its guards is one of the first's
-pub record IsBound (first second : PolicySet) : Type 0 where
-  pub denies : All (λ d. All (DeniesToo first.grants) d.statements) second.grants
-  pub guards : All (λ g. Any (λ h. h ≡ g) first.guards) second.guards
-
--- the statement t has the effect, the principal, the action and the resource of s, and no condition that s lacks, so that it
--- applies wherever s does
+-- the statement t has the effect of s, and applies wherever s does: each of its elements covers that of s, and each of its
+-- conditions is implied by one of s
 pub record AsksNoMore (t s : Statement) : Type 0 where
   pub allow : t.allow ≡ s.allow
-  pub principal : t.principal ≡ s.principal
-  pub action : t.action ≡ s.action
-  pub resource : t.resource ≡ s.resource
-  pub conditions : All (λ c. Any (λ d. d ≡ c) s.conditions) t.conditions
+  pub principal : CoversElement CoversEntry ClashEntry AnyPrincipal t.principal s.principal
+  pub action : CoversMatcher CoversPattern Clash (Many ∷ []) t.action s.action
+  pub resource : CoversElement CoversPattern Clash (Many ∷ []) t.resource s.resource
+  pub conditions : All (λ d. Any (λ c. Implies c d) s.conditions) t.conditions
 
 -- a statement of one of the documents asks no more
 abbrev pub HasWider : List Document → Statement → Type 0
 HasWider documents s = Any (λ d. Any (λ t. AsksNoMore t s) d.statements) documents
 
--- an Allow statement that one of the documents has too, with all of its conditions or fewer
-pub record IsShared (documents : List Document) (s : Statement) : Type 0 where
-  pub allow : s.allow ≡ true
-  pub wider : HasWider documents s
+-- the statements never apply both, since their principals, their actions or their resources clash
+abbrev pub ClashStatement : Statement → Statement → Type 0
+ClashStatement d s = ClashElement CoversEntry ClashEntry d.principal s.principal ⊎
+    (ClashMatcher CoversPattern Clash d.action s.action ⊎ ClashElement CoversPattern Clash d.resource s.resource)
 
--- the others share an Allow statement of the documents
-abbrev pub ShareSome : List Document → List Document → Type 0
-ShareSome others documents = Any (λ d. Any (IsShared others) d.statements) documents
+-- P holds of each statement of the documents that has this effect
+abbrev pub EachWith : Bool → (Statement → Type 0) → List Document → Type 0
+EachWith allow P documents = All (λ d. All (λ s. s.allow ≡ allow → P s) d.statements) documents
+
+-- ---- what the second set allows too
+
+-- wherever this Deny statement applies, one of the set's grants or guards does
+abbrev pub DeniesToo : PolicySet → Statement → Type 0
+DeniesToo set d = HasWider set.grants d ⊎ Any (λ g. HasWider g d) set.guards
+
+-- this Deny statement of the second set takes nothing away of what the first set allows by s: the first denies it too, or it
+-- never applies where s does
+abbrev pub IsHarmless : PolicySet → Statement → Statement → Type 0
+IsHarmless first s d = DeniesToo first d ⊎ ClashStatement d s
+
+-- where one of the set's guards allows, this one does: each Allow statement of that one asks for no less than one of this one
+abbrev pub IsGuardedToo : PolicySet → List Document → Type 0
+IsGuardedToo first g = Any (EachWith true (HasWider g)) first.guards
+
+-- this guard of the second set allows what the first set allows by s
+abbrev pub LetsPass : PolicySet → Statement → List Document → Type 0
+LetsPass first s g = IsGuardedToo first g ⊎ HasWider g s
+
+-- what the first set allows by the Allow statement s the second allows too: an Allow statement of its grants and one of each of
+-- its guards applies, and no Deny statement of its grants or of a guard does
+pub record IsShared (first second : PolicySet) (s : Statement) : Type 0 where
+  pub granted : HasWider second.grants s
+  pub guarded : All (LetsPass first s) second.guards
+  pub not_denied : EachWith false (IsHarmless first s) second.grants
+  pub not_denied_by_guard : All (EachWith false (IsHarmless first s)) second.guards
+
+-- ---- what is left
+
+-- the statement with these items of its `Action` or `NotAction`
+abbrev pub with_actions : Statement → List (List Piece) → Statement
+with_actions s actions = record s { action = record { not = s.action.not; items = actions } }
+
+-- the item of the statement's `Action` is shared by itself
+abbrev pub SharesAction : PolicySet → PolicySet → Statement → List Piece → Type 0
+SharesAction first second s action = IsShared first second (with_actions s (action ∷ []))
 
 -- the list without the items of which P holds
 abbrev pub Leaves : {T : Type 0} → (T → Type 0) → List T → List T → Type 0
@@ -59,26 +98,116 @@ Leaves P [] left = left ≡ []
 Leaves {T} P (x ∷ xs) left =
     (P x × Leaves P xs left) ⊎ ((¬ P x) × (rest : List T) × (left ≡ x ∷ rest) × Leaves P xs rest)
 
--- document by document, without the statements that the others share
-abbrev pub AreLeft : List Document → List Document → List Document → Type 0
-AreLeft others [] left = left ≡ []
-AreLeft others (d ∷ documents) left =
-    (e : Document) × (rest : List Document) × (left ≡ e ∷ rest) × Leaves (IsShared others) d.statements e.statements ×
-    AreLeft others documents rest
+-- the statement with these items of its `Action`, and none where there is no item
+abbrev pub some_with : Statement → List (List Piece) → Option Statement
+some_with s [] = None
+some_with s (action ∷ actions) = Some (with_actions s (action ∷ actions))
 
--- some statement of the first set's grants can be left out: the second's grants share it, and what bounds the second bounds the first
+-- left of an `Action` are the items that aren't shared, and the statement goes where none is left
+abbrev pub IsLeftOfActions : PolicySet → PolicySet → Statement → Option Statement → Type 0
+IsLeftOfActions first second s left =
+    (actions : List (List Piece)) × Leaves (SharesAction first second s) s.action.items actions × (left ≡ some_with s actions)
+
+-- a statement with `NotAction` goes where it is shared, and else is left whole
+abbrev pub IsLeftWhole : PolicySet → PolicySet → Statement → Option Statement → Type 0
+IsLeftWhole first second s left =
+    (IsShared first second s × (left ≡ None)) ⊎ ((¬ IsShared first second s) × (left ≡ Some s))
+
+-- what is left of a statement of the first set's grants. A Deny is left whole
+abbrev pub IsLeftOf : PolicySet → PolicySet → Statement → Option Statement → Type 0
+IsLeftOf first second s left =
+    MatchBool s.allow
+    (MatchBool s.action.not (IsLeftWhole first second s left) (IsLeftOfActions first second s left))
+    (left ≡ Some s)
+
+-- the statement before the others, where there is one
+abbrev pub before_rest : Option Statement → List Statement → List Statement
+before_rest None rest = rest
+before_rest (Some s) rest = s ∷ rest
+
+-- statement by statement
+abbrev pub StatementsAreLeft : PolicySet → PolicySet → List Statement → List Statement → Type 0
+StatementsAreLeft first second [] left = left ≡ []
+StatementsAreLeft first second (s ∷ statements) left =
+    (one : Option Statement) × (rest : List Statement) × (left ≡ before_rest one rest) × IsLeftOf first second s one ×
+    StatementsAreLeft first second statements rest
+
+-- document by document
+abbrev pub AreLeft : PolicySet → PolicySet → List Document → List Document → Type 0
+AreLeft first second [] left = left ≡ []
+AreLeft first second (d ∷ documents) left =
+    (e : Document) × (rest : List Document) × (left ≡ e ∷ rest) × StatementsAreLeft first second d.statements e.statements ×
+    AreLeft first second documents rest
+
+-- some of the Allow statement can be left out: an item of its `Action`, or where it has `NotAction` the whole
+pub record HasShared (first second : PolicySet) (s : Statement) : Type 0 where
+  pub allow : s.allow ≡ true
+  pub shared : MatchBool s.action.not (IsShared first second s) (Any (SharesAction first second s) s.action.items)
+
+-- ---- how much is compared
+
+-- how many items an element has
+abbrev pub element_size : {T : Type 0} → Option (Matcher T) → ℕ
+element_size None = 0
+element_size (Some m) = length m.items
+
+-- the conditions with their values
+abbrev pub conditions_size : List Condition → ℕ
+conditions_size conditions = sum_by (λ c. 1 + length c.values) conditions
+
+-- a size of the statements of a set, all together
+abbrev pub documents_size : (Statement → ℕ) → List Document → ℕ
+documents_size size documents = sum_by (λ d. sum_by size d.statements) documents
+
+abbrev pub set_size : (Statement → ℕ) → PolicySet → ℕ
+set_size size set = documents_size size set.grants + sum_by (documents_size size) set.guards
+
+-- how many pairs there are of these of the one set and of the other
+abbrev pub set_pairs : (Statement → ℕ) → PolicySet → PolicySet → ℕ
+set_pairs size first second = set_size size first * set_size size second
+
+-- how many pairs of items there are, element by element, and of conditions with their values
+abbrev pub count_pairs : PolicySet → PolicySet → ℕ
+count_pairs first second =
+    set_pairs (λ s. element_size s.principal) first second + set_pairs (λ s. length s.action.items) first second +
+    set_pairs (λ s. element_size s.resource) first second + set_pairs (λ s. conditions_size s.conditions) first second
+
+-- these are few enough to be compared
+abbrev pub HasFewPairs : PolicySet → PolicySet → Type 0
+HasFewPairs first second = count_pairs first second ≤ MOST_PAIRS
+
+-- ---- sets
+
+-- something of the first set's grants can be left out, since the second set allows it too
 pub record CanLeaveOut (first second : PolicySet) : Type 0 where
-  pub bound : IsBound first second
-  pub shared : ShareSome second.grants first.grants
+  pub few : HasFewPairs first second
+  pub shared : Any (λ d. Any (HasShared first second) d.statements) first.grants
 
--- the first set without the Allow statements of its grants that those of the second share, where what bounds the second bounds
--- the first too
+-- the first set without what the second allows too of its grants, item by item of the Allow statements' actions
 pub record IsDifference (first second less : PolicySet) : Type 0 where
-  pub bound : IsBound first second
-  pub grants : AreLeft second.grants first.grants less.grants
+  pub grants : AreLeft first second first.grants less.grants
   pub guards : less.guards ≡ first.guards
 
--- such statements add nothing to the query
+-- that adds nothing to the query
 abbrev pub SharedStatementsAddNothing : Type 0
 SharedStatementsAddNothing = (first second less : PolicySet) → IsDifference first second less →
     AskTheSame first less second × FitsToo first less
+
+-- ---- sets with statements in common
+
+-- the statement stands in one of the documents
+abbrev pub StandsIn : Statement → List Document → Type 0
+StandsIn s documents = Any (λ d. Any (λ t. t ≡ s) d.statements) documents
+
+-- the second set is the first with further Allow statements, or without some of its Deny statements or guards: each Allow of the
+-- first's grants stands in the second's, each Deny of the second's in the first's, and each guard of the second is one of the
+-- first's
+pub record OnlyWidens (first second : PolicySet) : Type 0 where
+  pub allows : EachWith true (λ s. StandsIn s second.grants) first.grants
+  pub denies : EachWith false (λ d. StandsIn d first.grants) second.grants
+  pub guards : All (λ g. Any (λ h. h ≡ g) first.guards) second.guards
+
+-- beside such a set, and so beside itself, no Allow statement is left of the first
+abbrev pub NoAllowIsLeft : Type 0
+NoAllowIsLeft = (first second less : PolicySet) → OnlyWidens first second → IsDifference first second less →
+    EachWith true (λ s. ⊥) less.grants

@@ -1,1 +1,7 @@
+pub mod Entries
+pub mod Elements
+pub mod Implications
 pub mod Differences
+pub mod Rivals
+pub mod Places
+pub mod Capped

@@ -1,12 +1,32 @@
--- The search finds this unasked; asked for here, a wrong body is refused without a longer search.
-use Rattle.std.proofs.Common.{rules}
+use Rattle.std.proofs.Common.{Any, List, refl, rules, subst, sym, ◌∙◌}
+use Rattle.policy_model.specs.declared.set.Document.{Document}
+use Rattle.policy_difference.specs.Differences.{HasShared}
+use Rattle.policy_difference.proofs.Leaving.{apart}
+use Rattle.policy_difference.proofs.Seen.{is-false, is-true}
 use Rattle.policy_difference.proofs.difference.without_shared.Goals as goal
 
-pub returns-then-not-share_some-clause-some : goal.returns-then-not-share_some-clause-some
-returns-then-not-share_some-clause-some c = search rules
+pub returns-then-not-left-clause-some : goal.returns-then-not-left-clause-some
+returns-then-not-left-clause-some c =
+    let first = c.args.first.now in
+    let second = c.args.second.now in
+    let left = c.in_ok-left.ensures first second c.in_ok-bounds.ensures in
+    let some = λ (ds : List Document). Any (λ (d : Document). Any (HasShared first second) d.statements) ds in (
+      λ e. absurd (apart (sym e)),
+      λ can. absurd (apart (sym (left.shared.1 (subst some (sym c.as_slice.ensures) can.shared)) ∙ is-false _ c.if-not-left.true)),
+    )
 
 pub returns-clause-left : goal.returns-clause-left
 returns-clause-left c = search rules
 
 pub returns-clause-some : goal.returns-clause-some
-returns-clause-some c = search rules
+returns-clause-some c =
+    let first = c.args.first.now in
+    let second = c.args.second.now in
+    let left = c.in_ok-left.ensures first second c.in_ok-bounds.ensures in
+    let some = λ (ds : List Document). Any (λ (d : Document). Any (HasShared first second) d.statements) ds in (
+      λ e. record {
+        few = c.have_few_pairs.ensures.0 c.if-not-have_few_pairs.false;
+        shared = subst some c.as_slice.ensures (left.shared.0 (is-true _ c.if-not-left.false));
+      },
+      λ can. refl,
+    )

@@ -1,0 +1,138 @@
+-- What is left of a statement, of statements and of documents.
+use Rattle.std.proofs.Common.{◌≡◌, ◌↔◌, ◌⊎◌, ℕ, ◌+◌, ◌<◌, ◌≤◌, drop, get_or, List, [], ◌∷◌, ◌++◌, length, Any, Bool, true, false, Option, Some, None, inl, inr, refl, sym, ap, ◌∙◌, subst, arith}
+use Rattle.std.specs.Bool.{MatchBool}
+use Rattle.std.proofs.lemmas.List.{append_assoc, drop_all, drop_more}
+use Rattle.wildcard_lang.specs.declared.piece.Piece.{Piece}
+use Rattle.policy_model.specs.declared.matcher.Matcher.{Matcher}
+use Rattle.policy_model.specs.declared.set.Document.{Document}
+use Rattle.policy_model.specs.declared.set.PolicySet.{PolicySet}
+use Rattle.policy_model.specs.declared.set.Statement.{Statement}
+use Rattle.policy_difference.specs.declared.bounds.Bounds.{Bounds}
+use Rattle.policy_difference.specs.declared.rivals.Rivals.{Rivals}
+use Rattle.policy_difference.specs.declared.left.LeftStatement.{LeftStatement}
+use Rattle.policy_difference.specs.Differences.{AreLeft, IsLeftOf, IsShared, Leaves, SharesAction, StatementsAreLeft, before_rest, some_with, with_actions}
+use Rattle.policy_difference.specs.Rivals.{AreBounds, AreRivals, StaysWhole, IsLeftRecord, IsLeftAtOnce, IsLeftByActions, IsLetThrough, item_alone, with_action}
+use Rattle.policy_difference.proofs.Leaving.{apart, cases_some, here, none_of_none, there}
+
+-- ---- items
+
+length-left : {T : Type 0} (P : T → Type 0) (xs left : List T) → Leaves P xs left → length left ≤ length xs
+length-left P [] left leaves = rw leaves (omega arith)
+length-left P (x ∷ xs) left (inl (p, rest)) = omega (arith, length-left P xs left rest)
+length-left P (x ∷ xs) left (inr (other, rest, e, leaves)) = rw e (omega (arith, length-left P xs rest leaves))
+
+pub leaves-kept : {T : Type 0} (P : T → Type 0) (xs : List T) (i : ℕ) (x : T) (rest : List T) → i < length xs → x ≡ get_or xs i x → (¬ P x) → Leaves P (drop (i + 1) xs) rest → Leaves P (drop i xs) (x ∷ rest)
+leaves-kept P xs i x rest l is against leaves =
+    subst (λ ys. Leaves P ys (x ∷ rest)) (sym (drop_more xs i x l)) (inr (λ p. against (subst P (sym is) p), rest, ap (λ y. y ∷ rest) is, leaves))
+
+pub leaves-out : {T : Type 0} (P : T → Type 0) (xs : List T) (i : ℕ) (x : T) (rest : List T) → i < length xs → x ≡ get_or xs i x → P x → Leaves P (drop (i + 1) xs) rest → Leaves P (drop i xs) rest
+leaves-out P xs i x rest l is p leaves = subst (λ ys. Leaves P ys rest) (sym (drop_more xs i x l)) (inl (subst P is p, leaves))
+
+pub leaves-none : {T : Type 0} (P : T → Type 0) (xs : List T) (i : ℕ) → length xs ≤ i → Leaves P (drop i xs) []
+leaves-none P xs i le = subst (λ ys. Leaves P ys []) (sym (drop_all i xs le)) refl
+
+-- fewer are left exactly where P holds of some
+pub fewer-left : {T : Type 0} (P : T → Type 0) (xs left : List T) → Leaves P xs left → (length left < length xs) ↔ Any P xs
+fewer-left P [] left leaves = (λ less. absurd (omega (arith, less)), λ some. absurd (none_of_none P some))
+fewer-left P (x ∷ xs) left (inl (p, rest)) = (λ less. here P x xs p, λ some. omega (arith, length-left P xs left rest))
+fewer-left P (x ∷ xs) left (inr (other, rest, e, leaves)) =
+    let more = fewer-left P xs rest leaves in
+    let same : length left ≡ length rest + 1 = ap (λ ys. length ys) e ∙ omega arith in (
+      λ less. there P x xs (more.0 (omega (arith, less, same))),
+      λ some. elim (cases_some P x xs some) [
+        | inl p ↦ absurd (other p)
+        | inr found ↦ (let less = more.1 found in omega (arith, less, same))
+      ],
+    )
+
+pub leaves-same : {T : Type 0} (P Q : T → Type 0) → ((x : T) → P x ↔ Q x) → (xs left : List T) → Leaves P xs left → Leaves Q xs left
+leaves-same P Q same [] left leaves = leaves
+leaves-same P Q same (x ∷ xs) left (inl (p, rest)) = inl ((same x).0 p, leaves-same P Q same xs left rest)
+leaves-same P Q same (x ∷ xs) left (inr (other, rest, e, leaves)) = inr (λ q. other ((same x).1 q), rest, e, leaves-same P Q same xs rest leaves)
+
+any-same : {T : Type 0} (P Q : T → Type 0) → ((x : T) → P x ↔ Q x) → (xs : List T) → Any P xs → Any Q xs
+any-same P Q same xs some = (some.0, some.1, some.2, some.3, (same some.1).0 some.4)
+
+-- ---- a statement
+
+pub some-of-more : (s : Statement) (actions : List (List Piece)) → (actions ≡ [] → ⊥) → Some (with_actions s actions) ≡ some_with s actions
+some-of-more s [] more = absurd (more refl)
+some-of-more s (x ∷ xs) more = refl
+
+pub of-true : (b : Bool) (P Q : Type 0) → b ≡ true → P → MatchBool b P Q
+of-true b P Q e p = subst (λ x. MatchBool x P Q) (sym e) p
+
+pub of-false : (b : Bool) (P Q : Type 0) → b ≡ false → Q → MatchBool b P Q
+of-false b P Q e q = subst (λ x. MatchBool x P Q) (sym e) q
+
+pub left-deny : (first second : PolicySet) (s : Statement) (l : LeftStatement) → s.allow ≡ false → StaysWhole s l → IsLeftRecord first second s l
+left-deny first second s l denies kept = record {
+  statement = of-false s.allow _ _ denies kept.0;
+  shared = (λ e. absurd (apart (sym e ∙ kept.1)), λ shared. absurd (apart (sym shared.allow ∙ denies)));
+}
+
+module _ (first second : PolicySet) (bounds : Bounds) (s : Statement) (rivals : Rivals) (are : AreBounds first second bounds) (rival : AreRivals bounds s rivals) where
+  passed-shared : (a : Matcher (List Piece)) → IsLetThrough rivals a ↔ IsShared first second (with_action s a)
+  passed-shared a = (λ passed. (are (with_action s a)).0 ((rival a).0 passed), λ shared. (rival a).1 ((are (with_action s a)).1 shared))
+
+  action-shared : s.action.not ≡ false → (x : List Piece) → IsLetThrough rivals (item_alone x) ↔ SharesAction first second s x
+  action-shared plain x =
+      subst (λ n. IsLetThrough rivals (item_alone x) ↔ IsShared first second (with_action s (record { not = n; items = x ∷ [] }))) (sym plain) (passed-shared (item_alone x))
+
+  pub left-whole : (l : LeftStatement) → s.allow ≡ true → s.action.not ≡ true → IsLeftAtOnce (IsLetThrough rivals s.action) s l → IsLeftRecord first second s l
+  left-whole l allows not (inl (passed, none, yes')) = record {
+    statement = of-true s.allow _ _ allows (of-true s.action.not _ _ not (inl ((passed-shared s.action).0 passed, none)));
+    shared = (λ e. record { allow = allows; shared = of-true s.action.not _ _ not ((passed-shared s.action).0 passed) }, λ shared. yes');
+  }
+  left-whole l allows not (inr (other, kept)) = record {
+    statement = of-true s.allow _ _ allows (of-true s.action.not _ _ not (inr (λ shared. other ((passed-shared s.action).1 shared), kept.0)));
+    shared = (
+      λ e. absurd (apart (sym e ∙ kept.1)),
+      λ shared. absurd (other ((passed-shared s.action).1 (subst (λ b. MatchBool b (IsShared first second s) (Any (SharesAction first second s) s.action.items)) not shared.shared))),
+    );
+  }
+
+  pub left-actions : (l : LeftStatement) → s.allow ≡ true → s.action.not ≡ false → IsLeftByActions (λ x. IsLetThrough rivals (item_alone x)) s l → IsLeftRecord first second s l
+  left-actions l allows plain left =
+      let same = action-shared plain in
+      let P = λ (x : List Piece). IsLetThrough rivals (item_alone x) in
+      let Q = SharesAction first second s in record {
+        statement = of-true s.allow _ _ allows (of-false s.action.not _ _ plain (left.actions, leaves-same P Q same s.action.items left.actions left.leaves, left.is));
+        shared = (
+          λ e. record { allow = allows; shared = of-false s.action.not _ _ plain (any-same P Q same s.action.items (left.shared.0 e)) },
+          λ shared. left.shared.1 (any-same Q P (λ x. ((same x).1, (same x).0)) s.action.items (subst (λ b. MatchBool b (IsShared first second s) (Any Q s.action.items)) plain shared.shared)),
+        );
+      }
+
+-- ---- statements and documents
+
+pub add-rest : (left rest new : List Statement) (one : Option Statement) → new ≡ left ++ before_rest one [] → new ++ rest ≡ left ++ before_rest one rest
+add-rest left rest new None e = ap (λ ys. ys ++ rest) e ∙ append_assoc left [] rest
+add-rest left rest new (Some s) e = ap (λ ys. ys ++ rest) e ∙ append_assoc left (s ∷ []) rest
+
+pub statements-more : (first second : PolicySet) (ss : List Statement) (i : ℕ) (s : Statement) (one : Option Statement) (rest : List Statement) → i < length ss → s ≡ get_or ss i s → IsLeftOf first second s one → StatementsAreLeft first second (drop (i + 1) ss) rest → StatementsAreLeft first second (drop i ss) (before_rest one rest)
+statements-more first second ss i s one rest within is left are =
+    subst (λ xs. StatementsAreLeft first second xs (before_rest one rest)) (sym (drop_more ss i s within)) (one, rest, refl, subst (λ x. IsLeftOf first second x one) is left, are)
+
+pub statements-none : (first second : PolicySet) (ss : List Statement) (i : ℕ) → length ss ≤ i → StatementsAreLeft first second (drop i ss) []
+statements-none first second ss i whole = subst (λ xs. StatementsAreLeft first second xs []) (sym (drop_all i ss whole)) refl
+
+pub documents-more : (first second : PolicySet) (ds : List Document) (i : ℕ) (d e : Document) (rest : List Document) → i < length ds → d ≡ get_or ds i d → StatementsAreLeft first second d.statements e.statements → AreLeft first second (drop (i + 1) ds) rest → AreLeft first second (drop i ds) (e ∷ rest)
+documents-more first second ds i d e rest within is left are =
+    subst (λ xs. AreLeft first second xs (e ∷ rest)) (sym (drop_more ds i d within)) (e, rest, refl, subst (λ (x : Document). StatementsAreLeft first second x.statements e.statements) is left, are)
+
+pub documents-none : (first second : PolicySet) (ds : List Document) (i : ℕ) → length ds ≤ i → AreLeft first second (drop i ds) []
+documents-none first second ds i whole = subst (λ xs. AreLeft first second xs []) (sym (drop_all i ds whole)) refl
+
+-- one flag more
+pub or-next : (N O F P : Type 0) → (N ↔ (O ⊎ F)) → (F ↔ P) → N ↔ (O ⊎ P)
+or-next N O F P either own = (
+  λ n. elim (either.0 n) [
+    | inl o ↦ inl o
+    | inr f ↦ inr (own.0 f)
+  ],
+  λ any. elim any [
+    | inl o ↦ either.1 (inl o)
+    | inr p ↦ either.1 (inr (own.1 p))
+  ],
+)

@@ -1,0 +1,12 @@
+use Rattle.std.proofs.Common.{All, subst, sym}
+use Rattle.std.proofs.lemmas.List.Elements.{All-nil}
+use Rattle.policy_difference.specs.Differences.{HasWider, LetsPass}
+use Rattle.policy_difference.specs.Rivals.{AllowedByEach}
+use Rattle.policy_difference.proofs.Filtered.{joined, pushed-all}
+use Rattle.policy_difference.proofs.bounds.allowing_lists.Goals as goal
+
+pub returns : goal.returns
+returns c s =
+    let start = subst (λ gs. AllowedByEach gs s) (sym c.new-lists.ensures.items) (All-nil (λ g. HasWider g.now s)) in
+    let first = pushed-all (λ g. HasWider g.now s) _ _ _ (HasWider c.as_slice.result.now s) c.in_ok-push.ensures.items (λ wider. wider, λ wider. wider) in
+    joined (λ ds. HasWider ds s) (All (LetsPass c.args.first.now s)) _ _ _ _ _ _ _ c.as_slice.ensures c.as_slice-2.ensures start first (c.in_ok-add_guards.ensures s)

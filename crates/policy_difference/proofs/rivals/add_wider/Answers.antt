@@ -1,0 +1,23 @@
+use Rattle.std.proofs.Common.{inl, inr}
+use Rattle.policy_model.specs.declared.set.Statement.{Statement}
+use Rattle.policy_difference.specs.Differences.{AsksNoMore}
+use Rattle.policy_difference.specs.Rivals.{with_action}
+use Rattle.policy_difference.proofs.Filtered.{grown-any, whole-any}
+use Rattle.policy_difference.proofs.Leaving.{none_of_none}
+use Rattle.policy_difference.proofs.rivals.add_wider.Goals as goal
+
+pub statements-init : goal.statements-init
+statements-init c a = (
+  λ some. inl some,
+  λ either. elim either [
+    | inl some ↦ some
+    | inr none ↦ absurd (none_of_none (λ (t : Statement). AsksNoMore t (with_action c.args.statement.now a)) none)
+  ],
+)
+
+pub statements-preserved : goal.statements-preserved
+statements-preserved c a =
+    grown-any (λ (t : Statement). AsksNoMore t (with_action c.args.statement.now a)) c.args.statements.now c.statements.other-index c.other-item.result c.statements-test.true c.other-item.is _ _ _ (c.statements.invariant a) (c.in_ok-add_if_wider.ensures a)
+
+pub returns : goal.returns
+returns c a = whole-any (λ (t : Statement). AsksNoMore t (with_action c.args.statement.now a)) c.args.statements.now c.statements.other-index c.statements-test.false _ _ (c.statements.invariant a)

@@ -1,0 +1,18 @@
+-- Sizes that stop behind the most pairs that are compared.
+use Rattle.std.specs.Prelude.{ℕ, ◌+◌, length, min}
+use Rattle.policy_model.specs.declared.set.Statement.{Statement}
+use Rattle.policy_difference.specs.declared.difference.TheConstants.{MOST_PAIRS}
+use Rattle.policy_difference.specs.declared.pairs.Part.{Part}
+use Rattle.policy_difference.specs.declared.pairs.Part.TheVariants.{Principal, Action, Resource, Conditions}
+use Rattle.policy_difference.specs.Differences.{conditions_size, element_size}
+
+-- the size, or one more than the most pairs where it is more than that
+abbrev pub capped_size : ℕ → ℕ
+capped_size size = min size (MOST_PAIRS + 1)
+
+-- how many items the part of the statement has
+abbrev pub part_size : Part → Statement → ℕ
+part_size Principal s = element_size s.principal
+part_size Action s = length s.action.items
+part_size Resource s = element_size s.resource
+part_size Conditions s = conditions_size s.conditions

@@ -1,0 +1,35 @@
+-- When a statement of a first set goes whole beside a single statement of a second that asks no more.
+use Rattle.std.specs.Prelude.{◌≡◌, List, [], Any, true}
+use Rattle.policy_model.specs.declared.set.Document.{Document}
+use Rattle.policy_model.specs.declared.set.Statement.{Statement}
+use Rattle.policy_difference.specs.Differences.{AsksNoMore}
+use Rattle.policy_difference.specs.Rivals.{AllowedByEach}
+use Rattle.policy_difference.specs.declared.bounds.Bounds.{Bounds}
+
+-- one of the statements asks no more than s
+abbrev pub SomeAsksNoMore : List Statement → Statement → Type 0
+SomeAsksNoMore others s = Any (λ t. AsksNoMore t s) others
+
+-- each of them is one of a document
+abbrev pub HasStatementsOf : List Document → List Statement → Type 0
+HasStatementsOf documents others = (s : Statement) → SomeAsksNoMore others s → Any (λ d. SomeAsksNoMore d.statements s) documents
+
+-- the statement is an Allow with items of its action
+abbrev pub MayGo : Statement → Type 0
+MayGo s = (s.allow ≡ true) × (¬ (s.action.items ≡ []))
+
+-- nothing denies, and of each list of documents that a statement has to be allowed by a statement asks no more
+abbrev pub IsUndenied : Bounds → Statement → Type 0
+IsUndenied bounds s = AllowedByEach bounds.allowing.items s × (bounds.denying.items ≡ [])
+
+-- it is so of each statement of which one of the others asks no more
+abbrev pub AreWider : Bounds → List Statement → Type 0
+AreWider bounds others = (s : Statement) → SomeAsksNoMore others s → IsUndenied bounds s
+
+-- the statement may go, and one of the others asks no more
+abbrev pub HasPlace : List Statement → Statement → Type 0
+HasPlace others s = MayGo s × SomeAsksNoMore others s
+
+-- of the statement, with each item of its action, nothing is left
+abbrev pub GoesWhole : Bounds → Statement → Type 0
+GoesWhole bounds s = MayGo s × IsUndenied bounds s

@@ -1,0 +1,225 @@
+//! What a statement of a first set has to meet so that a second set allows what it allows.
+ghost use Rattle.std.specs.Prelude.{◌≡◌, ◌↔◌, All, Any, IfOk, IsTrue, OnOk, false, true};
+ghost use Rattle.policy_model.specs.declared.set.Statement.{Statement as StatementValue};
+ghost use Rattle.policy_difference.specs.Differences.{DeniesToo, EachWith, HasWider, IsGuardedToo, IsHarmless, LetsPass};
+ghost use Rattle.policy_difference.specs.Rivals.{AllowedByEach, ApartFromEach, AreBounds};
+
+use crate::statements::has_wider;
+use plain_lists::NoMemory;
+use policy_model::{Document, DocumentList, PolicySet, Statement};
+use std::alloc::Global;
+
+/// What a statement has to meet so that the second set allows what the first allows by it.
+#[derive(Drop)]
+pub(crate) struct Bounds<'a> {
+    /// Lists of documents, of each of which a statement has to ask no more.
+    pub(crate) allowing: Vec<&'a [Document]>,
+    /// Deny statements, with each of which it has to clash.
+    pub(crate) denying: Vec<&'a Statement>,
+}
+
+// Whether the statement, where it allows, asks no less than a statement of the guard.
+fn is_let_pass(guard: &[Document], statement: &Statement) -> bool
+    ensures { IsTrue result ↔
+        (statement.now.allow ≡ true → HasWider guard.now statement.now) }
+{
+    if !statement.allow {
+        return true;
+    }
+    has_wider(guard, statement)
+}
+
+fn let_each_pass(guard: &[Document], statements: &[Statement]) -> bool
+    ensures { IsTrue result ↔
+        All (λ s. s.allow ≡ true → HasWider guard.now s) statements.now }
+{
+    statements
+        .iter()
+        .all(|statement| is_let_pass(guard, statement))
+}
+
+fn let_document_pass(guard: &[Document], document: &Document) -> bool
+    ensures { IsTrue result ↔
+        All (λ s. s.allow ≡ true → HasWider guard.now s) document.now.statements }
+{
+    let_each_pass(guard, document.statements.as_slice())
+}
+
+fn let_all_pass(guard: &[Document], documents: &[Document]) -> bool
+    ensures { IsTrue result ↔ EachWith true (HasWider guard.now) documents.now }
+{
+    documents
+        .iter()
+        .all(|document| let_document_pass(guard, document))
+}
+
+// Whether the guard allows wherever one of the set's guards does.
+fn is_guarded_too(set: &PolicySet, guard: &[Document]) -> bool
+    ensures { IsTrue result ↔ IsGuardedToo set.now guard.now }
+{
+    set.guards
+        .as_slice()
+        .iter()
+        .any(|own| let_all_pass(guard, own.as_slice()))
+}
+
+// Adds the guard where the first set isn't guarded by it too.
+fn add_guard<'a>(
+    first: &PolicySet,
+    guard: &'a [Document],
+    lists: &mut Vec<&'a [Document]>,
+) -> Result<(), NoMemory>
+    ensures { OnOk result ((s : StatementValue) → AllowedByEach lists.new.items s ↔
+        (AllowedByEach lists.old.items s × LetsPass first.now s guard.now)) }
+{
+    if is_guarded_too(first, guard) {
+        return Ok(());
+    }
+    lists.push(guard)?;
+    Ok(())
+}
+
+// Adds those of the guards that the first set isn't guarded by too.
+fn add_guards<'a>(
+    first: &PolicySet,
+    guards: &'a [DocumentList],
+    lists: &mut Vec<&'a [Document]>,
+) -> Result<(), NoMemory>
+    ensures { OnOk result ((s : StatementValue) → AllowedByEach lists.new.items s ↔
+        (AllowedByEach lists.old.items s × All (LetsPass first.now s) guards.now)) }
+{
+    'guards: for guard in guards {
+        add_guard(first, guard.as_slice(), lists)?;
+    }
+    Ok(())
+}
+
+// The second set's grants, and those of its guards that the first set isn't guarded by too.
+fn allowing_lists<'a>(
+    alloc: Global,
+    first: &PolicySet,
+    second: &'a PolicySet,
+) -> Result<Vec<&'a [Document]>, NoMemory>
+    ensures { IfOk result (λ lists. (s : StatementValue) → AllowedByEach lists.items s ↔
+        (HasWider second.now.grants s × All (LetsPass first.now s) second.now.guards)) }
+{
+    let mut lists = Vec::new(alloc);
+    lists.push(second.grants.as_slice())?;
+    add_guards(first, second.guards.as_slice(), &mut lists)?;
+    Ok(lists)
+}
+
+// Whether a statement of one of the guards asks no more than this one.
+fn guards_have_wider(guards: &[DocumentList], statement: &Statement) -> bool
+    ensures { IsTrue result ↔ Any (λ g. HasWider g statement.now) guards.now }
+{
+    guards
+        .iter()
+        .any(|guard| has_wider(guard.as_slice(), statement))
+}
+
+// Whether the statement, where it denies, asks no less than a statement of the set.
+fn is_denied_too(set: &PolicySet, statement: &Statement) -> bool
+    ensures { IsTrue result ↔
+        (statement.now.allow ≡ false → DeniesToo set.now statement.now) }
+{
+    if statement.allow {
+        return true;
+    }
+    has_wider(set.grants.as_slice(), statement)
+        || guards_have_wider(set.guards.as_slice(), statement)
+}
+
+// Adds the statement where it denies what the first set doesn't deny too.
+fn add_deny<'a>(
+    first: &PolicySet,
+    statement: &'a Statement,
+    denying: &mut Vec<&'a Statement>,
+) -> Result<(), NoMemory>
+    ensures { OnOk result ((s : StatementValue) → ApartFromEach denying.new.items s ↔
+        (ApartFromEach denying.old.items s ×
+        (statement.now.allow ≡ false → IsHarmless first.now s statement.now))) }
+{
+    if is_denied_too(first, statement) {
+        return Ok(());
+    }
+    denying.push(statement)?;
+    Ok(())
+}
+
+// Adds those of the statements.
+fn add_denies<'a>(
+    first: &PolicySet,
+    statements: &'a [Statement],
+    denying: &mut Vec<&'a Statement>,
+) -> Result<(), NoMemory>
+    ensures { OnOk result ((s : StatementValue) → ApartFromEach denying.new.items s ↔
+        (ApartFromEach denying.old.items s ×
+        All (λ d. d.allow ≡ false → IsHarmless first.now s d) statements.now)) }
+{
+    'statements: for statement in statements {
+        add_deny(first, statement, denying)?;
+    }
+    Ok(())
+}
+
+// Adds those of the documents.
+fn add_denies_of<'a>(
+    first: &PolicySet,
+    documents: &'a [Document],
+    denying: &mut Vec<&'a Statement>,
+) -> Result<(), NoMemory>
+    ensures { OnOk result ((s : StatementValue) → ApartFromEach denying.new.items s ↔
+        (ApartFromEach denying.old.items s ×
+        EachWith false (IsHarmless first.now s) documents.now)) }
+{
+    'documents: for document in documents {
+        add_denies(first, document.statements.as_slice(), denying)?;
+    }
+    Ok(())
+}
+
+// Adds those of the guards.
+fn add_denies_of_guards<'a>(
+    first: &PolicySet,
+    guards: &'a [DocumentList],
+    denying: &mut Vec<&'a Statement>,
+) -> Result<(), NoMemory>
+    ensures { OnOk result ((s : StatementValue) → ApartFromEach denying.new.items s ↔
+        (ApartFromEach denying.old.items s ×
+        All (EachWith false (IsHarmless first.now s)) guards.now)) }
+{
+    'guards: for guard in guards {
+        add_denies_of(first, guard.as_slice(), denying)?;
+    }
+    Ok(())
+}
+
+// The Deny statements of the second set that the first doesn't have too.
+fn denying_statements<'a>(
+    alloc: Global,
+    first: &PolicySet,
+    second: &'a PolicySet,
+) -> Result<Vec<&'a Statement>, NoMemory>
+    ensures { IfOk result (λ denying. (s : StatementValue) → ApartFromEach denying.items s ↔
+        (EachWith false (IsHarmless first.now s) second.now.grants ×
+        All (EachWith false (IsHarmless first.now s)) second.now.guards)) }
+{
+    let mut denying = Vec::new(alloc);
+    add_denies_of(first, second.grants.as_slice(), &mut denying)?;
+    add_denies_of_guards(first, second.guards.as_slice(), &mut denying)?;
+    Ok(denying)
+}
+
+/// What a statement of the first set has to meet so that the second allows what the first allows by it.
+pub(crate) fn bounds_of<'a>(
+    alloc: Global,
+    first: &PolicySet,
+    second: &'a PolicySet,
+) -> Result<Bounds<'a>, NoMemory>
+    ensures { IfOk result (AreBounds first.now second.now) }
+{
+    let allowing = allowing_lists(alloc, first, second)?;
+    let denying = denying_statements(alloc, first, second)?;
+    Ok(Bounds { allowing, denying })
+}

@@ -1,0 +1,152 @@
+//! Items of elements, compared by what they take.
+ghost use Rattle.std.specs.Prelude.{◌≡◌, ◌↔◌, ◌∷◌, [], IsTrue};
+ghost use Rattle.wildcard_lang.specs.Covering.{Clash, CoversPattern};
+ghost use Rattle.wildcard_lang.specs.declared.piece.Piece.TheVariants.{Many};
+ghost use Rattle.policy_model.specs.declared.principal.Entry.TheVariants as an;
+ghost use Rattle.policy_difference.specs.Entries.{ClashEntry, CoversEntry, HaveOtherKinds, IsUnnamed, entry_kind};
+
+use policy_model::{Entry, PrincipalKind, entry_names};
+use wildcard_lang::{Pattern, Piece, Text, clashes, covers};
+
+/// An item of an element of a statement.
+pub(crate) trait Item {
+    // The first takes all that the second takes.
+    ghost covering: { Self → Self → Type 0 };
+
+    // The two take nothing together.
+    ghost clashing: { Self → Self → Type 0 };
+
+    // What takes all there is.
+    ghost whole: { Self };
+
+    /// Whether this item covers the other.
+    fn covers(&self, other: &Self) -> bool
+        ensures { IsTrue result ↔ covering self.now other.now };
+
+    /// Whether this item and the other clash.
+    fn clashes(&self, other: &Self) -> bool
+        ensures { IsTrue result ↔ clashing self.now other.now };
+
+    /// Whether this item takes all there is.
+    fn is_whole(&self) -> bool
+        ensures { IsTrue result ↔ (self.now ≡ whole) };
+}
+
+impl Item for Pattern {
+    ghost covering = { CoversPattern };
+
+    ghost clashing = { Clash };
+
+    ghost whole = { Many ∷ [] };
+
+    fn covers(&self, other: &Pattern) -> bool {
+        covers(self, other)
+    }
+
+    fn clashes(&self, other: &Pattern) -> bool {
+        clashes(self, other)
+    }
+
+    fn is_whole(&self) -> bool {
+        is_star(self.as_slice())
+    }
+}
+
+// Whether the pieces are one alone that takes any number of any characters.
+fn is_star(pieces: &[Piece]) -> bool
+    ensures { IsTrue result ↔ (pieces.now ≡ Many ∷ []) }
+{
+    match pieces {
+        [piece] => matches!(piece, Piece::Many),
+        _ => false,
+    }
+}
+
+impl Item for Entry {
+    ghost covering = { CoversEntry };
+
+    ghost clashing = { ClashEntry };
+
+    ghost whole = { an.All };
+
+    fn covers(&self, other: &Entry) -> bool {
+        match other {
+            Entry::All => is_all(self),
+            Entry::Kind(kind) => has_kind(self, *kind),
+            Entry::Account(account) => has_account(self, account),
+            Entry::Exact(kind, id) => entry_names(self, *kind, id),
+        }
+    }
+
+    fn clashes(&self, other: &Entry) -> bool {
+        have_other_kinds(self, other) || is_unnamed(self, other) || is_unnamed(other, self)
+    }
+
+    fn is_whole(&self) -> bool {
+        is_all(self)
+    }
+}
+
+fn is_all(entry: &Entry) -> bool
+    ensures { IsTrue result ↔ (entry.now ≡ an.All) }
+{
+    match entry {
+        Entry::All => true,
+        Entry::Kind(_) | Entry::Account(_) | Entry::Exact(_, _) => false,
+    }
+}
+
+// Whether every principal of the kind is one of the entry.
+fn has_kind(entry: &Entry, kind: PrincipalKind) -> bool
+    ensures { IsTrue result ↔ CoversEntry entry.now (an.Kind kind) }
+{
+    match entry {
+        Entry::All => true,
+        Entry::Kind(own) => *own == kind,
+        Entry::Account(_) | Entry::Exact(_, _) => false,
+    }
+}
+
+// Whether every principal of the account is one of the entry.
+fn has_account(entry: &Entry, account: &Text) -> bool
+    ensures { IsTrue result ↔ CoversEntry entry.now (an.Account account.now) }
+{
+    match entry {
+        Entry::All => true,
+        Entry::Kind(own) => *own == PrincipalKind::Aws,
+        Entry::Account(own) => *own == *account,
+        Entry::Exact(_, _) => false,
+    }
+}
+
+// The kind of all the entry's principals, where they have one.
+fn entry_kind(entry: &Entry) -> Option<PrincipalKind>
+    ensures { result ≡ entry_kind entry.now }
+{
+    match entry {
+        Entry::All => None,
+        Entry::Kind(kind) => Some(*kind),
+        Entry::Account(_) => Some(PrincipalKind::Aws),
+        Entry::Exact(kind, _) => Some(*kind),
+    }
+}
+
+// Whether the principals of the one entry are of one kind, and those of the other of another.
+fn have_other_kinds(entry: &Entry, other: &Entry) -> bool
+    ensures { IsTrue result ↔ HaveOtherKinds entry.now other.now }
+{
+    match (entry_kind(entry), entry_kind(other)) {
+        (Some(kind), Some(other)) => kind != other,
+        _ => false,
+    }
+}
+
+// Whether the entry is of a single principal, which the other doesn't name.
+fn is_unnamed(entry: &Entry, other: &Entry) -> bool
+    ensures { IsTrue result ↔ IsUnnamed entry.now other.now }
+{
+    match entry {
+        Entry::All | Entry::Kind(_) | Entry::Account(_) => false,
+        Entry::Exact(kind, id) => !entry_names(other, *kind, id),
+    }
+}

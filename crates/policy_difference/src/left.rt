@@ -1,0 +1,257 @@
+//! What is left of statements without what a second set allows too.
+ghost use Rattle.std.specs.Prelude.{◌≡◌, ◌<◌, ◌⊎◌, ◌↔◌, ◌++◌, [], IfOk, IsTrue, OnOk, length};
+ghost use Rattle.policy_model.specs.declared.set.PolicySet.{PolicySet};
+ghost use Rattle.policy_difference.specs.Differences.{Leaves, before_rest, some_with};
+ghost use Rattle.policy_difference.specs.Places.{AreWider, GoesWhole};
+ghost use Rattle.policy_difference.specs.Rivals.{AreBounds, AreLeftDocuments, AreLeftStatements, IsAddedUnless, StaysWhole, IsLeftRecord, IsLeftAtOnce, IsLeftByActions, IsLetThrough, item_alone};
+
+use crate::bounds::Bounds;
+use crate::elements::{Element, own_element};
+use crate::places::{next_place, others_at, place_of};
+use crate::rivals::{Rivals, passes, rivals_of};
+use plain_lists::{EqualClone, List, NoMemory};
+use policy_model::{Document, DocumentList, Matcher, Statement, StatementList};
+use std::alloc::Global;
+use std::slice::from_ref;
+use wildcard_lang::{Pattern, PatternList};
+
+/// What is left of a statement, where something is, and whether some of it is shared.
+#[derive(Drop)]
+pub(crate) struct LeftStatement {
+    pub(crate) statement: Option<Statement>,
+    pub(crate) shared: bool,
+}
+
+/// What is left of statements, and whether some of them is shared.
+#[derive(Drop)]
+pub(crate) struct LeftStatements {
+    pub(crate) statements: StatementList,
+    pub(crate) shared: bool,
+}
+
+/// What is left of documents, and whether some of them is shared.
+#[derive(Drop)]
+pub(crate) struct LeftDocuments {
+    pub(crate) documents: DocumentList,
+    pub(crate) shared: bool,
+}
+
+// Whether the statement with this action alone meets what bounds it.
+fn passes_alone(rivals: &Rivals<'_>, action: &Pattern) -> bool
+    ensures { IsTrue result ↔ IsLetThrough rivals.now (item_alone action.now) }
+{
+    let element = Element {
+        not: false,
+        items: from_ref(action),
+    };
+    passes(rivals, &element)
+}
+
+// Adds the action, where the statement with it alone doesn't meet what bounds it.
+fn add_action(left: &mut PatternList, rivals: &Rivals<'_>, action: &Pattern) -> Result<(), NoMemory>
+    ensures { OnOk result
+        (IsAddedUnless (IsLetThrough rivals.now (item_alone action.now)) action.now left.old left.new) }
+{
+    if passes_alone(rivals, action) {
+        return Ok(());
+    }
+    left.push(action.copy()?)?;
+    Ok(())
+}
+
+// The actions that aren't shared.
+fn left_actions(
+    alloc: Global,
+    rivals: &Rivals<'_>,
+    actions: &[Pattern],
+) -> Result<PatternList, NoMemory>
+    ensures { IfOk result (Leaves (λ x. IsLetThrough rivals.now (item_alone x)) actions.now) }
+{
+    let mut left = List::new(alloc);
+    'actions: for action in actions {
+        add_action(&mut left, rivals, action)?;
+    }
+    Ok(left)
+}
+
+// The statement whole, nothing of which is shared.
+fn kept(statement: &Statement) -> Result<LeftStatement, NoMemory>
+    ensures { IfOk result (StaysWhole statement.now) }
+{
+    let copy = statement.copy()?;
+    Ok(LeftStatement {
+        statement: Some(copy),
+        shared: false,
+    })
+}
+
+// What is left of a statement with `NotAction`: the whole, or nothing.
+fn left_whole(rivals: &Rivals<'_>, statement: &Statement) -> Result<LeftStatement, NoMemory>
+    ensures { IfOk result
+        (IsLeftAtOnce (IsLetThrough rivals.now statement.now.action) statement.now) }
+{
+    if passes(rivals, &own_element(&statement.action)) {
+        return Ok(LeftStatement {
+            statement: None,
+            shared: true,
+        });
+    }
+    let left = kept(statement)?;
+    Ok(left)
+}
+
+// The statement with these actions, and none where there is no action.
+fn some_with(statement: &Statement, actions: PatternList) -> Result<Option<Statement>, NoMemory>
+    ensures { IfOk result (λ left. left ≡ some_with statement.now actions) }
+{
+    if actions.is_empty() {
+        return Ok(None);
+    }
+    let mut copy = statement.copy()?;
+    copy.action = Matcher {
+        not: statement.action.not,
+        items: actions,
+    };
+    Ok(Some(copy))
+}
+
+// Whether some of the actions are gone.
+fn are_fewer(left: &[Pattern], actions: &[Pattern]) -> bool
+    ensures { IsTrue result ↔ (length left.now < length actions.now) }
+{
+    left.len() < actions.len()
+}
+
+// What is left of a statement with `Action`: its actions that aren't shared.
+fn left_by_actions(
+    alloc: Global,
+    rivals: &Rivals<'_>,
+    statement: &Statement,
+) -> Result<LeftStatement, NoMemory>
+    ensures { IfOk result
+        (IsLeftByActions (λ x. IsLetThrough rivals.now (item_alone x)) statement.now) }
+{
+    let actions = statement.action.items.as_slice();
+    let left = left_actions(alloc, rivals, actions)?;
+    let shared = are_fewer(left.as_slice(), actions);
+    let statement = some_with(statement, left)?;
+    Ok(LeftStatement { statement, shared })
+}
+
+// What is left of the statement.
+fn left_of(
+    alloc: Global,
+    bounds: &Bounds<'_>,
+    statement: &Statement,
+) -> Result<LeftStatement, NoMemory>
+    ensures { IfOk result (λ left. (first second : PolicySet) →
+        AreBounds first second bounds.now → IsLeftRecord first second statement.now left) }
+{
+    if !statement.allow {
+        let left = kept(statement)?;
+        return Ok(left);
+    }
+    let rivals = rivals_of(alloc, bounds, statement)?;
+    if statement.action.not {
+        let left = left_whole(&rivals, statement)?;
+        return Ok(left);
+    }
+    let left = left_by_actions(alloc, &rivals, statement)?;
+    Ok(left)
+}
+
+// The same, where the statement is known to go whole or isn't.
+fn left_beside(
+    alloc: Global,
+    bounds: &Bounds<'_>,
+    goes: bool,
+    statement: &Statement,
+) -> Result<LeftStatement, NoMemory>
+    ensures { IfOk result (λ left. (first second : PolicySet) →
+        AreBounds first second bounds.now →
+        (IsTrue goes → GoesWhole bounds.now statement.now) →
+        IsLeftRecord first second statement.now left) }
+{
+    if goes {
+        return Ok(LeftStatement {
+            statement: None,
+            shared: true,
+        });
+    }
+    let left = left_of(alloc, bounds, statement)?;
+    Ok(left)
+}
+
+// Adds the statement, where there is one.
+fn add_some(statements: &mut StatementList, one: Option<Statement>) -> Result<(), NoMemory>
+    ensures { OnOk result (statements.new ≡ statements.old ++ before_rest one []) }
+{
+    match one {
+        None => Ok(()),
+        Some(statement) => {
+            statements.push(statement)?;
+            Ok(())
+        }
+    }
+}
+
+// Whether one of the two is shared.
+fn either(shared: bool, own: bool) -> bool
+    ensures { IsTrue result ↔ (IsTrue shared ⊎ IsTrue own) }
+{
+    shared || own
+}
+
+// What is left of the statements, each of which is looked for among the others first.
+fn left_statements(
+    alloc: Global,
+    bounds: &Bounds<'_>,
+    others: &[Statement],
+    statements: &[Statement],
+) -> Result<LeftStatements, NoMemory>
+    ensures { IfOk result (λ left. (first second : PolicySet) →
+        AreBounds first second bounds.now → AreWider bounds.now others.now →
+        AreLeftStatements first second statements.now left) }
+{
+    let mut left = List::new(alloc);
+    let mut shared = false;
+    let mut near = 0;
+    'statements: for statement in statements {
+        let place = place_of(others, near, statement);
+        near = next_place(near, place);
+        let own = left_beside(alloc, bounds, place.is_some(), statement)?;
+        shared = either(shared, own.shared);
+        add_some(&mut left, own.statement)?;
+    }
+    Ok(LeftStatements {
+        statements: left,
+        shared,
+    })
+}
+
+/// What is left of the documents.
+pub(crate) fn left_documents(
+    alloc: Global,
+    bounds: &Bounds<'_>,
+    documents: &[Document],
+) -> Result<LeftDocuments, NoMemory>
+    ensures { IfOk result (λ left. (first second : PolicySet) →
+        AreBounds first second bounds.now → AreLeftDocuments first second documents.now left) }
+{
+    let mut left = List::new(alloc);
+    let mut shared = false;
+    let mut near: usize = 0;
+    'documents: for document in documents {
+        let others = others_at(bounds, near);
+        near = near.wrapping_add(1);
+        let own = left_statements(alloc, bounds, others, document.statements.as_slice())?;
+        shared = either(shared, own.shared);
+        left.push(Document {
+            statements: own.statements,
+        })?;
+    }
+    Ok(LeftDocuments {
+        documents: left,
+        shared,
+    })
+}
