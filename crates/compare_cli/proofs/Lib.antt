@@ -1,12 +1,4 @@
-mod Accepting
-mod Answering
-mod Comparing
-mod Completeness
-mod Evaluating
+mod Deciding
 mod Lines
-mod Naming
-mod PairRuns
-mod Printing
-mod Summarising
-mod UnderKeys
+mod Reading
 mod Writing

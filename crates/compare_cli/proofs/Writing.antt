@@ -1,90 +1,63 @@
--- How the writing of an answer's text ends says what the run promises.
-use Rattle.std.proofs.Common.{◌≡◌, Option, Some, None, refl, subst, sym}
+-- How the writing of what is printed ends says what the run promises.
+use Rattle.std.proofs.Common.{◌≡◌, Option, Some, None, subst, sym}
+use Rattle.std.specs.Prelude.{string_bytes}
 use Rattle.command_words.specs.Asked.{Asked, a_check, a_comparison, a_load, a_summary, an_evaluation}
 use Rattle.pol_outside.specs.Faults.{Rose}
 use Rattle.pol_outside.specs.Sink.{Appends}
-use Rattle.compare_cli.specs.declared.answer.Answer.{Answer}
-use Rattle.compare_cli.specs.declared.answer.Answer.TheVariants as answer
-use Rattle.compare_cli.specs.declared.top.Status.{Status}
-use Rattle.compare_cli.specs.declared.top.Status.TheVariants.{Holds, Fails, Refused, Undecided, Usage, ReadFault, WriteFault}
-use Rattle.compare_cli.specs.declared.top.Status.TheVariants.{NoMemory, BadProof}
-use Rattle.compare_cli.specs.Answers.{IsAnswer, Reading}
+use Rattle.run_files.specs.declared.printed.Printed.{Printed}
+use Rattle.run_files.specs.declared.status.Status.{Status}
+use Rattle.run_files.specs.declared.status.Status.TheVariants.{Holds, Fails, Refused, Undecided, Usage, ReadFault, WriteFault}
+use Rattle.run_files.specs.declared.status.Status.TheVariants.{NoMemory, BadProof}
+use Rattle.run_files.specs.Printing.{IsOfText}
+use Rattle.run_files.specs.Readings.{Reading}
+use Rattle.compare_cli.specs.Commands.{IsPrinted}
 use Rattle.compare_cli.specs.Complete.{IsAccepted, IsDecided}
-use Rattle.compare_cli.specs.Promises.{IsUsageOrFault, IsWritten, Promises, Says, SaysWith, Writing}
-use Rattle.compare_cli.specs.Statuses.{status_of}
-use Rattle.compare_cli.specs.Texts.{answer_text}
-use Rattle.compare_cli.proofs.Completeness.{answer_decided}
+use Rattle.compare_cli.specs.Promises.{IsUsageOrFault, IsWritten, Promises, Writing}
+use Rattle.compare_cli.proofs.Deciding.{printed_decides}
 
--- an answer that may be given, and its whole text was written
-said : (asked : Option Asked) (r : Reading) (w : Writing) (a : Answer) → IsAnswer asked r a → Appends w.before (answer_text a) w.now → Says asked r w a
-said asked r w a given written = record { given = given; written = written }
+-- what was written whole, with a status of a text
+pub written_whole : (p : Printed) (w : Writing) (s : Status) → p.status ≡ s → IsOfText s → Appends w.before (string_bytes p.text) w.now → IsWritten p w s
+written_whole p w WriteFault is of whole = absurd of
+written_whole p w NoMemory is of whole = absurd of
+written_whole p w Holds is of whole = (is, whole)
+written_whole p w Fails is of whole = (is, whole)
+written_whole p w Refused is of whole = (is, whole)
+written_whole p w Undecided is of whole = (is, whole)
+written_whole p w Usage is of whole = (is, whole)
+written_whole p w ReadFault is of whole = (is, whole)
+written_whole p w BadProof is of whole = (is, whole)
 
-with_status : (asked : Option Asked) (r : Reading) (w : Writing) (a : Answer) → IsAnswer asked r a → Appends w.before (answer_text a) w.now
-    → SaysWith asked r w (status_of a)
-with_status asked r w a given written = record { answer = a; of_status = refl; says = said asked r w a given written }
-
--- the whole text was written
-whole : (asked : Option Asked) (r : Reading) (w : Writing) (a : Answer) → IsAnswer asked r a → Appends w.before (answer_text a) w.now
-    → Promises asked r w (status_of a)
-whole asked r w answer.Usage given written = said asked r w answer.Usage given written
-whole asked r w (answer.ReadFault role) given written = (role, said asked r w (answer.ReadFault role) given written)
-whole asked r w (answer.Refused refusal) given written = (refusal, said asked r w (answer.Refused refusal) given written)
-whole asked r w (answer.Undecided shortage) given written = (shortage, said asked r w (answer.Undecided shortage) given written)
-whole asked r w answer.NotMore given written = with_status asked r w answer.NotMore given written
-whole asked r w (answer.Proved text) given written = with_status asked r w (answer.Proved text) given written
-whole asked r w (answer.More q) given written = with_status asked r w (answer.More q) given written
-whole asked r w answer.Accepted given written = with_status asked r w answer.Accepted given written
-whole asked r w (answer.NotClosing line) given written = with_status asked r w (answer.NotClosing line) given written
-whole asked r w (answer.BadProof fault) given written = with_status asked r w (answer.BadProof fault) given written
-whole asked r w (answer.Allowed name) given written = with_status asked r w (answer.Allowed name) given written
-whole asked r w (answer.Denied denial) given written = with_status asked r w (answer.Denied denial) given written
-whole asked r w (answer.Summary found) given written = with_status asked r w (answer.Summary found) given written
-whole asked r w (answer.Loaded lines) given written = with_status asked r w (answer.Loaded lines) given written
-
-pub promised : (asked : Option Asked) (r : Reading) (w : Writing) (a : Answer) (s : Status) → IsAnswer asked r a → IsWritten a w s
+pub promised : (asked : Option Asked) (r : Reading) (w : Writing) (p : Printed) (s : Status) → IsPrinted asked r p → IsWritten p w s
     → Promises asked r w s
-promised asked r w a WriteFault given ends = record { rose = ends.0; answer = a; given = given; count = ends.1.0; less = ends.1.1; written = ends.1.2 }
-promised asked r w a NoMemory given ends = ends
-promised asked r w a Holds given ends = subst (Promises asked r w) ends.0 (whole asked r w a given ends.1)
-promised asked r w a Fails given ends = subst (Promises asked r w) ends.0 (whole asked r w a given ends.1)
-promised asked r w a Refused given ends = subst (Promises asked r w) ends.0 (whole asked r w a given ends.1)
-promised asked r w a Undecided given ends = subst (Promises asked r w) ends.0 (whole asked r w a given ends.1)
-promised asked r w a Usage given ends = subst (Promises asked r w) ends.0 (whole asked r w a given ends.1)
-promised asked r w a ReadFault given ends = subst (Promises asked r w) ends.0 (whole asked r w a given ends.1)
-promised asked r w a BadProof given ends = subst (Promises asked r w) ends.0 (whole asked r w a given ends.1)
+promised asked r w p WriteFault may ends = record { rose = ends.0; printed = p; may = may; count = ends.1.0; less = ends.1.1; written = ends.1.2 }
+promised asked r w p NoMemory may ends = ends
+promised asked r w p Holds may ends = record { printed = p; may = may; of_status = ends.0; written = ends.1 }
+promised asked r w p Fails may ends = record { printed = p; may = may; of_status = ends.0; written = ends.1 }
+promised asked r w p Refused may ends = record { printed = p; may = may; of_status = ends.0; written = ends.1 }
+promised asked r w p Undecided may ends = record { printed = p; may = may; of_status = ends.0; written = ends.1 }
+promised asked r w p Usage may ends = record { printed = p; may = may; of_status = ends.0; written = ends.1 }
+promised asked r w p ReadFault may ends = record { printed = p; may = may; of_status = ends.0; written = ends.1 }
+promised asked r w p BadProof may ends = record { printed = p; may = may; of_status = ends.0; written = ends.1 }
 
 -- arguments that ask for nothing are answered by the usage line
-usage_answer : (r : Reading) (a : Answer) → IsAnswer None r a → status_of a ≡ Usage
-usage_answer r answer.Usage given = refl
-usage_answer r (answer.ReadFault role) given = absurd given
-usage_answer r (answer.Refused refusal) given = absurd given
-usage_answer r (answer.Undecided shortage) given = absurd given
-usage_answer r answer.NotMore given = absurd given
-usage_answer r (answer.Proved text) given = absurd given
-usage_answer r (answer.More q) given = absurd given
-usage_answer r answer.Accepted given = absurd given
-usage_answer r (answer.NotClosing line) given = absurd given
-usage_answer r (answer.BadProof fault) given = absurd given
-usage_answer r (answer.Allowed name) given = absurd given
-usage_answer r (answer.Denied denial) given = absurd given
-usage_answer r (answer.Summary found) given = absurd given
-usage_answer r (answer.Loaded lines) given = absurd given
+usage_printed : (r : Reading) (p : Printed) → IsPrinted None r p → p.status ≡ Usage
+usage_printed r p may = may.0.1
 
-usage_status : (w : Writing) (a : Answer) (s : Status) → status_of a ≡ Usage → IsWritten a w s → IsUsageOrFault s
-usage_status w a WriteFault is ends = tt
-usage_status w a NoMemory is ends = tt
-usage_status w a Usage is ends = tt
-usage_status w a Holds is ends = subst IsUsageOrFault ends.0 (subst IsUsageOrFault (sym is) tt)
-usage_status w a Fails is ends = subst IsUsageOrFault ends.0 (subst IsUsageOrFault (sym is) tt)
-usage_status w a Refused is ends = subst IsUsageOrFault ends.0 (subst IsUsageOrFault (sym is) tt)
-usage_status w a Undecided is ends = subst IsUsageOrFault ends.0 (subst IsUsageOrFault (sym is) tt)
-usage_status w a ReadFault is ends = subst IsUsageOrFault ends.0 (subst IsUsageOrFault (sym is) tt)
-usage_status w a BadProof is ends = subst IsUsageOrFault ends.0 (subst IsUsageOrFault (sym is) tt)
+usage_status : (w : Writing) (p : Printed) (s : Status) → p.status ≡ Usage → IsWritten p w s → IsUsageOrFault s
+usage_status w p WriteFault is ends = tt
+usage_status w p NoMemory is ends = tt
+usage_status w p Usage is ends = tt
+usage_status w p Holds is ends = subst IsUsageOrFault ends.0 (subst IsUsageOrFault (sym is) tt)
+usage_status w p Fails is ends = subst IsUsageOrFault ends.0 (subst IsUsageOrFault (sym is) tt)
+usage_status w p Refused is ends = subst IsUsageOrFault ends.0 (subst IsUsageOrFault (sym is) tt)
+usage_status w p Undecided is ends = subst IsUsageOrFault ends.0 (subst IsUsageOrFault (sym is) tt)
+usage_status w p ReadFault is ends = subst IsUsageOrFault ends.0 (subst IsUsageOrFault (sym is) tt)
+usage_status w p BadProof is ends = subst IsUsageOrFault ends.0 (subst IsUsageOrFault (sym is) tt)
 
-pub usage_only : (asked : Option Asked) (r : Reading) (w : Writing) (a : Answer) (s : Status) → IsAnswer asked r a → IsWritten a w s
+pub usage_only : (asked : Option Asked) (r : Reading) (w : Writing) (p : Printed) (s : Status) → IsPrinted asked r p → IsWritten p w s
     → asked ≡ None → IsUsageOrFault s
-usage_only asked r w a s given ends none =
-    usage_status w a s (usage_answer r a (subst (λ (o : Option Asked). IsAnswer o r a) none given)) ends
+usage_only asked r w p s may ends none =
+    usage_status w p s (usage_printed r p (subst (λ (o : Option Asked). IsPrinted o r p) none may)) ends
 
 -- want of memory ends any run
 pub without_memory : (asked : Option Asked) → IsDecided asked NoMemory
@@ -95,14 +68,14 @@ without_memory (Some (a_summary s)) = tt
 without_memory (Some (an_evaluation e)) = tt
 without_memory (Some (a_load keys)) = tt
 
-pub decided : (asked : Option Asked) (r : Reading) (w : Writing) (a : Answer) (s : Status) → IsAnswer asked r a → IsWritten a w s
+pub decided : (asked : Option Asked) (r : Reading) (w : Writing) (p : Printed) (s : Status) → IsPrinted asked r p → IsWritten p w s
     → IsAccepted r.held asked → ¬ Rose r.faults_before r.faults → ¬ Rose w.faults_before w.faults → IsDecided asked s
-decided asked r w a WriteFault given ends accepted calm calm_sink = absurd (calm_sink ends.0)
-decided asked r w a NoMemory given ends accepted calm calm_sink = without_memory asked
-decided asked r w a Holds given ends accepted calm calm_sink = subst (IsDecided asked) ends.0 (answer_decided asked r a given accepted calm)
-decided asked r w a Fails given ends accepted calm calm_sink = subst (IsDecided asked) ends.0 (answer_decided asked r a given accepted calm)
-decided asked r w a Refused given ends accepted calm calm_sink = subst (IsDecided asked) ends.0 (answer_decided asked r a given accepted calm)
-decided asked r w a Undecided given ends accepted calm calm_sink = subst (IsDecided asked) ends.0 (answer_decided asked r a given accepted calm)
-decided asked r w a Usage given ends accepted calm calm_sink = subst (IsDecided asked) ends.0 (answer_decided asked r a given accepted calm)
-decided asked r w a ReadFault given ends accepted calm calm_sink = subst (IsDecided asked) ends.0 (answer_decided asked r a given accepted calm)
-decided asked r w a BadProof given ends accepted calm calm_sink = subst (IsDecided asked) ends.0 (answer_decided asked r a given accepted calm)
+decided asked r w p WriteFault may ends accepted calm calm_sink = absurd (calm_sink ends.0)
+decided asked r w p NoMemory may ends accepted calm calm_sink = without_memory asked
+decided asked r w p Holds may ends accepted calm calm_sink = subst (IsDecided asked) ends.0 (printed_decides asked r p may accepted calm)
+decided asked r w p Fails may ends accepted calm calm_sink = subst (IsDecided asked) ends.0 (printed_decides asked r p may accepted calm)
+decided asked r w p Refused may ends accepted calm calm_sink = subst (IsDecided asked) ends.0 (printed_decides asked r p may accepted calm)
+decided asked r w p Undecided may ends accepted calm calm_sink = subst (IsDecided asked) ends.0 (printed_decides asked r p may accepted calm)
+decided asked r w p Usage may ends accepted calm calm_sink = subst (IsDecided asked) ends.0 (printed_decides asked r p may accepted calm)
+decided asked r w p ReadFault may ends accepted calm calm_sink = subst (IsDecided asked) ends.0 (printed_decides asked r p may accepted calm)
+decided asked r w p BadProof may ends accepted calm calm_sink = subst (IsDecided asked) ends.0 (printed_decides asked r p may accepted calm)

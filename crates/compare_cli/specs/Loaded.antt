@@ -1,22 +1,22 @@
 -- What a load may print: the comparisons and the summary of two sets of a size that is asked for.
-use Rattle.std.specs.Prelude.{◌≡◌, ◌==◌, ℕ, List, [], ◌∷◌, false, Some, String, string_bytes, if◌then◌else◌, codes}
+use Rattle.std.specs.Prelude.{◌≡◌, ◌==◌, ◌⊎◌, ◌++◌, ℕ, List, [], ◌∷◌, false, String, string_bytes, if◌then◌else◌, codes, decimal}
 use Rattle.command_words.specs.declared.limits.TheConstants.{DEFAULT_SPLITS, DEFAULT_STATES, DEFAULT_FINDINGS}
 use Rattle.policy_load.specs.Loads.{first_load, second_load}
 use Rattle.policy_model.specs.declared.schema.Schema.{Schema}
 use Rattle.policy_model.specs.declared.set.PolicySet.{PolicySet}
 use Rattle.request_schema.specs.BuiltIn.{built_in_schema}
-use Rattle.request_schema.specs.RunSchemas.{FirstInferFault}
 use Rattle.summary_search.specs.declared.outcome.Limits.{Limits}
 use Rattle.tree_search.specs.declared.outcome.Budgets.{Budgets}
 use Rattle.std.specs.declared.alloc.Global.{Global}
-use Rattle.compare_cli.specs.declared.answer.Answer.{Answer}
-use Rattle.compare_cli.specs.declared.answer.Answer.TheVariants.{Refused, Loaded}
-use Rattle.compare_cli.specs.declared.answer.Refusal.TheVariants.{NoRun}
-use Rattle.compare_cli.specs.declared.answer.LoadLines.{LoadLines}
-use Rattle.compare_cli.specs.PairRun.{OfRun, infer_role}
-use Rattle.compare_cli.specs.Summarised.{SummarisesSet}
-use Rattle.compare_cli.specs.Decided.{IsComparison}
-use Rattle.compare_cli.specs.Texts.{answer_text}
+use Rattle.run_files.specs.declared.printed.Printed.{Printed}
+use Rattle.run_files.specs.declared.status.Status.TheVariants.{Holds}
+use Rattle.run_files.specs.Printing.{Tells}
+use Rattle.run_sets.specs.OneSets.{IsNoOneRun, OfSetRun}
+use Rattle.run_sets.specs.Pairs.{IsNoRun, OfRun}
+use Rattle.run_sets.specs.Refusals.{IsRefusedBy}
+use Rattle.pair_answers.specs.Printed.{IsPairPrinted}
+use Rattle.finding_answers.specs.Printed.{IsSetPrinted}
+use Rattle.compare_cli.specs.declared.loading.LoadLines.{LoadLines}
 
 -- the text up to its first line feed
 abbrev pub line_of : List ℕ → List ℕ
@@ -35,21 +35,22 @@ default_limits = record { splits = DEFAULT_SPLITS; states = DEFAULT_STATES; find
 abbrev pub first_key : List (List ℕ)
 first_key = codes "load:k001" ∷ []
 
--- what two sets under named keys may be answered to a comparison that asks for no certificate and names no budget: the first condition
--- that the run has no schema for, or what is said of the pair
-abbrev pub ComparesSets : Schema → PolicySet → PolicySet → Answer → Type 0
-ComparesSets named one two (Refused (NoRun role fault)) = (role ≡ infer_role fault) × FirstInferFault named one (Some two) fault
-ComparesSets named one two answer = OfRun named one two (λ pair. IsComparison false default_budgets pair answer)
+-- what may be printed to a comparison of two sets under named keys that asks for no certificate and names no budget: the first condition
+-- that the run has no schema for, or what may be printed of the pair
+abbrev pub ComparesSets : Schema → PolicySet → PolicySet → Printed → Type 0
+ComparesSets named one two p =
+    IsRefusedBy (IsNoRun named one two) p ⊎ OfRun named one two (λ pair. IsPairPrinted false default_budgets pair p)
 
--- the text is the first line of an answer of which this is said
-pub record IsLineFor (says : Answer → Type 0) (line : String Global) : Type 0 where
-  pub answer : Answer
-  pub said : says answer
-  pub is : string_bytes line ≡ line_of (answer_text answer)
+-- the same to a summary of a set by the first key that names no budget
+abbrev pub SummarisesFirst : Schema → PolicySet → Printed → Type 0
+SummarisesFirst named set p =
+    IsRefusedBy (IsNoOneRun named set) p ⊎ OfSetRun named set (λ one. IsSetPrinted first_key default_limits one p)
 
--- what a set under named keys may be answered to a summary by the first key that names no budget
-abbrev pub SummarisesFirst : Schema → PolicySet → Answer → Type 0
-SummarisesFirst named set answer = SummarisesSet first_key default_limits answer named set
+-- the text is the first line of one that may be printed
+pub record IsLineFor (may : Printed → Type 0) (line : String Global) : Type 0 where
+  pub printed : Printed
+  pub said : may printed
+  pub is : string_bytes line ≡ line_of (string_bytes printed.text)
 
 -- the lines of the two sets of so many keys, under the built-in keys: of the comparison of the first with the second, of that of the
 -- second with the first, and of the summary of the first
@@ -59,7 +60,25 @@ pub record IsLoaded (keys : ℕ) (lines : LoadLines) : Type 0 where
   pub back : IsLineFor (ComparesSets built_in_schema second_load (first_load keys)) lines.back
   pub summary : IsLineFor (SummarisesFirst built_in_schema (first_load keys)) lines.summary
 
--- what a load of so many keys may be answered
-abbrev pub AnswersLoad : ℕ → Answer → Type 0
-AnswersLoad keys (Loaded lines) = IsLoaded keys lines
-AnswersLoad keys _ = ⊥
+-- the line on the number of keys
+abbrev pub keys_line : ℕ → List ℕ
+keys_line keys = codes "load " ++ decimal keys ++ codes "\n"
+
+-- the line of the comparison of the first set with the second, and that of the second with the first
+abbrev pub forth_line : List ℕ → List ℕ
+forth_line line = codes "first to second: " ++ line ++ codes "\n"
+
+abbrev pub back_line : List ℕ → List ℕ
+back_line line = codes "second to first: " ++ line ++ codes "\n"
+
+-- the lines of a load
+abbrev pub load_text : LoadLines → List ℕ
+load_text lines =
+    ((keys_line lines.keys ++ forth_line (string_bytes lines.forth)) ++ back_line (string_bytes lines.back))
+    ++ (string_bytes lines.summary ++ codes "\n")
+
+-- what may be printed to a load of so many keys
+pub record IsLoadPrinted (keys : ℕ) (p : Printed) : Type 0 where
+  pub lines : LoadLines
+  pub loaded : IsLoaded keys lines
+  pub told : Tells (load_text lines) Holds p

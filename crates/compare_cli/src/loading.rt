@@ -1,26 +1,39 @@
 //! The comparisons and the summary of two sets of a size that is asked for.
-ghost use Rattle.std.specs.Prelude.{◌≡◌, ◌<◌, IfOk, string_bytes};
+ghost use Rattle.std.specs.Prelude.{◌≡◌, ◌++◌, ◌<◌, IfOk, codes, string_bytes};
 ghost use Rattle.command_words.specs.Asked.{texts_in};
 ghost use Rattle.policy_load.specs.Loads.{first_load, second_load};
 ghost use Rattle.policy_model.specs.Soundness.{IsSound, SchemaIsSound};
 ghost use Rattle.request_schema.specs.BuiltIn.{built_in_schema};
+ghost use Rattle.run_files.specs.Printing.{IfPrinted};
 ghost use Rattle.summary_search.specs.Outcomes.{AreInRange};
-ghost use Rattle.compare_cli.specs.Loaded.{AnswersLoad, ComparesSets, IsLineFor, IsLoaded, SummarisesFirst};
-ghost use Rattle.compare_cli.specs.Loaded.{default_budgets, default_limits, first_key, line_of};
-ghost use Rattle.compare_cli.specs.Texts.{answer_text};
+ghost use Rattle.compare_cli.specs.Loaded.{ComparesSets, IsLineFor, IsLoadPrinted, IsLoaded, SummarisesFirst};
+ghost use Rattle.compare_cli.specs.Loaded.{back_line, default_budgets, default_limits, first_key, forth_line, keys_line, line_of, load_text};
 
-use crate::answer::{Answer, LoadLines};
-use crate::contents::run_pair;
-use crate::decision::compare;
-use crate::summary::set_summary;
-use crate::text::answer_text;
 use command_words::{DEFAULT_FINDINGS, DEFAULT_SPLITS, DEFAULT_STATES};
+use finding_answers::print_set_summary;
+use pair_answers::print_pair;
 use policy_load::load_pair;
 use policy_model::{PolicySet, Schema};
 use request_schema::built_in;
+use run_files::{EarlyEnd, Printed, Status, printed_of};
+use run_sets::{run_one, run_pair};
 use std::alloc::{AllocError, Global};
 use summary_search::Limits;
 use tree_search::Budgets;
+
+/// What the comparisons and the summary of two sets of so many keys came to: the first line of what is printed
+/// to each.
+#[derive(Drop)]
+pub struct LoadLines {
+    /// How many keys there are.
+    pub keys: u32,
+    /// Of the comparison of the first set with the second.
+    pub forth: String,
+    /// Of the comparison of the second set with the first.
+    pub back: String,
+    /// Of the summary of the first set by its first key.
+    pub summary: String,
+}
 
 // The first line of a text, without its line feed.
 fn line_of(alloc: Global, text: &str) -> Result<String, AllocError>
@@ -30,21 +43,6 @@ fn line_of(alloc: Global, text: &str) -> Result<String, AllocError>
         Some((line, _)) => String::from_str(alloc, line),
         None => String::from_str(alloc, text),
     }
-}
-
-// The first line of the text of an answer, without its line feed.
-fn text_line(alloc: Global, answer: &Answer) -> Result<String, AllocError>
-    ensures { IfOk result (λ s. string_bytes s ≡ line_of (answer_text answer.now)) }
-{
-    let text = answer_text(alloc, answer)?;
-    line_of(alloc, text.as_str())
-}
-
-// The same of an answer that isn't kept.
-fn answer_line(alloc: Global, answer: Answer) -> Result<String, AllocError>
-    ensures { IfOk result (λ s. string_bytes s ≡ line_of (answer_text answer)) }
-{
-    text_line(alloc, &answer)
 }
 
 // The budgets of a run that names no others.
@@ -57,26 +55,23 @@ fn default_budgets() -> Budgets
     }
 }
 
-// The answer to a comparison of two sets under named keys.
+// What is printed to a comparison of two sets under named keys.
 fn compared(
     alloc: Global,
     named: &Schema,
     first: PolicySet,
     second: PolicySet,
-) -> Result<Answer, AllocError>
+) -> Result<Printed, EarlyEnd>
     requires sound { SchemaIsSound named.now }
     requires first_sound { IsSound first }
     requires second_sound { IsSound second }
-    ensures { IfOk result (ComparesSets named.now first second) }
+    ensures { IfPrinted result (ComparesSets named.now first second) }
 {
-    let pair = match run_pair(alloc, named, first, second)? {
-        Ok(pair) => pair,
-        Err(refusal) => return Ok(Answer::Refused(refusal)),
-    };
-    compare(alloc, &pair, default_budgets(), false)
+    let pair = run_pair(alloc, named, first, second)?;
+    print_pair(alloc, &pair, default_budgets(), false)
 }
 
-// The first line of that answer.
+// The first line of that.
 fn comparison_line(
     alloc: Global,
     named: &Schema,
@@ -88,8 +83,8 @@ fn comparison_line(
     requires second_sound { IsSound second }
     ensures { IfOk result (IsLineFor (ComparesSets named.now first second)) }
 {
-    let answer = compared(alloc, named, first, second)?;
-    answer_line(alloc, answer)
+    let printed = printed_of(compared(alloc, named, first, second))?;
+    line_of(alloc, printed.text.as_str())
 }
 
 // The limits of a summary that names no others.
@@ -113,24 +108,25 @@ fn first_key(alloc: Global) -> Result<Vec<String>, AllocError>
     Ok(names)
 }
 
-// The summary of the set under named keys by its first key.
-fn first_summary(alloc: Global, named: &Schema, set: &PolicySet) -> Result<Answer, AllocError>
+// What is printed to a summary of the set under named keys by its first key.
+fn first_summary(alloc: Global, named: &Schema, set: PolicySet) -> Result<Printed, EarlyEnd>
     requires sound { SchemaIsSound named.now }
-    requires set_sound { IsSound set.now }
-    ensures { IfOk result (SummarisesFirst named.now set.now) }
+    requires set_sound { IsSound set }
+    ensures { IfPrinted result (SummarisesFirst named.now set) }
 {
+    let one = run_one(alloc, named, set)?;
     let names = first_key(alloc)?;
-    set_summary(alloc, named, set, names.as_slice(), default_limits())
+    print_set_summary(alloc, &one, names.as_slice(), default_limits())
 }
 
-// The first line of that summary.
-fn summary_line(alloc: Global, named: &Schema, set: &PolicySet) -> Result<String, AllocError>
+// The first line of that.
+fn summary_line(alloc: Global, named: &Schema, set: PolicySet) -> Result<String, AllocError>
     requires sound { SchemaIsSound named.now }
-    requires set_sound { IsSound set.now }
-    ensures { IfOk result (IsLineFor (SummarisesFirst named.now set.now)) }
+    requires set_sound { IsSound set }
+    ensures { IfOk result (IsLineFor (SummarisesFirst named.now set)) }
 {
-    let answer = first_summary(alloc, named, set)?;
-    answer_line(alloc, answer)
+    let printed = printed_of(first_summary(alloc, named, set))?;
+    line_of(alloc, printed.text.as_str())
 }
 
 // The line of the comparison of the first set of so many keys with the second.
@@ -160,7 +156,7 @@ fn first_by_key(alloc: Global, named: &Schema, keys: u32) -> Result<String, Allo
     ensures { IfOk result (IsLineFor (SummarisesFirst named.now (first_load keys))) }
 {
     let (first, _second) = load_pair(alloc, keys)?;
-    summary_line(alloc, named, &first)
+    summary_line(alloc, named, first)
 }
 
 // The lines of the two sets of so many keys, each with the budgets of a run that names no others.
@@ -190,10 +186,56 @@ fn lines_under(alloc: Global, named: &Schema, keys: u32) -> Result<LoadLines, Al
     })
 }
 
-/// What the comparisons and the summary of the two sets of so many keys come to.
-pub fn load_answer(alloc: Global, keys: u32) -> Result<Answer, AllocError>
-    requires { keys < 1000 }
-    ensures { IfOk result (AnswersLoad keys) }
+// The line on the number of keys.
+fn keys_line(alloc: Global, keys: u32) -> Result<String, AllocError>
+    ensures { IfOk result (λ s. string_bytes s ≡ keys_line keys) }
 {
-    Ok(Answer::Loaded(load_lines(alloc, keys)?))
+    format!(in alloc; "load {keys}\n")
+}
+
+// The line of the comparison of the first set with the second.
+fn forth_line(alloc: Global, line: &str) -> Result<String, AllocError>
+    ensures { IfOk result (λ s. string_bytes s ≡ forth_line line.now) }
+{
+    format!(in alloc; "first to second: {line}\n")
+}
+
+// The line of the comparison of the second set with the first.
+fn back_line(alloc: Global, line: &str) -> Result<String, AllocError>
+    ensures { IfOk result (λ s. string_bytes s ≡ back_line line.now) }
+{
+    format!(in alloc; "second to first: {line}\n")
+}
+
+// The line with its line feed.
+fn ended(alloc: Global, line: &str) -> Result<String, AllocError>
+    ensures { IfOk result (λ s. string_bytes s ≡ line.now ++ codes "\n") }
+{
+    format!(in alloc; "{line}\n")
+}
+
+// The lines of a load.
+fn load_text(alloc: Global, lines: &LoadLines) -> Result<String, AllocError>
+    ensures { IfOk result (λ s. string_bytes s ≡ load_text lines.now) }
+{
+    let forth = forth_line(alloc, lines.forth.as_str())?;
+    let back = back_line(alloc, lines.back.as_str())?;
+    let summary = ended(alloc, lines.summary.as_str())?;
+    let mut text = keys_line(alloc, lines.keys)?;
+    text.push_str(forth.as_str())?;
+    text.push_str(back.as_str())?;
+    text.push_str(summary.as_str())?;
+    Ok(text)
+}
+
+/// What is printed to a load of so many keys.
+pub fn print_load(alloc: Global, keys: u32) -> Result<Printed, EarlyEnd>
+    requires { keys < 1000 }
+    ensures { IfPrinted result (IsLoadPrinted keys) }
+{
+    let lines = load_lines(alloc, keys)?;
+    Ok(Printed {
+        text: load_text(alloc, &lines)?,
+        status: Status::Holds,
+    })
 }

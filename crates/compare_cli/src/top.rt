@@ -1,101 +1,48 @@
 //! One run, from the arguments to the bytes that are written.
-ghost use Rattle.std.specs.Prelude.{◌≡◌, ◌≤◌, None, IfOk};
+ghost use Rattle.std.specs.Prelude.{◌≡◌, ◌≤◌, None};
 ghost use Rattle.pol_outside.specs.Faults.{Rose};
 ghost use Rattle.command_words.specs.Asked.{asked_by};
-ghost use Rattle.compare_cli.specs.Answers.{IsAnswer, NameNoFile, reading_of};
+ghost use Rattle.run_files.specs.Printing.{IfPrinted, IsOfText};
+ghost use Rattle.run_files.specs.Readings.{reading_of};
+ghost use Rattle.compare_cli.specs.Commands.{NameNoFile, IsPrinted};
 ghost use Rattle.compare_cli.specs.Complete.{IsAccepted, IsDecided};
 ghost use Rattle.compare_cli.specs.Promises.{IsUsageOrFault, IsWritten, Promises};
-ghost use Rattle.compare_cli.specs.Statuses.{exit_number, status_of};
 
-use crate::answer::Answer;
-use crate::commands::answer_to;
-use crate::text::answer_text;
+use crate::commands::print_command;
 use command_words::read_words;
 use pol_outside::{Folder, Sink, put_all};
-use std::alloc::{AllocError, Global};
+use run_files::{EarlyEnd, Printed, Status, printed_of};
+use std::alloc::Global;
 
-/// How a run ends.
-#[derive(Clone, Copy)]
-pub enum Status {
-    /// The answer is yes: `not more permissive`, `accepted` or `allowed`; or it is a summary, or the lines
-    /// of a load.
-    Holds,
-    /// The answer is no: `more permissive` or `denied`.
-    Fails,
-    /// A file was refused, or a dimension, or sets that are past a limit or that no schema can answer.
-    Refused,
-    /// A budget ran out.
-    Undecided,
-    /// The arguments are of no command's form.
-    Usage,
-    /// A file couldn't be read.
-    ReadFault,
-    /// The answer couldn't be written whole.
-    WriteFault,
-    /// There was no memory. Nothing was written.
-    NoMemory,
-    /// A certificate doesn't hold.
-    BadProof,
-}
+/// The line that says how the program is called: the form of each command, without options.
+pub const USAGE: &str = "usage: compare FIRST SECOND | summary SET DIMENSION.. | \
+    check FIRST SECOND PROOF | eval SET REQUEST | load N\n";
 
-/// The program's exit number for a status.
-pub fn exit_number(status: Status) -> u8
-    ensures { result ≡ exit_number status }
-{
-    match status {
-        Status::Holds => 0,
-        Status::Fails => 1,
-        Status::Refused => 2,
-        Status::Undecided => 3,
-        Status::Usage => 4,
-        Status::ReadFault => 5,
-        Status::WriteFault => 6,
-        Status::NoMemory => 7,
-        Status::BadProof => 8,
-    }
-}
-
-fn answer<F: Folder>(
+// What is printed to the arguments.
+fn print<F: Folder>(
     alloc: Global,
     arguments: &[String],
     folder: &mut F,
-) -> Result<Answer, AllocError>
-    ensures given { IfOk result (IsAnswer (asked_by arguments.now)
+) -> Result<Printed, EarlyEnd>
+    ensures prints { IfPrinted result (IsPrinted (asked_by arguments.now)
         (reading_of F.held F.faults F.last_fault folder.old folder.new)) }
     ensures untouched { NameNoFile (asked_by arguments.now) → folder.new ≡ folder.old }
     ensures held { F.held folder.new ≡ F.held folder.old }
     ensures later { F.faults folder.old ≤ F.faults folder.new }
 {
     match read_words(alloc, arguments)? {
-        Some(command) => answer_to(alloc, folder, &command),
-        None => Ok(Answer::Usage),
+        Some(command) => print_command(alloc, folder, &command),
+        None => Ok(Printed {
+            text: String::from_str(alloc, USAGE)?,
+            status: Status::Usage,
+        }),
     }
 }
 
-fn status_of(answer: &Answer) -> Status
-    ensures { result ≡ status_of answer.now }
-{
-    match answer {
-        Answer::Usage => Status::Usage,
-        Answer::ReadFault(_) => Status::ReadFault,
-        Answer::Refused(_) => Status::Refused,
-        Answer::Undecided(_) => Status::Undecided,
-        Answer::NotMore => Status::Holds,
-        Answer::Proved(_) => Status::Holds,
-        Answer::More(_) => Status::Fails,
-        Answer::Accepted => Status::Holds,
-        Answer::NotClosing(_) => Status::BadProof,
-        Answer::BadProof(_) => Status::BadProof,
-        Answer::Allowed(_) => Status::Holds,
-        Answer::Denied(_) => Status::Fails,
-        Answer::Summary(_) => Status::Holds,
-        Answer::Loaded(_) => Status::Holds,
-    }
-}
-
-// Writes the text of an answer, and says how the run ends.
-fn write_answer<S: Sink>(alloc: Global, answer: &Answer, out: &mut S) -> Status
-    ensures written { IsWritten answer.now
+// Writes what is printed, and says how the run ends.
+fn write<S: Sink>(printed: &Printed, out: &mut S) -> Status
+    requires { IsOfText printed.now.status }
+    ensures written { IsWritten printed.now
         (record {
           faults_before = S.faults out.old;
           faults = S.faults out.new;
@@ -105,11 +52,8 @@ fn write_answer<S: Sink>(alloc: Global, answer: &Answer, out: &mut S) -> Status
         result }
     ensures writes { S.faults out.old ≤ S.faults out.new }
 {
-    let Ok(text) = answer_text(alloc, answer) else {
-        return Status::NoMemory;
-    };
-    match put_all(out, text.as_bytes()) {
-        Ok(()) => status_of(answer),
+    match put_all(out, printed.text.as_bytes()) {
+        Ok(()) => printed.status,
         Err(_) => Status::WriteFault,
     }
 }
@@ -161,8 +105,8 @@ pub fn run<F: Folder, S: Sink>(
         → ¬ Rose (S.faults out.old) (S.faults out.new)
         → IsDecided (asked_by arguments.now) result }
 {
-    match answer(alloc, arguments, folder) {
-        Ok(answer) => write_answer(alloc, &answer, out),
+    match printed_of(print(alloc, arguments, folder)) {
+        Ok(printed) => write(&printed, out),
         Err(_) => Status::NoMemory,
     }
 }

@@ -1,7 +1,7 @@
 -- The numbers that the program ends with.
 use Rattle.std.specs.Prelude.{◌≡◌, ◌⊎◌, ℕ}
-use Rattle.compare_cli.specs.Statuses.{exit_number}
-use Rattle.compare_cli.specs.declared.top.Status.{Status}
+use Rattle.run_files.specs.Statuses.{exit_number}
+use Rattle.run_files.specs.declared.status.Status.{Status}
 use Rattle.compare_program.specs.declared.TheConstants.{NO_ARGUMENTS}
 
 -- the exit number of a status, or that of refused arguments, which no status has

@@ -1,5 +1,5 @@
 use Rattle.std.proofs.Common.{◌∙◌, inl, inr}
-use Rattle.compare_cli.specs.declared.top.Status.TheVariants.{NoMemory}
+use Rattle.run_files.specs.declared.status.Status.TheVariants.{NoMemory}
 use Rattle.compare_program.proofs.program.Goals as goal
 use Rattle.compare_program.proofs.program.Goals.{else-eq, then-eq}
 

@@ -1,18 +1,25 @@
-use Rattle.std.proofs.Common.{◌≡◌, false, rules, subst, Err}
-use Rattle.std.proofs.lemmas.Result.{IfOk-weaker}
-use Rattle.compare_cli.specs.Decided.{IsComparison}
-use Rattle.compare_cli.specs.PairRun.{IsRunRead, OfRun}
-use Rattle.compare_cli.proofs.PairRuns.{compares-pair, compares-refused}
+use Rattle.std.proofs.Common.{false, inl, inr, subst}
+use Rattle.std.proofs.lemmas.Result.{err_from_is_err_and}
+use Rattle.run_files.specs.declared.printed.Printed.{Printed}
+use Rattle.run_files.proofs.Laws.{if_answered_weaker, or_answered_weaker}
+use Rattle.run_sets.specs.Pairs.{IsNoRun}
+use Rattle.run_sets.specs.Refusals.{IsRefusedBy}
+use Rattle.pair_answers.specs.Printed.{IsPairPrinted}
+use Rattle.compare_cli.specs.Loaded.{ComparesSets, default_budgets}
+use Rattle.compare_cli.proofs.Lines.{run_same}
 use Rattle.compare_cli.proofs.loading.compared.Goals as goal
+
+pub returns-in_err-pair : goal.returns-in_err-pair
+returns-in_err-pair c =
+    let named = c.args.named.now in
+    let says : (p : Printed) → IsRefusedBy (IsNoRun named c.args.first c.args.second) p → ComparesSets named c.args.first c.args.second p = λ p v. inl v in
+    let p = err_from_is_err_and c.from_residual.result c.from_residual.ensures.1 in
+    rw (p.1, p.2) (if_answered_weaker _ (IsRefusedBy (IsNoRun named c.args.first c.args.second)) (ComparesSets named c.args.first c.args.second) says c.in_err-pair.ensures.run)
 
 pub returns : goal.returns
 returns c =
     let named = c.args.named.now in
-    let pair = c.in-Ok.pair in
-    let of : OfRun named c.args.first c.args.second (λ p. p ≡ c.in-Ok.pair) = search rules in
-    IfOk-weaker c.compare.result _ _ (λ a v. compares-pair named c.args.first c.args.second pair of a (subst (λ b. IsComparison false b pair a) c.default_budgets.ensures v)) c.compare.ensures
-
-pub returns-in-Err : goal.returns-in-Err
-returns-in-Err c =
-    let read : IsRunRead c.args.named.now c.args.first c.args.second (Err c.in-Err.refusal) = search rules in
-    compares-refused c.args.named.now c.args.first c.args.second c.in-Err.refusal read
+    let pair = c.in_ok-pair.pair in
+    let says : (p : Printed) → IsPairPrinted false c.default_budgets.result pair p → ComparesSets named c.args.first c.args.second p =
+    λ p v. inr (run_same named c.args.first c.args.second pair (λ x. IsPairPrinted false default_budgets x p) c.in_ok-pair.ensures.run (subst (λ b. IsPairPrinted false b pair p) c.default_budgets.ensures v)) in
+    or_answered_weaker c.print_pair.result _ _ _ _ says says c.print_pair.ensures

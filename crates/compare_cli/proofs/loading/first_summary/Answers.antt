@@ -1,25 +1,34 @@
-use Rattle.std.proofs.Common.{◌≡◌, ℕ, List, refl, rules, subst, sym, true}
-use Rattle.std.proofs.lemmas.Result.{IfOk-weaker}
+use Rattle.std.proofs.Common.{◌≡◌, ℕ, List, inl, inr, refl, rules, subst, sym, true}
+use Rattle.std.proofs.lemmas.Result.{err_from_is_err_and}
 use Rattle.command_words.specs.Asked.{are_dimensions, texts_in}
+use Rattle.run_files.specs.declared.printed.Printed.{Printed}
+use Rattle.run_files.proofs.Laws.{if_answered_weaker, or_answered_weaker}
+use Rattle.run_sets.specs.OneSets.{IsNoOneRun}
+use Rattle.run_sets.specs.Refusals.{IsRefusedBy}
+use Rattle.finding_answers.specs.Printed.{IsSetPrinted}
 use Rattle.summary_search.specs.declared.outcome.Limits.{Limits}
-use Rattle.compare_cli.specs.Loaded.{SummarisesFirst, first_key}
-use Rattle.compare_cli.specs.Summarised.{SummarisesSet}
+use Rattle.compare_cli.specs.Loaded.{SummarisesFirst, default_limits, first_key}
+use Rattle.compare_cli.proofs.Lines.{one_same}
 use Rattle.compare_cli.proofs.loading.first_summary.Goals as goal
 
-pub set_summary-requires-clause-dimensions : goal.set_summary-requires-clause-dimensions
-set_summary-requires-clause-dimensions c =
+pub print_set_summary-requires-clause-dimensions : goal.print_set_summary-requires-clause-dimensions
+print_set_summary-requires-clause-dimensions c =
     let names : texts_in c.as_slice.result.now ≡ first_key = search rules in
     subst (λ (ws : List (List ℕ)). are_dimensions ws ≡ true) (sym names) refl
+
+pub returns-in_err-one : goal.returns-in_err-one
+returns-in_err-one c =
+    let named = c.args.named.now in
+    let says : (p : Printed) → IsRefusedBy (IsNoOneRun named c.args.set) p → SummarisesFirst named c.args.set p = λ p v. inl v in
+    let p = err_from_is_err_and c.from_residual.result c.from_residual.ensures.1 in
+    rw (p.1, p.2) (if_answered_weaker _ (IsRefusedBy (IsNoOneRun named c.args.set)) (SummarisesFirst named c.args.set) says c.in_err-one.ensures.run)
 
 pub returns : goal.returns
 returns c =
     let names : texts_in c.as_slice.result.now ≡ first_key = search rules in
-    let named = c.args.named.now in
-    let set = c.args.set.now in
-    IfOk-weaker c.set_summary.result _ _
-    (λ a h.
-    let by_names : SummarisesSet first_key c.default_limits.result a named set =
-    subst (λ (ws : List (List ℕ)). SummarisesSet ws c.default_limits.result a named set) names h in
-    let said : SummarisesFirst named set a = subst (λ (limits : Limits). SummarisesSet first_key limits a named set) c.default_limits.ensures.value by_names in
-    said)
-    c.set_summary.ensures
+    let one = c.in_ok-one.one in
+    let said : (p : Printed) → IsSetPrinted (texts_in c.as_slice.result.now) c.default_limits.result one p → SummarisesFirst c.args.named.now c.args.set p =
+    λ p v. inr (one_same c.args.named.now c.args.set one (λ x. IsSetPrinted first_key default_limits x p) c.in_ok-one.ensures.run
+    (subst (λ (limits : Limits). IsSetPrinted first_key limits one p) c.default_limits.ensures.value
+    (subst (λ (ws : List (List ℕ)). IsSetPrinted ws c.default_limits.result one p) names v))) in
+    or_answered_weaker c.print_set_summary.result _ _ _ _ said said c.print_set_summary.ensures

@@ -1,5 +1,14 @@
+use Rattle.std.proofs.Common.{◌∙◌, Ok, ap}
 use Rattle.std.proofs.lemmas.Result.{IfOk-weaker}
+use Rattle.run_files.proofs.Laws.{printed_so}
+use Rattle.compare_cli.specs.Loaded.{line_of}
 use Rattle.compare_cli.proofs.loading.summary_line.Goals as goal
 
 pub returns : goal.returns
-returns c = IfOk-weaker c.answer_line.result _ _ (λ s h. record { answer = c.in_ok-answer.answer; said = c.in_ok-answer.ensures; is = h }) c.answer_line.ensures
+returns c =
+    IfOk-weaker c.line_of.result _ _
+    (λ s h. record {
+      printed = c.in_ok-printed.printed;
+      said = printed_so c.first_summary.result (Ok c.in_ok-printed.printed) _ c.in_ok-printed.ensures c.first_summary.ensures;
+      is = h ∙ ap line_of c.as_str.ensures.value;
+    }) c.line_of.ensures

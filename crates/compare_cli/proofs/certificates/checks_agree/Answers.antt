@@ -1,5 +1,0 @@
-use Rattle.compare_cli.proofs.Accepting.{checks_agree}
-use Rattle.compare_cli.proofs.certificates.checks_agree.Goals as goal
-
-pub returns : goal.returns
-returns c = checks_agree c.one_proof_for_each_text.ensures

@@ -1,8 +1,0 @@
-use Rattle.std.proofs.Common.{string_bytes}
-use Rattle.compare_cli.specs.Texts.{found_text}
-use Rattle.compare_cli.proofs.Printing.{printed-more}
-use Rattle.compare_cli.proofs.text.put_each.Goals as goal
-
-pub found-preserved : goal.found-preserved
-found-preserved c =
-    printed-more found_text c.args.found.now c.found.lines-index c.lines-item.result (string_bytes c.args.text.now) (string_bytes c.found.text) (string_bytes c.put_found.new.text) c.found-test.true c.lines-item.is c.found.invariant c.in_ok-put_found.ensures

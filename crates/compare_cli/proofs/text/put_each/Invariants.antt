@@ -1,6 +1,0 @@
-use Rattle.std.proofs.Common.{◌≡◌, ◌++◌, flat_map, string_bytes, take}
-use Rattle.compare_cli.specs.Texts.{found_text}
-use Rattle.compare_cli.proofs.text.put_each.Given as goal
-
-abbrev pub invariant-found : goal.invariant-found
-invariant-found l = string_bytes l.text ≡ string_bytes l.fn.text ++ flat_map found_text (take l.lines-index l.found)

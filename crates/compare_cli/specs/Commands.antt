@@ -1,0 +1,70 @@
+-- What may be printed, by what the arguments ask and what the folder holds.
+use Rattle.std.specs.Prelude.{◌⊎◌, ℕ, List, [], ◌∷◌, Option, Some, None, ⊤, codes}
+use Rattle.command_words.specs.Asked.{Asked, a_check, a_comparison, a_load, a_summary, an_evaluation}
+use Rattle.run_files.specs.declared.printed.Printed.{Printed}
+use Rattle.run_files.specs.declared.role.Role.TheVariants.{First, Second, Proof}
+use Rattle.run_files.specs.declared.role.Role.TheVariants.{Set as set_file, Schema as schema_file, Request as request_file}
+use Rattle.run_files.specs.declared.status.Status.TheVariants.{Usage}
+use Rattle.run_files.specs.Printing.{Tells}
+use Rattle.run_files.specs.Readings.{FileName, FilesFail, IsCalm, OfReadFiles, Reading, file, if_given, if_named}
+use Rattle.run_sets.specs.Pairs.{Contents}
+use Rattle.pair_answers.specs.Printed.{IsCheckPrinted, IsComparisonPrinted}
+use Rattle.statement_answers.specs.Evaluated.{EvaluationContents, IsEvaluationPrinted}
+use Rattle.finding_answers.specs.Printed.{IsSummaryPrinted, SummaryContents}
+use Rattle.compare_cli.specs.Loaded.{IsLoadPrinted}
+
+-- ---- the files of a command
+
+-- the files that a command names, in the order of its line, the schema last where one is named
+abbrev pub named_files : Asked → List FileName
+named_files (a_comparison c) = file First c.names.first ∷ file Second c.names.second ∷ if_named schema_file c.names.schema
+named_files (a_check c) =
+    file First c.names.first ∷ file Second c.names.second ∷ file Proof c.proof ∷ if_named schema_file c.names.schema
+named_files (a_summary s) = file set_file s.set ∷ if_named schema_file s.schema
+named_files (an_evaluation e) = file set_file e.set ∷ file request_file e.request ∷ if_named schema_file e.schema
+named_files (a_load keys) = []
+
+-- the bytes of a check's files: of the two sets and the schema, and of the certificate
+pub record CheckContents : Type 0 where
+  pub sets : Contents
+  pub proof : List ℕ
+
+-- the bytes of each command's files in this order
+abbrev pub compared_bytes : Contents → List (List ℕ)
+compared_bytes c = c.first ∷ c.second ∷ if_given c.schema
+
+abbrev pub checked_bytes : CheckContents → List (List ℕ)
+checked_bytes c = c.sets.first ∷ c.sets.second ∷ c.proof ∷ if_given c.sets.schema
+
+abbrev pub summarised_bytes : SummaryContents → List (List ℕ)
+summarised_bytes c = c.set ∷ if_given c.schema
+
+abbrev pub evaluated_bytes : EvaluationContents → List (List ℕ)
+evaluated_bytes c = c.set ∷ c.request ∷ if_given c.schema
+
+-- ---- what may be printed
+
+-- once the files of a command were read: what the command may print of their bytes
+abbrev pub MayPrint : Asked → Reading → Printed → Type 0
+MayPrint (a_comparison c) r p = OfReadFiles r.held (named_files (a_comparison c)) compared_bytes (λ f. IsComparisonPrinted c f p)
+MayPrint (a_check c) r p = OfReadFiles r.held (named_files (a_check c)) checked_bytes (λ f. IsCheckPrinted f.proof f.sets p)
+MayPrint (a_summary s) r p = OfReadFiles r.held (named_files (a_summary s)) summarised_bytes (λ f. IsSummaryPrinted s f p)
+MayPrint (an_evaluation e) r p = OfReadFiles r.held (named_files (an_evaluation e)) evaluated_bytes (λ f. IsEvaluationPrinted f p)
+MayPrint (a_load keys) r p = IsLoadPrinted keys p
+
+-- the line that says how the program is called
+abbrev pub usage_line : List ℕ
+usage_line =
+    codes "usage: compare FIRST SECOND | summary SET DIMENSION.. | check FIRST SECOND PROOF | eval SET REQUEST | load N\n"
+
+-- the usage line, exactly where the arguments ask for nothing; what is printed of the first file that fails; or what the command may
+-- print, and the name of the folder's last fault is as it was
+abbrev pub IsPrinted : Option Asked → Reading → Printed → Type 0
+IsPrinted None r p = Tells usage_line Usage p × IsCalm r
+IsPrinted (Some asked) r p = FilesFail (named_files asked) r p ⊎ (MayPrint asked r p × IsCalm r)
+
+-- the arguments name no file: they ask for nothing, or for a load
+abbrev pub NameNoFile : Option Asked → Type 0
+NameNoFile None = ⊤
+NameNoFile (Some (a_load keys)) = ⊤
+NameNoFile (Some _) = ⊥

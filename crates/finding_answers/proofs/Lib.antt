@@ -1,0 +1,4 @@
+mod Growing
+pub mod Laws
+mod Naming
+mod Summarising

@@ -1,0 +1,70 @@
+//! What is printed to a summary of a file of a set.
+ghost use Rattle.std.specs.Prelude.{◌≡◌, true, option_map};
+ghost use Rattle.command_words.specs.Asked.{HasBudgetsInRange, are_dimensions, summarising_in, texts_in};
+ghost use Rattle.run_files.specs.Printing.{IfPrinted};
+ghost use Rattle.run_sets.specs.OneSets.{FitsItsSchema};
+ghost use Rattle.summary_search.specs.Outcomes.{AreInRange};
+ghost use Rattle.finding_answers.specs.Printed.{IsSetPrinted, IsSummaryPrinted, limits_in, summary_contents};
+
+use crate::dimensions::slots_of;
+use crate::summary::summarise;
+use crate::text::{summary_answer_text, summary_status};
+use command_words::SummaryArguments;
+use run_files::{EarlyEnd, Printed};
+use run_sets::{OneSet, read_one};
+use std::alloc::Global;
+use summary_search::Limits;
+
+/// What is printed to a summary of a set, under the schema of its run, by the dimensions of these names.
+pub fn print_set_summary(
+    alloc: Global,
+    one: &OneSet,
+    names: &[String],
+    limits: Limits,
+) -> Result<Printed, EarlyEnd>
+    requires fits { FitsItsSchema one.now }
+    requires dimensions { are_dimensions (texts_in names.now) ≡ true }
+    requires limits { AreInRange limits }
+    ensures { IfPrinted result (IsSetPrinted (texts_in names.now) limits one.now) }
+{
+    let slots = slots_of(alloc, &one.schema, names)?;
+    let answer = summarise(alloc, one, &slots, names, limits)?;
+    Ok(Printed {
+        text: summary_answer_text(alloc, &answer)?,
+        status: summary_status(&answer),
+    })
+}
+
+// The limits of the arguments.
+fn limits_of(arguments: &SummaryArguments) -> Limits
+    requires { HasBudgetsInRange arguments.now }
+    ensures value { result ≡ limits_in (summarising_in arguments.now) }
+    ensures range { AreInRange result }
+{
+    Limits {
+        splits: arguments.splits,
+        states: arguments.states,
+        findings: arguments.findings,
+    }
+}
+
+/// What is printed to a summary of files that were read, that of a set and that of a schema where one is named.
+pub fn print_summary(
+    alloc: Global,
+    set: &[u8],
+    schema: Option<&[u8]>,
+    arguments: &SummaryArguments,
+) -> Result<Printed, EarlyEnd>
+    requires budgets { HasBudgetsInRange arguments.now }
+    requires dimensions { are_dimensions (texts_in arguments.now.dimensions.items) ≡ true }
+    ensures { IfPrinted result (IsSummaryPrinted (summarising_in arguments.now)
+        (summary_contents set.now (option_map (λ f. f.now) schema.entry))) }
+{
+    let one = read_one(alloc, set, schema)?;
+    print_set_summary(
+        alloc,
+        &one,
+        arguments.dimensions.as_slice(),
+        limits_of(arguments),
+    )
+}

@@ -1,0 +1,3 @@
+mod Accepting
+mod Comparing
+pub mod Laws

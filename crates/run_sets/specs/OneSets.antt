@@ -1,0 +1,63 @@
+-- The set that files stand for, under the schema of its run.
+use Rattle.std.specs.Prelude.{◌≡◌, ℕ, List, Option, None, Err}
+use Rattle.policy_json.specs.Sets.{set_from}
+use Rattle.policy_model.specs.declared.schema.Schema.{Schema}
+use Rattle.policy_model.specs.declared.set.PolicySet.{PolicySet}
+use Rattle.policy_model.specs.Soundness.{SchemaFits, SchemaIsSound}
+use Rattle.request_schema.specs.RunSchemas.{FirstInferFault, infer_fault, schema_of_run}
+use Rattle.run_files.specs.declared.role.Role.TheVariants.{Set as set_file}
+use Rattle.run_sets.specs.declared.one_set.OneSet.{OneSet}
+use Rattle.run_sets.specs.declared.refusal.Refusal.{Refusal}
+use Rattle.run_sets.specs.declared.refusal.Refusal.TheVariants.{NoSchema, NoSet, NoRun}
+use Rattle.run_sets.specs.Standing.{HasSchema, NamesSchema, SchemaFails, StandsFor}
+
+-- the schema can answer for the set, and there are valid requests under it
+pub record FitsItsSchema (one : OneSet) : Type 0 where
+  pub sound : SchemaIsSound one.schema
+  pub fits : SchemaFits one.schema one.set
+
+-- ---- a set under named keys
+
+-- the set, under the schema of its run: the named keys, and what its operators say of each further key
+abbrev pub one_of : Schema → PolicySet → OneSet
+one_of named set = record { schema = schema_of_run named set None; set = set }
+
+-- no condition of the set is refused under the named keys, and of the set under the schema of its run this holds
+pub record OfSetRun (named : Schema) (set : PolicySet) (P : OneSet → Type 0) : Type 0 where
+  pub answered : infer_fault named set None ≡ None
+  pub holds : P (one_of named set)
+
+-- a set under the schema of its run
+abbrev pub IsOneRunOf : Schema → PolicySet → OneSet → Type 0
+IsOneRunOf named set one = OfSetRun named set (λ o. o ≡ one)
+
+-- the first condition of a set that the run has no schema for
+abbrev pub IsNoOneRun : Schema → PolicySet → Refusal → Type 0
+IsNoOneRun named set (NoRun role fault) = (role ≡ set_file) × FirstInferFault named set None fault
+IsNoOneRun named set _ = ⊥
+
+-- ---- files
+
+-- the files, of a set and of a schema where one is named, stand for a schema and for a set, of which this holds
+pub record OfSet (set_bytes : List ℕ) (schema_bytes : Option (List ℕ)) (P : Schema → PolicySet → Type 0) : Type 0 where
+  pub named : Schema
+  pub set : PolicySet
+  pub schema_stands : NamesSchema schema_bytes named
+  pub set_stands : StandsFor set_bytes set
+  pub holds : P named set
+
+-- of the set that the files stand for, under the schema of its run, this holds
+abbrev pub OfOneSet : List ℕ → Option (List ℕ) → (OneSet → Type 0) → Type 0
+OfOneSet set schema P = OfSet set schema (λ named one. OfSetRun named one P)
+
+-- the set that files stand for
+abbrev pub IsOneSetOf : List ℕ → Option (List ℕ) → OneSet → Type 0
+IsOneSetOf set schema one = OfOneSet set schema (λ o. o ≡ one)
+
+-- why files stand for no set: the first fault of the schema's, then of the set's; then the first condition of the set that the run has
+-- no schema for
+abbrev pub IsNoOneSet : List ℕ → Option (List ℕ) → Refusal → Type 0
+IsNoOneSet set schema (NoSchema fault) = SchemaFails schema fault
+IsNoOneSet set schema (NoSet role fault) = (role ≡ set_file) × HasSchema schema × (set_from set ≡ Err fault)
+IsNoOneSet set schema (NoRun role fault) = OfSet set schema (λ named one. IsNoOneRun named one (NoRun role fault))
+IsNoOneSet set schema _ = ⊥
