@@ -4,13 +4,15 @@
 //! are in memory, but of `real ARGUMENTS`, which runs over real files and standard output: these are the
 //! examples of README.
 //!
-//! `first TEXT`, `second TEXT` and `schema TEXT` are the files of these names, in which `⟦N|TEXT⟧` stands
-//! for N times TEXT; a file without a line isn't there. `take N` and `put N` make the folder's or the
-//! sink's call of that number fail, `room N` and `most N` are the bytes that the sink has room for and
-//! takes at a call. Then `$ ARGUMENTS` is a run, its arguments one space apart. `set TEXT` compares the text
-//! with that of each line `set` of the case, under its schema where it has one, over a folder and a sink that
-//! never fail, and prints the exit numbers. `file TEXT` compares a file with itself, and prints the first
-//! fault of a faulty file, and of any other that it isn't more permissive.
+//! `first TEXT`, `second TEXT`, `schema TEXT` and `proof TEXT` are the files of these names, in which
+//! `⟦N|TEXT⟧` stands for N times TEXT, and in `proof` then `/` for a line feed; a file without a line isn't
+//! there. `take N` and `put N` make the folder's or the sink's call of that number fail, `room N` and
+//! `most N` are the bytes that the sink has room for and takes at a call. Then `$ ARGUMENTS` is a run, its
+//! arguments one space apart. `faults,take N,most N $ ARGUMENTS` is a run with faults of its own, and
+//! `again,take N $ ARGUMENTS` two runs over one folder, the second into a sink that never fails. `set TEXT`
+//! compares the text with that of each line `set` of the case, under its schema where it has one, over a
+//! folder and a sink that never fail, and prints the exit numbers. `file TEXT` compares a file with itself,
+//! and prints the first fault of a faulty file, and of any other that it isn't more permissive.
 //!
 //! A command with its files has a tab behind it and between them: `check FIRST SECOND PROOF` and `eval SET
 //! REQUEST`, and behind them a schema's file or none. In a certificate `/` stands for a line feed. The exit
@@ -35,7 +37,7 @@ mod rows;
 
 use commands::print_command;
 use real::print_real;
-use rows::{print_file, print_row, print_words};
+use rows::{print_faulty, print_file, print_row, print_words};
 use std::io;
 use std::io::Write;
 
@@ -44,6 +46,10 @@ fn print_line(rt: &HostRuntime, out: &mut impl Write, case: &str, line: &str) ->
     if line.starts_with('$') {
         writeln!(out, "{line}")?;
         return print_words(alloc, out, case, line);
+    }
+    if line.starts_with("faults,") || line.starts_with("again,") {
+        writeln!(out, "{line}")?;
+        return print_faulty(alloc, out, case, line);
     }
     if let Some(first) = line.strip_prefix("set ") {
         return print_row(alloc, out, case, first);

@@ -94,13 +94,18 @@ pub(crate) fn print_and_hold(
     Ok(())
 }
 
-/// The text of a certificate, in which `/` stands for a line feed.
-pub(crate) fn unpacked(alloc: Global, packed: &str) -> io::Result<String> {
+/// The text in which a character stands for a line feed.
+pub(crate) fn lines_of(alloc: Global, packed: &str, mark: char) -> io::Result<String> {
     let mut text = String::new(alloc);
     for c in packed.chars() {
-        text.push(if c == '/' { '\n' } else { c })?;
+        text.push(if c == mark { '\n' } else { c })?;
     }
     Ok(text)
+}
+
+/// The text of a certificate, in which `/` stands for a line feed.
+pub(crate) fn unpacked(alloc: Global, packed: &str) -> io::Result<String> {
+    lines_of(alloc, packed, '/')
 }
 
 fn hold(alloc: Global, folder: &mut MemoryFolder, name: &str, text: &str) -> io::Result<()> {

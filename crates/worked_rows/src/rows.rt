@@ -1,7 +1,7 @@
 //! Runs over the files and faults of a case, and comparisons of its sets.
 ghost use Rattle.std.specs.Prelude.{◌<◌, IfOk};
 
-use crate::memory::{arguments_of, number_of_run, written_by_words};
+use crate::memory::{arguments_of, lines_of, number_of_run, unpacked, written_by_words};
 use line_expansion::expand;
 use pol_outside::{MemoryFolder, MemorySink, SafeFolder, SafeSink};
 use std::alloc::Global;
@@ -11,7 +11,7 @@ use std::io::{ErrorKind, Write};
 /// Room for the answer of a run, where its case names none.
 const ROOM: u64 = 4096;
 
-/// What stands behind the word at the front of a line of a case, below its name.
+/// What stands behind the word at the front of a line of a case, or of faults, below its first line.
 fn behind<'a>(case: &'a str, word: &str) -> Option<&'a str> {
     for line in case.lines().skip(1) {
         if let Some(rest) = line.strip_prefix(word) {
@@ -31,11 +31,11 @@ fn number_behind(case: &str, word: &str, default: u64) -> io::Result<u64> {
     }
 }
 
-/// The most bytes that the sink of a case takes at a call: at least one.
-fn most_of(case: &str) -> io::Result<usize>
+/// The most bytes that a sink takes at a call: at least one.
+fn most_of(faults: &str) -> io::Result<usize>
     ensures { IfOk result (λ n. 0 < n) }
 {
-    match number_behind(case, "most ", ROOM)? {
+    match number_behind(faults, "most ", ROOM)? {
         0 => Err(ErrorKind::InvalidData.into()),
         most => Ok(most as usize),
     }
@@ -48,21 +48,37 @@ fn hold(alloc: Global, folder: &mut MemoryFolder, name: &str, text: &str) -> io:
     Ok(())
 }
 
-// Puts the files of a case into the folder, and makes its call of the case's number fail.
-fn fill(alloc: Global, folder: &mut MemoryFolder, case: &str) -> io::Result<()> {
+// Puts a certificate into the folder, of which the text is expanded before `/` stands for a line feed.
+fn hold_proof(alloc: Global, folder: &mut MemoryFolder, text: &str) -> io::Result<()> {
+    let packed = expand(alloc, text)?;
+    folder.hold("proof", unpacked(alloc, packed.as_str())?.as_bytes())?;
+    Ok(())
+}
+
+// Puts the files of a case into the folder.
+fn hold_files(alloc: Global, folder: &mut MemoryFolder, case: &str) -> io::Result<()> {
     for name in ["first", "second", "schema"] {
         if let Some(text) = behind(case, name) {
             hold(alloc, folder, name, text.trim_start())?;
         }
     }
-    folder.fail_at(number_behind(case, "take ", 0)?)?;
+    match behind(case, "proof ") {
+        Some(text) => hold_proof(alloc, folder, text),
+        None => Ok(()),
+    }
+}
+
+// Puts the files of a case into the folder, and makes its call of the faults' number fail.
+fn fill(alloc: Global, folder: &mut MemoryFolder, case: &str, faults: &str) -> io::Result<()> {
+    hold_files(alloc, folder, case)?;
+    folder.fail_at(number_behind(faults, "take ", 0)?)?;
     Ok(())
 }
 
-fn sink_of(alloc: Global, case: &str) -> io::Result<MemorySink> {
-    let room = number_behind(case, "room ", ROOM)? as usize;
-    let most = most_of(case)?;
-    let call = number_behind(case, "put ", 0)?;
+fn sink_of(alloc: Global, faults: &str) -> io::Result<MemorySink> {
+    let room = number_behind(faults, "room ", ROOM)? as usize;
+    let most = most_of(faults)?;
+    let call = number_behind(faults, "put ", 0)?;
     let mut sink = MemorySink::new(alloc, room, most)?;
     sink.fail_at(call)?;
     Ok(sink)
@@ -74,15 +90,15 @@ fn print_end(out: &mut impl Write, number: u8, written: &[u8]) -> io::Result<()>
     out.write_all(b"\n")
 }
 
-// Prints the end of a run over the folder.
+// Prints the end of a run over the folder, into a sink that fails as the faults say.
 fn print_over(
     alloc: Global,
     out: &mut impl Write,
     folder: &mut MemoryFolder,
-    case: &str,
+    faults: &str,
     arguments: &[String],
 ) -> io::Result<()> {
-    let mut sink = sink_of(alloc, case)?;
+    let mut sink = sink_of(alloc, faults)?;
     let number = number_of_run(alloc, arguments, folder, &mut sink);
     print_end(out, number, sink.written())
 }
@@ -95,8 +111,48 @@ fn print_run(
     arguments: &[String],
 ) -> io::Result<()> {
     let mut folder = MemoryFolder::new(alloc);
-    fill(alloc, &mut folder, case)?;
+    fill(alloc, &mut folder, case, case)?;
     print_over(alloc, out, &mut folder, case, arguments)
+}
+
+// Prints the end of a run over the folder, which gets the files of a case, with faults of its own; and
+// behind the word `again` that of a second run over the same folder and a sink that never fails.
+fn print_faulty_over(
+    alloc: Global,
+    out: &mut impl Write,
+    folder: &mut MemoryFolder,
+    case: &str,
+    faults: &str,
+    words: &str,
+) -> io::Result<()> {
+    fill(alloc, folder, case, faults)?;
+    let arguments = arguments_of(alloc, words)?;
+    print_over(alloc, out, folder, faults, arguments.as_slice())?;
+    if faults.starts_with("again") {
+        print_over(alloc, out, folder, "", arguments.as_slice())?;
+    }
+    Ok(())
+}
+
+/// Prints the exit numbers of the runs of a line that has faults of its own, and what they wrote.
+pub(crate) fn print_faulty(
+    alloc: Global,
+    out: &mut impl Write,
+    case: &str,
+    line: &str,
+) -> io::Result<()> {
+    let Some((faults, words)) = line.split_once(" $ ") else {
+        return Err(ErrorKind::InvalidData.into());
+    };
+    let faults = lines_of(alloc, faults, ',')?;
+    print_faulty_over(
+        alloc,
+        out,
+        &mut MemoryFolder::new(alloc),
+        case,
+        faults.as_str(),
+        words,
+    )
 }
 
 /// Prints the exit number of the run in memory of a line's words behind its first, and what it wrote.
