@@ -10,7 +10,7 @@ use policy_model::PolicySet;
 use std::alloc::Global;
 
 /// The most pairs of items of two sets that are compared.
-pub const MOST_PAIRS: usize = 67_108_864;
+pub const MOST_PAIRS: usize = 2_000_000_000;
 
 /// The first set without what the second allows too of its grants: each Allow statement without the items of
 /// its `Action` by which the second allows what the first allows, as single statements of the two sets tell,
