@@ -18,3 +18,6 @@ mod Taking
 mod Shapes
 mod Branching
 mod Whole
+mod Fronts
+mod Digits
+pub mod Ended

@@ -49,7 +49,7 @@ front-alone [] e is = cc
 front-alone (c ∷ []) e is = refl
 front-alone (c ∷ d ∷ cs) e is = absurd (front-other c e is)
 
-number-spelled : (part : List ℕ) (n : ℕ) → number_said part ≡ Some n → is_small n ≡ true → part ≡ decimal n
+pub number-spelled : (part : List ℕ) (n : ℕ) → number_said part ≡ Some n → is_small n ≡ true → part ≡ decimal n
 number-spelled part n is small =
     let known = picked (is_number part) (digits_value 10 part) n is in
     let forms = and_parts (is_plain_front part) (all_ascii_digits part) known.0 in
@@ -232,7 +232,7 @@ end-picked : (b : ℕ) (ends : Bool) (content : List ℕ) → eqb b 10 ≡ ends 
 end-picked b true content is e = let none : content ≡ [] = given-nil content e in ap (λ c. c ∷ []) (eqb-true b 10 is) ∙ ap (λ t. t ++ 10 ∷ []) (sym none)
 end-picked b false content is e = cc
 
-content-spelled : (line content : List ℕ) → content_of line ≡ Some content → line ≡ content ++ 10 ∷ []
+pub content-spelled : (line content : List ℕ) → content_of line ≡ Some content → line ≡ content ++ 10 ∷ []
 content-spelled [] content e = cc
 content-spelled (b ∷ []) content e = end-picked b (eqb b 10) content refl e
 content-spelled (b ∷ c ∷ bs) content e =

@@ -1,15 +1,14 @@
--- Whole files: from the readings of their parts.
+-- Whole certificates: from the readings of their parts.
 use Rattle.std.proofs.Common.{◌≡◌, ◌≢◌, ℕ, ◌+◌, ◌≤◌, Bool, true, false, List, [], ◌∷◌, ◌++◌, length, map, drop, Some, None, Err, eqb, append-nil, refl, sym, ap, ◌∙◌, subst, arith, inl, inr, if◌then◌else◌}
 use Rattle.std.proofs.lemmas.Bool.{eqb-true}
 use Rattle.std.proofs.lemmas.List.{length-append, length-map}
 use Rattle.std.specs.List.{concat, flat_map, join_with_byte, onto_first}
 use Rattle.refute_check.specs.Proofs.{Proof, size, by_clauses, by_slot, by_value, label, reuse, split}
-use Rattle.proof_text.specs.Faults.{fault_from, fault_of_line, proof_fault, proof_fault_at, skipped}
+use Rattle.proof_text.specs.Faults.{fault_from, fault_of_line, proof_fault_at}
 use Rattle.proof_text.specs.LineForms.{a_node, a_version, line_said, lines_of}
-use Rattle.proof_text.specs.Lines.{Line, certificate_line, line_parts, line_text, verdict_line}
-use Rattle.proof_text.specs.Spelling.{IsCertificateOf, node_lines, proof_lines, spell, starts}
-use Rattle.proof_text.specs.Steps.{FailsFrom, IsBehind, IsEndRead, IsFirstLocation, IsLineRead, TakesLines, answer_here, labels_in}
-use Rattle.proof_text.specs.Reads.{IsProofRead}
+use Rattle.proof_text.specs.Lines.{Line, certificate_line, line_parts, line_text}
+use Rattle.proof_text.specs.Spelling.{node_lines, proof_lines, spell, starts}
+use Rattle.proof_text.specs.Steps.{FailsFrom, IsBehind, IsEndRead, IsLineRead, IsProofReadAt, TakesLines, answer_here, labels_in}
 use Rattle.proof_text.specs.declared.fault.LineAnswer.{LineAnswer}
 use Rattle.proof_text.proofs.Branching.{fails-at, passes, takes-at}
 use Rattle.proof_text.proofs.Taking.{fails-below, leads-line, line-refused}
@@ -30,7 +29,7 @@ concat-picked : (b : ℕ) (ends : Bool) (bs : List ℕ) → concat (lines_of bs)
 concat-picked b true bs h = ap (λ r. b ∷ r) h
 concat-picked b false bs h = concat-onto b (lines_of bs) ∙ ap (λ r. b ∷ r) h
 
-concat-lines : (bs : List ℕ) → concat (lines_of bs) ≡ bs
+pub concat-lines : (bs : List ℕ) → concat (lines_of bs) ≡ bs
 concat-lines [] = refl
 concat-lines (b ∷ bs) = concat-picked b (eqb b 10) bs (concat-lines bs)
 
@@ -42,21 +41,11 @@ concat-texts (l ∷ ls) = ap (λ r. line_text l ++ r) (concat-texts ls)
 text-of : (bs : List ℕ) (ls : List Line) → lines_of bs ≡ map line_text ls → bs ≡ flat_map line_text ls
 text-of bs ls e = sym (concat-lines bs) ∙ ap concat e ∙ concat-texts ls
 
--- ---- the first fault of a file
+-- ---- the certificate at a location
 
-fault-at : (limits : Limits) (bytes : List ℕ) (start : Location) → IsFirstLocation bytes start → proof_fault limits bytes ≡ fault_from limits (a_version ∷ []) start.number start.begun (lines_of start.bytes.now)
-unfolding proof_fault
-fault-at limits bytes start first =
-    ap (λ n. fault_from limits (a_version ∷ []) n 0 (drop (skipped (lines_of bytes)) (lines_of bytes))) (sym first.number) ∙
-    ap (λ k. fault_from limits (a_version ∷ []) start.number k (drop (skipped (lines_of bytes)) (lines_of bytes))) (sym first.begun) ∙
-    ap (fault_from limits (a_version ∷ []) start.number start.begun) (sym first.lines)
-
-pub whole-fails : (limits : Limits) (bytes : List ℕ) (start : Location) (fault : ProofFault) → IsFirstLocation bytes start → FailsFrom limits (a_version ∷ []) start (Refused fault) → proof_fault limits bytes ≡ Some fault
-whole-fails limits bytes start fault first fails = fault-at limits bytes start first ∙ fails []
-
-pub read-refused : (limits : Limits) (bytes : List ℕ) (start : Location) (answer : ProofAnswer) → IsFirstLocation bytes start → FailsFrom limits (a_version ∷ []) start answer → IsProofRead limits bytes (Err answer)
-read-refused limits bytes start (Refused fault) first fails = whole-fails limits bytes start fault first fails
-read-refused limits bytes start NoMemory first fails = tt
+pub read-refused : (limits : Limits) (start : Location) (answer : ProofAnswer) → FailsFrom limits (a_version ∷ []) start answer → IsProofReadAt limits start (Err answer)
+read-refused limits start (Refused fault) fails = fails []
+read-refused limits start NoMemory fails = tt
 
 some-picked : (b : ℕ) (ends : Bool) (ls : List (List ℕ)) → (first : List ℕ) × (more : List (List ℕ)) × ((if ends then (b ∷ []) ∷ ls else onto_first b ls) ≡ first ∷ more)
 some-picked b true ls = (b ∷ [], ls, refl)
@@ -71,29 +60,27 @@ behind-end : (limits : Limits) (n begun : ℕ) (lines : List (List ℕ)) (l : Li
 behind-end limits n begun lines l ls e = ap (fault_from limits [] n begun) e
 
 -- lines up to the end
-taken-whole : (limits : Limits) (bytes : List ℕ) (start end : Location) (ls : List Line) → IsFirstLocation bytes start → TakesLines limits (a_version ∷ []) start ls end → proof_fault limits bytes ≡ fault_from limits [] end.number end.begun (lines_of end.bytes.now)
-taken-whole limits bytes start end ls first takes =
-    fault-at limits bytes start first ∙ ap (fault_from limits (a_version ∷ []) start.number start.begun) takes.cut ∙ takes.taken [] start.number (lines_of end.bytes.now) ∙
+taken-whole : (limits : Limits) (start end : Location) (ls : List Line) → TakesLines limits (a_version ∷ []) start ls end →
+    fault_from limits (a_version ∷ []) start.number start.begun (lines_of start.bytes.now) ≡ fault_from limits [] end.number end.begun (lines_of end.bytes.now)
+taken-whole limits start end ls takes =
+    ap (fault_from limits (a_version ∷ []) start.number start.begun) takes.cut ∙ takes.taken [] start.number (lines_of end.bytes.now) ∙
     ap (λ n. fault_from limits [] n (start.begun + labels_in ls) (lines_of end.bytes.now)) (omega (arith, takes.count, length-map ls line_text)) ∙
     ap (λ k. fault_from limits [] end.number k (lines_of end.bytes.now)) (sym takes.begun)
 
-pub whole-longer : (limits : Limits) (bytes : List ℕ) (start end : Location) (ls : List Line) (fault : ProofFault) → IsFirstLocation bytes start → TakesLines limits (a_version ∷ []) start ls end → end.bytes.now ≢ [] → fault ≡ proof_fault_at end.number C1Syntax → proof_fault limits bytes ≡ Some fault
-whole-longer limits bytes start end ls fault first takes some is =
+whole-longer : (limits : Limits) (start end : Location) (ls : List Line) (fault : ProofFault) → TakesLines limits (a_version ∷ []) start ls end → end.bytes.now ≢ [] → fault ≡ proof_fault_at end.number C1Syntax →
+    fault_from limits (a_version ∷ []) start.number start.begun (lines_of start.bytes.now) ≡ Some fault
+whole-longer limits start end ls fault takes some is =
     let more = some-line end.bytes.now some in
-    taken-whole limits bytes start end ls first takes ∙ behind-end limits end.number end.begun (lines_of end.bytes.now) more.0 more.1 more.2 ∙ ap Some (sym is)
+    taken-whole limits start end ls takes ∙ behind-end limits end.number end.begun (lines_of end.bytes.now) more.0 more.1 more.2 ∙ ap Some (sym is)
 
-pub whole-none : (limits : Limits) (bytes : List ℕ) (start end : Location) (ls : List Line) → IsFirstLocation bytes start → TakesLines limits (a_version ∷ []) start ls end → end.bytes.now ≡ [] → proof_fault limits bytes ≡ None
-whole-none limits bytes start end ls first takes none =
-    taken-whole limits bytes start end ls first takes ∙ ap (λ (bs : List ℕ). fault_from limits [] end.number end.begun (lines_of bs)) none
+pub whole-none : (limits : Limits) (start end : Location) (ls : List Line) → TakesLines limits (a_version ∷ []) start ls end → end.bytes.now ≡ [] → fault_from limits (a_version ∷ []) start.number start.begun (lines_of start.bytes.now) ≡ None
+whole-none limits start end ls takes none =
+    taken-whole limits start end ls takes ∙ ap (λ (bs : List ℕ). fault_from limits [] end.number end.begun (lines_of bs)) none
 
-pub whole-spelled : (limits : Limits) (version : ℕ) (bytes : List ℕ) (start end : Location) (p : Proof) → IsFirstLocation bytes start → TakesLines limits (a_version ∷ []) start (proof_lines version p) end → end.bytes.now ≡ [] → IsCertificateOf version bytes p
-whole-spelled limits version bytes start end p first takes none =
+pub whole-spelled : (limits : Limits) (version : ℕ) (start end : Location) (p : Proof) → TakesLines limits (a_version ∷ []) start (proof_lines version p) end → end.bytes.now ≡ [] → start.bytes.now ≡ spell version p
+whole-spelled limits version start end p takes none =
     let lines : lines_of start.bytes.now ≡ map line_text (proof_lines version p) = takes.cut ∙ ap (λ (bs : List ℕ). map line_text (proof_lines version p) ++ lines_of bs) none ∙ append-nil (map line_text (proof_lines version p)) in
-    let text : start.bytes.now ≡ spell version p = text-of start.bytes.now (proof_lines version p) lines in
-    elim first.whole [
-      | inl same ↦ inl (same ∙ text)
-      | inr behind ↦ inr (behind ∙ ap (λ t. verdict_line ++ t) text)
-    ]
+    text-of start.bytes.now (proof_lines version p) lines
 
 -- ---- nodes
 
@@ -124,9 +111,8 @@ starts-size n (reuse k) = refl
 spelled-nodes : (version : ℕ) (p : Proof) → size p ≤ length (spell version p)
 spelled-nodes version p = omega (arith, size-lines p, few-lines (proof_lines version p))
 
-pub few-nodes : (version : ℕ) (bytes : List ℕ) (p : Proof) → IsCertificateOf version bytes p → size p ≤ length bytes
-few-nodes version bytes p (inl is) = omega (arith, ap length is, spelled-nodes version p)
-few-nodes version bytes p (inr is) = omega (arith, ap length is, length-append verdict_line (spell version p), spelled-nodes version p)
+pub few-nodes : (version : ℕ) (bytes : List ℕ) (p : Proof) → bytes ≡ spell version p → size p ≤ length bytes
+few-nodes version bytes p is = omega (arith, ap length is, spelled-nodes version p)
 
 -- ---- the version, and the node behind it
 
@@ -140,22 +126,22 @@ version-takes limits start behind end line v seen p none next known empty takes 
     let all = leads-line limits a_version start behind end line (certificate_line v) (node_lines p) next known.0 (at-first limits start.begun v none known.1) (takes-at limits 0 seen [] behind end (node_lines p) empty takes) in
     subst (λ n. TakesLines limits (a_version ∷ []) start (certificate_line n ∷ node_lines p) end) same all
 
-pub version-fails : (limits : Limits) (bytes : List ℕ) (start behind : Location) (line : List ℕ) (v : ℕ) (seen : List ℕ) (answer : ProofAnswer) → IsFirstLocation bytes start → IsBehind line 0 start behind → (line_said a_version line ≡ Some (certificate_line v)) × (fault_of_line limits 0 a_version (Some (certificate_line v)) ≡ None) →
-    seen ≡ [] → FailsFrom limits (a_node 0 seen ∷ []) behind answer → IsProofRead limits bytes (Err answer)
-version-fails limits bytes start behind line v seen answer first next known empty fails =
-    read-refused limits bytes start answer first (fails-below limits a_version start behind line (certificate_line v) answer next known.0 (at-first limits start.begun v first.begun known.1) (fails-at limits 0 seen [] behind answer empty fails))
+pub version-fails : (limits : Limits) (start behind : Location) (line : List ℕ) (v : ℕ) (seen : List ℕ) (answer : ProofAnswer) → start.begun ≡ 0 → IsBehind line 0 start behind → (line_said a_version line ≡ Some (certificate_line v)) × (fault_of_line limits 0 a_version (Some (certificate_line v)) ≡ None) →
+    seen ≡ [] → FailsFrom limits (a_node 0 seen ∷ []) behind answer → IsProofReadAt limits start (Err answer)
+version-fails limits start behind line v seen answer none next known empty fails =
+    read-refused limits start answer (fails-below limits a_version start behind line (certificate_line v) answer next known.0 (at-first limits start.begun v none known.1) (fails-at limits 0 seen [] behind answer empty fails))
 
-pub version-refused : (limits : Limits) (bytes : List ℕ) (start behind : Location) (line : List ℕ) (a : LineAnswer) (answer : ProofAnswer) → IsFirstLocation bytes start → IsBehind line 0 start behind → IsLineRead (λ n. certificate_line n) limits 0 a_version (line_said a_version line) (Err a) → answer ≡ answer_here start.number a →
-    IsProofRead limits bytes (Err answer)
-version-refused limits bytes start behind line a answer first next read is =
-    let here : IsLineRead (λ n. certificate_line n) limits start.begun a_version (line_said a_version line) (Err a) = subst (λ k. IsLineRead (λ n. certificate_line n) limits k a_version (line_said a_version line) (Err a)) (sym first.begun) read in
-    read-refused limits bytes start answer first (line-refused (λ n. certificate_line n) limits a_version start behind line 0 a answer next here is)
+pub version-refused : (limits : Limits) (start behind : Location) (line : List ℕ) (a : LineAnswer) (answer : ProofAnswer) → start.begun ≡ 0 → IsBehind line 0 start behind → IsLineRead (λ n. certificate_line n) limits 0 a_version (line_said a_version line) (Err a) → answer ≡ answer_here start.number a →
+    IsProofReadAt limits start (Err answer)
+version-refused limits start behind line a answer none next read is =
+    let here : IsLineRead (λ n. certificate_line n) limits start.begun a_version (line_said a_version line) (Err a) = subst (λ k. IsLineRead (λ n. certificate_line n) limits k a_version (line_said a_version line) (Err a)) (sym none) read in
+    read-refused limits start answer (line-refused (λ n. certificate_line n) limits a_version start behind line 0 a answer next here is)
 
-pub end-fails : (limits : Limits) (bytes : List ℕ) (start end : Location) (ls : List Line) (answer : ProofAnswer) → IsFirstLocation bytes start → TakesLines limits (a_version ∷ []) start ls end → IsEndRead end (Err answer) → IsProofRead limits bytes (Err answer)
-end-fails limits bytes start end ls answer first takes read =
-    subst (λ (r : ProofAnswer). IsProofRead limits bytes (Err r)) (sym read.1) (whole-longer limits bytes start end ls (proof_fault_at end.number C1Syntax) first takes read.0 refl)
+pub end-fails : (limits : Limits) (start end : Location) (ls : List Line) (answer : ProofAnswer) → TakesLines limits (a_version ∷ []) start ls end → IsEndRead end (Err answer) → IsProofReadAt limits start (Err answer)
+end-fails limits start end ls answer takes read =
+    subst (λ (r : ProofAnswer). IsProofReadAt limits start (Err r)) (sym read.1) (whole-longer limits start end ls (proof_fault_at end.number C1Syntax) takes read.0 refl)
 
 -- the lines of the nodes
-pub node-starts : (limits : Limits) (bytes : List ℕ) (start behind : Location) (line before own : List ℕ) (p : Proof) → IsFirstLocation bytes start → IsBehind line 0 start behind → before ≡ [] → own ≡ before ++ starts behind.number p → own ≡ starts (skipped (lines_of bytes) + 2) p
-node-starts limits bytes start behind line before own p first next empty is =
-    is ∙ ap (λ l. l ++ starts behind.number p) empty ∙ ap (λ n. starts n p) (omega (arith, next.number, first.number))
+pub node-starts : (limits : Limits) (start behind : Location) (line before own : List ℕ) (p : Proof) → IsBehind line 0 start behind → before ≡ [] → own ≡ before ++ starts behind.number p → own ≡ starts (start.number + 1) p
+node-starts limits start behind line before own p next empty is =
+    is ∙ ap (λ l. l ++ starts behind.number p) empty ∙ ap (λ n. starts n p) next.number

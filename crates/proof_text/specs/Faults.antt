@@ -147,8 +147,10 @@ abbrev pub skipped : List (List ℕ) → ℕ
 skipped [] = 0
 skipped (line ∷ lines) = (if bytes_eq line verdict_line then 1 else 0)
 
--- the first fault of a file, or none. Lines are counted from the file's first, from 1
+-- the first fault of a file of which so many lines stand before the certificate, or none. Lines are counted from the file's first, from 1
+unfoldable pub fault_behind : Limits → ℕ → List ℕ → Option ProofFault
+fault_behind limits front bytes = fault_from limits (a_version ∷ []) (front + 1) 0 (drop front (lines_of bytes))
+
+-- that of a file before whose certificate nothing but the answer of a comparison may stand
 unfoldable pub proof_fault : Limits → List ℕ → Option ProofFault
-proof_fault limits bytes =
-    let lines = lines_of bytes in
-    fault_from limits (a_version ∷ []) (skipped lines + 1) 0 (drop (skipped lines) lines)
+proof_fault limits bytes = fault_behind limits (skipped (lines_of bytes)) bytes

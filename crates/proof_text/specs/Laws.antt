@@ -1,5 +1,5 @@
 -- What refutations, their texts and the faults of texts say of one another.
-use Rattle.std.specs.Prelude.{◌≡◌, ◌≤◌, ⊤, ℕ, List, [], length, None, All}
+use Rattle.std.specs.Prelude.{◌≡◌, ◌≤◌, ◌==◌, ⊤, ℕ, List, [], ◌++◌, length, false, None, All}
 use Rattle.formula_tree.specs.Trees.{Tree}
 use Rattle.policy_model.specs.declared.schema.Schema.{Schema}
 use Rattle.policy_model.specs.declared.test.Test.{Test}
@@ -11,9 +11,10 @@ use Rattle.slot_theory.specs.declared.outcome.SlotProof.{SlotProof}
 use Rattle.slot_theory.specs.declared.outcome.SlotProof.TheVariants.{Points, Absent, Required, Word, Kinds, Member, SomeMember}
 use Rattle.proof_text.specs.declared.limits.Limits.{Limits}
 use Rattle.proof_text.specs.declared.limits.TheConstants.{MOST_NESTING, MOST_NUMBER, MOST_PROOF_BYTES}
-use Rattle.proof_text.specs.Faults.{numbers_in, proof_fault}
+use Rattle.proof_text.specs.Faults.{fault_behind, numbers_in, proof_fault}
+use Rattle.proof_text.specs.LineForms.{ended_lines}
 use Rattle.proof_text.specs.Lines.{Line}
-use Rattle.proof_text.specs.Spelling.{IsCertificateOf, proof_lines}
+use Rattle.proof_text.specs.Spelling.{IsCertificateOf, proof_lines, spell}
 
 -- no number is above the greatest that a certificate may have
 abbrev pub AreSmall : List ℕ → Type 0
@@ -67,6 +68,19 @@ ClosingProofsHaveNoFault =
     Closes schema tests tree at_first proof [] → depth proof ≤ MOST_NESTING → HoldsSmallNumbers proof →
     length tests ≤ MOST_NUMBER → version ≤ MOST_NUMBER →
     IsCertificateOf version bytes proof → length bytes ≤ MOST_PROOF_BYTES → proof_fault (limits_of tests version) bytes ≡ None
+
+-- no line feed stands in it
+abbrev pub IsUnbroken : List ℕ → Type 0
+IsUnbroken content = All (λ b. (b == 10) ≡ false) content
+
+-- nor has it one where any lines stand before it, of as many as there are lines
+abbrev pub ClosingProofsHaveNoFaultBehind : Type 0
+ClosingProofsHaveNoFaultBehind =
+    (schema : Schema) (tests : List Test) (tree : Tree) (version : ℕ) (proof : Proof) (contents : List (List ℕ)) →
+    Closes schema tests tree at_first proof [] → depth proof ≤ MOST_NESTING → HoldsSmallNumbers proof →
+    length tests ≤ MOST_NUMBER → version ≤ MOST_NUMBER →
+    All IsUnbroken contents → length (ended_lines contents ++ spell version proof) ≤ MOST_PROOF_BYTES →
+    fault_behind (limits_of tests version) (length contents) (ended_lines contents ++ spell version proof) ≡ None
 
 -- no number of any line of the certificate is above the greatest
 abbrev pub IsSmall : ℕ → Proof → Type 0

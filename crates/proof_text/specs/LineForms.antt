@@ -1,8 +1,8 @@
 -- What a line of a file says, by what must stand there. A line is cut at each space; its first part is a word, the others are numbers,
 -- in a line of places lists of numbers, and behind the number of a label answers to tests.
-use Rattle.std.specs.Prelude.{ℕ, ◌==◌, List, [], ◌∷◌, map, Bool, true, false, not, ◌&&◌, Option, Some, None}
+use Rattle.std.specs.Prelude.{ℕ, ◌-◌, ◌==◌, List, [], ◌∷◌, ◌++◌, map, drop, length, min, Bool, true, false, not, ◌&&◌, Option, Some, None}
 use Rattle.std.specs.Prelude.{option_map, option_and_then, bytes_eq, codes, if◌then◌else◌}
-use Rattle.std.specs.List.{onto_first, slice_split}
+use Rattle.std.specs.List.{concat, flat_map, onto_first, slice_split}
 use Rattle.std.specs.Str.{all_ascii_digits}
 use Rattle.std.specs.Str.Parse.{digits_value}
 use Rattle.formula_tree.specs.Answers.{Answers}
@@ -143,6 +143,18 @@ content_said e content = said_in e (slice_split (λ b. b == 32) content)
 abbrev pub lines_of : List ℕ → List (List ℕ)
 lines_of [] = []
 lines_of (b ∷ bs) = (if b == 10 then (b ∷ []) ∷ lines_of bs else onto_first b (lines_of bs))
+
+-- how many lines stand before the line of this number, counted from 1: all, where there is no such line
+abbrev pub lines_before : ℕ → List ℕ → ℕ
+lines_before line bytes = min (line - 1) (length (lines_of bytes))
+
+-- what stands behind so many lines
+abbrev pub bytes_behind : ℕ → List ℕ → List ℕ
+bytes_behind front bytes = concat (drop front (lines_of bytes))
+
+-- lines of these contents, each ended by a line feed
+abbrev pub ended_lines : List (List ℕ) → List ℕ
+ended_lines contents = flat_map (λ content. content ++ 10 ∷ []) contents
 
 -- the line without the line feed that ends it, or none where it has no end
 abbrev pub content_of : List ℕ → Option (List ℕ)

@@ -5,9 +5,11 @@ use Rattle.std.specs.Borrow.{Bor}
 use Rattle.std.specs.List.{list_all, slice_split}
 use Rattle.formula_tree.specs.Answers.{Answers}
 use Rattle.proof_text.specs.Faults.{fault_from, fault_of_line, labels_begun, proof_fault_at, skipped}
-use Rattle.proof_text.specs.Laws.{HasSmallNumbers}
-use Rattle.proof_text.specs.LineForms.{Expected, answers_of, lines_of, number_said}
+use Rattle.refute_check.specs.Proofs.{proof_of}
+use Rattle.proof_text.specs.Laws.{HasSmallNumbers, IsSmall}
+use Rattle.proof_text.specs.LineForms.{Expected, a_version, answers_of, lines_of, number_said}
 use Rattle.proof_text.specs.Lines.{Line, line_text, verdict_line}
+use Rattle.proof_text.specs.Spelling.{spell, starts}
 use Rattle.proof_text.specs.declared.fault.LineAnswer.{LineAnswer}
 use Rattle.proof_text.specs.declared.fault.LineAnswer.TheVariants.{Fails, NoMemory as NoLineMemory}
 use Rattle.proof_text.specs.declared.fault.ProofAnswer.{ProofAnswer}
@@ -16,6 +18,7 @@ use Rattle.proof_text.specs.declared.fault.ProofCode.TheVariants.{C1Syntax}
 use Rattle.proof_text.specs.declared.limits.Limits.{Limits}
 use Rattle.proof_text.specs.declared.limits.TheConstants.{MOST_NUMBER, MOST_PROOF_BYTES}
 use Rattle.proof_text.specs.declared.location.Location.{Location}
+use Rattle.proof_text.specs.declared.read.ReadProof.{ReadProof}
 
 -- what stands behind a part, as parts: nothing, or a text that is cut at each such byte
 abbrev pub parts_left : ℕ → Option (List ℕ) → List (List ℕ)
@@ -122,6 +125,13 @@ abbrev pub answer_here : ℕ → LineAnswer → ProofAnswer
 answer_here n (Fails code) = Refused (proof_fault_at n code)
 answer_here n NoLineMemory = NoMemory
 
+-- the location behind so many lines of a file
+pub record IsLocationBehind (front : ℕ) (bytes : List ℕ) (location : Location) : Type 0 where
+  pub number : location.number ≡ front + 1
+  pub begun : location.begun ≡ 0
+  pub lines : lines_of location.bytes.now ≡ drop front (lines_of bytes)
+  pub room : HasLineRoom location
+
 -- the location of the certificate in a file
 pub record IsFirstLocation (bytes : List ℕ) (location : Location) : Type 0 where
   pub number : location.number ≡ skipped (lines_of bytes) + 1
@@ -134,3 +144,17 @@ pub record IsFirstLocation (bytes : List ℕ) (location : Location) : Type 0 whe
 abbrev pub IsEndRead : Location → Result (Unit {0}) ProofAnswer → Type 0
 IsEndRead from (Ok u) = from.bytes.now ≡ []
 IsEndRead from (Err answer) = (from.bytes.now ≢ []) × (answer ≡ Refused (proof_fault_at from.number C1Syntax))
+
+-- the certificate at a location, at whose nodes these lines begin
+pub record IsReadAt (limits : Limits) (start : Location) (read : ReadProof) : Type 0 where
+  pub faultless : fault_from limits (a_version ∷ []) start.number start.begun (lines_of start.bytes.now) ≡ None
+  pub spelled : start.bytes.now ≡ spell limits.version (proof_of read.refutation.value)
+  pub small : IsSmall limits.version (proof_of read.refutation.value)
+  pub lines : read.lines ≡ starts (start.number + 1) (proof_of read.refutation.value)
+
+-- what the reader of the certificate at a location answers
+abbrev pub IsProofReadAt : Limits → Location → Result ReadProof ProofAnswer → Type 0
+IsProofReadAt limits start (Ok read) = IsReadAt limits start read
+IsProofReadAt limits start (Err (Refused fault)) =
+    fault_from limits (a_version ∷ []) start.number start.begun (lines_of start.bytes.now) ≡ Some fault
+IsProofReadAt limits start (Err NoMemory) = Unit {0}

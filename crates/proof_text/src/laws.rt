@@ -1,12 +1,18 @@
 //! What certificates and refutations come to. Each law is a function that does nothing, and whose
 //! contract states it.
-ghost use Rattle.proof_text.specs.Laws.{ClosingProofsAreSmall, ClosingProofsHaveNoFault, OneProofForEachText};
+ghost use Rattle.proof_text.specs.Laws.{ClosingProofsAreSmall, ClosingProofsHaveNoFault};
+ghost use Rattle.proof_text.specs.Laws.{ClosingProofsHaveNoFaultBehind, OneProofForEachText};
 
 /// The certificate of a refutation that closes a query, that nests at most 2,000 splits and labels and
 /// whose numbers are at most 4,294,967,295, has no fault for that query, up to 67,108,864 bytes, whether
 /// or not the answer of a comparison stands before it.
 pub fn closing_proofs_have_no_fault()
     ensures { ClosingProofsHaveNoFault }
+{}
+
+/// Nor has it a fault for that query where other lines stand before it, of as many as there are.
+pub fn closing_proofs_have_no_fault_behind()
+    ensures { ClosingProofsHaveNoFaultBehind }
 {}
 
 /// No number of any line of such a certificate is above 4,294,967,295.

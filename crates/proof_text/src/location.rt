@@ -2,8 +2,10 @@
 ghost use Rattle.std.specs.Prelude.{◌≡◌, ◌≢◌, ◌<◌, ◌+◌, ◌≤◌, ◌∷◌, [], drop, take, length};
 ghost use Rattle.proof_text.specs.declared.fault.ProofAnswer.TheVariants.{Refused};
 ghost use Rattle.proof_text.specs.Faults.{proof_fault_at};
-ghost use Rattle.proof_text.specs.LineForms.{lines_of};
-ghost use Rattle.proof_text.specs.Steps.{HasLineRoom, IsEndRead, IsFirstLocation, IsLineAt, answer_here};
+ghost use Rattle.proof_text.specs.LineForms.{lines_before, lines_of};
+ghost use Rattle.proof_text.specs.Reads.{IsFirstLine};
+ghost use Rattle.proof_text.specs.Steps.{HasLineRoom, IsEndRead, IsFirstLocation, IsLineAt};
+ghost use Rattle.proof_text.specs.Steps.{IsLocationBehind, answer_here};
 
 use crate::fault::{LineAnswer, ProofAnswer, ProofCode, ProofFault};
 use crate::limits::MOST_PROOF_BYTES;
@@ -86,6 +88,17 @@ pub(crate) fn with_label<'a>(location: Location<'a>) -> Location<'a>
     }
 }
 
+/// The first line of a file, with the line feed that ends it, and what stands behind; none where the file is
+/// empty. The last line of a file may have no end.
+pub fn first_line(bytes: &[u8]) -> Option<(&[u8], &[u8])>
+    ensures { IsFirstLine bytes.now result }
+{
+    if bytes.is_empty() {
+        return None;
+    }
+    Some(bytes.split_at(line_length(bytes)))
+}
+
 /// The location of the certificate in a file: behind the answer of a comparison, where that stands first.
 pub(crate) fn first_location(bytes: &[u8]) -> Location<'_>
     requires { length bytes.now ≤ MOST_PROOF_BYTES }
@@ -108,6 +121,26 @@ pub(crate) fn first_location(bytes: &[u8]) -> Location<'_>
         };
     }
     start
+}
+
+/// The location of the line of this number in a file, or of its end where the file has no such line.
+pub(crate) fn location_of_line(bytes: &[u8], line: u32) -> Location<'_>
+    requires from_one { 1 ≤ line }
+    requires few { length bytes.now ≤ MOST_PROOF_BYTES }
+    ensures { IsLocationBehind (lines_before line bytes.now) bytes.now result }
+{
+    let mut location = Location {
+        number: 1,
+        begun: 0,
+        bytes,
+    };
+    for number in 1..line {
+        let Ok((_, behind)) = line_at(location) else {
+            return location;
+        };
+        location = behind;
+    }
+    location
 }
 
 /// Passes at the end of the file: C1 at the number of a line that stands there.

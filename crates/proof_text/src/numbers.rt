@@ -1,11 +1,12 @@
 //! Numbers in the lines of a certificate: decimal digits without zeros in front.
-ghost use Rattle.std.specs.Prelude.{◌≡◌, ◌<◌, ◌≤◌, true, nat_lt, MatchOption};
+ghost use Rattle.std.specs.Prelude.{◌≡◌, ◌<◌, ◌≤◌, true, nat_lt, MatchOption, decimal};
 ghost use Rattle.std.specs.List.{list_all};
 ghost use Rattle.std.specs.Option.{option_copied};
 ghost use Rattle.std.specs.Str.{all_ascii_digits};
 ghost use Rattle.std.specs.Str.Parse.{digits_value};
 ghost use Rattle.pattern_automata.specs.Closed.{rises_from};
 ghost use Rattle.proof_text.specs.LineForms.{is_number, number_said, numbers_of, one_number, some_numbers};
+ghost use Rattle.proof_text.specs.Reads.{IsNoDecimal};
 ghost use Rattle.proof_text.specs.Steps.{IsSmallRead, are_small, is_small, parts_left};
 
 use crate::fault::{LineAnswer, ProofCode};
@@ -53,6 +54,17 @@ fn value_of(digits: &[u8]) -> Option<u32>
         }
     }
     Some(value as u32)
+}
+
+/// The number whose decimal digits the text is, without zeros in front; none where it is that of no number up
+/// to 4,294,967,295.
+pub fn decimal_in(text: &[u8]) -> Option<u32>
+    ensures { MatchOption result (IsNoDecimal text.now) (λ n. text.now ≡ decimal n) }
+{
+    if !is_decimal(text) {
+        return None;
+    }
+    value_of(text)
 }
 
 /// The number that the part is, or none where it is too large.

@@ -34,7 +34,7 @@ pub(crate) fn cut(text: &[u8], between: u8) -> (&[u8], Option<&[u8]>)
 }
 
 /// A line without its end, or none where no line feed ends it.
-pub(crate) fn content_of(line: &[u8]) -> Option<&[u8]>
+pub fn content_of(line: &[u8]) -> Option<&[u8]>
     ensures { option_copied result ≡ content_of line.now }
 {
     let Some((last, content)) = line.split_last() else {

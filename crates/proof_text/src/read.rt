@@ -1,11 +1,15 @@
 //! Reads certificates.
-ghost use Rattle.std.specs.Prelude.{◌≤◌, IfOk, length};
-ghost use Rattle.proof_text.specs.Reads.{HasFewNodes, IsProofRead};
+ghost use Rattle.std.specs.Prelude.{◌≡◌, ◌≤◌, IfOk, length};
+ghost use Rattle.proof_text.specs.LineForms.{lines_before};
+ghost use Rattle.proof_text.specs.Reads.{HasFewNodes, IsProofRead, IsProofReadBehind};
+ghost use Rattle.proof_text.specs.Steps.{HasLineRoom, IsProofReadAt};
 
 use crate::fault::ProofAnswer;
 use crate::limits::{Limits, MOST_PROOF_BYTES};
 use crate::lines::version_line;
-use crate::location::{answer_at, first_location, line_at, require_end};
+use crate::location::{
+    Location, answer_at, first_location, line_at, location_of_line, require_end,
+};
 use crate::nodes::{Trail, read_node, shared};
 use plain_lists::List;
 use refute_check::Refutation;
@@ -40,8 +44,40 @@ pub fn read_proof(
     ensures read { IsProofRead (record { tests = tests; version = version }) bytes.now result }
     ensures nodes { IfOk result (HasFewNodes bytes.now) }
 {
-    let limits = Limits { tests, version };
-    let start = first_location(bytes);
+    read_at(alloc, Limits { tests, version }, first_location(bytes))
+}
+
+/// The refutation whose certificate stands in a file from the line of this number on, counted from 1. What
+/// stands before that line isn't looked at, and no answer of a comparison may stand before the certificate.
+/// Else as `read_proof`: lines are counted from the file's first, and where the file has no such line the
+/// number of the one that is missing is the one after the last.
+pub fn read_proof_from(
+    alloc: Global,
+    tests: u32,
+    version: u32,
+    line: u32,
+    bytes: &[u8],
+) -> Result<ReadProof, ProofAnswer>
+    requires from_one { 1 ≤ line }
+    requires few { length bytes.now ≤ MOST_PROOF_BYTES }
+    ensures read { IsProofReadBehind (record { tests = tests; version = version })
+        (lines_before line bytes.now) bytes.now result }
+    ensures nodes { IfOk result (HasFewNodes bytes.now) }
+{
+    read_at(
+        alloc,
+        Limits { tests, version },
+        location_of_line(bytes, line),
+    )
+}
+
+// The refutation whose certificate stands at a location.
+fn read_at(alloc: Global, limits: Limits, start: Location<'_>) -> Result<ReadProof, ProofAnswer>
+    requires room { HasLineRoom start }
+    requires first { start.begun ≡ 0 }
+    ensures read { IsProofReadAt limits start.entry result }
+    ensures nodes { IfOk result (HasFewNodes start.entry.bytes.now) }
+{
     let (line, behind) = line_at(start)?;
     if let Err(answer) = version_line(limits, line) {
         return Err(answer_at(start.number, answer));
