@@ -5,11 +5,13 @@ use Rattle.std.specs.declared.alloc.AllocError.{AllocError}
 use Rattle.clap.specs.Words.{App, Kinds, Text, fault_of, found_of, matches_of, rows_of}
 use Rattle.clap.specs.declared.parser.matches.ArgMatches.{ArgMatches}
 use Rattle.command_words.proofs.Readings.{other_text}
-use Rattle.command_words.specs.Asked.{Asked, NamedCommand, asked_in, asked_of, asked_unless, check_command, command_of, compare_command, eval_command}
-use Rattle.command_words.specs.Asked.{load_command, summary_command}
+use Rattle.command_words.specs.Asked.{Asked, NamedCommand, asked_in, asked_of, asked_unless, command_of}
+use Rattle.command_words.specs.Asked.{check_command, check_summary_command, compare_command, emit_command, eval_command, idle_command}
+use Rattle.command_words.specs.Asked.{load_command, reach_command, summary_command}
 use Rattle.command_words.specs.Parsing.{Parses}
 use Rattle.command_words.specs.declared.asked.Command.{Command}
-use Rattle.command_words.specs.Forms.{check_form, compare_form, eval_form, load_form, summary_form}
+use Rattle.command_words.specs.Forms.{check_form, check_summary_form, compare_form, emit_form, eval_form, idle_form, load_form}
+use Rattle.command_words.specs.Forms.{reach_form, summary_form}
 
 unless_none : (kinds : Kinds) (asked : Option Asked) → ¬ (kinds ≡ []) → None ≡ asked_unless kinds asked
 unless_none [] asked bad = absurd (bad refl)
@@ -49,6 +51,22 @@ load_name : load_form.top.name ≡ codes "load"
 unfolding load_form
 load_name = refl
 
+idle_name : idle_form.top.name ≡ codes "idle"
+unfolding idle_form
+idle_name = refl
+
+reach_name : reach_form.top.name ≡ codes "reach"
+unfolding reach_form
+reach_name = refl
+
+emit_name : emit_form.top.name ≡ codes "emit"
+unfolding emit_form
+emit_name = refl
+
+check_summary_name : check_summary_form.top.name ≡ codes "check-summary"
+unfolding check_summary_form
+check_summary_name = refl
+
 pub command_compare : (word : Text) → word ≡ codes "compare" → command_of word ≡ Some compare_command
 command_compare word is = rw (is, compare_name) refl
 
@@ -64,15 +82,32 @@ command_eval word is = rw (is, compare_name, check_name, summary_name, eval_name
 pub command_load : (word : Text) → word ≡ codes "load" → command_of word ≡ Some load_command
 command_load word is = rw (is, compare_name, check_name, summary_name, eval_name, load_name) refl
 
+pub command_idle : (word : Text) → word ≡ codes "idle" → command_of word ≡ Some idle_command
+command_idle word is = rw (is, compare_name, check_name, summary_name, eval_name, load_name, idle_name) refl
+
+pub command_reach : (word : Text) → word ≡ codes "reach" → command_of word ≡ Some reach_command
+command_reach word is = rw (is, compare_name, check_name, summary_name, eval_name, load_name, idle_name, reach_name) refl
+
+pub command_emit : (word : Text) → word ≡ codes "emit" → command_of word ≡ Some emit_command
+command_emit word is = rw (is, compare_name, check_name, summary_name, eval_name, load_name, idle_name, reach_name, emit_name) refl
+
+pub command_check_summary : (word : Text) → word ≡ codes "check-summary" → command_of word ≡ Some check_summary_command
+command_check_summary word is = rw (is, compare_name, check_name, summary_name, eval_name, load_name, idle_name, reach_name, emit_name, check_summary_name) refl
+
 pub no_command : (word : Text) → ¬ (word ≡ codes "compare") → ¬ (word ≡ codes "check") → ¬ (word ≡ codes "summary")
-    → ¬ (word ≡ codes "eval") → ¬ (word ≡ codes "load") → command_of word ≡ None
-no_command word compare check summary eval load =
+    → ¬ (word ≡ codes "eval") → ¬ (word ≡ codes "load") → ¬ (word ≡ codes "idle")
+    → ¬ (word ≡ codes "reach") → ¬ (word ≡ codes "emit") → ¬ (word ≡ codes "check-summary") → command_of word ≡ None
+no_command word compare check summary eval load idle reach emit check_summary =
     let not_compare = other_text (codes "compare") word (λ e. compare (sym e)) in
     let not_check = other_text (codes "check") word (λ e. check (sym e)) in
     let not_summary = other_text (codes "summary") word (λ e. summary (sym e)) in
     let not_eval = other_text (codes "eval") word (λ e. eval (sym e)) in
     let not_load = other_text (codes "load") word (λ e. load (sym e)) in
-    rw (compare_name, check_name, summary_name, eval_name, load_name) rw (not_compare, not_check, not_summary, not_eval, not_load) refl
+    let not_idle = other_text (codes "idle") word (λ e. idle (sym e)) in
+    let not_reach = other_text (codes "reach") word (λ e. reach (sym e)) in
+    let not_emit = other_text (codes "emit") word (λ e. emit (sym e)) in
+    let not_check_summary = other_text (codes "check-summary") word (λ e. check_summary (sym e)) in
+    rw (compare_name, check_name, summary_name, eval_name, load_name, idle_name, reach_name, emit_name, check_summary_name) rw (not_compare, not_check, not_summary, not_eval, not_load, not_idle, not_reach, not_emit, not_check_summary) refl
 
 -- what is asked of a command is asked of the one that the word names
 pub answered_by : (word : Text) (words : List Text) (e : NamedCommand) (r : Result (Option Command) AllocError) → command_of word ≡ Some e

@@ -3,7 +3,8 @@ use Rattle.std.proofs.Common.{◌≡◌, ◌&&◌, Bool, true, false, refl, sym,
 use Rattle.clap.specs.Words.{App, is_simple, is_simple_and_free}
 use Rattle.clap.specs.Faults.{is_free_app}
 use Rattle.clap.specs.Simple.{built}
-use Rattle.command_words.specs.Forms.{check_form, compare_form, eval_form, load_form, summary_form}
+use Rattle.command_words.specs.Forms.{check_form, check_summary_form, compare_form, emit_form, eval_form, idle_form, load_form}
+use Rattle.command_words.specs.Forms.{reach_form, summary_form}
 
 compare_is_simple : is_simple_and_free compare_form ≡ true
 unfolding compare_form
@@ -25,6 +26,22 @@ load_is_simple : is_simple_and_free load_form ≡ true
 unfolding load_form
 load_is_simple = refl
 
+idle_is_simple : is_simple_and_free idle_form ≡ true
+unfolding idle_form
+idle_is_simple = refl
+
+reach_is_simple : is_simple_and_free reach_form ≡ true
+unfolding reach_form
+reach_is_simple = refl
+
+emit_is_simple : is_simple_and_free emit_form ≡ true
+unfolding emit_form
+emit_is_simple = refl
+
+check_summary_is_simple : is_simple_and_free check_summary_form ≡ true
+unfolding check_summary_form
+check_summary_is_simple = refl
+
 pub simple_if_compare : (a : App) → a ≡ compare_form → is_simple_and_free a ≡ true
 simple_if_compare a e = subst (λ (x : App). is_simple_and_free x ≡ true) (sym e) compare_is_simple
 
@@ -39,6 +56,18 @@ simple_if_summary a e = subst (λ (x : App). is_simple_and_free x ≡ true) (sym
 
 pub simple_if_load : (a : App) → a ≡ load_form → is_simple_and_free a ≡ true
 simple_if_load a e = subst (λ (x : App). is_simple_and_free x ≡ true) (sym e) load_is_simple
+
+pub simple_if_idle : (a : App) → a ≡ idle_form → is_simple_and_free a ≡ true
+simple_if_idle a e = subst (λ (x : App). is_simple_and_free x ≡ true) (sym e) idle_is_simple
+
+pub simple_if_reach : (a : App) → a ≡ reach_form → is_simple_and_free a ≡ true
+simple_if_reach a e = subst (λ (x : App). is_simple_and_free x ≡ true) (sym e) reach_is_simple
+
+pub simple_if_emit : (a : App) → a ≡ emit_form → is_simple_and_free a ≡ true
+simple_if_emit a e = subst (λ (x : App). is_simple_and_free x ≡ true) (sym e) emit_is_simple
+
+pub simple_if_check_summary : (a : App) → a ≡ check_summary_form → is_simple_and_free a ≡ true
+simple_if_check_summary a e = subst (λ (x : App). is_simple_and_free x ≡ true) (sym e) check_summary_is_simple
 
 first_of_both : (a b : Bool) → (a && b) ≡ true → a ≡ true
 first_of_both true b e = refl

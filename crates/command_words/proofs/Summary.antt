@@ -22,15 +22,15 @@ summary_has_simple_rules = refl
 
 splits_have_parser : EachHasParser (codes "splits") (Signed (pos 1) (pos MOST_SPLITS)) summary_form.top.rules
 unfolding summary_form
-splits_have_parser = (other, (other, (other, ((λ e. (refl, refl)), (other, (other, tt))))))
+splits_have_parser = (other, (other, (other, ((λ e. (refl, refl)), (other, (other, (other, tt)))))))
 
 states_have_parser : EachHasParser (codes "states") (Signed (pos 1) (pos MOST_STATES)) summary_form.top.rules
 unfolding summary_form
-states_have_parser = (other, (other, (other, (other, ((λ e. (refl, refl)), (other, tt))))))
+states_have_parser = (other, (other, (other, (other, ((λ e. (refl, refl)), (other, (other, tt)))))))
 
 findings_have_parser : EachHasParser (codes "findings") (Signed (pos 1) (pos MOST_FINDINGS)) summary_form.top.rules
 unfolding summary_form
-findings_have_parser = (other, (other, (other, (other, (other, ((λ e. (refl, refl)), tt))))))
+findings_have_parser = (other, (other, (other, (other, (other, ((λ e. (refl, refl)), (other, tt)))))))
 
 pub has_splits : (c : Command) (m : ArgMatches) → IsParsedFrom c m → app_of c ≡ summary_form → HasNumberUpTo (found_of m) (codes "splits") MOST_SPLITS
 has_splits c m p is = has_number c m summary_form (codes "splits") MOST_SPLITS p is summary_is_plain summary_has_simple_rules

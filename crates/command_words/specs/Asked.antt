@@ -7,14 +7,17 @@ use Rattle.std.specs.Option.{option_map_or}
 use Rattle.std.specs.Str.{bytes_eq}
 use Rattle.std.specs.Str.Parse.{digits_value, without_leading_plus}
 use Rattle.clap.specs.Words.{App, Kinds, Row, Text, all_of, fault_of, first_of, matches_of, one_of}
-use Rattle.command_words.specs.Forms.{check_form, compare_form, eval_form, load_form, summary_form}
+use Rattle.command_words.specs.Forms.{check_form, check_summary_form, compare_form, emit_form, eval_form, idle_form, load_form}
+use Rattle.command_words.specs.Forms.{reach_form, summary_form}
 use Rattle.command_words.specs.declared.asked.CheckArguments.{CheckArguments}
+use Rattle.command_words.specs.declared.asked.CheckSummaryArguments.{CheckSummaryArguments}
 use Rattle.command_words.specs.declared.asked.Command.{Command}
-use Rattle.command_words.specs.declared.asked.Command.TheVariants.{Compare, Check, Summary, Eval, Load}
+use Rattle.command_words.specs.declared.asked.Command.TheVariants.{Compare, Check, Summary, Eval, Load, Idle, Reach, Emit, CheckSummary}
 use Rattle.command_words.specs.declared.asked.CompareArguments.{CompareArguments}
 use Rattle.command_words.specs.declared.asked.EvalArguments.{EvalArguments}
 use Rattle.command_words.specs.declared.asked.FileNames.{FileNames}
-use Rattle.command_words.specs.declared.asked.SummaryArguments.{SummaryArguments}
+use Rattle.command_words.specs.declared.asked.FindingArguments.{FindingArguments}
+use Rattle.command_words.specs.declared.asked.IdleArguments.{IdleArguments}
 use Rattle.command_words.specs.declared.limits.TheConstants.{MOST_SPLITS, MOST_STATES, DEFAULT_SPLITS, DEFAULT_STATES}
 use Rattle.command_words.specs.declared.limits.TheConstants.{MOST_FINDINGS, DEFAULT_FINDINGS, MOST_KEYS, MOST_DIMENSIONS}
 
@@ -36,7 +39,7 @@ pub record Checking : Type 0 where
   pub names : Names
   pub proof : List ℕ
 
--- a summary of a set: the names of the dimensions, and the budgets
+-- the findings of a set: the names of the dimensions, and the budgets
 pub record Summarising : Type 0 where
   pub set : List ℕ
   pub dimensions : List (List ℕ)
@@ -51,14 +54,37 @@ pub record Evaluating : Type 0 where
   pub request : List ℕ
   pub schema : Option (List ℕ)
 
+-- which statements of a set are used: the budgets, and whether certificates are asked for
+pub record UseQuestion : Type 0 where
+  pub set : List ℕ
+  pub schema : Option (List ℕ)
+  pub splits : ℕ
+  pub states : ℕ
+  pub certified : Bool
+
+-- a check of a certified summary of a set: the names of the dimensions, and the states of their predicates
+pub record SummaryCheck : Type 0 where
+  pub set : List ℕ
+  pub proof : List ℕ
+  pub dimensions : List (List ℕ)
+  pub schema : Option (List ℕ)
+  pub states : ℕ
+
 -- what is asked: one of the commands
 pub data Asked : Type 0 where
   a_comparison : Comparing → Asked
   a_check : Checking → Asked
-  a_summary : Summarising → Asked
+  -- the findings, and whether a certificate is asked for
+  a_summary : Summarising → Bool → Asked
   an_evaluation : Evaluating → Asked
   -- the comparisons and the summary of two sets of so many keys
   a_load : ℕ → Asked
+  a_use_question : UseQuestion → Asked
+  -- the findings outside a zone, and the name of the zone's file
+  a_reach : Summarising → List ℕ → Asked
+  -- the findings that a policy is written from
+  an_emission : Summarising → Asked
+  a_summary_check : SummaryCheck → Asked
 
 -- ---- the same, of owned names
 
@@ -84,7 +110,7 @@ checking_in c = record { names = names_in c.names; proof = string_bytes c.proof 
 abbrev pub texts_in : {Z : Type 0} → List (String Z) → List Text
 texts_in words = map (λ word. string_bytes word) words
 
-abbrev pub summarising_in : SummaryArguments → Summarising
+abbrev pub summarising_in : FindingArguments → Summarising
 summarising_in s = record {
   set = string_bytes s.set;
   dimensions = texts_in s.dimensions.items;
@@ -101,14 +127,36 @@ evaluating_in e = record {
   schema = option_map (λ name. string_bytes name) e.schema;
 }
 
+abbrev pub use_question_in : IdleArguments → UseQuestion
+use_question_in u = record {
+  set = string_bytes u.set;
+  schema = option_map (λ name. string_bytes name) u.schema;
+  splits = u.splits;
+  states = u.states;
+  certified = u.certified;
+}
+
+abbrev pub summary_check_in : CheckSummaryArguments → SummaryCheck
+summary_check_in c = record {
+  set = string_bytes c.set;
+  proof = string_bytes c.proof;
+  dimensions = texts_in c.dimensions.items;
+  schema = option_map (λ name. string_bytes name) c.schema;
+  states = c.states;
+}
+
 abbrev pub asked_in : Command → Asked
 asked_in (Compare c) = a_comparison (comparing_in c)
 asked_in (Check c) = a_check (checking_in c)
-asked_in (Summary s) = a_summary (summarising_in s)
+asked_in (Summary s) = a_summary (summarising_in s.summary) s.certified
 asked_in (Eval e) = an_evaluation (evaluating_in e)
 asked_in (Load keys) = a_load keys
+asked_in (Idle u) = a_use_question (use_question_in u)
+asked_in (Reach r) = a_reach (summarising_in r.summary) (string_bytes r.zone)
+asked_in (Emit s) = an_emission (summarising_in s)
+asked_in (CheckSummary c) = a_summary_check (summary_check_in c)
 
--- ---- the dimensions of a summary
+-- ---- the dimensions of findings
 
 -- the name with its ASCII letters lowered
 abbrev pub lowered : Text → Text
@@ -133,17 +181,37 @@ are_dimensions names = not (nat_lt MOST_DIMENSIONS (length names)) && are_distin
 abbrev pub HasNumbersInRange : CompareArguments → Type 0
 HasNumbersInRange c = (1 ≤ c.splits) × (c.splits ≤ MOST_SPLITS) × (1 ≤ c.states) × (c.states ≤ MOST_STATES)
 
--- the numbers of a summary lie in their ranges
-abbrev pub HasBudgetsInRange : SummaryArguments → Type 0
+-- the numbers of findings lie in their ranges
+abbrev pub HasBudgetsInRange : FindingArguments → Type 0
 HasBudgetsInRange s = (1 ≤ s.splits) × (s.splits ≤ MOST_SPLITS) × (1 ≤ s.states) × (s.states ≤ MOST_STATES)
     × (1 ≤ s.findings) × (s.findings ≤ MOST_FINDINGS)
+
+-- and their dimensions are such
+abbrev pub AreFindingsInRange : FindingArguments → Type 0
+AreFindingsInRange s = HasBudgetsInRange s × (are_dimensions (texts_in s.dimensions.items) ≡ true)
+
+-- the numbers of a question on uses lie in their ranges
+abbrev pub HasUseNumbersInRange : IdleArguments → Type 0
+HasUseNumbersInRange u = (1 ≤ u.splits) × (u.splits ≤ MOST_SPLITS) × (1 ≤ u.states) × (u.states ≤ MOST_STATES)
+
+-- the states of a check of a summary lie in their range
+abbrev pub HasStatesInRange : CheckSummaryArguments → Type 0
+HasStatesInRange c = (1 ≤ c.states) × (c.states ≤ MOST_STATES)
+
+-- and its dimensions are those of findings
+abbrev pub IsSummaryCheckInRange : CheckSummaryArguments → Type 0
+IsSummaryCheckInRange c = HasStatesInRange c × (are_dimensions (texts_in c.dimensions.items) ≡ true)
 
 abbrev pub IsInRange : Command → Type 0
 IsInRange (Compare c) = HasNumbersInRange c
 IsInRange (Check c) = ⊤
-IsInRange (Summary s) = HasBudgetsInRange s × (are_dimensions (texts_in s.dimensions.items) ≡ true)
+IsInRange (Summary s) = AreFindingsInRange s.summary
 IsInRange (Eval e) = ⊤
 IsInRange (Load keys) = (1 ≤ keys) × (keys ≤ MOST_KEYS)
+IsInRange (Idle u) = HasUseNumbersInRange u
+IsInRange (Reach r) = AreFindingsInRange r.summary
+IsInRange (Emit s) = AreFindingsInRange s
+IsInRange (CheckSummary c) = IsSummaryCheckInRange c
 
 -- ---- what the matches of a command say
 
@@ -195,10 +263,12 @@ summarising_of rows = record {
   findings = number_or DEFAULT_FINDINGS (codes "findings") rows;
 }
 
--- a summary, unless there are too many dimensions or one stands twice
+-- findings, unless there are too many dimensions or one stands twice
+abbrev pub findings_asked : List Row → Option Summarising
+findings_asked rows = if are_dimensions (names_at (codes "dimension") rows) then Some (summarising_of rows) else None
+
 abbrev pub summary_of : List Row → Option Asked
-summary_of rows =
-    if are_dimensions (names_at (codes "dimension") rows) then Some (a_summary (summarising_of rows)) else None
+summary_of rows = option_map (λ s. a_summary s (has_flag (codes "proof") rows)) (findings_asked rows)
 
 abbrev pub evaluation_of : List Row → Asked
 evaluation_of rows = an_evaluation (record {
@@ -210,6 +280,35 @@ evaluation_of rows = an_evaluation (record {
 -- the number has to be taken: where `clap` finds no fault it is there
 abbrev pub load_of : List Row → Asked
 load_of rows = a_load (number_or 1 (codes "keys") rows)
+
+abbrev pub use_question_of : List Row → Asked
+use_question_of rows = a_use_question (record {
+  set = name_at (codes "set") rows;
+  schema = first_of (codes "schema") rows;
+  splits = number_or DEFAULT_SPLITS (codes "splits") rows;
+  states = number_or DEFAULT_STATES (codes "states") rows;
+  certified = has_flag (codes "proof") rows;
+})
+
+abbrev pub reach_of : List Row → Option Asked
+reach_of rows = option_map (λ s. a_reach s (name_at (codes "zone") rows)) (findings_asked rows)
+
+abbrev pub emission_of : List Row → Option Asked
+emission_of rows = option_map an_emission (findings_asked rows)
+
+abbrev pub summary_checking_of : List Row → SummaryCheck
+summary_checking_of rows = record {
+  set = name_at (codes "set") rows;
+  proof = name_at (codes "proof") rows;
+  dimensions = names_at (codes "dimension") rows;
+  schema = first_of (codes "schema") rows;
+  states = number_or DEFAULT_STATES (codes "states") rows;
+}
+
+-- a check of a summary, unless there are too many dimensions or one stands twice
+abbrev pub summary_check_of : List Row → Option Asked
+summary_check_of rows =
+    if are_dimensions (names_at (codes "dimension") rows) then Some (a_summary_check (summary_checking_of rows)) else None
 
 -- ---- the table of the commands
 
@@ -233,8 +332,25 @@ eval_command = record { form = eval_form; asks = λ rows. Some (evaluation_of ro
 abbrev pub load_command : NamedCommand
 load_command = record { form = load_form; asks = λ rows. Some (load_of rows) }
 
+abbrev pub idle_command : NamedCommand
+idle_command = record { form = idle_form; asks = λ rows. Some (use_question_of rows) }
+
+abbrev pub reach_command : NamedCommand
+reach_command = record { form = reach_form; asks = reach_of }
+
+abbrev pub emit_command : NamedCommand
+emit_command = record { form = emit_form; asks = emission_of }
+
+abbrev pub check_summary_command : NamedCommand
+check_summary_command = record { form = check_summary_form; asks = summary_check_of }
+
 abbrev pub commands : List NamedCommand
-commands = compare_command ∷ check_command ∷ summary_command ∷ eval_command ∷ load_command ∷ []
+commands = compare_command ∷ check_command ∷ summary_command ∷ eval_command ∷ load_command
+    ∷ idle_command
+    ∷ reach_command
+    ∷ emit_command
+    ∷ check_summary_command
+    ∷ []
 
 -- the command that the first word names, by its exact text
 abbrev pub command_of : Text → Option NamedCommand
@@ -250,7 +366,7 @@ abbrev pub asked_of : NamedCommand → List Text → Option Asked
 asked_of e words = asked_unless (fault_of e.form words) (e.asks (matches_of e.form words))
 
 -- what the words ask, or none where the first is missing or names no command, where `clap` refuses the others, or where they ask
--- for a summary by too many dimensions or by one twice
+-- for findings by too many dimensions or by one twice
 abbrev pub asked : List Text → Option Asked
 asked [] = None
 asked (word ∷ words) = option_and_then (λ e. asked_of e (word ∷ words)) (command_of word)

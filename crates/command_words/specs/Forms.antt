@@ -63,12 +63,12 @@ unfoldable pub check_form : App
 check_form = form_of (codes "check") (name_rule (codes "first") ∷ name_rule (codes "second")
     ∷ name_rule (codes "proof") ∷ file_rule (codes "schema") ∷ [])
 
--- `summary SET DIMENSION.. [--schema FILE] [--splits N] [--states N] [--findings N]`
+-- `summary SET DIMENSION.. [--schema FILE] [--splits N] [--states N] [--findings N] [--proof]`
 unfoldable pub summary_form : App
 summary_form = form_of (codes "summary") (name_rule (codes "set")
     ∷ names_rule (codes "dimension") ∷ file_rule (codes "schema")
     ∷ number_rule (codes "splits") MOST_SPLITS ∷ number_rule (codes "states") MOST_STATES
-    ∷ number_rule (codes "findings") MOST_FINDINGS ∷ [])
+    ∷ number_rule (codes "findings") MOST_FINDINGS ∷ flag_rule (codes "proof") ∷ [])
 
 -- `eval SET REQUEST [--schema FILE]`
 unfoldable pub eval_form : App
@@ -78,3 +78,28 @@ eval_form = form_of (codes "eval") (name_rule (codes "set") ∷ name_rule (codes
 -- `load N`
 unfoldable pub load_form : App
 load_form = form_of (codes "load") (amount_rule (codes "keys") MOST_KEYS ∷ [])
+
+-- `idle SET [--schema FILE] [--splits N] [--states N] [--proof]`
+unfoldable pub idle_form : App
+idle_form = form_of (codes "idle") (name_rule (codes "set") ∷ file_rule (codes "schema")
+    ∷ number_rule (codes "splits") MOST_SPLITS ∷ number_rule (codes "states") MOST_STATES
+    ∷ flag_rule (codes "proof") ∷ [])
+
+-- `reach SET ZONE DIMENSION.. [--schema FILE] [--splits N] [--states N] [--findings N]`
+unfoldable pub reach_form : App
+reach_form = form_of (codes "reach") (name_rule (codes "set") ∷ name_rule (codes "zone")
+    ∷ names_rule (codes "dimension") ∷ file_rule (codes "schema")
+    ∷ number_rule (codes "splits") MOST_SPLITS ∷ number_rule (codes "states") MOST_STATES
+    ∷ number_rule (codes "findings") MOST_FINDINGS ∷ [])
+
+-- `emit SET DIMENSION.. [--schema FILE] [--splits N] [--states N] [--findings N]`
+unfoldable pub emit_form : App
+emit_form = form_of (codes "emit") (name_rule (codes "set")
+    ∷ names_rule (codes "dimension") ∷ file_rule (codes "schema")
+    ∷ number_rule (codes "splits") MOST_SPLITS ∷ number_rule (codes "states") MOST_STATES
+    ∷ number_rule (codes "findings") MOST_FINDINGS ∷ [])
+
+-- `check-summary SET PROOF DIMENSION.. [--schema FILE] [--states N]`
+unfoldable pub check_summary_form : App
+check_summary_form = form_of (codes "check-summary") (name_rule (codes "set") ∷ name_rule (codes "proof")
+    ∷ names_rule (codes "dimension") ∷ file_rule (codes "schema") ∷ number_rule (codes "states") MOST_STATES ∷ [])

@@ -34,17 +34,54 @@ pub struct EvalArguments {
     pub schema: Option<String>,
 }
 
-/// What `summary` is asked: the names of the files of a set, and of a schema where one is named; the
-/// dimensions, at most four, none of which is another one but for the case of ASCII letters; and the splits,
-/// the product states and the findings that it may need.
+/// What findings are asked for, as of `emit`: the names of the files of a set, and of a schema where one is
+/// named; the dimensions, at most four, none of which is another one but for the case of ASCII letters; and
+/// the splits, the product states and the findings that they may need.
 #[derive(Drop)]
-pub struct SummaryArguments {
+pub struct FindingArguments {
     pub set: String,
     pub dimensions: Vec<String>,
     pub schema: Option<String>,
     pub splits: u32,
     pub states: u32,
     pub findings: u32,
+}
+
+/// What `summary` is asked: the findings of the set, and whether a certificate is wanted.
+#[derive(Drop)]
+pub struct SummaryArguments {
+    pub summary: FindingArguments,
+    pub certified: bool,
+}
+
+/// What `reach` is asked: the findings of the set outside a zone, and the name of the zone's file.
+#[derive(Drop)]
+pub struct ReachArguments {
+    pub summary: FindingArguments,
+    pub zone: String,
+}
+
+/// What `idle` is asked: the names of the files of a set, and of a schema where one is named; the splits
+/// and the product states that each statement may need, and whether certificates are wanted.
+#[derive(Drop)]
+pub struct IdleArguments {
+    pub set: String,
+    pub schema: Option<String>,
+    pub splits: u32,
+    pub states: u32,
+    pub certified: bool,
+}
+
+/// What `check-summary` is asked: the names of the files of a set and of a certified summary, and of a
+/// schema where one is named; the dimensions, as those of findings; and the product states that their
+/// predicates may need.
+#[derive(Drop)]
+pub struct CheckSummaryArguments {
+    pub set: String,
+    pub proof: String,
+    pub dimensions: Vec<String>,
+    pub schema: Option<String>,
+    pub states: u32,
 }
 
 /// One of the commands.
@@ -56,4 +93,9 @@ pub enum Command {
     Eval(EvalArguments),
     /// The number of keys.
     Load(u32),
+    Idle(IdleArguments),
+    Reach(ReachArguments),
+    /// The findings that a policy is written from.
+    Emit(FindingArguments),
+    CheckSummary(CheckSummaryArguments),
 }

@@ -1,4 +1,4 @@
-//! The dimensions that a summary is asked by.
+//! The dimensions that findings are asked by.
 ghost use Rattle.std.specs.Prelude.{◌≡◌, map, IfOk};
 ghost use Rattle.command_words.specs.Asked.{are_dimensions, are_distinct, is_one_of, lowered, texts_in};
 

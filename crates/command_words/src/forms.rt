@@ -2,8 +2,9 @@
 ghost use Rattle.std.specs.Prelude.{◌≡◌, ◌≤◌, false, fold, map, IfOk};
 ghost use Rattle.clap.specs.Words.{app_of, rule_of, with_rule};
 ghost use Rattle.command_words.specs.Arguments.{argument_rule};
-ghost use Rattle.command_words.specs.Forms.{amount_rule, check_form, compare_form, eval_form, file_rule, flag_rule, load_form};
-ghost use Rattle.command_words.specs.Forms.{name_rule, names_rule, number_rule, numbers_up_to, summary_form};
+ghost use Rattle.command_words.specs.Forms.{amount_rule, check_form, check_summary_form, compare_form, emit_form, eval_form};
+ghost use Rattle.command_words.specs.Forms.{file_rule, flag_rule, idle_form, load_form, name_rule, names_rule, number_rule};
+ghost use Rattle.command_words.specs.Forms.{numbers_up_to, reach_form, summary_form};
 ghost use Rattle.command_words.specs.Named.{named_command};
 
 use crate::limits::{MOST_FINDINGS, MOST_KEYS, MOST_SPLITS, MOST_STATES};
@@ -155,7 +156,7 @@ fn check_form<'a>(alloc: Global) -> Result<Command<'a>, NoMemory>
     with_arguments(alloc, Command::new(alloc, "check"), &arguments)
 }
 
-// `summary SET DIMENSION.. [--schema FILE] [--splits N] [--states N] [--findings N]`.
+// `summary SET DIMENSION.. [--schema FILE] [--splits N] [--states N] [--findings N] [--proof]`.
 #[tactic(auto, unfolding(crate::specs::Forms::summary_form))]
 fn summary_form<'a>(alloc: Global) -> Result<Command<'a>, NoMemory>
     ensures { IfOk result (λ c. app_of c ≡ summary_form) }
@@ -167,6 +168,7 @@ fn summary_form<'a>(alloc: Global) -> Result<Command<'a>, NoMemory>
         Argument::Number("splits", MOST_SPLITS),
         Argument::Number("states", MOST_STATES),
         Argument::Number("findings", MOST_FINDINGS),
+        Argument::Flag("proof"),
     ];
     with_arguments(alloc, Command::new(alloc, "summary"), &arguments)
 }
@@ -193,6 +195,69 @@ fn load_form<'a>(alloc: Global) -> Result<Command<'a>, NoMemory>
     with_arguments(alloc, Command::new(alloc, "load"), &arguments)
 }
 
+// `idle SET [--schema FILE] [--splits N] [--states N] [--proof]`.
+#[tactic(auto, unfolding(crate::specs::Forms::idle_form))]
+fn idle_form<'a>(alloc: Global) -> Result<Command<'a>, NoMemory>
+    ensures { IfOk result (λ c. app_of c ≡ idle_form) }
+{
+    let arguments = [
+        Argument::Name("set"),
+        Argument::File("schema"),
+        Argument::Number("splits", MOST_SPLITS),
+        Argument::Number("states", MOST_STATES),
+        Argument::Flag("proof"),
+    ];
+    with_arguments(alloc, Command::new(alloc, "idle"), &arguments)
+}
+
+// `reach SET ZONE DIMENSION.. [--schema FILE] [--splits N] [--states N] [--findings N]`.
+#[tactic(auto, unfolding(crate::specs::Forms::reach_form))]
+fn reach_form<'a>(alloc: Global) -> Result<Command<'a>, NoMemory>
+    ensures { IfOk result (λ c. app_of c ≡ reach_form) }
+{
+    let arguments = [
+        Argument::Name("set"),
+        Argument::Name("zone"),
+        Argument::Names("dimension"),
+        Argument::File("schema"),
+        Argument::Number("splits", MOST_SPLITS),
+        Argument::Number("states", MOST_STATES),
+        Argument::Number("findings", MOST_FINDINGS),
+    ];
+    with_arguments(alloc, Command::new(alloc, "reach"), &arguments)
+}
+
+// `emit SET DIMENSION.. [--schema FILE] [--splits N] [--states N] [--findings N]`.
+#[tactic(auto, unfolding(crate::specs::Forms::emit_form))]
+fn emit_form<'a>(alloc: Global) -> Result<Command<'a>, NoMemory>
+    ensures { IfOk result (λ c. app_of c ≡ emit_form) }
+{
+    let arguments = [
+        Argument::Name("set"),
+        Argument::Names("dimension"),
+        Argument::File("schema"),
+        Argument::Number("splits", MOST_SPLITS),
+        Argument::Number("states", MOST_STATES),
+        Argument::Number("findings", MOST_FINDINGS),
+    ];
+    with_arguments(alloc, Command::new(alloc, "emit"), &arguments)
+}
+
+// `check-summary SET PROOF DIMENSION.. [--schema FILE] [--states N]`.
+#[tactic(auto, unfolding(crate::specs::Forms::check_summary_form))]
+fn check_summary_form<'a>(alloc: Global) -> Result<Command<'a>, NoMemory>
+    ensures { IfOk result (λ c. app_of c ≡ check_summary_form) }
+{
+    let arguments = [
+        Argument::Name("set"),
+        Argument::Name("proof"),
+        Argument::Names("dimension"),
+        Argument::File("schema"),
+        Argument::Number("states", MOST_STATES),
+    ];
+    with_arguments(alloc, Command::new(alloc, "check-summary"), &arguments)
+}
+
 /// The form of the command of the name.
 pub(crate) fn command_form<'a>(alloc: Global, name: CommandName) -> Result<Command<'a>, NoMemory>
     ensures { IfOk result (λ c. app_of c ≡ (named_command name).form) }
@@ -203,5 +268,9 @@ pub(crate) fn command_form<'a>(alloc: Global, name: CommandName) -> Result<Comma
         CommandName::Summary => summary_form(alloc),
         CommandName::Eval => eval_form(alloc),
         CommandName::Load => load_form(alloc),
+        CommandName::Idle => idle_form(alloc),
+        CommandName::Reach => reach_form(alloc),
+        CommandName::Emit => emit_form(alloc),
+        CommandName::CheckSummary => check_summary_form(alloc),
     }
 }

@@ -4,15 +4,18 @@
 
 mod asked;
 mod dimensions;
+mod findings;
 mod forms;
 mod limits;
 mod names;
 mod parsing;
 mod ranges;
 mod reading;
+mod uses;
 
 pub use asked::{
-    CheckArguments, Command, CompareArguments, EvalArguments, FileNames, SummaryArguments,
+    CheckArguments, CheckSummaryArguments, Command, CompareArguments, EvalArguments, FileNames,
+    FindingArguments, IdleArguments, ReachArguments, SummaryArguments,
 };
 pub use limits::{
     DEFAULT_FINDINGS, DEFAULT_SPLITS, DEFAULT_STATES, MOST_DIMENSIONS, MOST_FINDINGS, MOST_KEYS,

@@ -22,5 +22,5 @@ pub const DEFAULT_FINDINGS: u32 = 10_000;
 /// The most keys that may be asked for.
 pub const MOST_KEYS: u32 = 400;
 
-/// The most dimensions of a summary.
+/// The most dimensions of findings.
 pub const MOST_DIMENSIONS: usize = 4;

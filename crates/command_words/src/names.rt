@@ -11,6 +11,10 @@ pub(crate) enum CommandName {
     Summary,
     Eval,
     Load,
+    Idle,
+    Reach,
+    Emit,
+    CheckSummary,
 }
 
 /// The command that the first word names, by its exact text, if it names one.
@@ -23,6 +27,10 @@ pub(crate) fn command_named(word: &str) -> Option<CommandName>
         "summary" => Some(CommandName::Summary),
         "eval" => Some(CommandName::Eval),
         "load" => Some(CommandName::Load),
+        "idle" => Some(CommandName::Idle),
+        "reach" => Some(CommandName::Reach),
+        "emit" => Some(CommandName::Emit),
+        "check-summary" => Some(CommandName::CheckSummary),
         _ => None,
     }
 }

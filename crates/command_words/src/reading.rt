@@ -1,26 +1,22 @@
 //! The words of a command line, read.
 ghost use Rattle.std.specs.Prelude.{◌≡◌, ◌≤◌, codes, IfOk, IfSome, option_and_then, option_map};
 ghost use Rattle.clap.specs.Words.{found_of, rows_of};
-ghost use Rattle.command_words.specs.Asked.{HasBudgetsInRange, HasNumbersInRange, IsInRange};
+ghost use Rattle.command_words.specs.Asked.{HasNumbersInRange, IsInRange};
 ghost use Rattle.command_words.specs.Asked.{a_check, a_comparison, a_load, an_evaluation};
 ghost use Rattle.command_words.specs.Asked.{asked_by, asked_in, asked_of, check_of, checking_in};
 ghost use Rattle.command_words.specs.Asked.{command_of, comparing_in, comparison_of};
 ghost use Rattle.command_words.specs.Asked.{evaluating_in, evaluation_of, load_of, names_in, pair_names};
-ghost use Rattle.command_words.specs.Asked.{summarising_in, summarising_of, summary_of, texts_in};
+ghost use Rattle.command_words.specs.Asked.{texts_in};
 ghost use Rattle.command_words.specs.Named.{HasNumbersOf, named_command};
 ghost use Rattle.command_words.specs.Parsing.{HasNumberUpTo};
 
-use crate::asked::{
-    CheckArguments, Command, CompareArguments, EvalArguments, FileNames, SummaryArguments,
-};
-use crate::dimensions::are_dimensions;
+use crate::asked::{CheckArguments, Command, CompareArguments, EvalArguments, FileNames};
+use crate::findings::{emission_in, reach_in, summary_check_in, summary_in};
 use crate::forms::command_form;
-use crate::limits::{
-    DEFAULT_FINDINGS, DEFAULT_SPLITS, DEFAULT_STATES, MOST_FINDINGS, MOST_KEYS, MOST_SPLITS,
-    MOST_STATES,
-};
+use crate::limits::{DEFAULT_SPLITS, DEFAULT_STATES, MOST_KEYS, MOST_SPLITS, MOST_STATES};
 use crate::names::{CommandName, command_named};
-use crate::parsing::{file_of, has_flag, name_at, names_at, number_or, parsed};
+use crate::parsing::{file_of, has_flag, name_at, number_or, parsed};
+use crate::uses::use_question_in;
 use clap::ArgMatches;
 use plain_lists::NoMemory;
 use std::alloc::Global;
@@ -62,42 +58,6 @@ fn check_in(alloc: Global, matches: &ArgMatches) -> Result<CheckArguments, NoMem
     })
 }
 
-// The names and the budgets of the matches of `summary`.
-fn summary_arguments(alloc: Global, matches: &ArgMatches) -> Result<SummaryArguments, NoMemory>
-    requires splits { HasNumberUpTo (found_of matches.now) (codes "splits") MOST_SPLITS }
-    requires states { HasNumberUpTo (found_of matches.now) (codes "states") MOST_STATES }
-    requires findings { HasNumberUpTo (found_of matches.now) (codes "findings") MOST_FINDINGS }
-    ensures value { IfOk result
-        (λ s. summarising_in s ≡ summarising_of (rows_of (found_of matches.now))) }
-    ensures within { IfOk result HasBudgetsInRange }
-{
-    Ok(SummaryArguments {
-        set: name_at(alloc, matches, "set")?,
-        dimensions: names_at(alloc, matches, "dimension")?,
-        schema: file_of(alloc, matches, "schema")?,
-        splits: number_or(matches, "splits", MOST_SPLITS, DEFAULT_SPLITS),
-        states: number_or(matches, "states", MOST_STATES, DEFAULT_STATES),
-        findings: number_or(matches, "findings", MOST_FINDINGS, DEFAULT_FINDINGS),
-    })
-}
-
-// What the matches of `summary` ask, or none where there are too many dimensions or one stands twice.
-fn summary_in(alloc: Global, matches: &ArgMatches) -> Result<Option<Command>, NoMemory>
-    requires splits { HasNumberUpTo (found_of matches.now) (codes "splits") MOST_SPLITS }
-    requires states { HasNumberUpTo (found_of matches.now) (codes "states") MOST_STATES }
-    requires findings { HasNumberUpTo (found_of matches.now) (codes "findings") MOST_FINDINGS }
-    ensures value { IfOk result (λ c. option_map asked_in c
-        ≡ summary_of (rows_of (found_of matches.now))) }
-    ensures within { IfOk result (λ c. IfSome c IsInRange) }
-{
-    let asked = summary_arguments(alloc, matches)?;
-    if are_dimensions(alloc, asked.dimensions.as_slice())? {
-        Ok(Some(Command::Summary(asked)))
-    } else {
-        Ok(None)
-    }
-}
-
 // What the matches of `eval` ask.
 fn evaluation_in(alloc: Global, matches: &ArgMatches) -> Result<EvalArguments, NoMemory>
     ensures { IfOk result (λ e. an_evaluation (evaluating_in e)
@@ -136,11 +96,15 @@ fn command_in(
         CommandName::Summary => summary_in(alloc, matches),
         CommandName::Eval => Ok(Some(Command::Eval(evaluation_in(alloc, matches)?))),
         CommandName::Load => Ok(Some(Command::Load(load_in(matches)))),
+        CommandName::Idle => Ok(Some(Command::Idle(use_question_in(alloc, matches)?))),
+        CommandName::Reach => reach_in(alloc, matches),
+        CommandName::Emit => emission_in(alloc, matches),
+        CommandName::CheckSummary => summary_check_in(alloc, matches),
     }
 }
 
 // What the words ask of the command of the name, or none where `clap` refuses them or they ask for no
-// summary.
+// findings.
 fn read_named(
     alloc: Global,
     name: CommandName,
@@ -170,7 +134,7 @@ fn read_command(alloc: Global, word: &str, words: &[String]) -> Result<Option<Co
 
 /// What the words after the program's name ask, or none where there are none, where the first is no
 /// command, where `clap` refuses the others, which aren't of the command's form or ask for help, or where
-/// they ask for a summary by more than four dimensions, or by two that are equal but for the case of ASCII
+/// they ask for findings by more than four dimensions, or by two that are equal but for the case of ASCII
 /// letters.
 pub fn read_words(alloc: Global, words: &[String]) -> Result<Option<Command>, NoMemory>
     ensures value { IfOk result (λ c. option_map asked_in c ≡ asked_by words.now) }

@@ -1,6 +1,7 @@
 //! What words ask.
 use command_words::{
-    CheckArguments, Command, CompareArguments, EvalArguments, SummaryArguments, read_words,
+    CheckArguments, CheckSummaryArguments, Command, CompareArguments, EvalArguments,
+    FindingArguments, IdleArguments, ReachArguments, SummaryArguments, read_words,
 };
 use serde_json::Value;
 use std::alloc::{AllocError, Global};
@@ -50,9 +51,13 @@ fn push_schema(alloc: Global, out: &mut String, schema: Option<&str>) -> Result<
     push_name(alloc, out, name)
 }
 
+fn proof_word(certified: bool) -> &'static str {
+    if certified { " proof" } else { "" }
+}
+
 fn push_numbers(out: &mut String, asked: &CompareArguments) -> Result<(), AllocError> {
     let (splits, states) = (asked.splits, asked.states);
-    let proof = if asked.certified { " proof" } else { "" };
+    let proof = proof_word(asked.certified);
     write!(out, " splits {splits} states {states}{proof}")
 }
 
@@ -76,9 +81,35 @@ fn push_check(alloc: Global, out: &mut String, asked: &CheckArguments) -> Result
     push_schema(alloc, out, asked.names.schema.as_deref())
 }
 
-fn push_budgets(out: &mut String, asked: &SummaryArguments) -> Result<(), AllocError> {
+fn push_dimensions(
+    alloc: Global,
+    out: &mut String,
+    dimensions: &[String],
+) -> Result<(), AllocError> {
+    out.push_str(" by")?;
+    for dimension in dimensions {
+        push_name(alloc, out, dimension.as_str())?;
+    }
+    Ok(())
+}
+
+fn push_budgets(out: &mut String, asked: &FindingArguments) -> Result<(), AllocError> {
     let (splits, states, findings) = (asked.splits, asked.states, asked.findings);
     write!(out, " splits {splits} states {states} findings {findings}")
+}
+
+/// Adds the findings that are asked for, behind a command's word.
+fn push_findings(
+    alloc: Global,
+    out: &mut String,
+    word: &str,
+    asked: &FindingArguments,
+) -> Result<(), AllocError> {
+    out.push_str(word)?;
+    push_name(alloc, out, asked.set.as_str())?;
+    push_dimensions(alloc, out, asked.dimensions.as_slice())?;
+    push_schema(alloc, out, asked.schema.as_deref())?;
+    push_budgets(out, asked)
 }
 
 fn push_summary(
@@ -86,14 +117,37 @@ fn push_summary(
     out: &mut String,
     asked: &SummaryArguments,
 ) -> Result<(), AllocError> {
-    out.push_str("summary")?;
+    push_findings(alloc, out, "summary", &asked.summary)?;
+    out.push_str(proof_word(asked.certified))
+}
+
+fn push_reach(alloc: Global, out: &mut String, asked: &ReachArguments) -> Result<(), AllocError> {
+    push_findings(alloc, out, "reach", &asked.summary)?;
+    out.push_str(" outside")?;
+    push_name(alloc, out, asked.zone.as_str())
+}
+
+fn push_idle(alloc: Global, out: &mut String, asked: &IdleArguments) -> Result<(), AllocError> {
+    out.push_str("idle")?;
     push_name(alloc, out, asked.set.as_str())?;
-    out.push_str(" by")?;
-    for dimension in asked.dimensions.as_slice() {
-        push_name(alloc, out, dimension.as_str())?;
-    }
     push_schema(alloc, out, asked.schema.as_deref())?;
-    push_budgets(out, asked)
+    let (splits, states) = (asked.splits, asked.states);
+    let proof = proof_word(asked.certified);
+    write!(out, " splits {splits} states {states}{proof}")
+}
+
+fn push_summary_check(
+    alloc: Global,
+    out: &mut String,
+    asked: &CheckSummaryArguments,
+) -> Result<(), AllocError> {
+    out.push_str("check-summary")?;
+    push_name(alloc, out, asked.set.as_str())?;
+    push_name(alloc, out, asked.proof.as_str())?;
+    push_dimensions(alloc, out, asked.dimensions.as_slice())?;
+    push_schema(alloc, out, asked.schema.as_deref())?;
+    let states = asked.states;
+    write!(out, " states {states}")
 }
 
 fn push_evaluation(
@@ -114,6 +168,10 @@ fn push_command(alloc: Global, out: &mut String, command: &Command) -> Result<()
         Command::Summary(asked) => push_summary(alloc, out, asked),
         Command::Eval(asked) => push_evaluation(alloc, out, asked),
         Command::Load(keys) => write!(out, "load {keys}"),
+        Command::Idle(asked) => push_idle(alloc, out, asked),
+        Command::Reach(asked) => push_reach(alloc, out, asked),
+        Command::Emit(asked) => push_findings(alloc, out, "emit", asked),
+        Command::CheckSummary(asked) => push_summary_check(alloc, out, asked),
     }
 }
 

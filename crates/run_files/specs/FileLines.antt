@@ -2,7 +2,7 @@
 use Rattle.std.specs.Prelude.{ℕ, List, ◌++◌, codes, decimal}
 use Rattle.run_files.specs.declared.printed.EarlyEnd.{EarlyEnd}
 use Rattle.run_files.specs.declared.role.Role.{Role}
-use Rattle.run_files.specs.declared.role.Role.TheVariants.{First, Second, Set, Schema, Request, Proof}
+use Rattle.run_files.specs.declared.role.Role.TheVariants.{First, Second, Set, Schema, Request, Proof, Zone}
 use Rattle.run_files.specs.declared.status.Status.TheVariants.{ReadFault, Refused}
 use Rattle.run_files.specs.Files.{limit_of}
 use Rattle.run_files.specs.Printing.{IfAnswered, Tells}
@@ -14,6 +14,7 @@ role_word Set = codes "set"
 role_word Schema = codes "schema"
 role_word Request = codes "request"
 role_word Proof = codes "proof"
+role_word Zone = codes "zone"
 
 -- the line on a file that can't be read
 abbrev pub read_fault_line : Role → List ℕ

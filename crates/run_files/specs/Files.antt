@@ -3,7 +3,7 @@ use Rattle.std.specs.Prelude.{ℕ, ◌<◌, ◌≤◌, List, length, Option, Som
 use Rattle.pol_outside.specs.Folder.{Files, IsFile}
 use Rattle.proof_text.specs.declared.limits.TheConstants.{MOST_PROOF_BYTES}
 use Rattle.run_files.specs.declared.role.Role.{Role}
-use Rattle.run_files.specs.declared.role.Role.TheVariants.{First, Second, Set, Schema, Request, Proof}
+use Rattle.run_files.specs.declared.role.Role.TheVariants.{First, Second, Set, Schema, Request, Proof, Zone}
 use Rattle.run_files.specs.declared.files.TheConstants.{MOST_BYTES}
 
 -- the most bytes that a role's file has
@@ -14,6 +14,7 @@ limit_of Second = MOST_BYTES
 limit_of Set = MOST_BYTES
 limit_of Schema = MOST_BYTES
 limit_of Request = MOST_BYTES
+limit_of Zone = MOST_BYTES
 
 -- the file's bytes, within the limit of its role
 abbrev pub IsShort : Option Files → Role → List ℕ → List ℕ → Type 0

@@ -11,7 +11,7 @@ use pol_outside::{Folder, TakeFault};
 use proof_text::MOST_PROOF_BYTES;
 use std::alloc::Global;
 
-/// The most bytes that the file of a set, of a schema or of a request has.
+/// The most bytes that the file of a set, of a schema, of a request or of a zone has.
 pub const MOST_BYTES: u64 = 1_048_576;
 
 /// The most bytes of a file, as a number.
@@ -30,6 +30,7 @@ pub fn limit_of(role: Role) -> u64
         Role::Schema => MOST_BYTES,
         Role::Request => MOST_BYTES,
         Role::Proof => MOST_PROOF_BYTES,
+        Role::Zone => MOST_BYTES,
     }
 }
 

@@ -19,6 +19,7 @@ pub fn role_word(role: Role) -> &'static str
         Role::Schema => "schema",
         Role::Request => "request",
         Role::Proof => "proof",
+        Role::Zone => "zone",
     }
 }
 

@@ -9,4 +9,5 @@ pub enum Role {
     Schema,
     Request,
     Proof,
+    Zone,
 }

@@ -5,10 +5,11 @@ ghost use Rattle.run_files.specs.Statuses.{exit_number};
 /// How a run ends.
 #[derive(Clone, Copy)]
 pub enum Status {
-    /// The answer is yes: `not more permissive`, `accepted` or `allowed`; or it is a summary, or the lines
-    /// of a load.
+    /// The answer is yes: `not more permissive`, `accepted` or `allowed`; no statement is idle; nobody
+    /// outside a zone is allowed anything; or it is a summary, a policy, or the lines of a load.
     Holds,
-    /// The answer is no: `more permissive` or `denied`.
+    /// The answer is no: `more permissive` or `denied`; a statement is idle; or there are findings outside a
+    /// zone.
     Fails,
     /// A file was refused, or a dimension, or sets that are past a limit or that no schema can answer.
     Refused,
@@ -22,7 +23,7 @@ pub enum Status {
     WriteFault,
     /// There was no memory. Nothing was written.
     NoMemory,
-    /// A certificate doesn't hold.
+    /// A certificate doesn't hold, or a certified summary doesn't.
     BadProof,
 }
 

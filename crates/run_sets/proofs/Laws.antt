@@ -89,6 +89,7 @@ no_pair_fails c P d (refusal.NoSet role.Set fault) v = v
 no_pair_fails c P d (refusal.NoSet role.Schema fault) v = v
 no_pair_fails c P d (refusal.NoSet role.Request fault) v = v
 no_pair_fails c P d (refusal.NoSet role.Proof fault) v = v
+no_pair_fails c P d (refusal.NoSet role.Zone fault) v = v
 no_pair_fails c P d (refusal.NoRun file fault) v =
     let refused = (of_same c _ _ d v).1 in
     let answered = d.holds.answered in
