@@ -1,11 +1,18 @@
 mod Counted
+mod Compared
+mod Covered
 mod Covering
 mod Deciding
 mod Entered
 mod Equal
+mod Evaluated
 mod Heights
+mod Judged
+mod LeftOut
 mod Looking
+mod Lying
 mod Made
+mod Marked
 mod Ordered
 mod Orders
 mod Owning
@@ -14,6 +21,7 @@ mod Passing
 mod Plans
 mod Whole
 mod Sets
+mod Standings
 mod Stepping
 mod Summing
 mod Texts

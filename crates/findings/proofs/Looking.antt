@@ -46,7 +46,7 @@ front-as r t ts answers b says rest (suc n) u at = rest n u at
 no-test : (answers : ℕ → Bool) (r : Request) → AnswersAs answers r []
 no-test answers r n t at = absurd (cc)
 
-some-answers : (r : Request) (tests : List Test) → ((answers : ℕ → Bool) → AnswersAs answers r tests → ⊥) → ⊥
+pub some-answers : (r : Request) (tests : List Test) → ((answers : ℕ → Bool) → AnswersAs answers r tests → ⊥) → ⊥
 some-answers r [] deny = deny (λ n. false) (no-test (λ n. false) r)
 some-answers r (t ∷ ts) deny = some-answers r ts (λ answers says. classical {P = TestHolds r t} (λ known. elim known [
   | inl h ↦ deny (in-front true answers) (front-as r t ts answers true (λ e. h, λ again. refl) says)

@@ -81,7 +81,7 @@ module _ (schema : Schema) (set : PolicySet) (base : Query) (strata : Strata) (m
   pub made-numbered : AreNumberedBelow strata.dimensions
   made-numbered = all-numbered schema base.tests strata.dimensions made.are.each (subst (λ (slots : List Slot). All (λ s. ¬ NamesTooMany base.tests s) slots) (sym made.are.on) made.named)
 
-  base-suits : TestsOfSetQueriesSuit → All (TestSuits schema) base.tests
+  pub base-suits : TestsOfSetQueriesSuit → All (TestSuits schema) base.tests
   base-suits law = law schema set base.tests made.fits made.query.tests
 
   pub made-suits : TestsOfSetQueriesSuit → AllSuit schema strata.dimensions
@@ -107,7 +107,7 @@ predicate-suits schema slot.Action (Meets c) suits = absurd suits
 predicate-suits schema slot.Resource (Meets c) suits = absurd suits
 predicate-suits schema (slot.Key key) (Meets c) suits = All-cons (TestSuits schema) _ [] suits (All-nil (TestSuits schema))
 
-own-suit : (schema : Schema) (ds : List Stratum) → AllSuit schema ds → (f : List ℕ) (rest : List Plan) → All (TestSuits schema) (tests_in_each (of_plans rest)) → All (TestSuits schema) (tests_in_each (of_plans (own_plans ds f ++ rest)))
+pub own-suit : (schema : Schema) (ds : List Stratum) → AllSuit schema ds → (f : List ℕ) (rest : List Plan) → All (TestSuits schema) (tests_in_each (of_plans rest)) → All (TestSuits schema) (tests_in_each (of_plans (own_plans ds f ++ rest)))
 own-suit schema [] suit f rest more = more
 own-suit schema (d ∷ ds) suit [] rest more = more
 own-suit schema (d ∷ ds) suit (n ∷ f) rest more =
@@ -128,7 +128,7 @@ finding-suits schema ds suit f allowed suits = own-suit schema ds suit f _
     (All-append (TestSuits schema) (tests_in_each (of_plans (finer_plans ds f))) (tests_in allowed ++ []) (finer-suit schema ds suit f) (All-append (TestSuits schema) (tests_in allowed) [] suits (All-nil (TestSuits schema))))
 
 -- what holds of the tests that are got holds of those that were read
-all-read : (P : Test → Type 0) (had read got : List Test) → Collects had read got → All P got → All P read
+pub all-read : (P : Test → Type 0) (had read got : List Test) → Collects had read got → All P got → All P read
 all-read P had [] got nothing all = All-nil P
 all-read P had (t ∷ read) got (again there rest) all =
     let longer = reads-front had read got rest in

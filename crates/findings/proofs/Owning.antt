@@ -68,7 +68,7 @@ some-append r (p ∷ ps) qs = (
 
 -- ---- the parts of the plan
 
-own-holds : (schema : Schema) (r : Request) (ds : List Stratum) → AllSuit schema ds → (f : List ℕ) → IsFinding ds f → (EachHolds r (of_plans (own_plans ds f)) ↔ LiesInFinding r ds f)
+pub own-holds : (schema : Schema) (r : Request) (ds : List Stratum) → AllSuit schema ds → (f : List ℕ) → IsFinding ds f → (EachHolds r (of_plans (own_plans ds f)) ↔ LiesInFinding r ds f)
 own-holds schema r [] suit f is = (λ h. tt, λ h. tt)
 own-holds schema r (d ∷ ds) suit [] is = (λ h. tt, λ h. tt)
 own-holds schema r (d ∷ ds) suit (n ∷ f) is =

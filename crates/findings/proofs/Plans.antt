@@ -251,7 +251,7 @@ none-of-asked a b ps before branches some f empty asked is same =
 pub numbers-none : (a : List Test) (numbers : List ℕ) → numbers ≡ [] → AreNumbersOf a a [] numbers
 numbers-none a numbers empty = record { collects = nothing; count = ap length empty; each = λ i t at. absurd (cc) }
 
-at-last : (tests : List Test) (t : Test) (i : ℕ) (u : Test) → slice_get (tests ++ t ∷ []) i ≡ Some u → (slice_get tests i ≡ Some u) ⊎ ((i ≡ length tests) × (t ≡ u))
+pub at-last : (tests : List Test) (t : Test) (i : ℕ) (u : Test) → slice_get (tests ++ t ∷ []) i ≡ Some u → (slice_get tests i ≡ Some u) ⊎ ((i ≡ length tests) × (t ≡ u))
 at-last [] t zero u e = inr (refl, cc)
 at-last [] t (suc i) u e = absurd (cc)
 at-last (x ∷ xs) t zero u e = inl e

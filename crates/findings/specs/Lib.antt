@@ -11,3 +11,7 @@ pub mod Asked
 pub mod Asking
 pub mod Ending
 pub mod Laws
+pub mod CoverQueries
+pub mod StandingSummaries
+pub mod CoverLaws
+pub mod Judging

@@ -7,6 +7,9 @@ use std::alloc::AllocError;
 /// For each dimension the number of one of its predicates, in the order of the dimensions.
 pub type Finding = List<u32>;
 
+/// A list of findings.
+pub type FindingList = List<Finding>;
+
 /// Findings in the order of their numbers. Beside each stands a request that is its own: one that no
 /// finer finding has.
 pub type Summary = List<(Finding, Request)>;

@@ -137,7 +137,8 @@ fn cond_text(alloc: Global, cond: &Cond) -> Result<String, NoMemory>
     }
 }
 
-fn predicate_text(alloc: Global, predicate: &Predicate) -> Result<String, NoMemory>
+/// The text of a predicate, as one of the texts of a finding. The only error is want of memory.
+pub fn predicate_text(alloc: Global, predicate: &Predicate) -> Result<String, NoMemory>
     ensures { IfOk result (λ s. string_bytes s ≡ predicate_text predicate.now) }
 {
     match predicate {

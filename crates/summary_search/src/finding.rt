@@ -1,5 +1,7 @@
-//! The summary of a set by the search.
-ghost use Rattle.std.specs.Prelude.{IfOk};
+//! The strata and the summary of a set by the search.
+ghost use Rattle.std.specs.Prelude.{◌≤◌, IfOk};
+ghost use Rattle.strata.specs.Causes.{AreStrataOf};
+ghost use Rattle.summary_search.specs.MadeStrata.{StrataAreMade};
 ghost use Rattle.summary_search.specs.Outcomes.{AreAskable, AreInRange, AreStrataWithin, IsOfSomeSet, IsOutcomeFor};
 
 use crate::asking::BySearch;
@@ -41,6 +43,35 @@ fn summary_of(
     }
 }
 
+/// Strata of a set's query are what findings of the set are asked of.
+pub fn strata_are_made()
+    ensures { StrataAreMade }
+{
+    sound_schemas_have_requests();
+}
+
+/// The strata of a set, whose query this is, by the slots, where products of at most so many states tell
+/// which predicates lie below which. `TooManyPredicates` comes exactly where more than 128 predicates are
+/// named in a slot, and `Wide` only where two predicates of a slot take more states.
+///
+/// The conditions are those of `find_summary`.
+pub fn find_strata(
+    alloc: Global,
+    schema: &Schema,
+    query: &Query,
+    slots: &SlotList,
+    states: u32,
+) -> Result<Strata, StrataFault>
+    requires askable { AreAskable schema.now slots.now }
+    requires set { IsOfSomeSet schema.now query.now }
+    requires states { 1 ≤ states }
+    ensures { AreStrataOf schema.now states query.now slots.now result }
+{
+    tests_of_set_queries_suit();
+    let mut by = ByProducts::new(schema, states);
+    strata(alloc, schema, query, slots, &mut by)
+}
+
 /// The summary of a set, whose query this is, by the slots: the maximal irreducible findings, each with a
 /// request of its own. Or the one cause why there is none, which names a limit that is below the need.
 ///
@@ -59,9 +90,7 @@ pub fn find_summary(
     requires limits { AreInRange limits }
     ensures { IfOk result (IsOutcomeFor schema.now query.now slots.now limits) }
 {
-    tests_of_set_queries_suit();
-    let mut by = ByProducts::new(schema, limits.states);
-    match strata(alloc, schema, query, slots, &mut by) {
+    match find_strata(alloc, schema, query, slots, limits.states) {
         Ok(made) => summary_of(alloc, schema, query, slots, made, limits),
         Err(StrataFault::TooManyPredicates(dimension)) => {
             Ok(Outcome::TooManyPredicates(dimension))

@@ -10,5 +10,5 @@ mod plain;
 mod questions;
 mod samples;
 
-pub use finding::find_summary;
+pub use finding::{find_strata, find_summary, strata_are_made};
 pub use outcome::{Limits, Outcome};

@@ -1,0 +1,159 @@
+-- Which findings are comparable, number by number and pair by pair.
+use Rattle.std.proofs.Common.{◌≡◌, ◌≢◌, ◌↔◌, ℕ, zero, suc, ◌+◌, ◌<◌, ◌≤◌, Bool, true, false, List, [], ◌∷◌, Some, length, get_or, inl, inr, refl, sym, ap, subst, ◌∙◌, arith, nat_eq}
+use Rattle.std.specs.Prelude.{All, Any, IsTrue, slice_get}
+use Rattle.std.specs.Cmp.Lexicographic.{pointwise, pointwise_decides, slice_cmp}
+use Rattle.std.specs.Ordering.{is_lt, nat_cmp}
+use Rattle.std.specs.declared.cmp.Ordering.{Ordering}
+use Rattle.std.specs.declared.cmp.Ordering.TheVariants.{Less, Equal, Greater}
+use Rattle.std.proofs.lemmas.Bool.{cases_lt}
+use Rattle.std.proofs.lemmas.Bool.Decides.{Decides-eqb}
+use Rattle.std.proofs.lemmas.List.Elements.{All-head, All-tail}
+use Rattle.std.proofs.lemmas.Option.{get_or_from_slice_get, slice_get_within}
+use Rattle.policy_model.specs.declared.request.Request.{Request}
+use Rattle.policy_model.specs.declared.schema.Schema.{Schema}
+use Rattle.policy_model.specs.declared.test.Test.{Test}
+use Rattle.policy_model.proofs.Laws.{Any-here, Any-later}
+use Rattle.strata.specs.declared.stratum.Strata.{Strata}
+use Rattle.strata.specs.declared.stratum.Stratum.{Stratum}
+use Rattle.strata.specs.Covers.{IsBelowAt}
+use Rattle.strata.specs.Strata.{AnswersOrderOf, IsStratum}
+use Rattle.findings.specs.Findings.{IsFiner, IsFinding}
+use Rattle.findings.specs.Judging.{IsApartFromFirst, IsComparedWith, OfOrder, TellsCompared, TellsComparedWith, TellsFiner}
+use Rattle.findings.specs.StandingSummaries.{AreComparable}
+use Rattle.findings.specs.Steps.{predicate_number_at}
+use Rattle.findings.specs.Summaries.{findings_of}
+use Rattle.findings.proofs.Stepping.{number-within}
+
+abbrev Pairs : Type 0
+Pairs = List (List ℕ × Request)
+
+-- ---- the order of numbers
+
+pub less-is : (o : Ordering) (b : Bool) → b ≡ is_lt o → (IsTrue b ↔ (o ≡ Less))
+less-is Less b is = (λ e. refl, λ e. is)
+less-is Equal b is = (λ e. absurd (cc), λ e. absurd (cc))
+less-is Greater b is = (λ e. absurd (cc), λ e. absurd (cc))
+
+pub before-is : (f g a b : List ℕ) (o : Ordering) (r : Bool) → a ≡ f → b ≡ g → o ≡ slice_cmp nat_cmp a b → r ≡ is_lt o → (IsTrue r ↔ (slice_cmp nat_cmp f g ≡ Less))
+before-is f g a b o r first second compares is =
+    let same : o ≡ slice_cmp nat_cmp f g = compares ∙ ap (λ (x : List ℕ). slice_cmp nat_cmp x b) first ∙ ap (slice_cmp nat_cmp f) second in
+    subst (λ (x : Ordering). IsTrue r ↔ (x ≡ Less)) same (less-is o r is)
+
+-- ---- finer, number by number
+
+pub finer-by : (schema : Schema) (ds : List Stratum) (f g : List ℕ) → IsFinding ds f → IsFinding ds g → ((j : ℕ) (d : Stratum) → j < length f → slice_get ds j ≡ Some d → IsBelowAt schema d.slot d.predicates (predicate_number_at f j) (predicate_number_at g j)) → IsFiner schema ds f g
+finer-by schema [] f g is_f is_g each = tt
+finer-by schema (d ∷ ds) [] g is_f is_g each = tt
+finer-by schema (d ∷ ds) (n ∷ f) [] is_f is_g each = tt
+finer-by schema (d ∷ ds) (n ∷ f) (m ∷ g) is_f is_g each = (each 0 d (omega arith) refl, finer-by schema ds f g is_f.1 is_g.1 (λ j e less at. each (suc j) e (omega (arith, less)) at))
+
+pub finer-read : (schema : Schema) (ds : List Stratum) (f g : List ℕ) → IsFinding ds f → IsFinding ds g → IsFiner schema ds f g → (j : ℕ) (d : Stratum) → slice_get ds j ≡ Some d → IsBelowAt schema d.slot d.predicates (predicate_number_at f j) (predicate_number_at g j)
+finer-read schema [] f g is_f is_g finer j d at = absurd (cc)
+finer-read schema (e ∷ ds) [] g is_f is_g finer j d at = absurd is_f
+finer-read schema (e ∷ ds) (n ∷ f) [] is_f is_g finer j d at = absurd is_g
+finer-read schema (e ∷ ds) (n ∷ f) (m ∷ g) is_f is_g finer zero d at = let same : e ≡ d = cc in subst (λ (x : Stratum). IsBelowAt schema x.slot x.predicates n m) same finer.0
+finer-read schema (e ∷ ds) (n ∷ f) (m ∷ g) is_f is_g finer (suc j) d at = finer-read schema ds f g is_f.1 is_g.1 finer.1 j d at
+
+-- a dimension of strata
+pub stratum-at : (schema : Schema) (tests : List Test) (ds : List Stratum) (j : ℕ) (d : Stratum) → All (IsStratum schema tests) ds → slice_get ds j ≡ Some d → IsStratum schema tests d
+stratum-at schema tests ds j d are at = subst (IsStratum schema tests) (get_or_from_slice_get ds j d d at) (are j d (slice_get_within ds j d at))
+
+-- what is answered on the numbers of two findings in a dimension
+pub below-told : (schema : Schema) (tests : List Test) (ds : List Stratum) (f g : List ℕ) (j n m : ℕ) (d : Stratum) (b : Bool) → All (IsStratum schema tests) ds → IsFinding ds f → IsFinding ds g → slice_get ds j ≡ Some d →
+    n ≡ predicate_number_at f j → m ≡ predicate_number_at g j → AnswersOrderOf d n m b → (IsTrue b ↔ IsBelowAt schema d.slot d.predicates (predicate_number_at f j) (predicate_number_at g j))
+below-told schema tests ds f g j n m d b are is_f is_g at own other told =
+    let numbers = subst (λ (x : ℕ). AnswersOrderOf d (predicate_number_at f j) x b) other (subst (λ (x : ℕ). AnswersOrderOf d x m b) own told) in
+    let says = numbers schema tests (stratum-at schema tests ds j d are at) in (
+      λ e. (says.0 e).below,
+      λ below. says.1 (record { lower = number-within ds f is_f j d at; upper = number-within ds g is_g j d at; below = below }),
+    )
+
+-- ---- comparable
+
+pub compared-equal : (strata : Strata) (f g : List ℕ) (b : Bool) → b ≡ pointwise nat_eq f g → b ≡ true → TellsCompared strata f g false
+compared-equal strata f g b is equal schema tests are =
+    let same : f ≡ g = (pointwise_decides Decides-eqb f g).0 (sym is ∙ equal) in (
+      λ e. absurd (cc),
+      λ compared. elim compared [ inl finer ↦ absurd (finer.1 same) | inr above ↦ absurd (above.1 (sym same)) ],
+    )
+
+differ-told : (f g : List ℕ) (b : Bool) → b ≡ pointwise nat_eq f g → b ≡ false → f ≢ g
+differ-told f g b is unequal same = let yes_ : pointwise nat_eq f g ≡ true = (pointwise_decides Decides-eqb f g).1 same in absurd (cc)
+
+pub compared-finer : (strata : Strata) (f g : List ℕ) (b finer : Bool) → b ≡ pointwise nat_eq f g → b ≡ false → finer ≡ true → TellsFiner strata f g finer → TellsCompared strata f g finer
+compared-finer strata f g b finer is unequal holds told schema tests are = (
+  λ e. inl ((told schema tests are).0 holds, differ-told f g b is unequal),
+  λ compared. holds,
+)
+
+pub compared-above : (strata : Strata) (f g : List ℕ) (b finer up : Bool) → b ≡ pointwise nat_eq f g → b ≡ false → finer ≡ false → TellsFiner strata f g finer → TellsFiner strata g f up → TellsCompared strata f g up
+compared-above strata f g b finer up is unequal fails told upper schema tests are = (
+  λ e. inr ((upper schema tests are).0 e, λ same. differ-told f g b is unequal (sym same)),
+  λ compared. elim compared [
+    | inl lower ↦ (let bad : finer ≡ true = (told schema tests are).1 lower.0 in absurd (cc))
+    | inr above ↦ (upper schema tests are).1 above.0
+  ],
+)
+
+-- ---- pairs
+
+pub finding-of : (P : List ℕ → Type 0) (pairs : Pairs) (i : ℕ) (p : List ℕ × Request) → All P (findings_of pairs) → slice_get pairs i ≡ Some p → P p.0
+finding-of P [] i p all at = absurd (cc)
+finding-of P (q ∷ pairs) zero p all at = let same : q ≡ p = cc in subst (λ (x : List ℕ × Request). P x.0) same (All-head P q.0 (findings_of pairs) all)
+finding-of P (q ∷ pairs) (suc i) p all at = finding-of P pairs i p (All-tail P q.0 (findings_of pairs) all) at
+
+-- some finding of the pairs is compared
+pub compared-any : (schema : Schema) (ds : List Stratum) (f : List ℕ) (pairs : Pairs) → IsComparedWith schema ds f pairs → Any (AreComparable schema ds f) (findings_of pairs)
+compared-any schema ds f pairs has = found pairs has.index has.other has.at has.compared
+  where
+    found : (xs : Pairs) (i : ℕ) (p : List ℕ × Request) → slice_get xs i ≡ Some p → AreComparable schema ds f p.0 → Any (AreComparable schema ds f) (findings_of xs)
+    found [] i p at compared = absurd (cc)
+    found (q ∷ xs) zero p at compared = let same : p ≡ q = cc in Any-here (AreComparable schema ds f) q.0 (findings_of xs) (subst (λ (x : List ℕ × Request). AreComparable schema ds f x.0) same compared)
+    found (q ∷ xs) (suc i) p at compared = Any-later (AreComparable schema ds f) q.0 (findings_of xs) (found xs i p at compared)
+
+-- the pair of a finding
+pub record IsPairOf (pairs : Pairs) (f : List ℕ) : Type 0 where
+  pub index : ℕ
+  pub pair : List ℕ × Request
+  pub at : slice_get pairs index ≡ Some pair
+  pub is : pair.0 ≡ f
+
+pub pair-of : (pairs : Pairs) (i : ℕ) (f : List ℕ) → i < length (findings_of pairs) → get_or (findings_of pairs) i f ≡ f → IsPairOf pairs f
+pair-of [] i f within is = absurd (omega (arith, within))
+pair-of (q ∷ pairs) zero f within is = record { index = 0; pair = q; at = refl; is = is }
+pair-of (q ∷ pairs) (suc i) f within is =
+    let rest = pair-of pairs i f (omega (arith, within)) is in
+    record { index = suc rest.index; pair = rest.pair; at = rest.at; is = rest.is }
+
+pub any-compared : (schema : Schema) (ds : List Stratum) (f : List ℕ) (pairs : Pairs) → Any (AreComparable schema ds f) (findings_of pairs) → IsComparedWith schema ds f pairs
+any-compared schema ds f pairs some =
+    let pair = pair-of pairs some.0 some.1 some.2 some.3 in
+    record { index = pair.index; other = pair.pair; at = pair.at; compared = subst (AreComparable schema ds f) (sym pair.is) some.4 }
+
+-- ---- a pair of the list
+
+pub compared-here : (strata : Strata) (f : List ℕ) (pairs : Pairs) (i : ℕ) (p : List ℕ × Request) (b : Bool) → slice_get pairs i ≡ Some p → TellsCompared strata f p.0 b → b ≡ true → TellsComparedWith strata f pairs true
+compared-here strata f pairs i p b at told holds schema tests are = (
+  λ e. record { index = i; other = p; at = at; compared = (told schema tests are).0 holds },
+  λ h. refl,
+)
+
+pub apart-next : (strata : Strata) (f : List ℕ) (pairs : Pairs) (i : ℕ) (p : List ℕ × Request) (b : Bool) → slice_get pairs i ≡ Some p → TellsCompared strata f p.0 b → b ≡ false → OfOrder strata (λ schema. IsApartFromFirst schema strata.dimensions f pairs i) →
+    OfOrder strata (λ schema. IsApartFromFirst schema strata.dimensions f pairs (i + 1))
+apart-next strata f pairs i p b at told fails before schema tests are j q less there compared = elim (cases_lt j i) [
+  | inl lower ↦ before schema tests are j q lower there compared
+  | inr upper ↦ (
+      let same : j ≡ i = omega (arith, less, upper) in
+      let own : slice_get pairs i ≡ Some q = subst (λ (k : ℕ). slice_get pairs k ≡ Some q) same there in
+      let is : q ≡ p = cc in
+      let bad : b ≡ true = (told schema tests are).1 (subst (λ (x : List ℕ × Request). AreComparable schema strata.dimensions f x.0) is compared) in
+      absurd (cc))
+]
+
+pub apart-all : (strata : Strata) (f : List ℕ) (pairs : Pairs) (i : ℕ) → length pairs ≤ i → OfOrder strata (λ schema. IsApartFromFirst schema strata.dimensions f pairs i) → TellsComparedWith strata f pairs false
+apart-all strata f pairs i past apart schema tests are = (
+  λ e. absurd (cc),
+  λ has. (
+      let within = slice_get_within pairs has.index has.other has.at in
+      absurd (apart schema tests are has.index has.other (omega (arith, within, past)) has.at has.compared)),
+)

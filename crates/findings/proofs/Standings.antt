@@ -1,0 +1,322 @@
+-- The first failing pair, and a list without one.
+use Rattle.std.proofs.Common.{◌≡◌, ◌↔◌, ℕ, zero, suc, ◌+◌, ◌<◌, ◌≤◌, Bool, true, false, List, [], ◌∷◌, Some, length, get_or, take, drop, ◌-◌, inl, inr, refl, sym, ap, subst, ◌∙◌, arith}
+use Rattle.std.specs.Prelude.{All, Contains, IsTrue, if◌then◌else◌, slice_get}
+use Rattle.std.specs.Cmp.Lexicographic.{slice_cmp}
+use Rattle.std.specs.List.Sorted.{IsStrictlySortedBy}
+use Rattle.std.specs.Ordering.{nat_cmp}
+use Rattle.std.specs.declared.cmp.Ordering.TheVariants.{Less}
+use Rattle.std.proofs.lemmas.Bool.{cases_lt, le-ltb, lt-ltb}
+use Rattle.std.proofs.lemmas.Cmp.{nat_list_cmp_total}
+use Rattle.std.proofs.lemmas.List.{drop-map, get_or-drop, get_or-take, length-drop, length-map, length-take, take-map, take_all}
+use Rattle.std.proofs.lemmas.List.Elements.{All-drop, All-take}
+use Rattle.std.proofs.lemmas.Map.Keys.{sorted_from_all_adjacent}
+use Rattle.std.proofs.lemmas.Option.{get_or_from_slice_get, slice_get-get_or, slice_get_within}
+use Rattle.policy_model.specs.declared.request.Request.{Request}
+use Rattle.policy_model.specs.declared.schema.Schema.{Schema}
+use Rattle.policy_model.specs.declared.set.PolicySet.{PolicySet}
+use Rattle.policy_compile.specs.declared.outcome.Query.{Query}
+use Rattle.strata.specs.declared.stratum.Strata.{Strata}
+use Rattle.strata.specs.declared.stratum.Stratum.{Stratum}
+use Rattle.findings.specs.declared.standing.SummaryVerdict.{SummaryVerdict}
+use Rattle.findings.specs.declared.standing.SummaryVerdict.TheVariants.{Stands, Fails}
+use Rattle.findings.specs.Findings.{IsOwn, IsStrictlyFiner}
+use Rattle.findings.specs.Judging.{FailsAlone, IsComparedWith, IsFirstAlone, IsFirstCompared, IsFirstInBlock, OfOrder, Rises, StandAlone, StandsAlone, TellsAlone, TellsComparedWith, TellsOwn, verdict_at}
+use Rattle.findings.specs.Queries.{AreMadeFor}
+use Rattle.findings.specs.StandingSummaries.{HasFault, IsFailingPair, IsFirstFailing, IsSummaryVerdict, JudgesSummary, SummaryStands}
+use Rattle.findings.specs.Summaries.{findings_of}
+use Rattle.findings.proofs.Compared.{any-compared, compared-any, pair-of}
+
+abbrev Pairs : Type 0
+Pairs = List (List ℕ × Request)
+
+-- a pair that is there
+pub record HasPair (pairs : Pairs) (i : ℕ) : Type 0 where
+  pub pair : List ℕ × Request
+  pub at : slice_get pairs i ≡ Some pair
+
+pub pair-at : (pairs : Pairs) (i : ℕ) → i < length pairs → HasPair pairs i
+pair-at [] i within = absurd (omega (arith, within))
+pair-at (p ∷ pairs) zero within = record { pair = p; at = refl }
+pair-at (p ∷ pairs) (suc i) within =
+    let rest = pair-at pairs i (omega (arith, within)) in
+    record { pair = rest.pair; at = rest.at }
+
+same-pair : (pairs : Pairs) (i : ℕ) (p q : List ℕ × Request) → slice_get pairs i ≡ Some p → slice_get pairs i ≡ Some q → p ≡ q
+same-pair pairs i p q first second = cc
+
+finding-read : (pairs : Pairs) (i : ℕ) (d : List ℕ) (p : List ℕ × Request) → slice_get pairs i ≡ Some p → get_or (findings_of pairs) i d ≡ p.0
+finding-read [] i d p at = absurd (cc)
+finding-read (q ∷ pairs) zero d p at = let same : q ≡ p = cc in ap (λ (x : List ℕ × Request). x.0) same
+finding-read (q ∷ pairs) (suc i) d p at = finding-read pairs i d p at
+
+verdict-fails : (first count : ℕ) → first < count → verdict_at first count ≡ Fails first
+verdict-fails first count within = ap (λ (b : Bool). if b then Fails first else Stands) (lt-ltb first count within)
+
+verdict-stands : (first count : ℕ) → count ≤ first → verdict_at first count ≡ Stands
+verdict-stands first count past = ap (λ (b : Bool). if b then Fails first else Stands) (le-ltb first count past)
+
+all-pairs : (P : List ℕ × Request → Type 0) (pairs : Pairs) → ((i : ℕ) (p : List ℕ × Request) → slice_get pairs i ≡ Some p → P p) → All P pairs
+all-pairs P pairs each i d within = each i (get_or pairs i d) (slice_get-get_or pairs i d within)
+
+module _ (schema : Schema) (base : Query) (strata : Strata) (pairs : Pairs) (set : PolicySet) (made : AreMadeFor schema set base strata) where
+  abbrev ds : List Stratum
+  ds = strata.dimensions
+
+  -- a pair that stands alone and isn't compared has no fault
+  no-fault : (i : ℕ) (p : List ℕ × Request) → StandsAlone schema set ds pairs i p → ¬ IsComparedWith schema ds p.0 pairs → ¬ HasFault schema set ds pairs i p
+  no-fault i p stands apart fault = elim fault [
+    | inl foreign ↦ foreign stands.own
+    | inr other ↦ elim other [
+      | inl falls ↦ falls.falls (stands.rises falls.index falls.before falls.next falls.at)
+      | inr compared ↦ apart (any-compared schema ds p.0 pairs compared)
+    ]
+  ]
+
+  alone-fault : (i : ℕ) (p : List ℕ × Request) → FailsAlone schema set ds pairs i p → HasFault schema set ds pairs i p
+  alone-fault i p (inl foreign) = inl foreign
+  alone-fault i p (inr falls) = inr (inl falls)
+
+  module _ (alone first : ℕ) (is_alone : IsFirstAlone schema base strata pairs alone) (is_first : IsFirstCompared strata pairs alone (length pairs) first) where
+    apart-at : (i : ℕ) (p : List ℕ × Request) → i < first → slice_get pairs i ≡ Some p → ¬ IsComparedWith schema ds p.0 pairs
+    apart-at i p less at has =
+        is_first.before schema base.tests made.are.each i p less at has.index has.other (slice_get_within pairs has.index has.other has.at) has.at has.compared
+
+    stands-at : (i : ℕ) (p : List ℕ × Request) → i < first → slice_get pairs i ≡ Some p → StandsAlone schema set ds pairs i p
+    stands-at i p less at = let most = is_first.within in is_alone.before set i p made (omega (arith, less, most)) at
+
+    no-failing : (i : ℕ) → i < first → ¬ IsFailingPair schema set ds pairs i
+    no-failing i less fails = no-fault i fails.pair (stands-at i fails.pair less fails.at) (apart-at i fails.pair less fails.at) fails.fault
+
+    -- where it is a pair, it is the first that fails
+    pub first-fails : first < length pairs → IsFirstFailing schema set ds pairs first
+    first-fails within = record { failing = record { pair = own.pair; at = own.at; fault = fault }; first = no-failing }
+      where
+        own : HasPair pairs first
+        own = pair-at pairs first within
+
+        fault : HasFault schema set ds pairs first own.pair
+        fault = elim (cases_lt first alone) [
+          | inl before ↦ inr (inr (compared-any schema ds own.pair.0 pairs (is_first.here schema base.tests made.are.each own.pair before own.at)))
+          | inr past ↦ (
+              let most = is_first.within in
+              let same : alone ≡ first = omega (arith, past, most) in
+              let here : slice_get pairs alone ≡ Some own.pair = subst (λ (k : ℕ). slice_get pairs k ≡ Some own.pair) (sym same) own.at in
+              alone-fault first own.pair (subst (λ (k : ℕ). FailsAlone schema set ds pairs k own.pair) same (is_alone.here set own.pair made here)))
+        ]
+
+    -- where there is no such pair, the list stands
+    pub all-stand : first ≡ length pairs → SummaryStands schema set ds pairs
+    all-stand whole = record { rise = rise; own = own; flat = flat }
+      where
+        stands : (i : ℕ) (p : List ℕ × Request) → slice_get pairs i ≡ Some p → StandsAlone schema set ds pairs i p
+        stands i p at = let within = slice_get_within pairs i p at in stands-at i p (omega (arith, within, whole)) at
+
+        own : All (λ p. IsOwn schema set ds p.0 p.1) pairs
+        own = all-pairs (λ p. IsOwn schema set ds p.0 p.1) pairs (λ i p at. (stands i p at).own)
+
+        rise : IsStrictlySortedBy (slice_cmp nat_cmp) (findings_of pairs)
+        rise = sorted_from_all_adjacent nat_list_cmp_total (findings_of pairs) [] (λ k within. (
+            let count = length-map pairs (λ (p : List ℕ × Request). p.0) in
+            let p = pair-at pairs k (omega (arith, within, count)) in
+            let q = pair-at pairs (k + 1) (omega (arith, within, count)) in
+            let less = (stands (k + 1) q.pair q.at).rises k p.pair refl p.at in
+            ap (λ (x : List ℕ). slice_cmp nat_cmp x (get_or (findings_of pairs) (k + 1) [])) (finding-read pairs k [] p.pair p.at) ∙ ap (slice_cmp nat_cmp p.pair.0) (finding-read pairs (k + 1) [] q.pair q.at) ∙ less))
+
+        flat : (f g : List ℕ) → Contains (findings_of pairs) f → Contains (findings_of pairs) g → ¬ IsStrictlyFiner schema ds f g
+        flat f g in_f in_g finer =
+            let p = pair-of pairs in_f.0 f in_f.1 in_f.2 in
+            let q = pair-of pairs in_g.0 g in_g.1 in_g.2 in
+            let within = slice_get_within pairs p.index p.pair p.at in
+            apart-at p.index p.pair (omega (arith, within, whole)) p.at (record {
+              index = q.index;
+              other = q.pair;
+              at = q.at;
+              compared = inl (subst (λ (x : List ℕ). IsStrictlyFiner schema ds x q.pair.0) (sym p.is) (subst (IsStrictlyFiner schema ds f) (sym q.is) finer));
+            })
+
+    -- the verdict
+    pub judged : IsSummaryVerdict schema set ds pairs (verdict_at first (length pairs))
+    judged = elim (cases_lt first (length pairs)) [
+      | inl within ↦ subst (IsSummaryVerdict schema set ds pairs) (sym (verdict-fails first (length pairs) within)) (first-fails within)
+      | inr past ↦ (
+          let most = is_first.within in
+          let all = is_alone.within in
+          let whole : first ≡ length pairs = omega (arith, most, all, past) in
+          subst (IsSummaryVerdict schema set ds pairs) (sym (verdict-stands first (length pairs) past)) (all-stand whole))
+    ]
+
+-- ---- blocks
+
+pub blocks-none : (strata : Strata) (pairs : Pairs) (most : ℕ) → IsFirstCompared strata pairs most 0 most
+blocks-none strata pairs most = record {
+  within = omega arith;
+  before = λ schema tests are i p less at j q none there. absurd (omega (arith, none));
+  here = λ schema tests are p less at. absurd (omega (arith, less));
+}
+
+-- what is in a block stands behind its start
+in-block : (pairs : Pairs) (start count j : ℕ) (q : List ℕ × Request) → slice_get (take count (drop start pairs)) j ≡ Some q → slice_get pairs (start + j) ≡ Some q
+in-block pairs start count j q at =
+    let inside = slice_get_within (take count (drop start pairs)) j q at in
+    let taken = length-take count (drop start pairs) in
+    let dropped = length-drop start pairs in
+    let within : start + j < length pairs = omega (arith, inside, taken, dropped) in
+    let read : get_or pairs (start + j) q ≡ q = sym (get_or-drop start pairs j q) ∙ sym (get_or-take count (drop start pairs) j q (omega (arith, inside, taken))) ∙ get_or_from_slice_get (take count (drop start pairs)) j q q at in
+    slice_get-get_or pairs (start + j) q within ∙ ap Some read
+
+of-block : (pairs : Pairs) (start count j : ℕ) (q : List ℕ × Request) → start ≤ j → j < start + count → slice_get pairs j ≡ Some q → slice_get (take count (drop start pairs)) (j - start) ≡ Some q
+of-block pairs start count j q past within at =
+    let there = slice_get_within pairs j q at in
+    let taken = length-take count (drop start pairs) in
+    let dropped = length-drop start pairs in
+    let inside : j - start < length (take count (drop start pairs)) = omega (arith, past, within, there, taken, dropped) in
+    let index : start + (j - start) ≡ j = omega (arith, past) in
+    let read : get_or (take count (drop start pairs)) (j - start) q ≡ q =
+    get_or-take count (drop start pairs) (j - start) q (omega (arith, past, within)) ∙ get_or-drop start pairs (j - start) q ∙ ap (λ (k : ℕ). get_or pairs k q) index ∙ get_or_from_slice_get pairs j q q at in
+    slice_get-get_or (take count (drop start pairs)) (j - start) q inside ∙ ap Some read
+
+pub blocks-next : (strata : Strata) (pairs block : Pairs) (most start count old new : ℕ) → block ≡ take count (drop start pairs) → IsFirstCompared strata pairs most start old → IsFirstInBlock strata pairs block old new → IsFirstCompared strata pairs most (start + count) new
+blocks-next strata pairs block most start count old new is before found = record {
+  within = (let one = before.within in let other = found.within in omega (arith, one, other));
+  before = λ schema tests are i p less at j q inside there compared. elim (cases_lt j start) [
+    | inl lower ↦ (let most_old = found.within in before.before schema tests are i p (omega (arith, less, most_old)) at j q lower there compared)
+    | inr upper ↦ found.before schema tests are i p less at (record {
+      index = j - start;
+      other = q;
+      at = subst (λ (xs : Pairs). slice_get xs (j - start) ≡ Some q) (sym is) (of-block pairs start count j q upper inside there);
+      compared = compared;
+    })
+  ];
+  here = λ schema tests are p less at. elim (cases_lt new old) [
+    | inl lower ↦ (
+        let has = found.here schema tests are p lower at in
+        record { index = start + has.index; other = has.other; at = in-block pairs start count has.index has.other (subst (λ (xs : Pairs). slice_get xs has.index ≡ Some has.other) is has.at); compared = has.compared })
+    | inr upper ↦ (
+        let most_old = found.within in
+        let same : new ≡ old = omega (arith, upper, most_old) in
+        before.here schema tests are p (omega (arith, less, same)) (subst (λ (k : ℕ). slice_get pairs k ≡ Some p) same at))
+  ];
+}
+
+-- ---- one block
+
+pub block-here : (strata : Strata) (pairs block : Pairs) (most i : ℕ) (p : List ℕ × Request) (b : Bool) → i < most → slice_get pairs i ≡ Some p →
+    OfOrder strata (λ schema. (j : ℕ) (q : List ℕ × Request) → j < i → slice_get pairs j ≡ Some q → ¬ IsComparedWith schema strata.dimensions q.0 block) → TellsComparedWith strata p.0 block b → b ≡ true → IsFirstInBlock strata pairs block most i
+block-here strata pairs block most i p b less at before told holds = record {
+  within = omega (arith, less);
+  before = before;
+  here = λ schema tests are q within there. subst (λ (x : List ℕ × Request). IsComparedWith schema strata.dimensions x.0 block) (same-pair pairs i p q at there) ((told schema tests are).0 holds);
+}
+
+pub block-next : (strata : Strata) (pairs block : Pairs) (i : ℕ) (p : List ℕ × Request) (b : Bool) → slice_get pairs i ≡ Some p →
+    OfOrder strata (λ schema. (j : ℕ) (q : List ℕ × Request) → j < i → slice_get pairs j ≡ Some q → ¬ IsComparedWith schema strata.dimensions q.0 block) → TellsComparedWith strata p.0 block b → b ≡ false →
+    OfOrder strata (λ schema. (j : ℕ) (q : List ℕ × Request) → j < i + 1 → slice_get pairs j ≡ Some q → ¬ IsComparedWith schema strata.dimensions q.0 block)
+block-next strata pairs block i p b at before told fails schema tests are j q less there compared = elim (cases_lt j i) [
+  | inl lower ↦ before schema tests are j q lower there compared
+  | inr upper ↦ (
+      let same : j ≡ i = omega (arith, less, upper) in
+      let here : slice_get pairs i ≡ Some q = subst (λ (k : ℕ). slice_get pairs k ≡ Some q) same there in
+      let bad : b ≡ true = (told schema tests are).1 (subst (λ (x : List ℕ × Request). IsComparedWith schema strata.dimensions x.0 block) (same-pair pairs i q p here at) compared) in
+      absurd (cc))
+]
+
+pub block-all : (strata : Strata) (pairs block : Pairs) (most i : ℕ) → most ≤ i →
+    OfOrder strata (λ schema. (j : ℕ) (q : List ℕ × Request) → j < i → slice_get pairs j ≡ Some q → ¬ IsComparedWith schema strata.dimensions q.0 block) → IsFirstInBlock strata pairs block most most
+block-all strata pairs block most i past before = record {
+  within = omega arith;
+  before = λ schema tests are j q less there. before schema tests are j q (omega (arith, less, past)) there;
+  here = λ schema tests are q less there. absurd (omega (arith, less));
+}
+
+-- the findings of a block, which are no more than its size
+pub block-findings : (P : List ℕ → Type 0) (pairs block : Pairs) (start count : ℕ) → block ≡ take count (drop start pairs) → All P (findings_of pairs) → All P (findings_of block)
+block-findings P pairs block start count is all =
+    let whole : findings_of block ≡ take count (drop start (findings_of pairs)) =
+    ap findings_of is ∙ sym (take-map (λ (p : List ℕ × Request). p.0) count (drop start pairs)) ∙ ap (take count) (sym (drop-map (λ (p : List ℕ × Request). p.0) start pairs)) in
+    subst (All P) (sym whole) (All-take P count (drop start (findings_of pairs)) (All-drop P start (findings_of pairs) all))
+
+pub block-long : (pairs block : Pairs) (start count : ℕ) → block ≡ take count (drop start pairs) → length block ≤ count
+block-long pairs block start count is = (let e : length block ≡ length (take count (drop start pairs)) = ap length is in let long = length-take count (drop start pairs) in omega (arith, e, long))
+
+pub blocks-all : (strata : Strata) (pairs : Pairs) (most n first : ℕ) → length pairs ≤ n → IsFirstCompared strata pairs most n first → IsFirstCompared strata pairs most (length pairs) first
+blocks-all strata pairs most n first past all = record {
+  within = all.within;
+  before = λ schema tests are i p less at j q inside there. all.before schema tests are i p less at j q (omega (arith, inside, past)) there;
+  here = all.here;
+}
+
+-- the last block, which may be short
+pub short-block : (pairs rest : Pairs) (k m : ℕ) → rest ≡ drop k pairs → k ≡ m → length rest < 64 → rest ≡ take 64 (drop m pairs)
+short-block pairs rest k m is same short = sym (take_all 64 rest (omega (arith, short))) ∙ ap (take 64) (is ∙ ap (λ (n : ℕ). drop n pairs) same)
+
+-- ---- pairs alone
+
+pub rises-first : (pairs : Pairs) (i : ℕ) → i ≡ 0 → Rises pairs i true
+rises-first pairs i zero_ p at j q next there = absurd (omega (arith, zero_, next))
+
+pub rises-told : (pairs : Pairs) (i k : ℕ) (before here : List ℕ × Request) (b : Bool) → i ≡ k + 1 → slice_get pairs k ≡ Some before → slice_get pairs i ≡ Some here → (IsTrue b ↔ (slice_cmp nat_cmp before.0 here.0 ≡ Less)) → Rises pairs i b
+rises-told pairs i k before here true next at own told = λ p there j q follows is.
+    let same : j ≡ k = omega (arith, next, follows) in
+    let lower = same-pair pairs k before q at (subst (λ (n : ℕ). slice_get pairs n ≡ Some q) same is) in
+    let upper = same-pair pairs i here p own there in
+    subst (λ (x : List ℕ × Request). slice_cmp nat_cmp x.0 p.0 ≡ Less) lower (subst (λ (x : List ℕ × Request). slice_cmp nat_cmp before.0 x.0 ≡ Less) upper (told.0 refl))
+rises-told pairs i k before here false next at own told = λ p there. record {
+  index = k;
+  next = next;
+  before = before;
+  at = at;
+  falls = λ less. (
+      let upper = same-pair pairs i p here there own in
+      let bad : false ≡ true = told.1 (subst (λ (x : List ℕ × Request). slice_cmp nat_cmp before.0 x.0 ≡ Less) upper less) in
+      absurd (cc));
+}
+
+module _ (schema : Schema) (base : Query) (strata : Strata) (pairs : Pairs) (i : ℕ) where
+  pub alone-falls : (b : Bool) → b ≡ false → Rises pairs i b → TellsAlone schema base strata pairs i false
+  alone-falls true e told set p made at = absurd (cc)
+  alone-falls false e told set p made at = inr (told p at)
+
+  pub alone-own : (b own : Bool) (here there : List ℕ × Request) → b ≡ true → Rises pairs i b → slice_get pairs i ≡ Some here → slice_get pairs i ≡ Some there → TellsOwn schema base strata here.0 there.1 own → TellsAlone schema base strata pairs i own
+  alone-own false own here there e told at again is = absurd (cc)
+  alone-own true true here there e told at again is = λ set p made found.
+      let first = same-pair pairs i here p at found in
+      let second = same-pair pairs i there p again found in
+      let own : IsOwn schema set strata.dimensions here.0 there.1 = (is set made).0 refl in
+      record {
+        own = subst (λ (x : List ℕ × Request). IsOwn schema set strata.dimensions p.0 x.1) second (subst (λ (x : List ℕ × Request). IsOwn schema set strata.dimensions x.0 there.1) first own);
+        rises = told p found;
+      }
+  alone-own true false here there e told at again is = λ set p made found.
+      let first = same-pair pairs i p here found at in
+      let second = same-pair pairs i p there found again in
+      inl (λ own. (
+      let same = subst (λ (x : List ℕ × Request). IsOwn schema set strata.dimensions here.0 x.1) second (subst (λ (x : List ℕ × Request). IsOwn schema set strata.dimensions x.0 p.1) first own) in
+      let bad : false ≡ true = (is set made).1 same in
+      absurd (cc)))
+
+  pub alone-here : (b : Bool) → i < length pairs → StandAlone schema base strata pairs i → TellsAlone schema base strata pairs i b → b ≡ false → IsFirstAlone schema base strata pairs i
+  alone-here true less before told e = absurd (cc)
+  alone-here false less before told e = record { within = omega (arith, less); before = before; here = λ set p made at. told set p made at }
+
+  pub alone-next : (b : Bool) → StandAlone schema base strata pairs i → TellsAlone schema base strata pairs i b → b ≡ true → StandAlone schema base strata pairs (i + 1)
+  alone-next false before told e = absurd (cc)
+  alone-next true before told e = λ set j p made less at. elim (cases_lt j i) [
+    | inl lower ↦ before set j p made lower at
+    | inr upper ↦ (
+        let same : j ≡ i = omega (arith, less, upper) in
+        let here : slice_get pairs i ≡ Some p = subst (λ (k : ℕ). slice_get pairs k ≡ Some p) same at in
+        subst (λ (k : ℕ). StandsAlone schema set strata.dimensions pairs k p) (sym same) (told set p made here))
+  ]
+
+  pub alone-all : length pairs ≤ i → i ≤ length pairs → StandAlone schema base strata pairs i → IsFirstAlone schema base strata pairs (length pairs)
+  alone-all past most before = record {
+    within = omega arith;
+    before = λ set j p made less at. before set j p made (omega (arith, less, past)) at;
+    here = λ set p made at. (let within = slice_get_within pairs (length pairs) p at in absurd (omega (arith, within)));
+  }
+
+-- ---- the verdict
+
+pub judged-as : (schema : Schema) (base : Query) (strata : Strata) (pairs : Pairs) (alone first : ℕ) (verdict : SummaryVerdict) → IsFirstAlone schema base strata pairs alone → IsFirstCompared strata pairs alone (length pairs) first → verdict ≡ verdict_at first (length pairs) → JudgesSummary schema base strata pairs verdict
+judged-as schema base strata pairs alone first verdict is_alone is_first is set made =
+    subst (IsSummaryVerdict schema set strata.dimensions pairs) (sym is) (judged schema base strata pairs set made alone first is_alone is_first)

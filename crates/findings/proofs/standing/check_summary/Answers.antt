@@ -1,0 +1,11 @@
+use Rattle.std.proofs.Common.{List, ℕ, subst}
+use Rattle.policy_model.specs.declared.request.Request.{Request}
+use Rattle.findings.specs.StandingSummaries.{JudgesSummary}
+use Rattle.findings.proofs.Standings.{judged-as}
+use Rattle.findings.proofs.standing.check_summary.Goals as goal
+
+pub returns : goal.returns
+returns c =
+    subst (λ (ps : List (List ℕ × Request)). JudgesSummary c.args.schema.now c.args.base.now c.args.strata.now ps c.verdict_at.result) c.as_slice-pairs.ensures
+    (judged-as c.args.schema.now c.args.base.now c.args.strata.now c.as_slice-pairs.result.now c.in_ok-alone.alone c.in_ok-first.first c.verdict_at.result c.in_ok-alone.ensures c.in_ok-first.ensures
+    c.verdict_at.ensures)

@@ -1,0 +1,66 @@
+//! Which findings are finer than which.
+ghost use Rattle.std.specs.Prelude.{◌≡◌, ◌↔◌, IsTrue, All};
+ghost use Rattle.std.specs.Cmp.Lexicographic.{slice_cmp};
+ghost use Rattle.std.specs.Ordering.{nat_cmp};
+ghost use Rattle.std.specs.declared.cmp.Ordering.TheVariants.{Less};
+ghost use Rattle.findings.specs.Findings.{IsFinding};
+ghost use Rattle.findings.specs.Judging.{TellsCompared, TellsComparedWith, TellsFiner};
+ghost use Rattle.findings.specs.Summaries.{findings_of};
+
+use crate::outcome::Finding;
+use crate::reading::{dimension_at, predicate_number_at};
+use policy_model::Request;
+use strata::Strata;
+
+/// Whether the numbers of the one finding come before those of the other.
+pub(crate) fn is_before(one: &Finding, other: &Finding) -> bool
+    ensures { IsTrue result ↔ (slice_cmp nat_cmp one.now other.now ≡ Less) }
+{
+    one.as_slice().cmp(other.as_slice()).is_lt()
+}
+
+// Whether each predicate of the one finding is that of the other, or below it.
+fn is_finer(strata: &Strata, one: &Finding, other: &Finding) -> bool
+    requires one { IsFinding strata.now.dimensions one.now }
+    requires other { IsFinding strata.now.dimensions other.now }
+    ensures { TellsFiner strata.now one.now other.now result }
+{
+    'dimensions: for i in 0..one.len() {
+        let number = predicate_number_at(one, i) as usize;
+        let upper = predicate_number_at(other, i) as usize;
+        if !dimension_at(strata, i).is_below(number, upper) {
+            return false;
+        }
+    }
+    true
+}
+
+// Whether one of the two findings is strictly finer than the other.
+fn is_compared(strata: &Strata, one: &Finding, other: &Finding) -> bool
+    requires one { IsFinding strata.now.dimensions one.now }
+    requires other { IsFinding strata.now.dimensions other.now }
+    ensures { TellsCompared strata.now one.now other.now result }
+{
+    if one == other {
+        return false;
+    }
+    is_finer(strata, one, other) || is_finer(strata, other, one)
+}
+
+/// Whether the finding is strictly finer or strictly above one of those of the list.
+pub(crate) fn is_compared_with(
+    strata: &Strata,
+    finding: &Finding,
+    pairs: &[(Finding, Request)],
+) -> bool
+    requires finding { IsFinding strata.now.dimensions finding.now }
+    requires pairs { All (IsFinding strata.now.dimensions) (findings_of pairs.now) }
+    ensures { TellsComparedWith strata.now finding.now pairs.now result }
+{
+    'pairs: for pair in pairs {
+        if is_compared(strata, finding, &pair.0) {
+            return true;
+        }
+    }
+    false
+}
