@@ -1,0 +1,3 @@
+pub mod WrittenForms
+pub mod KnownKeys
+pub mod Laws
