@@ -1,0 +1,10 @@
+mod Removing
+mod Counting
+mod Placing
+mod Losing
+mod Changing
+mod Using
+mod Taking
+mod Twins
+mod Listing
+pub mod Laws

@@ -1,0 +1,106 @@
+-- What follows from the definitions: sets without a statement, change queries, and what a smaller question tells.
+use Rattle.std.specs.Prelude.{◌≡◌, ◌≢◌, ◌↔◌, List, [], ◌∷◌, ◌++◌, length, map, true, false, All, Any, Contains}
+use Rattle.policy_model.specs.declared.request.Request.{Request}
+use Rattle.policy_model.specs.declared.schema.Schema.{Schema}
+use Rattle.policy_model.specs.declared.set.PolicySet.{PolicySet}
+use Rattle.policy_model.specs.declared.set.Statement.{Statement}
+use Rattle.policy_model.specs.declared.set.StatementName.{StatementName}
+use Rattle.policy_model.specs.Requests.{IsValid}
+use Rattle.policy_model.specs.Sets.{Allows}
+use Rattle.policy_model.specs.Soundness.{IsSound, SchemaFits, SchemaIsSound}
+use Rattle.policy_model.specs.StatementNames.{Named, named_grants, named_set}
+use Rattle.policy_compile.specs.declared.outcome.Query.{Query}
+use Rattle.policy_compile.specs.Limits.{AskTheSameTests, MeetLimitsAlike}
+use Rattle.policy_compile.specs.Queries.{IsQuery, asked_tree}
+use Rattle.policy_compile.specs.Sets.{query_plan, set_plan}
+use Rattle.policy_difference.specs.Differences.{AskTheSame}
+use Rattle.refute_check.specs.Laws.{IsMetBy}
+use Rattle.refute_check.specs.Proofs.{Proof}
+use Rattle.findings.specs.Answers.{QueryIsAskable}
+use Rattle.set_questions.specs.Idle.{IsIdle, IsUsedBy, without}
+use Rattle.set_questions.specs.Settling.{IsClosedBy}
+use Rattle.set_questions.specs.Uses.{change_plan}
+
+-- ---- sets without a statement
+
+-- the statements themselves, without their names
+abbrev pub statements_named : List Named → List Statement
+statements_named ns = map (λ n. n.1) ns
+
+-- of the set's statements just the one goes; each document and each guard stays
+pub record TakesOne (set : PolicySet) (name : StatementName) (before after : List Named) : Type 0 where
+  pub statements : statements_named (named_set (without set name)) ≡ statements_named before ++ statements_named after
+  pub grants : length (without set name).grants ≡ length set.grants
+  pub guards : map (λ g. length g) (without set name).guards ≡ map (λ g. length g) set.guards
+
+abbrev pub WithoutTakesOne : Type 0
+WithoutTakesOne =
+    (set : PolicySet) (name : StatementName) (s : Statement) (before after : List Named) →
+    named_set set ≡ before ++ (name, s) ∷ after → TakesOne set name before after
+
+-- a schema that can answer for a set can answer for it without a statement, which is sound where the set is
+pub record StaysSound (set : PolicySet) (name : StatementName) : Type 0 where
+  pub sound : IsSound set → IsSound (without set name)
+  pub fits : (schema : Schema) → SchemaFits schema set → SchemaFits schema (without set name)
+
+abbrev pub WithoutStaysSound : Type 0
+WithoutStaysSound = (set : PolicySet) (name : StatementName) → StaysSound set name
+
+-- ---- change queries
+
+-- the change query of a statement has the tests of the set's query, so the two are past a limit alike
+pub record AsksAsTheSet (schema : Schema) (set : PolicySet) (named : Named) : Type 0 where
+  pub tests : AskTheSameTests (change_plan schema set named) (set_plan schema set)
+  pub limits : MeetLimitsAlike (change_plan schema set named) (set_plan schema set)
+
+abbrev pub ChangesAskAsTheSet : Type 0
+ChangesAskAsTheSet =
+    (schema : Schema) (set : PolicySet) (named : Named) → Contains (named_set set) named → AsksAsTheSet schema set named
+
+-- ---- smaller questions
+
+-- Of an Allow statement: `left` and the set without the statement differ as the set and the set without it do, and the query asks
+-- whether `left` allows a request that the set doesn't allow without the statement.
+pub record IsSmallerQuestion (schema : Schema) (set : PolicySet) (named : Named) (left : PolicySet) (query : Query) : Type 0 where
+  pub fits : SchemaFits schema set
+  pub named_there : Contains (named_set set) named
+  pub allow : named.1.allow ≡ true
+  pub same : AskTheSame set left (without set named.0)
+  pub left_fits : SchemaFits schema left
+  pub is : IsQuery (query_plan schema left (without set named.0)) query
+
+-- a request that meets it shows the statement used, and a refutation that closes it shows the statement idle
+pub record TellsUse (schema : Schema) (set : PolicySet) (name : StatementName) (query : Query) : Type 0 where
+  pub askable : SchemaIsSound schema → QueryIsAskable schema query
+  pub used : (r : Request) → IsMetBy schema query.tests (asked_tree query) [] r → IsUsedBy schema set name r
+  pub idle : (proof : Proof) → IsClosedBy schema query proof → IsIdle schema set name
+
+abbrev pub SmallerQuestionsTell : Type 0
+SmallerQuestionsTell =
+    (schema : Schema) (set : PolicySet) (named : Named) (left : PolicySet) (query : Query) →
+    IsSmallerQuestion schema set named left query → TellsUse schema set named.0 query
+
+-- the same of requests: one that `left` allows and the set doesn't allow without the statement
+abbrev pub LeftTellsUse : Type 0
+LeftTellsUse =
+    (schema : Schema) (set : PolicySet) (name : StatementName) (left : PolicySet) (r : Request) →
+    AskTheSame set left (without set name) → IsValid schema r → Allows schema left r → ¬ Allows schema (without set name) r →
+    IsUsedBy schema set name r
+
+-- ---- single cases
+
+-- a guard has no Allow statement
+abbrev pub HasSilentGuard : PolicySet → Type 0
+HasSilentGuard set = Any (All (λ d. All (λ s. s.allow ≡ false) d.statements)) set.guards
+
+-- the last Allow statement of a guard is idle just where the set allows nothing: the guard stays without it
+abbrev pub LastAllowsOfGuards : Type 0
+LastAllowsOfGuards =
+    (schema : Schema) (set : PolicySet) (name : StatementName) → HasSilentGuard (without set name) →
+    (IsIdle schema set name ↔ ((r : Request) → IsValid schema r → ¬ Allows schema set r))
+
+-- of two equal statements of the grants each is idle by itself: the other stays
+abbrev pub TwinsAreIdle : Type 0
+TwinsAreIdle =
+    (schema : Schema) (set : PolicySet) (s : Statement) (name other : StatementName) → Contains (named_grants set) (name, s) →
+    Contains (named_grants set) (other, s) → name ≢ other → IsIdle schema set name

@@ -1,0 +1,5 @@
+pub mod SetDocuments
+pub mod Idle
+pub mod Settling
+pub mod Uses
+pub mod Laws

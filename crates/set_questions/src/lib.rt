@@ -1,0 +1,19 @@
+//! Questions on one set of policies: which of its statements matter to what it allows.
+#![tactic(auto)]
+
+mod asking;
+mod meaning;
+mod names;
+mod outcome;
+mod removal;
+mod settling;
+
+pub use asking::{meet_limits, use_of, uses};
+pub use meaning::{
+    changes_ask_as_the_set, last_allows_of_guards, left_tells_use, smaller_questions_tell,
+    twins_are_idle, without_stays_sound, without_takes_one,
+};
+pub use names::{NameList, is_allow, names_of};
+pub use outcome::{Use, UseFault, UseList};
+pub use removal::without;
+pub use settling::{Settle, Settled};
