@@ -1,0 +1,7 @@
+mod Denying
+mod Files
+mod Items
+mod Keeping
+mod Leaving
+mod Listing
+mod Steps

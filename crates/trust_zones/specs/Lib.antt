@@ -1,0 +1,4 @@
+pub mod ZoneKeys
+pub mod ZoneChecks
+pub mod ZoneFiles
+pub mod Zones

@@ -1,0 +1,15 @@
+//! What zones mean. Each law is a function that does nothing, and whose contract states it.
+ghost use Rattle.trust_zones.specs.ZoneFiles.{ZoneLimits};
+ghost use Rattle.trust_zones.specs.Zones.{ZonesLeaveTheOutside};
+
+/// Of valid requests the set of what is outside a zone allows those that the set allows and that don't
+/// come from inside, where the schema gives each key of the zone one value of its kind.
+pub fn zones_leave_the_outside()
+    ensures { ZonesLeaveTheOutside }
+{}
+
+/// A list of a zone file has at most 100 members, an account twelve digits, and a listed organisation or VPC
+/// at most 2,048 characters.
+pub fn zone_limits()
+    ensures { ZoneLimits }
+{}
