@@ -1,0 +1,17 @@
+mod Allowing
+mod Ascii
+mod Blocks
+mod Choosing
+mod Documents
+mod Dropping
+mod Flat
+mod Groups
+mod Keeping
+mod KnownKeys
+mod Lying
+mod Meeting
+mod Operands
+mod Placing
+mod Principals
+mod Reading
+mod Statements

@@ -1,0 +1,5 @@
+pub mod Written
+pub mod Emitted
+pub mod Kept
+pub mod Laws
+pub mod KnownKeys
