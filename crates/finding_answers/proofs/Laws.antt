@@ -1,57 +1,81 @@
 -- What is printed of a set within its limits, and which statuses it has.
-use Rattle.std.proofs.Common.{◌≡◌, ℕ, ◌+◌, List, ◌∷◌, ◌++◌, slice_get, All, Some, arith, inl, inr, refl, subst, sym}
+use Rattle.std.proofs.Common.{◌≡◌, List, ◌∷◌, ◌++◌, ℕ, slice_get, All, Some, arith, inl, inr, refl, subst, sym}
 use Rattle.std.proofs.lemmas.List.Elements.{All-contains, Contains-append_right}
-use Rattle.std.specs.Prelude.{Contains}
-use Rattle.command_words.specs.Asked.{Summarising}
-use Rattle.findings.specs.Answers.{FailsAtFinding, SplitsFail}
-use Rattle.findings.specs.Summaries.{VisitsAtLeast}
+use Rattle.std.specs.Prelude.{Contains, true}
+use Rattle.std.specs.Str.{IsUtf8}
+use Rattle.command_words.specs.Asked.{Summarising, are_dimensions}
+use Rattle.findings.specs.Summaries.{IsSummary}
 use Rattle.policy_compile.specs.declared.outcome.Query.{Query}
+use Rattle.policy_model.specs.declared.request.Request.{Request}
 use Rattle.policy_model.specs.declared.schema.Schema.{Schema}
 use Rattle.policy_model.specs.declared.set.PolicySet.{PolicySet}
 use Rattle.policy_model.specs.declared.test.Slot.{Slot}
+use Rattle.policy_model.specs.Soundness.{SchemaIsSound}
 use Rattle.policy_model.proofs.Laws.{slice_get-at}
-use Rattle.strata.specs.Causes.{AreFew, NamesTooMany}
+use Rattle.strata.specs.Causes.{AreFew, IsFirstTooMany, NamesTooMany}
+use Rattle.strata.specs.declared.stratum.Stratum.{Stratum}
+use Rattle.summary_search.specs.Outcomes.{AreAskable, IsSummaryOutcome}
 use Rattle.summary_search.specs.declared.outcome.Limits.{Limits}
+use Rattle.summary_search.specs.declared.outcome.Outcome.{Outcome}
+use Rattle.summary_search.specs.declared.outcome.Outcome.TheVariants as outcome
 use Rattle.run_files.specs.declared.printed.Printed.{Printed}
 use Rattle.run_files.specs.declared.status.Status.{Status}
 use Rattle.run_files.specs.declared.status.Status.TheVariants as status
-use Rattle.run_files.specs.Printing.{IsOfText, Tells}
+use Rattle.run_files.specs.Printing.{IsOfText}
 use Rattle.run_sets.specs.declared.one_set.OneSet.{OneSet}
 use Rattle.run_sets.specs.declared.refusal.Refusal.{Refusal}
 use Rattle.run_sets.specs.declared.refusal.Refusal.TheVariants as refusal
 use Rattle.run_sets.specs.OneSets.{one_of}
 use Rattle.run_sets.specs.Refusals.{IsRefusedBy}
 use Rattle.run_sets.proofs.Laws.{no_one_fails, of_same_set}
-use Rattle.finding_answers.specs.declared.answer.FindingShortage.{FindingShortage}
-use Rattle.finding_answers.specs.declared.answer.FindingShortage.TheVariants as shortage
-use Rattle.finding_answers.specs.declared.answer.SummaryAnswer.{SummaryAnswer}
-use Rattle.finding_answers.specs.declared.answer.SummaryAnswer.TheVariants as answer
-use Rattle.finding_answers.specs.Complete.{FitsLimits, IsSummarisable, SummariesDecide}
+use Rattle.finding_answers.specs.declared.answer.Found.{Found}
+use Rattle.finding_answers.specs.Complete.{FitsLimits, IsSummarisable, SummariesDecide, SummarisableSetsAreFound}
 use Rattle.finding_answers.specs.Dimensions.{IsFirstUnknown, NameSlots, NamesSlot, dimension_slots}
-use Rattle.finding_answers.specs.FindingTexts.{summary_answer_text, summary_status}
-use Rattle.finding_answers.specs.Printed.{IsKnownPrinted, IsSetPrinted, IsSummaryPrinted, SummaryContents, limits_in}
-use Rattle.finding_answers.specs.Summarised.{IsSetPastLimit, IsShortOf, IsSummaryAnswer, NamesTooManyOf, StatesFailAt, WidePredicates}
+use Rattle.finding_answers.specs.Found.{HaveFindings, IsFoundOf, IsNotFound, IsNotSummarised, IsSetPastLimit, TellsUnfound}
+use Rattle.finding_answers.specs.Printed.{IsSetPrinted, IsSummaryPrinted, SummaryContents, limits_in}
+use Rattle.finding_answers.proofs.Naming.{names-askable}
+use Rattle.finding_answers.proofs.Summarising.{summary-findings}
+
+-- ---- what is asked and what is found
+
+-- a summary by names of dimensions that are known may be asked for
+pub names_are_askable : (names : List (List ℕ)) → are_dimensions names ≡ true → (schema : Schema) → SchemaIsSound schema → NameSlots schema names → All IsUtf8 names → AreAskable schema (dimension_slots names)
+names_are_askable names dimensions schema sound known texts = names-askable names dimensions schema sound known texts
+
+-- the findings of a summary have a number of each dimension, and so a text
+pub summaries_have_findings : (schema : Schema) (set : PolicySet) (ds : List Stratum) (summary : List (List ℕ × Request)) → IsSummary schema set ds summary → HaveFindings ds summary
+summaries_have_findings schema set ds summary is = summary-findings schema set ds summary is
+
+pub found_have_findings : (names : List (List ℕ)) (limits : Limits) (one : OneSet) (found : Found) → IsFoundOf names limits one found → HaveFindings found.strata.dimensions found.summary
+found_have_findings names limits one found is = summary-findings one.schema one.set found.strata.dimensions found.summary is.summary
 
 -- ---- statuses
 
 with_status : (p : Printed) (s : Status) → IsOfText s → p.status ≡ s → IsOfText p.status
 with_status p s of is = subst IsOfText (sym is) of
 
-answer_with : (p : Printed) (a : SummaryAnswer) → Tells (summary_answer_text a) (summary_status a) p → IsOfText p.status
-answer_with p (answer.TooManyPredicates element) told = with_status p status.Refused tt told.1
-answer_with p (answer.Undecided short) told = with_status p status.Undecided tt told.1
-answer_with p (answer.Summary found) told = with_status p status.Holds tt told.1
+unfound_with : (names : List (List ℕ)) (limits : Limits) (o : Outcome) (p : Printed) → TellsUnfound names limits o p → IsOfText p.status
+unfound_with names limits (outcome.Found strata summary) p told = absurd told
+unfound_with names limits (outcome.TooManyPredicates d) p told = with_status p status.Refused tt told.1
+unfound_with names limits (outcome.Wide s texts) p told = with_status p status.Undecided tt told.1
+unfound_with names limits outcome.OutOfFindings p told = with_status p status.Undecided tt told.1
+unfound_with names limits (outcome.OutOfSplits strata f) p told = with_status p status.Undecided tt told.1
+unfound_with names limits (outcome.OutOfStates strata f w) p told = with_status p status.Undecided tt told.1
 
 refusal_with : (Q : Refusal → Type 0) (p : Printed) → IsRefusedBy Q p → IsOfText p.status
 refusal_with Q p (r, is, told) = with_status p status.Refused tt told.1
 
-known_with : (names : List (List ℕ)) (limits : Limits) (one : OneSet) (p : Printed) → IsKnownPrinted names limits one p → IsOfText p.status
-known_with names limits one p (inl past) = refusal_with _ p past
-known_with names limits one p (inr said) = answer_with p said.answer said.told
+not_summarised_with : (names : List (List ℕ)) (limits : Limits) (one : OneSet) (p : Printed) → IsNotSummarised names limits one p → IsOfText p.status
+not_summarised_with names limits one p (inl past) = refusal_with _ p past
+not_summarised_with names limits one p (inr un) = unfound_with names limits un.came p un.told
+
+pub not_found_of_text : (names : List (List ℕ)) (limits : Limits) (one : OneSet) (p : Printed) → IsNotFound names limits one p → IsOfText p.status
+not_found_of_text names limits one p (inl unknown) = with_status p status.Refused tt unknown.told.1
+not_found_of_text names limits one p (inr known) = not_summarised_with names limits one p known.1
 
 set_with : (names : List (List ℕ)) (limits : Limits) (one : OneSet) (p : Printed) → IsSetPrinted names limits one p → IsOfText p.status
-set_with names limits one p (inl unknown) = with_status p status.Refused tt unknown.told.1
-set_with names limits one p (inr known) = known_with names limits one p known.1
+set_with names limits one p (inl none) = not_found_of_text names limits one p none
+set_with names limits one p (inr found) = with_status p status.Holds tt found.told.1
 
 pub summary_of_text : (s : Summarising) (c : SummaryContents) (p : Printed) → IsSummaryPrinted s c p → IsOfText p.status
 summary_of_text s c p (inl none) = refusal_with _ p none
@@ -73,47 +97,41 @@ unknown_fails schema names element known first =
     first.unknown (All-contains (NamesSlot schema) (first.before ++ first.name ∷ first.behind) first.name all (Contains-append_right first.before (first.name ∷ first.behind) first.name (first_in first.name first.behind)))
 
 -- no dimension of which too many predicates are named is among those of which few are
-many_fails : (names : List (List ℕ)) (q : Query) (element : List ℕ) → AreFew q.tests (dimension_slots names) → NamesTooManyOf names q element → ⊥
-many_fails names q element few many =
-    let first = many.first in
-    all_at (λ (s : Slot). ¬ NamesTooMany q.tests s) (dimension_slots names) many.dimension first.slot few first.at first.many
+many_fails : (q : Query) (slots : List Slot) (d : ℕ) → AreFew q.tests slots → IsFirstTooMany q.tests slots d → ⊥
+many_fails q slots d few first =
+    all_at (λ (s : Slot). ¬ NamesTooMany q.tests s) slots d first.slot few first.at first.many
 
--- a shortage is of none of the limits that fit
-short_fails : (names : List (List ℕ)) (limits : Limits) (schema : Schema) (set : PolicySet) (q : Query) → FitsLimits names limits schema set q → (s : FindingShortage) → IsShortOf names limits schema set q s → ⊥
-short_fails names limits schema set q fits (shortage.States n s) v =
-    fits.narrow s v.1 (subst (λ (k : ℕ). WidePredicates schema q k s) v.0 v.3)
-short_fails names limits schema set q fits (shortage.Findings n) v =
-    let made = v.1 in
-    (fits.strata made.strata made.are).findings (subst (λ (k : ℕ). VisitsAtLeast schema set made.strata.dimensions (k + 1)) v.0 made.holds)
-short_fails names limits schema set q fits (shortage.SplitsIn n text) v =
-    let made = v.1 in
-    let failing = made.holds in
-    (fits.strata made.strata made.are).splits failing.finding (subst (λ (k : ℕ). FailsAtFinding schema set made.strata.dimensions failing.finding (λ f. SplitsFail schema f k)) v.0 failing.fails)
-short_fails names limits schema set q fits (shortage.StatesIn n s text) v =
-    let made = v.1 in
-    let failing = made.holds in
-    (fits.strata made.strata made.are).states failing.finding s (subst (λ (k : ℕ). FailsAtFinding schema set made.strata.dimensions failing.finding (StatesFailAt schema k s)) v.0 failing.fails)
+module _ (names : List (List ℕ)) (limits : Limits) (one : OneSet) (p : Printed) where
+  -- within the limits the summary comes to no other outcome
+  unfound_fails : (q : Query) → FitsLimits names limits one.schema one.set q → (o : Outcome) → IsSummaryOutcome one.schema one.set q (dimension_slots names) limits o → TellsUnfound names limits o p → ⊥
+  unfound_fails q fits (outcome.Found strata summary) comes told = told
+  unfound_fails q fits (outcome.TooManyPredicates d) comes told = many_fails q (dimension_slots names) d fits.few comes
+  unfound_fails q fits (outcome.Wide s texts) comes told = fits.narrow s texts comes.0 comes.2
+  unfound_fails q fits outcome.OutOfFindings comes told = (fits.strata comes.strata comes.are).findings comes.holds
+  unfound_fails q fits (outcome.OutOfSplits strata f) comes told = (fits.strata strata comes.0).splits f comes.1
+  unfound_fails q fits (outcome.OutOfStates strata f w) comes told = (fits.strata strata comes.0).states f w comes.1
 
-not_past : (one : OneSet) (names : List (List ℕ)) (limits : Limits) → IsSummarisable names limits one → (r : Refusal) → IsSetPastLimit one.schema one.set r → ⊥
-not_past one names limits d refusal.TooManyTests v = d.tests v
-not_past one names limits d refusal.TooManyPieces v = d.pieces v
-not_past one names limits d (refusal.NoSchema fault) v = v
-not_past one names limits d (refusal.NoSet file fault) v = v
-not_past one names limits d (refusal.NoRun file fault) v = v
+  not_past : IsSummarisable names limits one → (r : Refusal) → IsSetPastLimit one.schema one.set r → ⊥
+  not_past d refusal.TooManyTests v = d.tests v
+  not_past d refusal.TooManyPieces v = d.pieces v
+  not_past d (refusal.NoSchema fault) v = v
+  not_past d (refusal.NoSet file fault) v = v
+  not_past d (refusal.NoRun file fault) v = v
 
-module _ (names : List (List ℕ)) (limits : Limits) (one : OneSet) (p : Printed) (d : IsSummarisable names limits one) where
-  answer_decides : (q : Query) → FitsLimits names limits one.schema one.set q → (a : SummaryAnswer) → IsSummaryAnswer names limits one.schema one.set q a → Tells (summary_answer_text a) (summary_status a) p → p.status ≡ status.Holds
-  answer_decides q fits (answer.TooManyPredicates element) v told = absurd (many_fails names q element fits.few v)
-  answer_decides q fits (answer.Undecided short) v told = absurd (short_fails names limits one.schema one.set q fits short v)
-  answer_decides q fits (answer.Summary found) v told = told.1
+  not_summarised_fails : IsSummarisable names limits one → IsNotSummarised names limits one p → ⊥
+  not_summarised_fails d (inl (r, past, told)) = not_past d r past
+  not_summarised_fails d (inr un) = unfound_fails un.is.query (d.fits un.is.query un.is.is) un.came un.is.comes un.told
 
-  known_decides : IsKnownPrinted names limits one p → p.status ≡ status.Holds
-  known_decides (inl (r, past, told)) = absurd (not_past one names limits d r past)
-  known_decides (inr said) = answer_decides said.holds.query (d.fits said.holds.query said.holds.is) said.answer said.holds.holds said.told
+  not_found_fails : IsSummarisable names limits one → IsNotFound names limits one p → ⊥
+  not_found_fails d (inl unknown) = unknown_fails one.schema names unknown.element d.known unknown.first
+  not_found_fails d (inr known) = not_summarised_fails d known.1
 
-  set_decides : IsSetPrinted names limits one p → p.status ≡ status.Holds
-  set_decides (inl unknown) = absurd (unknown_fails one.schema names unknown.element d.known unknown.first)
-  set_decides (inr known) = known_decides known.1
+  set_decides : IsSummarisable names limits one → IsSetPrinted names limits one p → p.status ≡ status.Holds
+  set_decides d (inl none) = absurd (not_found_fails d none)
+  set_decides d (inr found) = found.told.1
+
+pub summarisable_sets_are_found : SummarisableSetsAreFound
+summarisable_sets_are_found names limits one p d none = not_found_fails names limits one p d none
 
 pub summaries_decide : SummariesDecide
 summaries_decide s c p d (inl (r, none, told)) = absurd (no_one_fails c.set c.schema (IsSummarisable s.dimensions (limits_in s)) d r none)

@@ -1,4 +1,5 @@
 mod Growing
 pub mod Laws
 mod Naming
+mod Reading
 mod Summarising

@@ -16,8 +16,10 @@ use Rattle.command_words.specs.declared.limits.TheConstants.{MOST_DIMENSIONS}
 use Rattle.policy_model.specs.declared.schema.Schema.{Schema}
 use Rattle.policy_model.specs.declared.test.Slot.{Slot}
 use Rattle.policy_model.specs.declared.test.Slot.TheVariants.{Principal, Action, Resource, Key}
+use Rattle.policy_model.specs.Soundness.{SchemaIsSound}
 use Rattle.request_schema.specs.BuiltIn.{folded_name}
 use Rattle.slot_theory.specs.Slots.{SlotIsIn}
+use Rattle.summary_search.specs.Outcomes.{AreAskable}
 use Rattle.finding_answers.specs.Dimensions.{NameSlots, IsFirstUnknown, NamesSlot, dimension_slot, dimension_slots}
 
 -- ---- one name more
@@ -33,7 +35,7 @@ pub past-texts : {Z : Type 0} (names : List (String Z)) (i : ℕ) → length nam
 past-texts {Z} names i past = subst (λ (n : ℕ). n ≤ i) (sym (length-map names (λ (s : String Z). string_bytes s))) past
 
 -- the slots of known names are known
-pub known-slots : (schema : Schema) (names : List (List ℕ)) → NameSlots schema names → All (SlotIsIn schema) (dimension_slots names)
+known-slots : (schema : Schema) (names : List (List ℕ)) → NameSlots schema names → All (SlotIsIn schema) (dimension_slots names)
 known-slots schema names known = All-map (SlotIsIn schema) dimension_slot names known
 
 pub slots-more : (names : List (List ℕ)) (i : ℕ) (w : List ℕ) (slots : List Slot) (slot : Slot) → i < length names → w ≡ get_or names i w → slots ≡ dimension_slots (take i names) → slot ≡ dimension_slot w → slots ++ slot ∷ [] ≡ dimension_slots (take (i + 1) names)
@@ -199,13 +201,13 @@ at-most n e = grind (arith, nat_tests)
 
 module _ (names : List (List ℕ)) (dimensions : are_dimensions names ≡ true) where
   -- the slots of dimensions are at most four
-  pub few-slots : length (dimension_slots names) ≤ 4
+  few-slots : length (dimension_slots names) ≤ 4
   few-slots =
       let few : length names ≤ 4 = at-most (length names) (and-left (not (nat_lt MOST_DIMENSIONS (length names))) (are_distinct (map lowered names)) dimensions) in
       subst (λ (n : ℕ). n ≤ 4) (sym (length-map names dimension_slot)) few
 
   -- and they differ
-  pub slots-differ : All IsUtf8 names → AllPairs (λ (s t : Slot). s ≢ t) (dimension_slots names)
+  slots-differ : All IsUtf8 names → AllPairs (λ (s t : Slot). s ≢ t) (dimension_slots names)
   slots-differ texts i j d low within = λ same.
       let inside : j < length names = subst (λ (n : ℕ). j < n) (length-map names dimension_slot) within in
       let before : i < length names = omega arith in
@@ -217,3 +219,12 @@ module _ (names : List (List ℕ)) (dimensions : are_dimensions names ≡ true) 
       let low_one : get_or (map lowered names) i [] ≡ lowered a = get_or-map lowered names i [] [] before in
       let low_other : get_or (map lowered names) j [] ≡ lowered b = get_or-map lowered names j [] [] inside in
       distinct-at (map lowered names) (and-right (not (nat_lt MOST_DIMENSIONS (length names))) (are_distinct (map lowered names)) dimensions) i j low (subst (λ (n : ℕ). j < n) (sym (length-map names lowered)) inside) (low_one ∙ equal ∙ sym low_other)
+
+  -- so a summary by known ones may be asked for
+  pub names-askable : (schema : Schema) → SchemaIsSound schema → NameSlots schema names → All IsUtf8 names → AreAskable schema (dimension_slots names)
+  names-askable schema sound known texts = record {
+    sound = sound;
+    count = (let few = few-slots in omega (arith, few));
+    differ = slots-differ texts;
+    known = known-slots schema names known;
+  }

@@ -1,68 +1,69 @@
--- What a summary came to says what is answered.
-use Rattle.std.proofs.Common.{◌<◌, ℕ, List, length, map, All, refl, sym, subst}
+-- What a summary comes to has texts, and is found where it is a summary.
+use Rattle.std.proofs.Common.{◌<◌, ℕ, List, length, map, All, subst, sym}
 use Rattle.std.proofs.lemmas.List.{get_or-map, length-map}
 use Rattle.std.proofs.lemmas.Option.{slice_get_within}
-use Rattle.policy_compile.specs.declared.outcome.Query.{Query}
 use Rattle.policy_model.specs.declared.request.Request.{Request}
+use Rattle.findings.specs.Findings.{IsFinding}
+use Rattle.findings.specs.Summaries.{IsSummary, findings_of}
 use Rattle.policy_model.specs.declared.schema.Schema.{Schema}
 use Rattle.policy_model.specs.declared.set.PolicySet.{PolicySet}
-use Rattle.findings.specs.Answers.{FailsAtFinding, StatesFail}
-use Rattle.findings.specs.Findings.{IsFinding}
-use Rattle.findings.specs.Summaries.{findings_of}
-use Rattle.findings.specs.declared.decide.Wide.{Wide as WideSlot}
+use Rattle.policy_model.specs.Requests.{HasValidRequest}
 use Rattle.strata.specs.declared.stratum.Stratum.{Stratum}
-use Rattle.summary_search.specs.Outcomes.{IsSummaryOutcome}
+use Rattle.summary_search.specs.Outcomes.{AreAskable, IsSummaryOutcome}
 use Rattle.summary_search.specs.declared.outcome.Limits.{Limits}
 use Rattle.summary_search.specs.declared.outcome.Outcome.{Outcome}
 use Rattle.summary_search.specs.declared.outcome.Outcome.TheVariants as outcome
-use Rattle.finding_answers.specs.declared.answer.SummaryAnswer.{SummaryAnswer}
-use Rattle.finding_answers.specs.Dimensions.{dimension_slot, dimension_slots}
-use Rattle.finding_answers.specs.Summarised.{HasTexts, IsOutcomeAnswer, IsSummaryAnswer, StatesFailAt}
-
--- ---- texts
+use Rattle.run_sets.specs.declared.one_set.OneSet.{OneSet}
+use Rattle.run_sets.specs.OneSets.{FitsItsSchema}
+use Rattle.finding_answers.specs.declared.answer.Found.{Found}
+use Rattle.finding_answers.specs.Dimensions.{NameSlots, dimension_slot, dimension_slots}
+use Rattle.finding_answers.specs.Found.{HasTexts, HaveFindings, IsFoundIn, IsFoundOf, IsSetOutcome}
 
 -- what holds of the images of a list's items
 all-of-map : {X Y : Type 0} (P : Y → Type 0) (f : X → Y) (xs : List X) → All P (map f xs) → All (λ x. P (f x)) xs
 all-of-map P f xs all k d l = subst P (get_or-map f xs k d (f d) l) (all k (f d) (subst (λ (n : ℕ). k < n) (sym (length-map xs f)) l))
 
--- what a summary came to has texts
-pub texts-of : (names : List (List ℕ)) (limits : Limits) (schema : Schema) (set : PolicySet) (q : Query) (o : Outcome) → IsSummaryOutcome schema set q (dimension_slots names) limits o → HasTexts names o
-texts-of names limits schema set q (outcome.Found strata summary) is =
-    let finding : All (IsFinding strata.dimensions) (findings_of summary) = λ k d l. (is.1.maximal k d l).finding in
-    all-of-map (IsFinding strata.dimensions) (λ (p : List ℕ × Request). p.0) summary finding
-texts-of names limits schema set q (outcome.TooManyPredicates d) is =
-    let within : d < length (dimension_slots names) = slice_get_within (dimension_slots names) d is.slot is.at in
+-- the findings of a summary are findings
+pub summary-findings : (schema : Schema) (set : PolicySet) (ds : List Stratum) (summary : List (List ℕ × Request)) → IsSummary schema set ds summary → HaveFindings ds summary
+summary-findings schema set ds summary is =
+    let finding : All (IsFinding ds) (findings_of summary) = λ k d l. (is.maximal k d l).finding in
+    all-of-map (IsFinding ds) (λ (p : List ℕ × Request). p.0) summary finding
+
+texts-in : (names : List (List ℕ)) (limits : Limits) (one : OneSet) (o : Outcome) → (is : IsSetOutcome (dimension_slots names) limits one o) → IsSummaryOutcome one.schema one.set is.query (dimension_slots names) limits o → HasTexts names o
+texts-in names limits one (outcome.Found strata summary) is comes = summary-findings one.schema one.set strata.dimensions summary comes.1
+texts-in names limits one (outcome.TooManyPredicates d) is comes =
+    let within : d < length (dimension_slots names) = slice_get_within (dimension_slots names) d comes.slot comes.at in
     subst (λ (n : ℕ). d < n) (length-map names dimension_slot) within
-texts-of names limits schema set q (outcome.Wide s texts) is = tt
-texts-of names limits schema set q outcome.OutOfFindings is = tt
-texts-of names limits schema set q (outcome.OutOfSplits strata f) is = is.1.visited.finding
-texts-of names limits schema set q (outcome.OutOfStates strata f w) is = is.1.visited.finding
+texts-in names limits one (outcome.Wide s texts) is comes = tt
+texts-in names limits one outcome.OutOfFindings is comes = tt
+texts-in names limits one (outcome.OutOfSplits strata f) is comes = comes.1.visited.finding
+texts-in names limits one (outcome.OutOfStates strata f w) is comes = comes.1.visited.finding
 
--- ---- answers
+-- what a summary comes to has texts
+pub texts-of : (names : List (List ℕ)) (limits : Limits) (one : OneSet) (o : Outcome) → IsSetOutcome (dimension_slots names) limits one o → HasTexts names o
+texts-of names limits one o is = texts-in names limits one o is is.comes
 
--- a finding whose query needs more states at a slot that is kept
-wide-at : (schema : Schema) (set : PolicySet) (ds : List Stratum) (f : List ℕ) (states : ℕ) (w : WideSlot) → FailsAtFinding schema set ds f (λ q. StatesFail schema q states w) → FailsAtFinding schema set ds f (StatesFailAt schema states w.slot)
-wide-at schema set ds f states w fails = record {
-  visited = fails.visited;
-  query = fails.query;
-  is = fails.is;
-  fails = record { wide = w; slot = refl; fails = fails.fails };
-}
-
--- the answer to what a summary came to is what may be said of the query
-pub said-of-outcome : (names : List (List ℕ)) (limits : Limits) (schema : Schema) (set : PolicySet) (q : Query) (o : Outcome) → IsSummaryOutcome schema set q (dimension_slots names) limits o → (a : SummaryAnswer) → IsOutcomeAnswer names limits o a → IsSummaryAnswer names limits schema set q a
-said-of-outcome names limits schema set q (outcome.Found strata summary) is a v =
-    subst (λ (x : SummaryAnswer). IsSummaryAnswer names limits schema set q x) (sym v.is)
-    (record { strata = strata; are = is.0; holds = record { summary = summary; is = is.1; lines = v.lines; kept = v.kept } })
-said-of-outcome names limits schema set q (outcome.TooManyPredicates d) is a v =
-    subst (λ (x : SummaryAnswer). IsSummaryAnswer names limits schema set q x) (sym v.is) (record { dimension = d; first = is; name = v.name; at = v.at; written = refl })
-said-of-outcome names limits schema set q (outcome.Wide s texts) is a v =
-    subst (λ (x : SummaryAnswer). IsSummaryAnswer names limits schema set q x) (sym v) (refl, is.0, is.1, record { texts = texts; wide = is.2 })
-said-of-outcome names limits schema set q outcome.OutOfFindings is a v =
-    subst (λ (x : SummaryAnswer). IsSummaryAnswer names limits schema set q x) (sym v) (refl, is)
-said-of-outcome names limits schema set q (outcome.OutOfSplits strata f) is a v =
-    subst (λ (x : SummaryAnswer). IsSummaryAnswer names limits schema set q x) (sym v.is)
-    (refl, record { strata = strata; are = is.0; holds = record { finding = f; written = v.written; fails = is.1 } })
-said-of-outcome names limits schema set q (outcome.OutOfStates strata f w) is a v =
-    subst (λ (x : SummaryAnswer). IsSummaryAnswer names limits schema set q x) (sym v.is)
-    (refl, record { strata = strata; are = is.0; holds = record { finding = f; written = v.written; fails = wide-at schema set strata.dimensions f limits.states w is.1 } })
+-- a summary that it comes to is found, where requests under the schema may have values of the dimensions
+pub found-of : (names : List (List ℕ)) (limits : Limits) (one : OneSet) (o : Outcome) → IsSetOutcome (dimension_slots names) limits one o → NameSlots one.schema names → FitsItsSchema one → HasValidRequest one.schema → AreAskable one.schema (dimension_slots names) → (f : Found) → IsFoundIn o f → IsFoundOf names limits one f
+found-of names limits one o is known fits some askable f finds =
+    let comes : IsSummaryOutcome one.schema one.set is.query (dimension_slots names) limits (outcome.Found f.strata f.summary) =
+    subst (λ (x : Outcome). IsSummaryOutcome one.schema one.set is.query (dimension_slots names) limits x) finds.is is.comes in
+    record {
+      known = known;
+      query = is.query;
+      made = record {
+        sound = fits.sound;
+        fits = fits.fits;
+        some = some;
+        query = is.is;
+        slots = dimension_slots names;
+        differ = askable.differ;
+        known = askable.known;
+        named = comes.0.few;
+        are = comes.0.are;
+      };
+      strata = comes.0;
+      summary = comes.1;
+      few = comes.2;
+      kept = finds.kept;
+    }

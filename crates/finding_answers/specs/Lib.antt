@@ -1,5 +1,6 @@
 pub mod Complete
 pub mod Dimensions
 pub mod FindingTexts
+pub mod Found
+pub mod Laws
 pub mod Printed
-pub mod Summarised

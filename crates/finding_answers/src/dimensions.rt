@@ -6,7 +6,7 @@ ghost use Rattle.run_files.specs.Printing.{OrAnswered};
 ghost use Rattle.slot_theory.specs.Slots.{SlotIsIn};
 ghost use Rattle.finding_answers.specs.Dimensions.{AreSlotsOf, IsUnknownPrinted, dimension_slot};
 
-use crate::refusals::unknown;
+use crate::ending::unknown;
 use policy_model::{Schema, Slot, SlotList};
 use run_files::EarlyEnd;
 use std::alloc::{AllocError, Global};

@@ -1,13 +1,19 @@
-//! What is printed of a set by dimensions: the maximal irreducible findings that cover what it allows, each with
-//! a request of its own.
+//! What is found of a set by dimensions, and printed: the maximal irreducible findings that cover what the set
+//! allows, each with a request of its own.
 #![tactic(auto)]
 
 mod answer;
 mod dimensions;
+mod ending;
 mod printing;
-mod refusals;
+mod reading_again;
 mod summary;
 mod text;
 
-pub use answer::{FindingShortage, FoundLines, FoundList, SummaryAnswer};
-pub use printing::{print_set_summary, print_summary};
+pub use answer::Found;
+pub use dimensions::slots_of;
+pub use ending::{ended, too_many_line};
+pub use printing::{limits_of, print_set_summary, print_summary};
+pub use reading_again::printed_requests_are_read_again;
+pub use summary::{found, query_of};
+pub use text::found_text;

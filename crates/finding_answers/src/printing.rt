@@ -6,11 +6,10 @@ ghost use Rattle.run_sets.specs.OneSets.{FitsItsSchema};
 ghost use Rattle.summary_search.specs.Outcomes.{AreInRange};
 ghost use Rattle.finding_answers.specs.Printed.{IsSetPrinted, IsSummaryPrinted, limits_in, summary_contents};
 
-use crate::dimensions::slots_of;
-use crate::summary::summarise;
-use crate::text::{summary_answer_text, summary_status};
-use command_words::SummaryArguments;
-use run_files::{EarlyEnd, Printed};
+use crate::summary::found;
+use crate::text::found_text;
+use command_words::FindingArguments;
+use run_files::{EarlyEnd, Printed, Status};
 use run_sets::{OneSet, read_one};
 use std::alloc::Global;
 use summary_search::Limits;
@@ -27,16 +26,15 @@ pub fn print_set_summary(
     requires limits { AreInRange limits }
     ensures { IfPrinted result (IsSetPrinted (texts_in names.now) limits one.now) }
 {
-    let slots = slots_of(alloc, &one.schema, names)?;
-    let answer = summarise(alloc, one, &slots, names, limits)?;
+    let found = found(alloc, one, names, limits)?;
     Ok(Printed {
-        text: summary_answer_text(alloc, &answer)?,
-        status: summary_status(&answer),
+        text: found_text(alloc, &found)?,
+        status: Status::Holds,
     })
 }
 
-// The limits of the arguments.
-fn limits_of(arguments: &SummaryArguments) -> Limits
+/// The limits of the arguments.
+pub fn limits_of(arguments: &FindingArguments) -> Limits
     requires { HasBudgetsInRange arguments.now }
     ensures value { result ≡ limits_in (summarising_in arguments.now) }
     ensures range { AreInRange result }
@@ -53,7 +51,7 @@ pub fn print_summary(
     alloc: Global,
     set: &[u8],
     schema: Option<&[u8]>,
-    arguments: &SummaryArguments,
+    arguments: &FindingArguments,
 ) -> Result<Printed, EarlyEnd>
     requires budgets { HasBudgetsInRange arguments.now }
     requires dimensions { are_dimensions (texts_in arguments.now.dimensions.items) ≡ true }

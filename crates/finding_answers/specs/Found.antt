@@ -1,0 +1,113 @@
+-- What a summary of a set finds, or what is printed instead.
+use Rattle.std.specs.Prelude.{◌≡◌, ◌⊎◌, ◌≤◌, ◌<◌, ⊤, ℕ, List, [], length, get_or, All}
+use Rattle.std.specs.Str.{chars}
+use Rattle.findings.specs.Findings.{IsFinding}
+use Rattle.findings.specs.Queries.{AreMadeFor}
+use Rattle.findings.specs.Summaries.{IsSummary}
+use Rattle.findings.specs.Texts.{finding_text}
+use Rattle.policy_compile.specs.declared.outcome.Query.{Query}
+use Rattle.policy_compile.specs.Numbering.{HasTooMany}
+use Rattle.policy_compile.specs.Plans.{tests_in}
+use Rattle.policy_compile.specs.Queries.{HasTooManyPieces, IsQuery}
+use Rattle.policy_compile.specs.Sets.{set_plan}
+use Rattle.policy_model.specs.declared.request.Request.{Request}
+use Rattle.policy_model.specs.declared.schema.Schema.{Schema}
+use Rattle.policy_model.specs.declared.set.PolicySet.{PolicySet}
+use Rattle.policy_model.specs.declared.test.Slot.{Slot}
+use Rattle.policy_model.specs.Requests.{IsWellKept}
+use Rattle.strata.specs.declared.stratum.Stratum.{Stratum}
+use Rattle.summary_search.specs.Outcomes.{AreStrataWithin, IsSummaryOutcome}
+use Rattle.summary_search.specs.declared.outcome.Limits.{Limits}
+use Rattle.summary_search.specs.declared.outcome.Outcome.{Outcome}
+use Rattle.summary_search.specs.declared.outcome.Outcome.TheVariants as outcome
+use Rattle.run_files.specs.declared.printed.Printed.{Printed}
+use Rattle.run_files.specs.declared.status.Status.TheVariants.{Refused, Undecided}
+use Rattle.run_files.specs.Printing.{Tells}
+use Rattle.run_sets.specs.declared.one_set.OneSet.{OneSet}
+use Rattle.run_sets.specs.declared.refusal.Refusal.{Refusal}
+use Rattle.run_sets.specs.declared.refusal.Refusal.TheVariants.{TooManyTests, TooManyPieces}
+use Rattle.run_sets.specs.declared.shortage.Shortage.TheVariants.{States}
+use Rattle.run_sets.specs.Parts.{shortage_text}
+use Rattle.run_sets.specs.Refusals.{IsRefusedBy}
+use Rattle.finding_answers.specs.declared.answer.Found.{Found}
+use Rattle.finding_answers.specs.Dimensions.{IsUnknownPrinted, NameSlots, dimension_slots}
+use Rattle.finding_answers.specs.FindingTexts.{findings_line, splits_line, states_line, too_many_line}
+
+-- ---- what is found
+
+-- each finding has the number of a predicate of each dimension
+abbrev pub HaveFindings : List Stratum → List (List ℕ × Request) → Type 0
+HaveFindings ds summary = All (λ p. IsFinding ds p.0) summary
+
+-- each request has each of its keys once, with values, and of texts: so its line is read again as the request
+abbrev pub AreWellKept : List (List ℕ × Request) → Type 0
+AreWellKept summary = All (λ p. IsWellKept p.1) summary
+
+-- each name is that of a dimension, the strata are made for the query of the set by these dimensions, of none of which too many
+-- predicates are named, and the summary is that of the set by them, of no more findings than may be looked at
+pub record IsFoundOf (names : List (List ℕ)) (limits : Limits) (one : OneSet) (found : Found) : Type 0 where
+  pub known : NameSlots one.schema names
+  pub query : Query
+  pub made : AreMadeFor one.schema one.set query found.strata
+  pub strata : AreStrataWithin one.schema query (dimension_slots names) found.strata
+  pub summary : IsSummary one.schema one.set found.strata.dimensions found.summary
+  pub few : length found.summary ≤ limits.findings
+  pub kept : AreWellKept found.summary
+
+-- ---- what is printed instead
+
+-- a limit that the query of the set is past
+abbrev pub IsSetPastLimit : Schema → PolicySet → Refusal → Type 0
+IsSetPastLimit schema set TooManyTests = HasTooMany [] (tests_in (set_plan schema set))
+IsSetPastLimit schema set TooManyPieces = HasTooManyPieces (set_plan schema set)
+IsSetPastLimit schema set _ = ⊥
+
+-- what the summary of the set by the slots comes to
+pub record IsSetOutcome (slots : List Slot) (limits : Limits) (one : OneSet) (came : Outcome) : Type 0 where
+  pub query : Query
+  pub is : IsQuery (set_plan one.schema one.set) query
+  pub comes : IsSummaryOutcome one.schema one.set query slots limits came
+
+-- the line on an outcome other than a summary: a dimension of which too many predicates are named is refused, and a limit that is too
+-- small leaves the summary undecided
+abbrev pub TellsUnfound : List (List ℕ) → Limits → Outcome → Printed → Type 0
+TellsUnfound names limits (outcome.Found strata summary) p = ⊥
+TellsUnfound names limits (outcome.TooManyPredicates d) p = Tells (too_many_line (chars (get_or names d []))) Refused p
+TellsUnfound names limits (outcome.Wide s texts) p = Tells (shortage_text (States limits.states s)) Undecided p
+TellsUnfound names limits outcome.OutOfFindings p = Tells (findings_line limits.findings) Undecided p
+TellsUnfound names limits (outcome.OutOfSplits strata f) p =
+    Tells (splits_line limits.splits (finding_text strata.dimensions f)) Undecided p
+TellsUnfound names limits (outcome.OutOfStates strata f w) p =
+    Tells (states_line limits.states w.slot (finding_text strata.dimensions f)) Undecided p
+
+-- the summary of the set comes to another outcome, whose line is printed
+pub record IsUnfound (names : List (List ℕ)) (limits : Limits) (one : OneSet) (p : Printed) : Type 0 where
+  pub came : Outcome
+  pub is : IsSetOutcome (dimension_slots names) limits one came
+  pub told : TellsUnfound names limits came p
+
+-- of a set whose schema has each dimension: the limit that its query is past, or the line on the outcome
+abbrev pub IsNotSummarised : List (List ℕ) → Limits → OneSet → Printed → Type 0
+IsNotSummarised names limits one p =
+    IsRefusedBy (IsSetPastLimit one.schema one.set) p ⊎ IsUnfound names limits one p
+
+-- the first name of no dimension, or why the set isn't summarised
+abbrev pub IsNotFound : List (List ℕ) → Limits → OneSet → Printed → Type 0
+IsNotFound names limits one p =
+    IsUnknownPrinted one.schema names p ⊎ (NameSlots one.schema names × IsNotSummarised names limits one p)
+
+-- ---- parts
+
+-- an outcome has texts: its findings have a number of each dimension, and a dimension is one of those that are named
+abbrev pub HasTexts : List (List ℕ) → Outcome → Type 0
+HasTexts names (outcome.Found strata summary) = HaveFindings strata.dimensions summary
+HasTexts names (outcome.TooManyPredicates d) = d < length names
+HasTexts names (outcome.Wide s texts) = ⊤
+HasTexts names outcome.OutOfFindings = ⊤
+HasTexts names (outcome.OutOfSplits strata f) = IsFinding strata.dimensions f
+HasTexts names (outcome.OutOfStates strata f w) = IsFinding strata.dimensions f
+
+-- the outcome is that this was found
+pub record IsFoundIn (came : Outcome) (found : Found) : Type 0 where
+  pub is : came ≡ outcome.Found found.strata found.summary
+  pub kept : AreWellKept found.summary
