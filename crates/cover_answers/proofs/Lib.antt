@@ -1,0 +1,10 @@
+mod Wordings
+mod Heading
+mod Making
+mod Judging
+mod Certifying
+pub mod Laws
+mod Unbroken
+mod Trees
+mod Heads
+mod Acceptance

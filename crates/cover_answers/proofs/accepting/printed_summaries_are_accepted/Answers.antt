@@ -1,0 +1,15 @@
+use Rattle.cover_answers.proofs.Acceptance.{printed_summaries_are_accepted}
+use Rattle.cover_answers.proofs.accepting.printed_summaries_are_accepted.Goals as goal
+
+pub returns : goal.returns
+returns c = printed_summaries_are_accepted (record {
+  within = c.queries_are_within_limits.ensures;
+  determined = c.strata_are_determined.ensures;
+  apart = c.findings_are_written_apart.ensures;
+  again = c.printed_requests_are_read_again.ensures;
+  none = c.closing_proofs_have_no_fault_behind.ensures;
+  sizes = c.closing_proofs_are_small.ensures;
+  law = c.one_proof_for_each_text.ensures;
+  stand = c.summaries_stand.ensures;
+  equal = c.summary_verdicts_are_equal.ensures;
+})

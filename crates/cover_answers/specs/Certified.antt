@@ -1,0 +1,67 @@
+-- What may be printed to a summary for which a certificate is asked for.
+use Rattle.std.specs.Prelude.{◌≡◌, ◌⊎◌, ◌++◌, ◌≤◌, ℕ, List, [], String, string_bytes}
+use Rattle.std.specs.declared.alloc.Global.{Global}
+use Rattle.command_words.specs.Asked.{Summarising}
+use Rattle.refute_check.specs.Proofs.{Proof}
+use Rattle.proof_text.specs.Laws.{HoldsSmallNumbers}
+use Rattle.proof_text.specs.Spelling.{spell}
+use Rattle.proof_text.specs.declared.limits.TheConstants.{MOST_NUMBER}
+use Rattle.findings.specs.Answers.{StatesFail}
+use Rattle.findings.specs.Summaries.{findings_of}
+use Rattle.findings.specs.declared.decide.Wide.{Wide}
+use Rattle.summary_search.specs.declared.outcome.Limits.{Limits}
+use Rattle.tree_search.specs.Decisions.{NeedMore}
+use Rattle.run_files.specs.declared.printed.Printed.{Printed}
+use Rattle.run_files.specs.declared.status.Status.TheVariants.{Holds, Refused, Undecided}
+use Rattle.run_files.specs.Printing.{Tells}
+use Rattle.run_sets.specs.declared.one_set.OneSet.{OneSet}
+use Rattle.run_sets.specs.OneSets.{IsNoOneSet, OfOneSet}
+use Rattle.run_sets.specs.Refusals.{IsRefusedBy}
+use Rattle.finding_answers.specs.declared.answer.Found.{Found}
+use Rattle.finding_answers.specs.FindingTexts.{found_text}
+use Rattle.finding_answers.specs.Found.{IsFoundOf, IsNotFound}
+use Rattle.finding_answers.specs.Printed.{SummaryContents, limits_in}
+use Rattle.cover_answers.specs.CoverProofs.{CertifiesCover, CoverIsTooLarge, OfCover}
+use Rattle.cover_answers.specs.CoverTexts.{cover_splits_line, cover_states_line, cover_tests_line}
+
+-- what is printed of what was found: that the query of its cover has more than 1,000 tests; that the query needs more splits, or at a slot
+-- more states, than there may be; or the text of the summary, and behind it the certificate that no valid request that the set allows lies
+-- outside its findings
+pub data IsCoverSaid (limits : Limits) (one : OneSet) (found : Found) (p : Printed) : Type 0 where
+  large_query : CoverIsTooLarge one.schema one.set found.strata.dimensions (findings_of found.summary) →
+      Tells cover_tests_line Refused p → IsCoverSaid limits one found p
+  short_of_splits :
+      OfCover one.schema one.set found.strata.dimensions (findings_of found.summary)
+      (λ q. NeedMore one.schema q [] limits.splits) →
+      Tells (cover_splits_line limits.splits) Undecided p → IsCoverSaid limits one found p
+  short_of_states : {w : Wide} →
+      OfCover one.schema one.set found.strata.dimensions (findings_of found.summary)
+      (λ q. StatesFail one.schema q limits.states w) →
+      Tells (cover_states_line limits.states w.slot) Undecided p → IsCoverSaid limits one found p
+  with_certificate : {text : List ℕ} →
+      OfCover one.schema one.set found.strata.dimensions (findings_of found.summary) (λ q. CertifiesCover one.schema q text) →
+      Tells (found_text found ++ text) Holds p → IsCoverSaid limits one found p
+
+-- what was found of a set, of which this is printed
+pub record IsCoverPrinted (names : List (List ℕ)) (limits : Limits) (one : OneSet) (p : Printed) : Type 0 where
+  pub found : Found
+  pub is : IsFoundOf names limits one found
+  pub printed : IsCoverSaid limits one found p
+
+-- of a set under the schema of its run: why it isn't summarised, or what is printed of its summary
+abbrev pub IsSetCertified : List (List ℕ) → Limits → OneSet → Printed → Type 0
+IsSetCertified names limits one p = IsNotFound names limits one p ⊎ IsCoverPrinted names limits one p
+
+-- of files: why they stand for no set, or what is printed of the set that they stand for
+abbrev pub IsCertifiedSummaryPrinted : Summarising → SummaryContents → Printed → Type 0
+IsCertifiedSummaryPrinted s c p =
+    IsRefusedBy (IsNoOneSet c.set c.schema) p
+    ⊎ OfOneSet c.set c.schema (λ one. IsSetCertified s.dimensions (limits_in s) one p)
+
+-- ---- parts
+
+-- the text of a summary, and behind it the certificate of a refutation, whose numbers are such as the program can hold
+pub record IsCertifiedText (found : Found) (version : ℕ) (proof : Proof) (text : String Global) : Type 0 where
+  pub is : string_bytes text ≡ found_text found ++ spell version proof
+  pub small : HoldsSmallNumbers proof
+  pub version_small : version ≤ MOST_NUMBER

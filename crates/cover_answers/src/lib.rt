@@ -1,0 +1,22 @@
+//! What is printed of a summary with a certificate that it leaves out nobody, and of a check of one, whoever
+//! wrote it.
+#![tactic(auto)]
+
+mod accepting;
+mod certify;
+mod check;
+mod cover;
+mod fault;
+mod head;
+mod made;
+mod printing;
+mod text;
+mod wording;
+
+pub use accepting::{
+    certified_summaries_decide, printed_summaries_are_accepted, summary_checks_decide,
+};
+pub use fault::{HeadCode, HeadFault};
+pub use printing::{
+    print_certified_summary, print_set_certified, print_set_checked, print_summary_check,
+};

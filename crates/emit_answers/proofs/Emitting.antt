@@ -1,0 +1,85 @@
+-- The policy of what was found says what was found.
+use Rattle.std.proofs.Common.{◌≡◌, ◌⊎◌, ◌<◌, ◌≤◌, ℕ, List, Ok, Err, Option, inl, inr, length, refl, subst, sym}
+use Rattle.std.specs.Prelude.{String, string_bytes}
+use Rattle.std.specs.declared.alloc.Global.{Global}
+use Rattle.std.proofs.lemmas.List.{length-map}
+use Rattle.findings.specs.Laws.{SummariesCover}
+use Rattle.findings.specs.Summaries.{findings_of}
+use Rattle.policy_emit.specs.declared.fault.EmitFault.TheVariants.{TooManyStatements}
+use Rattle.policy_emit.specs.Emitted.{IsEmitted, emitted_set}
+use Rattle.policy_emit.specs.KnownKeys.{EmittedKeysAreKnown}
+use Rattle.policy_emit.specs.Laws.{EmittedSetsAllowFindings, IsReadAsEmitted}
+use Rattle.policy_json.specs.declared.statement.TheConstants.{MOST_STATEMENTS}
+use Rattle.policy_model.specs.declared.request.Request.{Request}
+use Rattle.policy_model.specs.declared.schema.Schema.{Schema}
+use Rattle.summary_search.specs.declared.outcome.Limits.{Limits}
+use Rattle.read_predicates.specs.Laws.{AreMadeFromFile}
+use Rattle.run_files.specs.declared.printed.Printed.{Printed}
+use Rattle.run_files.specs.declared.status.Status.TheVariants.{Holds, Refused}
+use Rattle.run_files.specs.Printing.{Tells}
+use Rattle.run_sets.specs.declared.one_set.OneSet.{OneSet}
+use Rattle.run_sets.specs.OneSets.{IsOneSetOf, OfSet, OfSetRun, one_of}
+use Rattle.finding_answers.specs.declared.answer.Found.{Found}
+use Rattle.finding_answers.specs.Found.{IsFoundOf}
+use Rattle.emit_answers.specs.EmitPrinted.{HasNoPolicy, HasPolicy, IsOfFile, IsPolicyPrinted, SaysFindings, many_findings_line, policy_of}
+
+-- ---- what is printed of what was found
+
+count : (found : Found) → length (findings_of found.summary) ≡ length found.summary
+count found = length-map found.summary (λ (p : List ℕ × Request). p.0)
+
+pub policy-printed : (schema : Schema) (found : Found) (text : String Global) → IsEmitted schema found.strata.dimensions (findings_of found.summary) (Ok text) → IsReadAsEmitted schema found.strata (findings_of found.summary) (string_bytes text) → (p : Printed) → Tells (string_bytes text) Holds p → IsPolicyPrinted schema found p
+policy-printed schema found text is read p told = inr (record {
+  few = subst (λ (n : ℕ). n ≤ MOST_STATEMENTS) (count found) is.0;
+  told = subst (λ (t : List ℕ). Tells t Holds p) is.1 told;
+  read = subst (IsReadAsEmitted schema found.strata (findings_of found.summary)) is.1 read;
+})
+
+pub none-printed : (schema : Schema) (found : Found) → IsEmitted schema found.strata.dimensions (findings_of found.summary) (Err TooManyStatements) → (p : Printed) → Tells many_findings_line Refused p → IsPolicyPrinted schema found p
+none-printed schema found many p told = inl (record {
+  many = subst (λ (n : ℕ). MOST_STATEMENTS < n) (count found) many;
+  told = told;
+})
+
+-- ---- what the policy says
+
+module _ (covers : SummariesCover) (allow : EmittedSetsAllowFindings) (known : EmittedKeysAreKnown) where
+  says-findings : (names : List (List ℕ)) (limits : Limits) (named : Schema) (one : OneSet) (found : Found) → IsFoundOf names limits one found → IsOfFile named one → IsReadAsEmitted one.schema found.strata (findings_of found.summary) (policy_of one.schema found) → SaysFindings named one found (policy_of one.schema found)
+  says-findings names limits named one found is of read =
+      let fs = findings_of found.summary in
+      let from : AreMadeFromFile one.schema found.strata = record { bytes = of.bytes; set = one.set; stands = of.stands; base = is.query; made = is.made } in
+      record {
+        set = emitted_set one.schema found.strata.dimensions fs;
+        stands = read from;
+        allows = λ r valid. allow one.schema one.set is.query found.strata fs is.made r valid;
+        covers = λ r valid allowed.
+            (allow one.schema one.set is.query found.strata fs is.made r valid).1
+            (covers one.schema one.set found.strata found.summary (record { base = is.query; made = is.made; is = is.summary }) r valid allowed);
+        runs = known named one.schema one.set is.query found.strata fs of.run is.made;
+      }
+
+  pub has-policy : (names : List (List ℕ)) (limits : Limits) (named : Schema) (one : OneSet) (found : Found) → IsFoundOf names limits one found → IsOfFile named one → (p : Printed) → IsPolicyPrinted one.schema found p → HasNoPolicy found p ⊎ HasPolicy named one found p
+  has-policy names limits named one found is of p (inl many) = inl many
+  has-policy names limits named one found is of p (inr text) = inr (record {
+    few = text.few;
+    told = text.told;
+    says = says-findings names limits named one found is of text.read;
+  })
+
+-- ---- files
+
+-- the set that files stand for is one of a file, under the schema of its run
+pub of-file : (set : List ℕ) (schema : Option (List ℕ)) (one : OneSet) → (of : IsOneSetOf set schema one) → IsOfFile of.named one
+of-file set schema one of =
+    let there : IsOfFile of.named (one_of of.named of.set) = record { bytes = set; stands = of.set_stands; run = (of.holds.answered, refl) } in
+    subst (IsOfFile of.named) of.holds.holds there
+
+-- and what holds of it under the named keys holds of the files
+pub of-named : (set : List ℕ) (schema : Option (List ℕ)) (one : OneSet) (P : Schema → OneSet → Type 0) → (of : IsOneSetOf set schema one) → P of.named one → OfSet set schema (λ named s. OfSetRun named s (P named))
+of-named set schema one P of here = record {
+  named = of.named;
+  set = of.set;
+  schema_stands = of.schema_stands;
+  set_stands = of.set_stands;
+  holds = record { answered = of.holds.answered; holds = subst (P of.named) (sym of.holds.holds) here };
+}

@@ -1,0 +1,2 @@
+mod Emitting
+pub mod Laws

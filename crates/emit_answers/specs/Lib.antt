@@ -1,0 +1,2 @@
+pub mod EmitComplete
+pub mod EmitPrinted

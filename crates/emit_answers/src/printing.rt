@@ -1,0 +1,59 @@
+//! What is printed to a file of a set that is asked for a policy.
+ghost use Rattle.std.specs.Prelude.{◌≡◌, true, option_map};
+ghost use Rattle.command_words.specs.Asked.{AreFindingsInRange, are_dimensions, summarising_in, texts_in};
+ghost use Rattle.run_files.specs.Printing.{IfPrinted};
+ghost use Rattle.run_sets.specs.OneSets.{FitsItsSchema};
+ghost use Rattle.summary_search.specs.Outcomes.{AreInRange};
+ghost use Rattle.finding_answers.specs.Printed.{summary_contents};
+ghost use Rattle.emit_answers.specs.EmitPrinted.{EmitsOf, IsEmitPrinted};
+
+use crate::writing::print_policy;
+use command_words::FindingArguments;
+use finding_answers::{found, limits_of};
+use findings::summaries_cover;
+use policy_emit::{emitted_keys_are_known, emitted_sets_allow_findings};
+use run_files::{EarlyEnd, Printed};
+use run_sets::{OneSet, read_one};
+use std::alloc::Global;
+use summary_search::Limits;
+
+// What is printed of a set by the dimensions of these names, whose policy says what its findings say.
+fn print_set_policy(
+    alloc: Global,
+    one: &OneSet,
+    names: &[String],
+    limits: Limits,
+) -> Result<Printed, EarlyEnd>
+    requires fits { FitsItsSchema one.now }
+    requires dimensions { are_dimensions (texts_in names.now) ≡ true }
+    requires limits { AreInRange limits }
+    ensures { EmitsOf (texts_in names.now) limits one.now result }
+{
+    summaries_cover();
+    emitted_sets_allow_findings();
+    emitted_keys_are_known();
+    let found = found(alloc, one, names, limits)?;
+    print_policy(alloc, &one.schema, &found)
+}
+
+/// What is printed to files that were read, that of a set and that of a schema where one is named, of which a
+/// policy is asked for: a policy document of the set's findings by the dimensions; or why there is no summary of
+/// them; or that the findings are more than a set may have statements.
+pub fn print_emit(
+    alloc: Global,
+    set: &[u8],
+    schema: Option<&[u8]>,
+    arguments: &FindingArguments,
+) -> Result<Printed, EarlyEnd>
+    requires { AreFindingsInRange arguments.now }
+    ensures { IfPrinted result (IsEmitPrinted (summarising_in arguments.now)
+        (summary_contents set.now (option_map (λ f. f.now) schema.entry))) }
+{
+    let one = read_one(alloc, set, schema)?;
+    print_set_policy(
+        alloc,
+        &one,
+        arguments.dimensions.as_slice(),
+        limits_of(arguments),
+    )
+}

@@ -1,0 +1,38 @@
+//! What is printed of what was found.
+ghost use Rattle.std.specs.Prelude.{◌≡◌, IfOk, string_bytes};
+ghost use Rattle.run_files.specs.Printing.{IfPrinted};
+ghost use Rattle.finding_answers.specs.Found.{HaveFindings};
+ghost use Rattle.emit_answers.specs.EmitPrinted.{IsPolicyPrinted, many_findings_line};
+
+use finding_answers::{Found, ended};
+use policy_emit::{EmitFault, emit};
+use policy_model::Schema;
+use run_files::{EarlyEnd, Printed, Status};
+use std::alloc::{AllocError, Global};
+
+// The line on more findings than statements may stand in a set.
+fn many_findings_line(alloc: Global) -> Result<String, AllocError>
+    ensures { IfOk result (λ s. string_bytes s ≡ many_findings_line) }
+{
+    String::from_str(
+        alloc,
+        "refused: query: P17 Limit: document 0, statement 0, \"findings\"\n",
+    )
+}
+
+/// The policy of what was found, or the line on too many findings for one.
+pub fn print_policy(alloc: Global, schema: &Schema, found: &Found) -> Result<Printed, EarlyEnd>
+    requires { HaveFindings found.now.strata.dimensions found.now.summary }
+    ensures { IfPrinted result (IsPolicyPrinted schema.now found.now) }
+{
+    match emit(alloc, schema, &found.strata, &found.summary) {
+        Ok(text) => Ok(Printed {
+            text,
+            status: Status::Holds,
+        }),
+        Err(EmitFault::TooManyStatements) => {
+            Err(ended(many_findings_line(alloc), Status::Refused))
+        }
+        Err(EmitFault::NoMemory) => Err(EarlyEnd::NoMemory),
+    }
+}

@@ -1,0 +1,4 @@
+mod Accepting
+pub mod Laws
+mod Telling
+mod Verdicts

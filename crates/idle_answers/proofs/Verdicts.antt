@@ -1,0 +1,135 @@
+-- What the search decides of a query says whether the set needs a statement.
+use Rattle.std.proofs.Common.{◌≡◌, ◌≤◌, ℕ, Bool, List, Option, IfSome, false, true, refl, inl, arith, subst, sym}
+use Rattle.std.specs.Prelude.{Contains, string_bytes}
+use Rattle.findings.specs.Answers.{QueryIsAskable}
+use Rattle.policy_model.specs.declared.schema.Schema.{Schema}
+use Rattle.policy_model.specs.declared.set.PolicySet.{PolicySet}
+use Rattle.policy_model.specs.declared.set.StatementName.{StatementName}
+use Rattle.policy_model.specs.StatementNames.{Named, named_set}
+use Rattle.policy_compile.specs.declared.outcome.Query.{Query}
+use Rattle.policy_compile.specs.Queries.{IsQuery, asked_tree}
+use Rattle.policy_compile.specs.Sets.{query_plan}
+use Rattle.policy_difference.specs.Differences.{IsDifference, SharedStatementsAddNothing}
+use Rattle.proof_text.specs.Laws.{ClosingProofsAreSmall, ClosingProofsHaveNoFault, HoldsSmallNumbers}
+use Rattle.proof_text.specs.Spelling.{spell}
+use Rattle.proof_text.specs.declared.limits.TheConstants.{MOST_NUMBER}
+use Rattle.refute_check.specs.Proofs.{Proof, proof_of}
+use Rattle.run_sets.specs.declared.one_set.OneSet.{OneSet}
+use Rattle.run_sets.specs.OneSets.{FitsItsSchema}
+use Rattle.set_questions.specs.Idle.{IsIdle, IsNameIn, OfNamed, without}
+use Rattle.set_questions.specs.Laws.{SmallerQuestionsTell, TellsUse}
+use Rattle.set_questions.specs.Settling.{RefutesQuery, SettlesQuery}
+use Rattle.set_questions.specs.Uses.{IsUseAt, IsUseOf, OfChange}
+use Rattle.set_questions.specs.declared.outcome.Use.{Use}
+use Rattle.set_questions.specs.declared.outcome.Use.TheVariants as use_of
+use Rattle.set_questions.specs.declared.settling.Settled.{Settled}
+use Rattle.set_questions.specs.declared.settling.Settled.TheVariants as settled
+use Rattle.tree_search.specs.declared.outcome.Budgets.{Budgets}
+use Rattle.tree_search.specs.declared.outcome.Decided.{Decided}
+use Rattle.tree_search.specs.declared.outcome.Decided.TheVariants as decided
+use Rattle.tree_search.specs.Decisions.{IsDecision}
+use Rattle.idle_answers.specs.declared.answer.UseAnswer.{UseAnswer}
+use Rattle.idle_answers.specs.declared.answer.UseAnswer.TheVariants as answer
+use Rattle.idle_answers.specs.Deciding.{IsIdleAnswer, IsSettledVerdict, IsSmallerFor, IsToldUse, IsUseVerdict, settled_of}
+use Rattle.idle_answers.specs.UseAnswers.{CertifiesChange, IsUseAnswer, IsUseAnswerAt}
+
+-- what is decided of a query settles it
+pub settles : (schema : Schema) (query : Query) (budgets : Budgets) (d : Decided) → IsDecision schema query budgets d
+    → SettlesQuery schema budgets.splits budgets.states query (settled_of d)
+settles schema query budgets (decided.Refuted r) h = record { closes = h.closes; nests = h.nests }
+settles schema query budgets (decided.Met q) h = record { valid = h.valid; answers = λ n b t e at. absurd (cc); meets = h.meets }
+settles schema query budgets decided.OutOfSplits h = (h.plain, h.propagated)
+settles schema query budgets (decided.OutOfStates w) h = record { node = h.node; not_no = h.not_no; asked = h.asked; texts = h.texts }
+
+-- ---- the smaller query
+
+-- the query of what is left beside the set without the statement
+pub is_smaller : SharedStatementsAddNothing → (one : OneSet) (name : StatementName) (left : PolicySet) (q : Query) → FitsItsSchema one
+    → IsNameIn one.set name → OfNamed one.set name (λ s. s.allow ≡ true) → IsDifference one.set (without one.set name) left
+    → IsQuery (query_plan one.schema left (without one.set name)) q → IsSmallerFor one name q
+is_smaller law one name left q fitting (k, n, within, at, same) allow difference is =
+    let there : Contains (named_set one.set) (name, n.1) = subst (λ (m : StatementName). Contains (named_set one.set) (m, n.1)) same (k, within, at) in
+    let adds = law one.set (without one.set name) left difference in (
+      n.1,
+      left,
+      record {
+        fits = fitting.fits;
+        named_there = there;
+        allow = allow n.1 there;
+        same = adds.0;
+        left_fits = adds.1 one.schema fitting.fits;
+        is = is;
+      },
+    )
+
+pub smaller_askable : SmallerQuestionsTell → (one : OneSet) (name : StatementName) (q : Query) → FitsItsSchema one → IsSmallerFor one name q
+    → QueryIsAskable one.schema q
+smaller_askable law one name q fitting (s, left, smaller) = (law one.schema one.set (name, s) left q smaller).askable fitting.sound
+
+verdict_if_tells : (one : OneSet) (name : StatementName) (q : Query) (splits states : ℕ) → TellsUse one.schema one.set name q
+    → (st : Settled) → SettlesQuery one.schema splits states q st → (o : Option UseAnswer) → IsSettledVerdict st o → IfSome o (IsUseVerdict one name)
+verdict_if_tells one name q splits states tells (settled.Nobody r) h o v =
+    subst (λ (x : Option UseAnswer). IfSome x (IsUseVerdict one name)) (sym v) (tells.idle (proof_of r.value) h.closes)
+verdict_if_tells one name q splits states tells (settled.Met r) h o v =
+    subst (λ (x : Option UseAnswer). IfSome x (IsUseVerdict one name)) (sym v.0) (v.1, tells.used r h)
+verdict_if_tells one name q splits states tells settled.OutOfSplits h o v = subst (λ (x : Option UseAnswer). IfSome x (IsUseVerdict one name)) (sym v) tt
+verdict_if_tells one name q splits states tells (settled.OutOfStates w) h o v = subst (λ (x : Option UseAnswer). IfSome x (IsUseVerdict one name)) (sym v) tt
+
+-- what settles it is a verdict on the statement
+pub verdict_if_settled : SmallerQuestionsTell → (one : OneSet) (name : StatementName) (q : Query) (splits states : ℕ) → IsSmallerFor one name q
+    → (st : Settled) → SettlesQuery one.schema splits states q st → (o : Option UseAnswer) → IsSettledVerdict st o → IfSome o (IsUseVerdict one name)
+verdict_if_settled law one name q splits states (s, left, smaller) st h o v =
+    verdict_if_tells one name q splits states (law one.schema one.set (name, s) left q smaller) st h o v
+
+-- and a verdict is an answer, where no certificate is asked for
+pub answer_if_verdict : (one : OneSet) (name : StatementName) (budgets : Budgets) (a : UseAnswer) → IsUseVerdict one name a → IsUseAnswerAt false budgets one name a
+answer_if_verdict one name budgets answer.Idle v = λ s there. (refl, v)
+answer_if_verdict one name budgets (answer.Used q) v = λ s there. v
+answer_if_verdict one name budgets _ v = absurd v
+
+-- ---- the change query
+
+-- the certificate of a refutation of the change query is read again
+certifies : ClosingProofsAreSmall → ClosingProofsHaveNoFault → (schema : Schema) (set : PolicySet) (named : Named) (p : Proof) (text : List ℕ)
+    → schema.version ≤ MOST_NUMBER → text ≡ spell schema.version p → HoldsSmallNumbers p → OfChange schema set named (λ q. RefutesQuery schema q p)
+    → OfChange schema set named (CertifiesChange schema text)
+certifies sizes law schema set named p text version spelled small of = record {
+  query = of.query;
+  is = of.is;
+  holds = record {
+    proof = p;
+    spelled = spelled;
+    closes = of.holds.closes;
+    readable = λ short.
+        let nests = of.holds.nests in
+        let few = of.is.few in
+        record {
+          faultless = law schema of.query.tests (asked_tree of.query) schema.version p text of.holds.closes (omega arith) small (omega arith) version (inl spelled) short;
+          small = sizes schema of.query.tests (asked_tree of.query) schema.version p text of.holds.closes small (omega arith) version (inl spelled) short;
+        };
+  };
+}
+
+idle_if_refuted : ClosingProofsAreSmall → ClosingProofsHaveNoFault → (certified : Bool) (budgets : Budgets) (one : OneSet) (named : Named) (p : Proof)
+    → IsIdle one.schema one.set named.0 → OfChange one.schema one.set named (λ q. RefutesQuery one.schema q p)
+    → (a : UseAnswer) → IsIdleAnswer certified one.schema.version p a → IsUseAnswer certified budgets one named a
+idle_if_refuted sizes law certified budgets one named p idle of answer.Idle v = (v, idle)
+idle_if_refuted sizes law certified budgets one named p idle of (answer.Proved text) (asked, spelled, small, version) =
+    (asked, idle, certifies sizes law one.schema one.set named p (string_bytes text) version spelled small of)
+idle_if_refuted sizes law certified budgets one named p idle of _ v = absurd v
+
+answer_of_use : ClosingProofsAreSmall → ClosingProofsHaveNoFault → (certified : Bool) (budgets : Budgets) (one : OneSet) (named : Named) (u : Use)
+    → IsUseOf one.schema budgets.splits budgets.states one.set named u → (a : UseAnswer) → IsToldUse certified one.schema.version budgets u a
+    → IsUseAnswer certified budgets one named a
+answer_of_use sizes law certified budgets one named (use_of.Used q) h a v = subst (λ (x : UseAnswer). IsUseAnswer certified budgets one named x) (sym v.0) (v.1, h)
+answer_of_use sizes law certified budgets one named (use_of.Idle r) h a v = idle_if_refuted sizes law certified budgets one named (proof_of r.value) h.0 h.1 a v
+answer_of_use sizes law certified budgets one named use_of.OutOfSplits h a v = subst (λ (x : UseAnswer). IsUseAnswer certified budgets one named x) (sym v) (refl, h)
+answer_of_use sizes law certified budgets one named (use_of.OutOfStates w) h a v =
+    subst (λ (x : UseAnswer). IsUseAnswer certified budgets one named x) (sym v)
+    (refl, record { query = h.query; is = h.is; holds = record { wide = w; slot = refl; fails = h.holds } })
+
+-- what is told of the use of a statement answers on it
+pub answer_if_told : ClosingProofsAreSmall → ClosingProofsHaveNoFault → (certified : Bool) (budgets : Budgets) (one : OneSet) (name : StatementName) (u : Use)
+    → IsUseAt one.schema budgets.splits budgets.states one.set name u → (a : UseAnswer) → IsToldUse certified one.schema.version budgets u a
+    → IsUseAnswerAt certified budgets one name a
+answer_if_told sizes law certified budgets one name u h a v = λ s there. answer_of_use sizes law certified budgets one (name, s) u (h s there) a v

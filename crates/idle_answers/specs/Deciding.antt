@@ -1,0 +1,63 @@
+-- The answers to what a search decides.
+use Rattle.std.specs.Prelude.{◌≡◌, ◌≤◌, ℕ, Bool, true, false, Option, Some, None, string_bytes}
+use Rattle.policy_compile.specs.declared.outcome.Query.{Query}
+use Rattle.policy_model.specs.declared.set.PolicySet.{PolicySet}
+use Rattle.policy_model.specs.declared.set.Statement.{Statement}
+use Rattle.policy_model.specs.declared.set.StatementName.{StatementName}
+use Rattle.policy_model.specs.Requests.{IsWellKept}
+use Rattle.proof_text.specs.Laws.{HoldsSmallNumbers}
+use Rattle.proof_text.specs.Spelling.{spell}
+use Rattle.proof_text.specs.declared.limits.TheConstants.{MOST_NUMBER}
+use Rattle.refute_check.specs.Proofs.{Proof, proof_of}
+use Rattle.run_sets.specs.declared.one_set.OneSet.{OneSet}
+use Rattle.run_sets.specs.declared.shortage.Shortage.TheVariants.{Splits, States}
+use Rattle.set_questions.specs.Idle.{IsIdle, IsUsedBy}
+use Rattle.set_questions.specs.Laws.{IsSmallerQuestion}
+use Rattle.set_questions.specs.declared.outcome.Use.{Use}
+use Rattle.set_questions.specs.declared.outcome.Use.TheVariants as use_of
+use Rattle.set_questions.specs.declared.settling.Settled.{Settled}
+use Rattle.set_questions.specs.declared.settling.Settled.TheVariants as settled
+use Rattle.tree_search.specs.declared.outcome.Budgets.{Budgets}
+use Rattle.tree_search.specs.declared.outcome.Decided.{Decided}
+use Rattle.tree_search.specs.declared.outcome.Decided.TheVariants as decided
+use Rattle.idle_answers.specs.declared.answer.UseAnswer.{UseAnswer}
+use Rattle.idle_answers.specs.declared.answer.UseAnswer.TheVariants.{Used, Idle, Proved, Undecided}
+
+-- what a search decided settles the query
+abbrev pub settled_of : Decided → Settled
+settled_of (decided.Refuted r) = settled.Nobody r
+settled_of (decided.Met q) = settled.Met q
+settled_of decided.OutOfSplits = settled.OutOfSplits
+settled_of (decided.OutOfStates w) = settled.OutOfStates (record { path = w.path; slot = w.slot; texts = w.texts })
+
+-- the answer to an idle statement, with the certificate of the refutation where one is asked for
+abbrev pub IsIdleAnswer : Bool → ℕ → Proof → UseAnswer → Type 0
+IsIdleAnswer certified version proof Idle = certified ≡ false
+IsIdleAnswer certified version proof (Proved text) =
+    (certified ≡ true) × (string_bytes text ≡ spell version proof) × HoldsSmallNumbers proof × (version ≤ MOST_NUMBER)
+IsIdleAnswer certified version proof _ = ⊥
+
+-- the answer to the use of a statement
+abbrev pub IsToldUse : Bool → ℕ → Budgets → Use → UseAnswer → Type 0
+IsToldUse certified version budgets (use_of.Used q) answer = (answer ≡ Used q) × IsWellKept q
+IsToldUse certified version budgets (use_of.Idle r) answer = IsIdleAnswer certified version (proof_of r.value) answer
+IsToldUse certified version budgets use_of.OutOfSplits answer = answer ≡ Undecided (Splits budgets.splits)
+IsToldUse certified version budgets (use_of.OutOfStates w) answer = answer ≡ Undecided (States budgets.states w.slot)
+
+-- the query is that of what is left of the set beside the set without the statement, an Allow
+abbrev pub IsSmallerFor : OneSet → StatementName → Query → Type 0
+IsSmallerFor one name query =
+    (s : Statement) × (left : PolicySet) × IsSmallerQuestion one.schema one.set (name, s) left query
+
+-- the verdict on a statement
+abbrev pub IsUseVerdict : OneSet → StatementName → UseAnswer → Type 0
+IsUseVerdict one name Idle = IsIdle one.schema one.set name
+IsUseVerdict one name (Used q) = IsWellKept q × IsUsedBy one.schema one.set name q
+IsUseVerdict one name _ = ⊥
+
+-- the verdict in what settles a query, where there is one
+abbrev pub IsSettledVerdict : Settled → Option UseAnswer → Type 0
+IsSettledVerdict (settled.Nobody r) answer = answer ≡ Some Idle
+IsSettledVerdict (settled.Met q) answer = (answer ≡ Some (Used q)) × IsWellKept q
+IsSettledVerdict settled.OutOfSplits answer = answer ≡ None
+IsSettledVerdict (settled.OutOfStates w) answer = answer ≡ None

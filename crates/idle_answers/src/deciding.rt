@@ -1,0 +1,202 @@
+//! Decides whether a set needs one of its statements.
+ghost use Rattle.std.specs.Prelude.{◌≡◌, ◌≤◌, true, IfOk, IfSome, IsTrue};
+ghost use Rattle.policy_compile.specs.Limits.{IsWithinLimits};
+ghost use Rattle.policy_compile.specs.Sets.{set_plan};
+ghost use Rattle.refute_check.specs.Proofs.{proof_of};
+ghost use Rattle.run_sets.specs.OneSets.{FitsItsSchema};
+ghost use Rattle.set_questions.specs.Idle.{IsNameIn, OfNamed};
+ghost use Rattle.idle_answers.specs.Deciding.{IsIdleAnswer, IsSettledVerdict, IsSmallerFor, IsToldUse, IsUseVerdict};
+ghost use Rattle.idle_answers.specs.UseAnswers.{IsUseAnswerAt};
+
+use crate::answer::UseAnswer;
+use crate::settling::ByRefutation;
+use plain_lists::NoMemory;
+use policy_compile::{Query, QueryFault, query};
+use policy_difference::{shared_statements_add_nothing, without_shared};
+use policy_model::{PolicySet, StatementName};
+use proof_text::{closing_proofs_are_small, closing_proofs_have_no_fault, write_proof};
+use refute_check::Refutation;
+use run_sets::{OneSet, Shortage};
+use set_questions::{Settle, Settled, Use, is_allow, smaller_questions_tell, use_of, without};
+use std::alloc::{AllocError, Global};
+use tree_search::Budgets;
+
+// The answer to an idle statement: its certificate, where one is asked for.
+fn idle_answer(
+    alloc: Global,
+    refutation: &Refutation,
+    version: u32,
+    certified: bool,
+) -> Result<UseAnswer, NoMemory>
+    ensures { IfOk result (IsIdleAnswer certified version (proof_of refutation.now)) }
+{
+    if certified {
+        Ok(UseAnswer::Proved(write_proof(alloc, refutation, version)?))
+    } else {
+        Ok(UseAnswer::Idle)
+    }
+}
+
+// The answer to the use of a statement.
+fn told_use(
+    alloc: Global,
+    told: Use,
+    version: u32,
+    budgets: Budgets,
+    certified: bool,
+) -> Result<UseAnswer, NoMemory>
+    ensures { IfOk result (IsToldUse certified version budgets told) }
+{
+    match told {
+        Use::Used(request) => {
+            request.keys_are_well_kept();
+            Ok(UseAnswer::Used(request))
+        }
+        Use::Idle(refutation) => idle_answer(alloc, &refutation, version, certified),
+        Use::OutOfSplits => Ok(UseAnswer::Undecided(Shortage::Splits(budgets.splits))),
+        Use::OutOfStates(wide) => Ok(UseAnswer::Undecided(Shortage::States(
+            budgets.states,
+            wide.slot,
+        ))),
+    }
+}
+
+// The verdict in what settles a query, where there is one.
+fn verdict_in(settled: Settled) -> Option<UseAnswer>
+    ensures { IsSettledVerdict settled result }
+{
+    match settled {
+        Settled::Nobody(_) => Some(UseAnswer::Idle),
+        Settled::Met(request) => {
+            request.keys_are_well_kept();
+            Some(UseAnswer::Used(request))
+        }
+        Settled::OutOfSplits => None,
+        Settled::OutOfStates(_) => None,
+    }
+}
+
+// What the search says of the query of what is left of the set, where it decides it.
+fn verdict_on(
+    alloc: Global,
+    one: &OneSet,
+    name: StatementName,
+    query: &Query,
+    budgets: Budgets,
+) -> Result<Option<UseAnswer>, NoMemory>
+    requires fitting { FitsItsSchema one.now }
+    requires smaller { IsSmallerFor one.now name query.now }
+    requires splits { 1 ≤ budgets.splits }
+    requires states { 1 ≤ budgets.states }
+    ensures { IfOk result (λ answer. IfSome answer (IsUseVerdict one.now name)) }
+{
+    let mut by = ByRefutation::new(&one.schema, budgets);
+    smaller_questions_tell();
+    let settled = by.settle(alloc, query)?;
+    Ok(verdict_in(settled))
+}
+
+// The answer, where the set without what it allows without the statement too is enough to tell: most often
+// hardly more than the statement is left, and such a query is small.
+fn smaller_answer(
+    alloc: Global,
+    one: &OneSet,
+    name: StatementName,
+    budgets: Budgets,
+) -> Result<Option<UseAnswer>, NoMemory>
+    requires fitting { FitsItsSchema one.now }
+    requires named { IsNameIn one.now.set name }
+    requires allow { OfNamed one.now.set name (λ s. s.allow ≡ true) }
+    requires splits { 1 ≤ budgets.splits }
+    requires states { 1 ≤ budgets.states }
+    ensures { IfOk result (λ answer. IfSome answer (IsUseVerdict one.now name)) }
+{
+    let part = without(alloc, &one.set, name)?;
+    let Some(left) = without_shared(alloc, &one.set, &part)? else {
+        return Ok(None);
+    };
+    shared_statements_add_nothing();
+    match query(alloc, &one.schema, &left, &part) {
+        Ok(query) => verdict_on(alloc, one, name, &query, budgets),
+        Err(QueryFault::TooManyTests) => Ok(None),
+        Err(QueryFault::TooManyPieces) => Ok(None),
+        Err(QueryFault::NoMemory) => Err(AllocError),
+    }
+}
+
+// The answer by the whole change query, with a certificate of it where one is asked for.
+fn whole_answer(
+    alloc: Global,
+    one: &OneSet,
+    name: StatementName,
+    budgets: Budgets,
+    certified: bool,
+) -> Result<UseAnswer, NoMemory>
+    requires fitting { FitsItsSchema one.now }
+    requires named { IsNameIn one.now.set name }
+    requires within { IsWithinLimits (set_plan one.now.schema one.now.set) }
+    requires splits { 1 ≤ budgets.splits }
+    requires states { 1 ≤ budgets.states }
+    ensures { IfOk result (IsUseAnswerAt certified budgets one.now name) }
+{
+    let mut by = ByRefutation::new(&one.schema, budgets);
+    closing_proofs_are_small();
+    closing_proofs_have_no_fault();
+    let told = use_of(alloc, &one.schema, &one.set, name, &mut by)?;
+    told_use(alloc, told, one.schema.version, budgets, certified)
+}
+
+// Whether it is an Allow statement of the grants. Of a Deny or of a guard's statement nothing is left out.
+fn is_grant(set: &PolicySet, name: StatementName) -> bool
+    requires { IsNameIn set.now name }
+    ensures { IsTrue result → OfNamed set.now name (λ s. s.allow ≡ true) }
+{
+    if name.document as usize > set.grants.len() {
+        return false;
+    }
+    is_allow(set, name)
+}
+
+// The answer by the smaller query, where there is one and it is decided.
+fn quick_answer(
+    alloc: Global,
+    one: &OneSet,
+    name: StatementName,
+    budgets: Budgets,
+) -> Result<Option<UseAnswer>, NoMemory>
+    requires fitting { FitsItsSchema one.now }
+    requires named { IsNameIn one.now.set name }
+    requires splits { 1 ≤ budgets.splits }
+    requires states { 1 ≤ budgets.states }
+    ensures { IfOk result (λ answer. IfSome answer (IsUseVerdict one.now name)) }
+{
+    if is_grant(&one.set, name) {
+        smaller_answer(alloc, one, name, budgets)
+    } else {
+        Ok(None)
+    }
+}
+
+/// Whether the set needs the statement, within the budgets; with a certificate that it doesn't, where one is
+/// asked for. What isn't decided is what the change query leaves open, whatever was asked before it.
+pub(crate) fn use_answer(
+    alloc: Global,
+    one: &OneSet,
+    name: StatementName,
+    budgets: Budgets,
+    certified: bool,
+) -> Result<UseAnswer, NoMemory>
+    requires fitting { FitsItsSchema one.now }
+    requires named { IsNameIn one.now.set name }
+    requires within { IsWithinLimits (set_plan one.now.schema one.now.set) }
+    requires splits { 1 ≤ budgets.splits }
+    requires states { 1 ≤ budgets.states }
+    ensures { IfOk result (IsUseAnswerAt certified budgets one.now name) }
+{
+    if !certified {
+        if let Some(answer) = quick_answer(alloc, one, name, budgets)? {
+            return Ok(answer);
+        }
+    }
+    whole_answer(alloc, one, name, budgets, certified)
+}

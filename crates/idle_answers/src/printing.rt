@@ -1,0 +1,196 @@
+//! What is printed of the statements of a set.
+ghost use Rattle.std.specs.Prelude.{◌≡◌, ◌≤◌, IfOk, OnOk, map, option_map};
+ghost use Rattle.command_words.specs.Asked.{use_question_in};
+ghost use Rattle.policy_compile.specs.Limits.{IsWithinLimits};
+ghost use Rattle.policy_compile.specs.Sets.{set_plan};
+ghost use Rattle.policy_model.specs.StatementNames.{named_set};
+ghost use Rattle.run_files.specs.Printing.{IfPrinted, OrAnswered};
+ghost use Rattle.run_sets.specs.OneSets.{FitsItsSchema};
+ghost use Rattle.run_sets.specs.Refusals.{IsRefusedBy};
+ghost use Rattle.set_questions.specs.Idle.{IsNameIn};
+ghost use Rattle.idle_answers.specs.Telling.{AddsUse, AreUsesTold, IsStarted, TellsNext, told_status};
+ghost use Rattle.idle_answers.specs.UseTexts.{is_idle, is_undecided};
+ghost use Rattle.idle_answers.specs.UsesPrinted.{AreUsesPrinted, IsIdlePrinted, IsOnePastLimit, use_contents};
+
+use crate::answer::UseAnswer;
+use crate::deciding::use_answer;
+use crate::text::{statement_start, statements_line, use_text};
+use command_words::IdleArguments;
+use policy_model::StatementName;
+use request_build::sound_schemas_have_requests;
+use run_files::{EarlyEnd, Printed, Status};
+use run_sets::{OneSet, Refusal, read_one, refused};
+use set_questions::{UseFault, meet_limits, names_of};
+use std::alloc::{AllocError, Global};
+use tree_search::Budgets;
+
+// What is said of the statements so far, and whether one of them is idle, and one undecided.
+#[derive(Drop)]
+struct Told {
+    text: String,
+    idle: bool,
+    undecided: bool,
+}
+
+fn is_idle(answer: &UseAnswer) -> bool
+    ensures { result ≡ is_idle answer.now }
+{
+    match answer {
+        UseAnswer::Idle => true,
+        UseAnswer::Proved(_) => true,
+        UseAnswer::Used(_) => false,
+        UseAnswer::Undecided(_) => false,
+    }
+}
+
+fn is_undecided(answer: &UseAnswer) -> bool
+    ensures { result ≡ is_undecided answer.now }
+{
+    match answer {
+        UseAnswer::Undecided(_) => true,
+        UseAnswer::Used(_) => false,
+        UseAnswer::Idle => false,
+        UseAnswer::Proved(_) => false,
+    }
+}
+
+// Nothing is said of any statement so far, of which there are so many.
+fn started(alloc: Global, count: usize) -> Result<Told, AllocError>
+    ensures { IfOk result (IsStarted count) }
+{
+    Ok(Told {
+        text: statements_line(alloc, count)?,
+        idle: false,
+        undecided: false,
+    })
+}
+
+// Adds what is said of the next statement.
+fn add_use(
+    alloc: Global,
+    told: &mut Told,
+    name: StatementName,
+    answer: &UseAnswer,
+) -> Result<(), AllocError>
+    ensures { OnOk result (AddsUse name answer.now told.old told.new) }
+{
+    let start = statement_start(alloc, name)?;
+    let text = use_text(alloc, answer)?;
+    told.text.push_str(start.as_str())?;
+    told.text.push_str(text.as_str())?;
+    told.idle = told.idle | is_idle(answer);
+    told.undecided = told.undecided | is_undecided(answer);
+    Ok(())
+}
+
+// The status of what is said.
+fn told_status(told: &Told) -> Status
+    ensures { result ≡ told_status told.now }
+{
+    if told.undecided {
+        Status::Undecided
+    } else if told.idle {
+        Status::Fails
+    } else {
+        Status::Holds
+    }
+}
+
+// Adds what is said of the statement of this name.
+fn tell_next(
+    alloc: Global,
+    told: &mut Told,
+    one: &OneSet,
+    name: StatementName,
+    budgets: Budgets,
+    certified: bool,
+) -> Result<(), AllocError>
+    requires fitting { FitsItsSchema one.now }
+    requires named { IsNameIn one.now.set name }
+    requires within { IsWithinLimits (set_plan one.now.schema one.now.set) }
+    requires splits { 1 ≤ budgets.splits }
+    requires states { 1 ≤ budgets.states }
+    ensures { OnOk result (TellsNext certified budgets one.now name told.old told.new) }
+{
+    let answer = use_answer(alloc, one, name, budgets, certified)?;
+    add_use(alloc, told, name, &answer)
+}
+
+// What is said of each statement in turn. Only the text is kept, since certificates are large.
+fn uses_told(
+    alloc: Global,
+    one: &OneSet,
+    names: &[StatementName],
+    budgets: Budgets,
+    certified: bool,
+) -> Result<Told, AllocError>
+    requires fitting { FitsItsSchema one.now }
+    requires names { names.now ≡ map (λ n. n.0) (named_set one.now.set) }
+    requires within { IsWithinLimits (set_plan one.now.schema one.now.set) }
+    requires splits { 1 ≤ budgets.splits }
+    requires states { 1 ≤ budgets.states }
+    ensures { IfOk result (AreUsesTold certified budgets one.now (named_set one.now.set)) }
+{
+    let mut told = started(alloc, names.len())?;
+    'names: for name in names {
+        tell_next(alloc, &mut told, one, *name, budgets, certified)?;
+    }
+    Ok(told)
+}
+
+// That the query of the set is within its limits, or the line on the limit that it is past.
+fn meets_limits(alloc: Global, one: &OneSet) -> Result<(), EarlyEnd>
+    ensures { OrAnswered result (λ done. IsWithinLimits (set_plan one.now.schema one.now.set))
+        (IsRefusedBy (IsOnePastLimit one.now)) }
+{
+    match meet_limits(alloc, &one.schema, &one.set) {
+        Ok(()) => Ok(()),
+        Err(UseFault::TooManyTests) => Err(refused(alloc, Refusal::TooManyTests)),
+        Err(UseFault::TooManyPieces) => Err(refused(alloc, Refusal::TooManyPieces)),
+        Err(UseFault::NoMemory) => Err(EarlyEnd::NoMemory),
+    }
+}
+
+// What is printed of a set under the schema of its run.
+fn print_uses(
+    alloc: Global,
+    one: &OneSet,
+    budgets: Budgets,
+    certified: bool,
+) -> Result<Printed, EarlyEnd>
+    requires fitting { FitsItsSchema one.now }
+    requires splits { 1 ≤ budgets.splits }
+    requires states { 1 ≤ budgets.states }
+    ensures { IfPrinted result (AreUsesPrinted certified budgets one.now) }
+{
+    meets_limits(alloc, one)?;
+    sound_schemas_have_requests();
+    let names = names_of(alloc, &one.set)?;
+    let told = uses_told(alloc, one, names.as_slice(), budgets, certified)?;
+    let status = told_status(&told);
+    Ok(Printed {
+        text: told.text,
+        status,
+    })
+}
+
+/// What is printed of files that were read, that of a set and that of a schema where one is named: of each
+/// statement of the set whether it is used or idle.
+pub fn print_idle(
+    alloc: Global,
+    set: &[u8],
+    schema: Option<&[u8]>,
+    arguments: &IdleArguments,
+) -> Result<Printed, EarlyEnd>
+    requires splits { 1 ≤ arguments.now.splits }
+    requires states { 1 ≤ arguments.now.states }
+    ensures { IfPrinted result (IsIdlePrinted (use_question_in arguments.now)
+        (use_contents set.now (option_map (λ f. f.now) schema.entry))) }
+{
+    let one = read_one(alloc, set, schema)?;
+    let budgets = Budgets {
+        splits: arguments.splits,
+        states: arguments.states,
+    };
+    print_uses(alloc, &one, budgets, arguments.certified)
+}

@@ -1,0 +1,3 @@
+pub mod ReachComplete
+pub mod ReachPrinted
+pub mod ZoneRefusals

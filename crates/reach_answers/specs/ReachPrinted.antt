@@ -1,0 +1,86 @@
+-- What may be printed to the question who is allowed anything from outside a trust zone.
+use Rattle.std.specs.Prelude.{◌≡◌, ◌⊎◌, ℕ, List, [], ◌∷◌, Option, All, Any}
+use Rattle.command_words.specs.Asked.{Summarising}
+use Rattle.findings.specs.Findings.{LiesInFinding}
+use Rattle.findings.specs.Summaries.{findings_of}
+use Rattle.policy_model.specs.declared.request.Request.{Request}
+use Rattle.policy_model.specs.Requests.{IsValid}
+use Rattle.policy_model.specs.Sets.{Allows}
+use Rattle.summary_search.specs.declared.outcome.Limits.{Limits}
+use Rattle.trust_zones.specs.declared.zone.Zone.{Zone}
+use Rattle.trust_zones.specs.Zones.{IsInside, outside}
+use Rattle.run_files.specs.declared.printed.Printed.{Printed}
+use Rattle.run_files.specs.declared.status.Status.{Status}
+use Rattle.run_files.specs.declared.status.Status.TheVariants.{Holds, Fails}
+use Rattle.run_files.specs.Printing.{Tells}
+use Rattle.run_sets.specs.declared.one_set.OneSet.{OneSet}
+use Rattle.run_sets.specs.OneSets.{IsNoOneSet, OfOneSet}
+use Rattle.run_sets.specs.Refusals.{IsRefusedBy}
+use Rattle.finding_answers.specs.declared.answer.Found.{Found}
+use Rattle.finding_answers.specs.FindingTexts.{found_text}
+use Rattle.finding_answers.specs.Found.{IsFoundOf, IsNotFound}
+use Rattle.finding_answers.specs.Printed.{limits_in}
+use Rattle.reach_answers.specs.ZoneRefusals.{IsZoneRefused, OfZone}
+
+-- ---- who reaches
+
+-- the request is valid, the set allows it, and it doesn't come from inside the zone
+pub record ReachesFromOutside (one : OneSet) (zone : Zone) (r : Request) : Type 0 where
+  pub valid : IsValid one.schema r
+  pub allowed : Allows one.schema one.set r
+  pub outside : ¬ IsInside zone r
+
+-- What was found says who reaches from outside: the request of each finding does, each request that does lies in some finding, and
+-- where there is no finding none does
+pub record SaysWhoReaches (one : OneSet) (zone : Zone) (found : Found) : Type 0 where
+  pub reach : All (λ p. ReachesFromOutside one zone p.1) found.summary
+  pub covers : (r : Request) → ReachesFromOutside one zone r →
+      Any (LiesInFinding r found.strata.dimensions) (findings_of found.summary)
+  pub nobody : found.summary ≡ [] → (r : Request) → ¬ ReachesFromOutside one zone r
+
+-- ---- what is printed
+
+-- the set of what is outside the zone, under the same schema
+abbrev pub left_outside : OneSet → Zone → OneSet
+left_outside one zone = record { schema = one.schema; set = outside one.set zone }
+
+-- somebody reaches, where there is a finding, and otherwise nobody does
+abbrev pub status_by : {A : Type 0} → List A → Status
+status_by [] = Holds
+status_by (x ∷ xs) = Fails
+
+-- what is found of what is outside is printed
+pub record IsOutsidePrinted (names : List (List ℕ)) (limits : Limits) (left : OneSet) (p : Printed) : Type 0 where
+  pub found : Found
+  pub is : IsFoundOf names limits left found
+  pub told : Tells (found_text found) (status_by found.summary) p
+
+-- and it says who reaches
+pub record IsReachFound (names : List (List ℕ)) (limits : Limits) (one : OneSet) (zone : Zone) (p : Printed) : Type 0 where
+  pub printed : IsOutsidePrinted names limits (left_outside one zone) p
+  pub says : SaysWhoReaches one zone printed.found
+
+-- of a set and a zone: why what is outside isn't summarised, or what is found of it
+abbrev pub IsZonePrinted : List (List ℕ) → Limits → OneSet → Zone → Printed → Type 0
+IsZonePrinted names limits one zone p =
+    IsNotFound names limits (left_outside one zone) p ⊎ IsReachFound names limits one zone p
+
+-- of a set under the schema of its run: why the file stands for no zone, or what is printed of the zone that it stands for
+abbrev pub IsReachOfSet : List (List ℕ) → Limits → List ℕ → OneSet → Printed → Type 0
+IsReachOfSet names limits bytes one p =
+    IsZoneRefused one.schema bytes p ⊎ OfZone one.schema bytes (λ zone. IsZonePrinted names limits one zone p)
+
+-- the bytes of the files: of the set, of the zone, and of the schema where one is named
+pub record ReachContents : Type 0 where
+  pub set : List ℕ
+  pub zone : List ℕ
+  pub schema : Option (List ℕ)
+
+abbrev pub reach_contents : List ℕ → List ℕ → Option (List ℕ) → ReachContents
+reach_contents set zone schema = record { set = set; zone = zone; schema = schema }
+
+-- of files: why they stand for no set, or what is printed of the set that they stand for
+abbrev pub IsReachPrinted : Summarising → ReachContents → Printed → Type 0
+IsReachPrinted s c p =
+    IsRefusedBy (IsNoOneSet c.set c.schema) p
+    ⊎ OfOneSet c.set c.schema (λ one. IsReachOfSet s.dimensions (limits_in s) c.zone one p)
