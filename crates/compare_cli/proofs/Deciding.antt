@@ -1,35 +1,50 @@
 -- What is printed has a status of a text, and over accepted files without faults one of an answer of the command.
-use Rattle.std.proofs.Common.{◌≡◌, ◌⊎◌, ◌∙◌, ℕ, List, [], Option, None, Some, ap, inl, inr, refl, subst, sym}
-use Rattle.command_words.specs.Asked.{Asked, Checking, Comparing, Evaluating, a_check, a_comparison, a_load, a_summary, an_evaluation}
+use Rattle.std.proofs.Common.{◌≡◌, ◌⊎◌, ◌∙◌, ℕ, List, [], Bool, true, false, Option, None, Some, ap, inl, inr, refl, subst, sym}
+use Rattle.command_words.specs.Asked.{Asked, Summarising, a_check, a_comparison, a_load, a_reach, a_summary, a_summary_check}
+use Rattle.command_words.specs.Asked.{a_use_question, an_emission, an_evaluation}
 use Rattle.pol_outside.specs.Faults.{Rose}
 use Rattle.pol_outside.specs.Folder.{Files}
 use Rattle.run_files.specs.declared.printed.Printed.{Printed}
 use Rattle.run_files.specs.declared.status.Status.{Status}
 use Rattle.run_files.specs.declared.status.Status.TheVariants as status
 use Rattle.run_files.specs.Printing.{IsOfText}
-use Rattle.run_files.specs.Readings.{AreRead, FilesFail, Reading, if_given}
+use Rattle.run_files.specs.Readings.{AreRead, FileName, FilesFail, OfReadFiles, Reading, if_given}
 use Rattle.run_files.proofs.Laws.{none_fails, same_read}
 use Rattle.run_sets.specs.Pairs.{Contents, contents}
-use Rattle.pair_answers.specs.Printed.{IsCheckPrinted, IsComparisonPrinted}
 use Rattle.pair_answers.proofs.Laws.{check_of_text, checks_decide, comparison_of_text, comparisons_decide}
-use Rattle.statement_answers.specs.Evaluated.{EvaluationContents, IsEvaluationPrinted, evaluation_contents}
+use Rattle.statement_answers.specs.Evaluated.{EvaluationContents, evaluation_contents}
 use Rattle.statement_answers.proofs.Laws.{evaluation_of_text, evaluations_decide}
-use Rattle.finding_answers.specs.Printed.{IsSummaryPrinted, SummaryContents, summary_contents}
+use Rattle.finding_answers.specs.Printed.{SummaryContents, summary_contents}
 use Rattle.finding_answers.proofs.Laws.{summaries_decide, summary_of_text}
-use Rattle.compare_cli.specs.Commands.{CheckContents, MayPrint, IsPrinted, checked_bytes, compared_bytes, evaluated_bytes, named_files, summarised_bytes}
-use Rattle.compare_cli.specs.Complete.{IsAccepted, IsAcceptedBy, IsDecided}
+use Rattle.idle_answers.specs.UsesPrinted.{UseContents, use_contents}
+use Rattle.idle_answers.proofs.Laws.{idle_of_text, uses_decide}
+use Rattle.reach_answers.specs.ReachPrinted.{ReachContents, reach_contents}
+use Rattle.reach_answers.proofs.Laws.{reach_of_text, reaches_decide}
+use Rattle.emit_answers.proofs.Laws.{emit_of_text, emits_decide}
+use Rattle.cover_answers.proofs.Laws.{certified_summaries_decide, certified_summary_of_text, summary_check_of_text, summary_checks_decide}
+use Rattle.compare_cli.specs.Commands.{CheckContents, IsSummaryTold, MayPrint, IsPrinted, checked_bytes, compared_bytes, evaluated_bytes}
+use Rattle.compare_cli.specs.Commands.{SummaryCheckContents, use_bytes, named_files, reached_bytes, summarised_bytes, summary_checked_bytes}
+use Rattle.compare_cli.specs.Complete.{IsAccepted, IsAcceptedBy, IsDecided, IsSummaryFor}
 
 -- ---- statuses
 
 with_status : (p : Printed) (s : Status) → IsOfText s → p.status ≡ s → IsOfText p.status
 with_status p s of is = subst IsOfText (sym is) of
 
+summarised_of_text : (s : Summarising) (certified : Bool) (c : SummaryContents) (p : Printed) → IsSummaryTold s certified c p → IsOfText p.status
+summarised_of_text s true c p v = certified_summary_of_text s c p v
+summarised_of_text s false c p v = summary_of_text s c p v
+
 may_of_text : (asked : Asked) (r : Reading) (p : Printed) → MayPrint asked r p → IsOfText p.status
 may_of_text (a_comparison c) r p v = comparison_of_text c v.contents p v.holds
 may_of_text (a_check c) r p v = check_of_text v.contents.proof v.contents.sets p v.holds
-may_of_text (a_summary s) r p v = summary_of_text s v.contents p v.holds
+may_of_text (a_summary s certified) r p v = summarised_of_text s certified v.contents p v.holds
 may_of_text (an_evaluation e) r p v = evaluation_of_text v.contents p v.holds
 may_of_text (a_load keys) r p v = with_status p status.Holds tt v.told.1
+may_of_text (a_use_question u) r p v = idle_of_text u v.contents p v.holds
+may_of_text (a_reach s zone) r p v = reach_of_text s v.contents p v.holds
+may_of_text (an_emission s) r p v = emit_of_text s v.contents p v.holds
+may_of_text (a_summary_check k) r p v = summary_check_of_text k v.contents.proof v.contents.set p v.holds
 
 pub printed_of_text : (asked : Option Asked) (r : Reading) (p : Printed) → IsPrinted asked r p → IsOfText p.status
 printed_of_text None r p v = with_status p status.Usage tt v.0.1
@@ -56,14 +71,20 @@ compared_once c d e =
     ap (λ (bs : List ℕ). contents bs c.second c.schema) first
     ∙ (ap (λ (bs : List ℕ). contents d.first bs c.schema) second ∙ ap (λ (bs : Option (List ℕ)). contents d.first d.second bs) schema)
 
-checked_once : (c d : CheckContents) → checked_bytes c ≡ checked_bytes d → c.sets ≡ d.sets
+abbrev checked_contents : Contents → List ℕ → CheckContents
+checked_contents sets proof = record { sets = sets; proof = proof }
+
+checked_once : (c d : CheckContents) → checked_bytes c ≡ checked_bytes d → c ≡ d
 checked_once c d e =
     let first : c.sets.first ≡ d.sets.first = cc in
     let second : c.sets.second ≡ d.sets.second = cc in
+    let proof : c.proof ≡ d.proof = cc in
     let rest : if_given c.sets.schema ≡ if_given d.sets.schema = cc in
     let schema = given_once c.sets.schema d.sets.schema rest in
-    ap (λ (bs : List ℕ). contents bs c.sets.second c.sets.schema) first
-    ∙ (ap (λ (bs : List ℕ). contents d.sets.first bs c.sets.schema) second ∙ ap (λ (bs : Option (List ℕ)). contents d.sets.first d.sets.second bs) schema)
+    ap (λ (bs : List ℕ). checked_contents (contents bs c.sets.second c.sets.schema) c.proof) first
+    ∙ (ap (λ (bs : List ℕ). checked_contents (contents d.sets.first bs c.sets.schema) c.proof) second
+    ∙ (ap (λ (bs : Option (List ℕ)). checked_contents (contents d.sets.first d.sets.second bs) c.proof) schema
+    ∙ ap (λ (bs : List ℕ). checked_contents d.sets bs) proof))
 
 summarised_once : (c d : SummaryContents) → summarised_bytes c ≡ summarised_bytes d → c ≡ d
 summarised_once c d e =
@@ -71,6 +92,13 @@ summarised_once c d e =
     let rest : if_given c.schema ≡ if_given d.schema = cc in
     let schema = given_once c.schema d.schema rest in
     ap (λ (bs : List ℕ). summary_contents bs c.schema) set ∙ ap (λ (bs : Option (List ℕ)). summary_contents d.set bs) schema
+
+uses_once : (c d : UseContents) → use_bytes c ≡ use_bytes d → c ≡ d
+uses_once c d e =
+    let set : c.set ≡ d.set = cc in
+    let rest : if_given c.schema ≡ if_given d.schema = cc in
+    let schema = given_once c.schema d.schema rest in
+    ap (λ (bs : List ℕ). use_contents bs c.schema) set ∙ ap (λ (bs : Option (List ℕ)). use_contents d.set bs) schema
 
 evaluated_once : (c d : EvaluationContents) → evaluated_bytes c ≡ evaluated_bytes d → c ≡ d
 evaluated_once c d e =
@@ -81,47 +109,91 @@ evaluated_once c d e =
     ap (λ (bs : List ℕ). evaluation_contents bs c.request c.schema) set
     ∙ (ap (λ (bs : List ℕ). evaluation_contents d.set bs c.schema) request ∙ ap (λ (bs : Option (List ℕ)). evaluation_contents d.set d.request bs) schema)
 
+reached_once : (c d : ReachContents) → reached_bytes c ≡ reached_bytes d → c ≡ d
+reached_once c d e =
+    let set : c.set ≡ d.set = cc in
+    let zone : c.zone ≡ d.zone = cc in
+    let rest : if_given c.schema ≡ if_given d.schema = cc in
+    let schema = given_once c.schema d.schema rest in
+    ap (λ (bs : List ℕ). reach_contents bs c.zone c.schema) set
+    ∙ (ap (λ (bs : List ℕ). reach_contents d.set bs c.schema) zone ∙ ap (λ (bs : Option (List ℕ)). reach_contents d.set d.zone bs) schema)
+
+abbrev summary_checked_contents : List ℕ → Option (List ℕ) → List ℕ → SummaryCheckContents
+summary_checked_contents set schema proof = record { set = summary_contents set schema; proof = proof }
+
+summary_checked_once : (c d : SummaryCheckContents) → summary_checked_bytes c ≡ summary_checked_bytes d → c ≡ d
+summary_checked_once c d e =
+    let set : c.set.set ≡ d.set.set = cc in
+    let proof : c.proof ≡ d.proof = cc in
+    let rest : if_given c.set.schema ≡ if_given d.set.schema = cc in
+    let schema = given_once c.set.schema d.set.schema rest in
+    ap (λ (bs : List ℕ). summary_checked_contents bs c.set.schema c.proof) set
+    ∙ (ap (λ (bs : List ℕ). summary_checked_contents d.set.set c.set.schema bs) proof
+    ∙ ap (λ (bs : Option (List ℕ)). summary_checked_contents d.set.set bs d.proof) schema)
+
+-- what holds of the contents of files in one respect and in another holds of the same contents
+record OfBoth {C : Type 0} (P Q : C → Type 0) : Type 0 where
+  pub contents : C
+  pub one : P contents
+  pub other : Q contents
+
+both_of : (files : Files) (fs : List FileName) {C : Type 0} (bytes : C → List (List ℕ)) → ((c d : C) → bytes c ≡ bytes d → c ≡ d)
+    → (P Q : C → Type 0) → (held : Option Files) → held ≡ Some files → OfReadFiles (Some files) fs bytes P → OfReadFiles held fs bytes Q → OfBoth P Q
+both_of files fs bytes once P Q held is accepted printed =
+    let there = subst (λ (h : Option Files). AreRead h fs (bytes printed.contents)) is printed.read in
+    let same = once printed.contents accepted.contents (same_read files fs (bytes printed.contents) (bytes accepted.contents) there accepted.read) in
+    record { contents = accepted.contents; one = accepted.holds; other = subst Q same printed.holds }
+
 -- ---- commands
 
-compared : (c : Comparing) (s : Status) → (s ≡ status.Holds) ⊎ (s ≡ status.Fails) → IsDecided (Some (a_comparison c)) s
-compared c s (inl is) = subst (IsDecided (Some (a_comparison c))) (sym is) tt
-compared c s (inr is) = subst (IsDecided (Some (a_comparison c))) (sym is) tt
+-- the status is one of two, of which this holds
+one_of_two : (P : Status → Type 0) (a b : Status) → P a → P b → (s : Status) → (s ≡ a) ⊎ (s ≡ b) → P s
+one_of_two P a b at_a at_b s (inl is) = subst P (sym is) at_a
+one_of_two P a b at_a at_b s (inr is) = subst P (sym is) at_b
 
-checked : (c : Checking) (s : Status) → (s ≡ status.Holds) ⊎ (s ≡ status.BadProof) → IsDecided (Some (a_check c)) s
-checked c s (inl is) = subst (IsDecided (Some (a_check c))) (sym is) tt
-checked c s (inr is) = subst (IsDecided (Some (a_check c))) (sym is) tt
-
-evaluated : (e : Evaluating) (s : Status) → (s ≡ status.Holds) ⊎ (s ≡ status.Fails) → IsDecided (Some (an_evaluation e)) s
-evaluated e s (inl is) = subst (IsDecided (Some (an_evaluation e))) (sym is) tt
-evaluated e s (inr is) = subst (IsDecided (Some (an_evaluation e))) (sym is) tt
+summarised_decides : (s : Summarising) (certified : Bool) (c : SummaryContents) (p : Printed) → IsSummaryFor s certified c
+    → IsSummaryTold s certified c p → p.status ≡ status.Holds
+summarised_decides s true c p accepted v = certified_summaries_decide s c p accepted v
+summarised_decides s false c p accepted v = summaries_decide s c p accepted v
 
 module _ (files : Files) (p : Printed) where
   may_decide : (asked : Asked) (r : Reading) → r.held ≡ Some files → IsAcceptedBy (Some files) asked → MayPrint asked r p → IsDecided (Some asked) p.status
   may_decide (a_comparison c) r held d v =
-      let there = subst (λ (h : Option Files). AreRead h (named_files (a_comparison c)) (compared_bytes v.contents)) held v.read in
-      let same : v.contents ≡ d.contents = compared_once v.contents d.contents (same_read files (named_files (a_comparison c)) (compared_bytes v.contents) (compared_bytes d.contents) there d.read) in
-      compared c p.status (comparisons_decide c d.contents p d.holds (subst (λ (f : Contents). IsComparisonPrinted c f p) same v.holds))
+      let both = both_of files (named_files (a_comparison c)) compared_bytes compared_once _ _ r.held held d v in
+      one_of_two (IsDecided (Some (a_comparison c))) status.Holds status.Fails tt tt p.status (comparisons_decide c both.contents p both.one both.other)
   may_decide (a_check c) r held d v =
-      let there = subst (λ (h : Option Files). AreRead h (named_files (a_check c)) (checked_bytes v.contents)) held v.read in
-      let same : v.contents.sets ≡ d.contents.sets = checked_once v.contents d.contents (same_read files (named_files (a_check c)) (checked_bytes v.contents) (checked_bytes d.contents) there d.read) in
-      checked c p.status (checks_decide v.contents.proof d.contents.sets p d.holds (subst (λ (f : Contents). IsCheckPrinted v.contents.proof f p) same v.holds))
-  may_decide (a_summary s) r held d v =
-      let there = subst (λ (h : Option Files). AreRead h (named_files (a_summary s)) (summarised_bytes v.contents)) held v.read in
-      let same : v.contents ≡ d.contents = summarised_once v.contents d.contents (same_read files (named_files (a_summary s)) (summarised_bytes v.contents) (summarised_bytes d.contents) there d.read) in
-      let is = summaries_decide s d.contents p d.holds (subst (λ (f : SummaryContents). IsSummaryPrinted s f p) same v.holds) in
-      subst (IsDecided (Some (a_summary s))) (sym is) tt
+      let both = both_of files (named_files (a_check c)) checked_bytes checked_once _ _ r.held held d v in
+      one_of_two (IsDecided (Some (a_check c))) status.Holds status.BadProof tt tt p.status (checks_decide both.contents.proof both.contents.sets p both.one both.other)
+  may_decide (a_summary s certified) r held d v =
+      let both = both_of files (named_files (a_summary s certified)) summarised_bytes summarised_once _ _ r.held held d v in
+      subst (IsDecided (Some (a_summary s certified))) (sym (summarised_decides s certified both.contents p both.one both.other)) tt
   may_decide (an_evaluation e) r held d v =
-      let there = subst (λ (h : Option Files). AreRead h (named_files (an_evaluation e)) (evaluated_bytes v.contents)) held v.read in
-      let same : v.contents ≡ d.contents = evaluated_once v.contents d.contents (same_read files (named_files (an_evaluation e)) (evaluated_bytes v.contents) (evaluated_bytes d.contents) there d.read) in
-      evaluated e p.status (evaluations_decide d.contents p d.holds (subst (λ (f : EvaluationContents). IsEvaluationPrinted f p) same v.holds))
+      let both = both_of files (named_files (an_evaluation e)) evaluated_bytes evaluated_once _ _ r.held held d v in
+      one_of_two (IsDecided (Some (an_evaluation e))) status.Holds status.Fails tt tt p.status (evaluations_decide both.contents p both.one both.other)
   may_decide (a_load keys) r held d v = subst (IsDecided (Some (a_load keys))) (sym v.told.1) tt
+  may_decide (a_use_question u) r held d v =
+      let both = both_of files (named_files (a_use_question u)) use_bytes uses_once _ _ r.held held d v in
+      one_of_two (IsDecided (Some (a_use_question u))) status.Holds status.Fails tt tt p.status (uses_decide u both.contents p both.one both.other)
+  may_decide (a_reach s zone) r held d v =
+      let both = both_of files (named_files (a_reach s zone)) reached_bytes reached_once _ _ r.held held d v in
+      one_of_two (IsDecided (Some (a_reach s zone))) status.Holds status.Fails tt tt p.status (reaches_decide s both.contents p both.one both.other)
+  may_decide (an_emission s) r held d v =
+      let both = both_of files (named_files (an_emission s)) summarised_bytes summarised_once _ _ r.held held d v in
+      subst (IsDecided (Some (an_emission s))) (sym (emits_decide s both.contents p both.one both.other)) tt
+  may_decide (a_summary_check k) r held d v =
+      let both = both_of files (named_files (a_summary_check k)) summary_checked_bytes summary_checked_once _ _ r.held held d v in
+      one_of_two (IsDecided (Some (a_summary_check k))) status.Holds status.BadProof tt tt p.status (summary_checks_decide k both.contents.proof both.contents.set p both.one both.other)
 
   fails_not : (asked : Asked) (r : Reading) → r.held ≡ Some files → IsAcceptedBy (Some files) asked → ¬ Rose r.faults_before r.faults → FilesFail (named_files asked) r p → ⊥
   fails_not (a_comparison c) r held d calm failing = none_fails r files (named_files (a_comparison c)) (compared_bytes d.contents) p held d.read calm failing
   fails_not (a_check c) r held d calm failing = none_fails r files (named_files (a_check c)) (checked_bytes d.contents) p held d.read calm failing
-  fails_not (a_summary s) r held d calm failing = none_fails r files (named_files (a_summary s)) (summarised_bytes d.contents) p held d.read calm failing
+  fails_not (a_summary s certified) r held d calm failing = none_fails r files (named_files (a_summary s certified)) (summarised_bytes d.contents) p held d.read calm failing
   fails_not (an_evaluation e) r held d calm failing = none_fails r files (named_files (an_evaluation e)) (evaluated_bytes d.contents) p held d.read calm failing
   fails_not (a_load keys) r held d calm failing = none_fails r files [] [] p held tt calm failing
+  fails_not (a_use_question u) r held d calm failing = none_fails r files (named_files (a_use_question u)) (use_bytes d.contents) p held d.read calm failing
+  fails_not (a_reach s zone) r held d calm failing = none_fails r files (named_files (a_reach s zone)) (reached_bytes d.contents) p held d.read calm failing
+  fails_not (an_emission s) r held d calm failing = none_fails r files (named_files (an_emission s)) (summarised_bytes d.contents) p held d.read calm failing
+  fails_not (a_summary_check k) r held d calm failing = none_fails r files (named_files (a_summary_check k)) (summary_checked_bytes d.contents) p held d.read calm failing
 
 held_decides : (held : Option Files) (asked : Asked) (r : Reading) (p : Printed) → r.held ≡ held → IsPrinted (Some asked) r p → IsAccepted held (Some asked) → ¬ Rose r.faults_before r.faults → IsDecided (Some asked) p.status
 held_decides None asked r p is may accepted calm = absurd accepted

@@ -1,8 +1,9 @@
 -- What may be printed, by what the arguments ask and what the folder holds.
-use Rattle.std.specs.Prelude.{◌⊎◌, ℕ, List, [], ◌∷◌, Option, Some, None, ⊤, codes}
-use Rattle.command_words.specs.Asked.{Asked, a_check, a_comparison, a_load, a_summary, an_evaluation}
+use Rattle.std.specs.Prelude.{◌⊎◌, ℕ, List, [], ◌∷◌, ◌++◌, Bool, true, false, Option, Some, None, ⊤, codes}
+use Rattle.command_words.specs.Asked.{Asked, Summarising, a_check, a_comparison, a_load, a_reach, a_summary, a_summary_check}
+use Rattle.command_words.specs.Asked.{a_use_question, an_emission, an_evaluation}
 use Rattle.run_files.specs.declared.printed.Printed.{Printed}
-use Rattle.run_files.specs.declared.role.Role.TheVariants.{First, Second, Proof}
+use Rattle.run_files.specs.declared.role.Role.TheVariants.{First, Second, Proof, Zone}
 use Rattle.run_files.specs.declared.role.Role.TheVariants.{Set as set_file, Schema as schema_file, Request as request_file}
 use Rattle.run_files.specs.declared.status.Status.TheVariants.{Usage}
 use Rattle.run_files.specs.Printing.{Tells}
@@ -11,6 +12,11 @@ use Rattle.run_sets.specs.Pairs.{Contents}
 use Rattle.pair_answers.specs.Printed.{IsCheckPrinted, IsComparisonPrinted}
 use Rattle.statement_answers.specs.Evaluated.{EvaluationContents, IsEvaluationPrinted}
 use Rattle.finding_answers.specs.Printed.{IsSummaryPrinted, SummaryContents}
+use Rattle.reach_answers.specs.ReachPrinted.{IsReachPrinted, ReachContents}
+use Rattle.emit_answers.specs.EmitPrinted.{IsEmitPrinted}
+use Rattle.idle_answers.specs.UsesPrinted.{IsIdlePrinted, UseContents}
+use Rattle.cover_answers.specs.Certified.{IsCertifiedSummaryPrinted}
+use Rattle.cover_answers.specs.Judged.{IsSummaryCheckPrinted}
 use Rattle.compare_cli.specs.Loaded.{IsLoadPrinted}
 
 -- ---- the files of a command
@@ -20,13 +26,22 @@ abbrev pub named_files : Asked → List FileName
 named_files (a_comparison c) = file First c.names.first ∷ file Second c.names.second ∷ if_named schema_file c.names.schema
 named_files (a_check c) =
     file First c.names.first ∷ file Second c.names.second ∷ file Proof c.proof ∷ if_named schema_file c.names.schema
-named_files (a_summary s) = file set_file s.set ∷ if_named schema_file s.schema
+named_files (a_summary s certified) = file set_file s.set ∷ if_named schema_file s.schema
 named_files (an_evaluation e) = file set_file e.set ∷ file request_file e.request ∷ if_named schema_file e.schema
 named_files (a_load keys) = []
+named_files (a_use_question u) = file set_file u.set ∷ if_named schema_file u.schema
+named_files (a_reach s zone) = file set_file s.set ∷ file Zone zone ∷ if_named schema_file s.schema
+named_files (an_emission s) = file set_file s.set ∷ if_named schema_file s.schema
+named_files (a_summary_check k) = file set_file k.set ∷ file Proof k.proof ∷ if_named schema_file k.schema
 
 -- the bytes of a check's files: of the two sets and the schema, and of the certificate
 pub record CheckContents : Type 0 where
   pub sets : Contents
+  pub proof : List ℕ
+
+-- and of a check of a summary: of the set and the schema, and of the file that is checked
+pub record SummaryCheckContents : Type 0 where
+  pub set : SummaryContents
   pub proof : List ℕ
 
 -- the bytes of each command's files in this order
@@ -42,20 +57,41 @@ summarised_bytes c = c.set ∷ if_given c.schema
 abbrev pub evaluated_bytes : EvaluationContents → List (List ℕ)
 evaluated_bytes c = c.set ∷ c.request ∷ if_given c.schema
 
+abbrev pub use_bytes : UseContents → List (List ℕ)
+use_bytes c = c.set ∷ if_given c.schema
+
+abbrev pub reached_bytes : ReachContents → List (List ℕ)
+reached_bytes c = c.set ∷ c.zone ∷ if_given c.schema
+
+abbrev pub summary_checked_bytes : SummaryCheckContents → List (List ℕ)
+summary_checked_bytes c = c.set.set ∷ c.proof ∷ if_given c.set.schema
+
 -- ---- what may be printed
+
+-- to a summary: with a certificate behind it, where one is asked for
+abbrev pub IsSummaryTold : Summarising → Bool → SummaryContents → Printed → Type 0
+IsSummaryTold s true c p = IsCertifiedSummaryPrinted s c p
+IsSummaryTold s false c p = IsSummaryPrinted s c p
 
 -- once the files of a command were read: what the command may print of their bytes
 abbrev pub MayPrint : Asked → Reading → Printed → Type 0
 MayPrint (a_comparison c) r p = OfReadFiles r.held (named_files (a_comparison c)) compared_bytes (λ f. IsComparisonPrinted c f p)
 MayPrint (a_check c) r p = OfReadFiles r.held (named_files (a_check c)) checked_bytes (λ f. IsCheckPrinted f.proof f.sets p)
-MayPrint (a_summary s) r p = OfReadFiles r.held (named_files (a_summary s)) summarised_bytes (λ f. IsSummaryPrinted s f p)
+MayPrint (a_summary s certified) r p =
+    OfReadFiles r.held (named_files (a_summary s certified)) summarised_bytes (λ f. IsSummaryTold s certified f p)
 MayPrint (an_evaluation e) r p = OfReadFiles r.held (named_files (an_evaluation e)) evaluated_bytes (λ f. IsEvaluationPrinted f p)
 MayPrint (a_load keys) r p = IsLoadPrinted keys p
+MayPrint (a_use_question u) r p = OfReadFiles r.held (named_files (a_use_question u)) use_bytes (λ f. IsIdlePrinted u f p)
+MayPrint (a_reach s zone) r p = OfReadFiles r.held (named_files (a_reach s zone)) reached_bytes (λ f. IsReachPrinted s f p)
+MayPrint (an_emission s) r p = OfReadFiles r.held (named_files (an_emission s)) summarised_bytes (λ f. IsEmitPrinted s f p)
+MayPrint (a_summary_check k) r p =
+    OfReadFiles r.held (named_files (a_summary_check k)) summary_checked_bytes (λ f. IsSummaryCheckPrinted k f.proof f.set p)
 
 -- the line that says how the program is called
 abbrev pub usage_line : List ℕ
 usage_line =
-    codes "usage: compare FIRST SECOND | summary SET DIMENSION.. | check FIRST SECOND PROOF | eval SET REQUEST | load N\n"
+    codes "usage: compare FIRST SECOND | summary SET DIMENSION.. | check FIRST SECOND PROOF | eval SET REQUEST | load N "
+    ++ codes "| idle SET | reach SET ZONE DIMENSION.. | emit SET DIMENSION.. | check-summary SET PROOF DIMENSION..\n"
 
 -- the usage line, exactly where the arguments ask for nothing; what is printed of the first file that fails; or what the command may
 -- print, and the name of the folder's last fault is as it was

@@ -1,4 +1,5 @@
 pub mod Commands
 pub mod Complete
+pub mod LastFiles
 pub mod Loaded
 pub mod Promises

@@ -1,17 +1,26 @@
 //! What each command prints. Its files are read in the order of its line, the schema last.
-ghost use Rattle.std.specs.Prelude.{◌≡◌, ◌≤◌, true, Some};
-ghost use Rattle.command_words.specs.Asked.{HasBudgetsInRange, IsInRange, a_check, a_comparison, a_summary, an_evaluation};
-ghost use Rattle.command_words.specs.Asked.{are_dimensions, asked_in, checking_in, comparing_in, evaluating_in, summarising_in, texts_in};
+ghost use Rattle.std.specs.Prelude.{◌≡◌, ◌≤◌, Some, string_bytes};
+ghost use Rattle.command_words.specs.Asked.{AreFindingsInRange, HasUseNumbersInRange, IsInRange, IsSummaryCheckInRange};
+ghost use Rattle.command_words.specs.Asked.{a_check, a_comparison, a_reach, a_summary, a_summary_check, a_use_question, an_emission, an_evaluation};
+ghost use Rattle.command_words.specs.Asked.{asked_in, checking_in, comparing_in, evaluating_in, summarising_in, summary_check_in, use_question_in};
 ghost use Rattle.run_files.specs.Printing.{IfPrinted};
 ghost use Rattle.run_files.specs.Readings.{reading_of};
 ghost use Rattle.compare_cli.specs.Commands.{NameNoFile, IsPrinted};
 
+use crate::files::{read_last, read_named};
 use crate::loading::print_load;
-use command_words::{CheckArguments, Command, CompareArguments, EvalArguments, SummaryArguments};
+use command_words::{
+    CheckArguments, CheckSummaryArguments, Command, CompareArguments, EvalArguments,
+    FindingArguments, IdleArguments, ReachArguments, SummaryArguments,
+};
+use cover_answers::{print_certified_summary, print_summary_check};
+use emit_answers::print_emit;
 use finding_answers::print_summary;
+use idle_answers::print_idle;
 use pair_answers::{print_check, print_comparison};
 use pol_outside::Folder;
-use run_files::{EarlyEnd, Printed, Role, bytes_of, read_file, read_if_named};
+use reach_answers::print_reach;
+use run_files::{EarlyEnd, Printed, Role, bytes_of};
 use statement_answers::print_evaluation;
 use std::alloc::Global;
 
@@ -29,14 +38,13 @@ fn comparison<F: Folder>(
     ensures later { F.faults folder.old ≤ F.faults folder.new }
 {
     let names = &arguments.names;
-    let first = read_file(alloc, folder, Role::First, names.first.as_str())?;
-    let second = read_file(alloc, folder, Role::Second, names.second.as_str())?;
-    let schema = read_if_named(alloc, folder, Role::Schema, &names.schema)?;
+    let first = read_named(alloc, folder, Role::First, &names.first)?;
+    let rest = read_last(alloc, folder, Role::Second, &names.second, &names.schema)?;
     print_comparison(
         alloc,
         first.as_slice(),
-        second.as_slice(),
-        bytes_of(&schema),
+        rest.file.as_slice(),
+        bytes_of(&rest.schema),
         arguments,
     )
 }
@@ -53,16 +61,15 @@ fn proof_check<F: Folder>(
     ensures later { F.faults folder.old ≤ F.faults folder.new }
 {
     let names = &arguments.names;
-    let first = read_file(alloc, folder, Role::First, names.first.as_str())?;
-    let second = read_file(alloc, folder, Role::Second, names.second.as_str())?;
-    let proof = read_file(alloc, folder, Role::Proof, arguments.proof.as_str())?;
-    let schema = read_if_named(alloc, folder, Role::Schema, &names.schema)?;
+    let first = read_named(alloc, folder, Role::First, &names.first)?;
+    let second = read_named(alloc, folder, Role::Second, &names.second)?;
+    let rest = read_last(alloc, folder, Role::Proof, &arguments.proof, &names.schema)?;
     print_check(
         alloc,
         first.as_slice(),
         second.as_slice(),
-        bytes_of(&schema),
-        proof.as_slice(),
+        bytes_of(&rest.schema),
+        rest.file.as_slice(),
     )
 }
 
@@ -72,16 +79,21 @@ fn summary<F: Folder>(
     folder: &mut F,
     arguments: &SummaryArguments,
 ) -> Result<Printed, EarlyEnd>
-    requires budgets { HasBudgetsInRange arguments.now }
-    requires dimensions { are_dimensions (texts_in arguments.now.dimensions.items) ≡ true }
-    ensures prints { IfPrinted result (IsPrinted (Some (a_summary (summarising_in arguments.now)))
+    requires { AreFindingsInRange arguments.now.summary }
+    ensures prints { IfPrinted result (IsPrinted
+        (Some (a_summary (summarising_in arguments.now.summary) arguments.now.certified))
         (reading_of F.held F.faults F.last_fault folder.old folder.new)) }
     ensures held { F.held folder.new ≡ F.held folder.old }
     ensures later { F.faults folder.old ≤ F.faults folder.new }
 {
-    let set = read_file(alloc, folder, Role::Set, arguments.set.as_str())?;
-    let schema = read_if_named(alloc, folder, Role::Schema, &arguments.schema)?;
-    print_summary(alloc, set.as_slice(), bytes_of(&schema), arguments)
+    let asked = &arguments.summary;
+    let files = read_last(alloc, folder, Role::Set, &asked.set, &asked.schema)?;
+    let set = files.file.as_slice();
+    if arguments.certified {
+        print_certified_summary(alloc, set, bytes_of(&files.schema), asked)
+    } else {
+        print_summary(alloc, set, bytes_of(&files.schema), asked)
+    }
 }
 
 // What is printed to an evaluation of a request.
@@ -90,15 +102,124 @@ fn evaluation<F: Folder>(
     folder: &mut F,
     arguments: &EvalArguments,
 ) -> Result<Printed, EarlyEnd>
-    ensures prints { IfPrinted result (IsPrinted (Some (an_evaluation (evaluating_in arguments.now)))
+    ensures prints { IfPrinted result (IsPrinted
+        (Some (an_evaluation (evaluating_in arguments.now)))
         (reading_of F.held F.faults F.last_fault folder.old folder.new)) }
     ensures held { F.held folder.new ≡ F.held folder.old }
     ensures later { F.faults folder.old ≤ F.faults folder.new }
 {
-    let set = read_file(alloc, folder, Role::Set, arguments.set.as_str())?;
-    let request = read_file(alloc, folder, Role::Request, arguments.request.as_str())?;
-    let schema = read_if_named(alloc, folder, Role::Schema, &arguments.schema)?;
-    print_evaluation(alloc, set.as_slice(), request.as_slice(), bytes_of(&schema))
+    let set = read_named(alloc, folder, Role::Set, &arguments.set)?;
+    let rest = read_last(
+        alloc,
+        folder,
+        Role::Request,
+        &arguments.request,
+        &arguments.schema,
+    )?;
+    print_evaluation(
+        alloc,
+        set.as_slice(),
+        rest.file.as_slice(),
+        bytes_of(&rest.schema),
+    )
+}
+
+// What is printed to the question which statements of a set are idle.
+fn idle<F: Folder>(
+    alloc: Global,
+    folder: &mut F,
+    arguments: &IdleArguments,
+) -> Result<Printed, EarlyEnd>
+    requires { HasUseNumbersInRange arguments.now }
+    ensures prints { IfPrinted result (IsPrinted
+        (Some (a_use_question (use_question_in arguments.now)))
+        (reading_of F.held F.faults F.last_fault folder.old folder.new)) }
+    ensures held { F.held folder.new ≡ F.held folder.old }
+    ensures later { F.faults folder.old ≤ F.faults folder.new }
+{
+    let files = read_last(alloc, folder, Role::Set, &arguments.set, &arguments.schema)?;
+    print_idle(
+        alloc,
+        files.file.as_slice(),
+        bytes_of(&files.schema),
+        arguments,
+    )
+}
+
+// What is printed to the question who reaches what from outside a zone.
+fn reach<F: Folder>(
+    alloc: Global,
+    folder: &mut F,
+    arguments: &ReachArguments,
+) -> Result<Printed, EarlyEnd>
+    requires { AreFindingsInRange arguments.now.summary }
+    ensures prints { IfPrinted result (IsPrinted
+        (Some (a_reach (summarising_in arguments.now.summary) (string_bytes arguments.now.zone)))
+        (reading_of F.held F.faults F.last_fault folder.old folder.new)) }
+    ensures held { F.held folder.new ≡ F.held folder.old }
+    ensures later { F.faults folder.old ≤ F.faults folder.new }
+{
+    let asked = &arguments.summary;
+    let set = read_named(alloc, folder, Role::Set, &asked.set)?;
+    let rest = read_last(alloc, folder, Role::Zone, &arguments.zone, &asked.schema)?;
+    print_reach(
+        alloc,
+        set.as_slice(),
+        rest.file.as_slice(),
+        bytes_of(&rest.schema),
+        arguments,
+    )
+}
+
+// What is printed where a policy of findings is asked for.
+fn emission<F: Folder>(
+    alloc: Global,
+    folder: &mut F,
+    arguments: &FindingArguments,
+) -> Result<Printed, EarlyEnd>
+    requires { AreFindingsInRange arguments.now }
+    ensures prints { IfPrinted result (IsPrinted (Some (an_emission (summarising_in arguments.now)))
+        (reading_of F.held F.faults F.last_fault folder.old folder.new)) }
+    ensures held { F.held folder.new ≡ F.held folder.old }
+    ensures later { F.faults folder.old ≤ F.faults folder.new }
+{
+    let files = read_last(alloc, folder, Role::Set, &arguments.set, &arguments.schema)?;
+    print_emit(
+        alloc,
+        files.file.as_slice(),
+        bytes_of(&files.schema),
+        arguments,
+    )
+}
+
+// What is printed to a check of a certified summary.
+fn summary_check<F: Folder>(
+    alloc: Global,
+    folder: &mut F,
+    arguments: &CheckSummaryArguments,
+) -> Result<Printed, EarlyEnd>
+    requires { IsSummaryCheckInRange arguments.now }
+    ensures prints { IfPrinted result (IsPrinted
+        (Some (a_summary_check (summary_check_in arguments.now)))
+        (reading_of F.held F.faults F.last_fault folder.old folder.new)) }
+    ensures held { F.held folder.new ≡ F.held folder.old }
+    ensures later { F.faults folder.old ≤ F.faults folder.new }
+{
+    let set = read_named(alloc, folder, Role::Set, &arguments.set)?;
+    let rest = read_last(
+        alloc,
+        folder,
+        Role::Proof,
+        &arguments.proof,
+        &arguments.schema,
+    )?;
+    print_summary_check(
+        alloc,
+        set.as_slice(),
+        rest.file.as_slice(),
+        bytes_of(&rest.schema),
+        arguments,
+    )
 }
 
 /// What is printed to a command.
@@ -120,5 +241,9 @@ pub fn print_command<F: Folder>(
         Command::Summary(arguments) => summary(alloc, folder, arguments),
         Command::Eval(arguments) => evaluation(alloc, folder, arguments),
         Command::Load(keys) => print_load(alloc, *keys),
+        Command::Idle(arguments) => idle(alloc, folder, arguments),
+        Command::Reach(arguments) => reach(alloc, folder, arguments),
+        Command::Emit(arguments) => emission(alloc, folder, arguments),
+        Command::CheckSummary(arguments) => summary_check(alloc, folder, arguments),
     }
 }

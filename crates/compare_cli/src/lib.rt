@@ -4,6 +4,7 @@
 #![tactic(auto)]
 
 mod commands;
+mod files;
 mod loading;
 mod top;
 

@@ -16,7 +16,8 @@ use std::alloc::Global;
 
 /// The line that says how the program is called: the form of each command, without options.
 pub const USAGE: &str = "usage: compare FIRST SECOND | summary SET DIMENSION.. | \
-    check FIRST SECOND PROOF | eval SET REQUEST | load N\n";
+    check FIRST SECOND PROOF | eval SET REQUEST | load N | idle SET | \
+    reach SET ZONE DIMENSION.. | emit SET DIMENSION.. | check-summary SET PROOF DIMENSION..\n";
 
 // What is printed to the arguments.
 fn print<F: Folder>(
@@ -62,24 +63,34 @@ fn write<S: Sink>(printed: &Printed, out: &mut S) -> Status
 /// after the program's name.
 ///
 /// - `promises`: what each status says, of what the arguments ask, the bytes that the folder holds and
-///   the bytes that were written. With `Holds` and `compare` or `check` the second set allows each valid
-///   request that the first allows; what `compare` printed with `--proof` is a certificate that `check`
-///   accepts, up to 67,108,864 bytes; with `summary` what was written are exactly the maximal irreducible
-///   findings of the set, each with a valid request that the set allows and that lies in no finer finding;
-///   with `eval` the set allows the request; with `load` each line is the first of an answer that the
-///   command would give to the two sets. With `Fails` a valid request was written that the first set allows
-///   and the second doesn't, or `eval`'s set doesn't allow the request. With `BadProof` the line is that of
-///   the certificate's first fault, or of its first node that fails. A refusal, a budget, a fault of
-///   reading and the usage line come only by their cause, with their line. With `ReadFault` the folder's
-///   count of faults rose in this call, with `WriteFault` the sink's, and with every other answer the name
-///   of the folder's last fault is as it was.
+///   the bytes that were written. With `Holds`
+///   - `compare` and `check`: the second set allows each valid request that the first allows; what `compare`
+///     printed with `--proof` is a certificate that `check` accepts, up to 67,108,864 bytes;
+///   - `summary`: what was written are exactly the maximal irreducible findings of the set, each with a valid
+///     request that the set allows and that lies in no finer finding; with `--proof` a certificate behind them;
+///   - `check-summary`: each valid request that the set allows lies in a finding of the file that was checked, each
+///     of whose requests is its finding's own, and none of whose findings is finer than another;
+///   - `reach`: the set allows no valid request from outside of the zone;
+///   - `emit`: what was written is a policy that allows a valid request exactly where it lies in a finding;
+///   - `idle`: each statement of the set is used, with a valid request that the set answers otherwise without it;
+///   - `eval`: the set allows the request; `load`: each line is the first of an answer that the command would give
+///     to the two sets.
+///
+///   With `Fails` a valid request was written that the first set allows and the second doesn't, or requests from
+///   outside of the zone, one for each finding, or some statement is idle, with `--proof` a certificate of it, or
+///   `eval`'s set doesn't allow the request. With `BadProof` the line is that of the certificate's or the
+///   summary's first fault, or of the first node or finding that fails. A refusal, a budget, a fault of reading
+///   and the usage line come only by their cause, with their line. With `ReadFault` the folder's count of faults
+///   rose in this call, with `WriteFault` the sink's, and with every other answer the name of the folder's last
+///   fault is as it was.
 /// - `usage`: where the arguments ask for nothing, nothing else than `Usage` comes but for want of memory
 ///   or of room.
 /// - `untouched`: where they ask for nothing, or for a load, the folder is as before.
 /// - `held`, `reads`, `writes`: what the folder holds stays as it is, and no count of faults falls.
 /// - `complete`: accepted files whose sets have a schema, dimensions that it has, budgets that aren't below
 ///   the need of the plain runs, of the predicates and of the findings that must be looked at, and no fault
-///   give an answer of the command, unless memory is wanting.
+///   give an answer of the command, unless memory is wanting; with a certificate of a summary where the query of
+///   its cover is within them too, and of `emit` where the findings are no more than statements of a set.
 pub fn run<F: Folder, S: Sink>(
     alloc: Global,
     arguments: &[String],

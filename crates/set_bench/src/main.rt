@@ -3,8 +3,9 @@
 //!
 //! A case is the lines up to an empty one: its name, and then lines that begin with a word. `first SET` and
 //! `second SET` are a pair, which is compared both ways, with the least budget of splits that gives each
-//! answer. `sets FORM CHANGE NUMBER NUMBER` is a row: the form of the sets' items, the change of the second
-//! set, and two numbers of items.
+//! answer; of the first set it is also asked which statements are idle, and it is summarised with a certificate.
+//! `sets FORM CHANGE NUMBER NUMBER` is a row: the form of the sets' items, the change of the second set, and
+//! two numbers of items. `idle FORM NUMBER NUMBER` asks of a set of the form which of its statements are idle.
 //!
 //! Of the arguments `full` takes the second number, which is the one that speed is asked of; `proof` makes
 //! certificates of rows too, prints of each how many splits, labels, reuses and slots it has, and checks it;
@@ -19,7 +20,7 @@ mod runs;
 mod sets;
 
 use pairs::print_pair;
-use rows::{Asked, print_line};
+use rows::{Asked, print_idle_line, print_line};
 use std::{env, io};
 
 /// What stands behind the word at the front of a line of a case, below its name.
@@ -36,6 +37,9 @@ fn print_rows(rt: &HostRuntime, asked: Asked, case: &str) -> io::Result<()> {
     for line in case.lines().skip(1) {
         if let Some(row) = line.strip_prefix("sets ") {
             print_line(rt, asked, row)?;
+        }
+        if let Some(form) = line.strip_prefix("idle ") {
+            print_idle_line(rt, asked, form)?;
         }
     }
     Ok(())

@@ -1,5 +1,5 @@
 //! Pairs of sets, compared both ways.
-use crate::runs::{print_time, status_of, timed_run, word_of};
+use crate::runs::{print_command, print_time, status_of, timed_run, word_of};
 use compare_cli::Status;
 use pol_outside::{SafeFolder, SafeSink};
 use std::alloc::Global;
@@ -74,7 +74,20 @@ fn print_way(
     print_folder(rt, way, folder, timed)
 }
 
-/// Prints how the two sets compare, both ways.
+// Prints how the commands on one set end of the set: which of its statements are idle, and its summary with a
+// certificate.
+fn print_questions(
+    rt: &HostRuntime,
+    folder: &mut SafeFolder,
+    set: &str,
+    timed: bool,
+) -> io::Result<()> {
+    folder.hold("set", set.as_bytes())?;
+    print_command(rt, "idle set", folder, timed)?;
+    print_command(rt, "summary set principal action --proof", folder, timed)
+}
+
+/// Prints how the two sets compare, both ways, and how the commands on one set end of the first.
 pub(crate) fn print_pair(
     rt: &HostRuntime,
     first: &str,
@@ -83,5 +96,6 @@ pub(crate) fn print_pair(
 ) -> io::Result<()> {
     let mut folder = SafeFolder::new(rt.alloc());
     print_way(rt, "first to second", &mut folder, first, second, timed)?;
-    print_way(rt, "second to first", &mut folder, second, first, timed)
+    print_way(rt, "second to first", &mut folder, second, first, timed)?;
+    print_questions(rt, &mut folder, first, timed)
 }

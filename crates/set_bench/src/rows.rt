@@ -1,6 +1,6 @@
 //! Sets of the forms and sizes that speed is asked of, compared with changed ones.
 use crate::counts::Counts;
-use crate::runs::{print_time, timed_run, word_of};
+use crate::runs::{print_command, print_time, timed_run, word_of};
 use crate::sets::{Change, Kind, push_set};
 use compare_cli::Status;
 use pol_outside::{MemorySink, SafeFolder, SafeSink};
@@ -46,6 +46,18 @@ fn change_of(word: &str) -> Option<Change> {
         "added" => Some(Change::Added),
         "bare" => Some(Change::Bare),
         _ => None,
+    }
+}
+
+/// The form of a line, and how many items it has.
+fn form_of(line: &str, full: bool) -> Option<(Kind, u32)> {
+    let mut words = line.split(' ');
+    let kind = kind_of(words.next()?)?;
+    let small = words.next()?;
+    let count = if full { words.next()? } else { small };
+    match count.parse::<u32>() {
+        Ok(count) => Some((kind, count)),
+        Err(_) => None,
     }
 }
 
@@ -154,4 +166,27 @@ pub(crate) fn print_line(rt: &HostRuntime, asked: Asked, line: &str) -> io::Resu
     };
     println!(rt; "{line}")?;
     print_row(rt, asked, row)
+}
+
+// Prints how `idle` ends over a set of the form.
+fn print_form(
+    rt: &HostRuntime,
+    asked: Asked,
+    folder: &mut SafeFolder,
+    kind: Kind,
+    count: u32,
+) -> io::Result<()> {
+    let mut text = String::new(rt.alloc());
+    push_set(&mut text, kind, count, Change::Itself)?;
+    folder.hold("set", text.as_bytes())?;
+    print_command(rt, "idle set", folder, asked.timed)
+}
+
+/// Prints a form, and which of the statements of a set of it are idle, by the exit number.
+pub(crate) fn print_idle_line(rt: &HostRuntime, asked: Asked, line: &str) -> io::Result<()> {
+    let Some((kind, count)) = form_of(line, asked.full) else {
+        return Err(ErrorKind::InvalidData.into());
+    };
+    println!(rt; "{line}")?;
+    print_form(rt, asked, &mut SafeFolder::new(rt.alloc()), kind, count)
 }

@@ -1,5 +1,5 @@
 //! Runs over a folder in memory, and the time that they take.
-use compare_cli::{Status, run};
+use compare_cli::{Status, exit_number, run};
 use pol_outside::{SafeFolder, SafeSink, Sink};
 use std::alloc::Global;
 use std::io;
@@ -67,4 +67,17 @@ pub(crate) fn print_time(rt: &HostRuntime, timed: bool, micros: u128) -> io::Res
         println!(rt; "    {micros} microseconds")?;
     }
     Ok(())
+}
+
+/// Prints the exit number of a command over the folder.
+pub(crate) fn print_command(
+    rt: &HostRuntime,
+    words: &str,
+    folder: &mut SafeFolder,
+    timed: bool,
+) -> io::Result<()> {
+    let (status, micros) = timed_run(rt, words, folder, &mut SafeSink::new())?;
+    let number = exit_number(status);
+    println!(rt; "  {words}: exit {number}")?;
+    print_time(rt, timed, micros)
 }

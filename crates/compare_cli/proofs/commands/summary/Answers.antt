@@ -1,66 +1,53 @@
-use Rattle.std.proofs.Common.{◌≡◌, ◌∙◌, ◌≤◌, ◌∷◌, ℕ, List, [], Option, Some, arith, inl, option_map, refl, subst, sym}
-use Rattle.std.specs.Prelude.{MatchOption, string_bytes}
+use Rattle.std.proofs.Common.{◌∷◌, ℕ, List, Bool, Option, Some, option_map, refl, subst, sym}
+use Rattle.std.specs.Prelude.{string_bytes}
 use Rattle.std.proofs.lemmas.Result.{err_from_is_err_and}
 use Rattle.command_words.specs.Asked.{Asked, a_summary, summarising_in}
 use Rattle.run_files.specs.declared.printed.Printed.{Printed}
 use Rattle.run_files.specs.declared.role.Role.TheVariants as role
-use Rattle.run_files.specs.Files.{IsShort, IsShortIfNamed}
-use Rattle.run_files.specs.Printing.{IfAnswered}
-use Rattle.run_files.specs.Readings.{AreRead, FileFails, Reading, file, if_given, if_named, reading_of}
-use Rattle.run_files.proofs.Laws.{if_answered_weaker, named_fails_later, named_later, or_answered_weaker}
-use Rattle.finding_answers.specs.Printed.{IsSummaryPrinted, summary_contents}
-use Rattle.compare_cli.specs.Commands.{IsPrinted}
-use Rattle.compare_cli.proofs.Reading.{fails_at, may_print}
+use Rattle.run_files.specs.Readings.{AreRead, FileName, Reading, if_given, reading_of}
+use Rattle.run_files.proofs.Laws.{or_answered_weaker}
+use Rattle.finding_answers.specs.Printed.{summary_contents}
+use Rattle.finding_answers.specs.Printed.{IsSummaryPrinted}
+use Rattle.cover_answers.specs.Certified.{IsCertifiedSummaryPrinted}
+use Rattle.compare_cli.specs.Commands.{IsPrinted, IsSummaryTold}
+use Rattle.compare_cli.specs.LastFiles.{last_names}
+use Rattle.compare_cli.proofs.Reading.{fails_printed, last_read, may_print}
 use Rattle.compare_cli.proofs.commands.summary.Goals as goal
 
-pub returns-in_err-set-clause-prints : goal.returns-in_err-set-clause-prints
-returns-in_err-set-clause-prints g c =
+pub returns-in_err-files-clause-prints : goal.returns-in_err-files-clause-prints
+returns-in_err-files-clause-prints g c =
     let arguments = c.args.arguments.now in
-    let asked : Asked = a_summary (summarising_in arguments) in
-    let name : Option (List ℕ) = option_map (λ n. string_bytes n) arguments.schema in
+    let asked : Asked = a_summary (summarising_in arguments.summary) arguments.certified in
+    let last : List FileName = last_names role.Set (string_bytes arguments.summary.set) (option_map (λ n. string_bytes n) arguments.summary.schema) in
     let before = c.args.folder.now in
-    let r : Reading = reading_of g.F.Folder.held g.F.Folder.faults g.F.Folder.last_fault before c.read_file.new.folder in
-    let named_set : c.as_str.result.now ≡ string_bytes arguments.set = c.as_str.ensures.value in
-    let fails : IfAnswered c.in_err-set.field-0.0 (FileFails (file role.Set (string_bytes arguments.set)) r) =
-    subst (λ (n : List ℕ). IfAnswered c.in_err-set.field-0.0 (FileFails (file role.Set n) r)) named_set c.in_err-set.ensures.reads in
+    let r : Reading = reading_of g.F.Folder.held g.F.Folder.faults g.F.Folder.last_fault before c.read_last.new.folder in
     let p = err_from_is_err_and c.from_residual.result c.from_residual.ensures.1 in
-    rw (p.1, p.2) (fails_at asked r c.in_err-set.field-0.0 [] (file role.Set (string_bytes arguments.set)) (if_named role.Schema name) refl [] tt fails)
+    rw (p.1, p.2) (fails_printed asked r _ last refl c.in_err-files.ensures.reads)
 
-pub returns-in_err-schema-clause-prints : goal.returns-in_err-schema-clause-prints
-returns-in_err-schema-clause-prints g c =
+pub returns-then-arguments-clause-prints : goal.returns-then-arguments-clause-prints
+returns-then-arguments-clause-prints g c =
     let arguments = c.args.arguments.now in
-    let asked : Asked = a_summary (summarising_in arguments) in
-    let name : Option (List ℕ) = option_map (λ n. string_bytes n) arguments.schema in
+    let asked : Asked = a_summary (summarising_in arguments.summary) arguments.certified in
+    let last : List FileName = last_names role.Set (string_bytes arguments.summary.set) (option_map (λ n. string_bytes n) arguments.summary.schema) in
     let before = c.args.folder.now in
-    let r : Reading = reading_of g.F.Folder.held g.F.Folder.faults g.F.Folder.last_fault before c.read_if_named.new.folder in
-    let named_set : c.as_str.result.now ≡ string_bytes arguments.set = c.as_str.ensures.value in
-    let short_set : IsShort (g.F.Folder.held before) role.Set (string_bytes arguments.set) c.in_ok-set.set.items =
-    subst (λ (n : List ℕ). IsShort (g.F.Folder.held before) role.Set n c.in_ok-set.set.items) named_set c.in_ok-set.ensures.reads.0 in
-    let more : g.F.Folder.faults before ≤ g.F.Folder.faults c.read_file.new.folder = omega (arith, c.in_ok-set.ensures.later) in
-    let here : Reading = reading_of g.F.Folder.held g.F.Folder.faults g.F.Folder.last_fault c.read_file.new.folder c.read_if_named.new.folder in
-    let says : (p : Printed) → MatchOption name ⊥ (λ n. FileFails (file role.Schema n) here p) → IsPrinted (Some asked) r p =
-    λ p v. inl (named_fails_later g.F.Folder.held g.F.Folder.faults g.F.Folder.last_fault before c.read_file.new.folder c.read_if_named.new.folder (c.in_ok-set.ensures.held) more (c.in_ok-set.ensures.reads.1) role.Schema name p (file role.Set (string_bytes arguments.set) ∷ []) (c.in_ok-set.set.items ∷ []) (short_set, tt) v) in
-    let p = err_from_is_err_and c.from_residual-in_err-schema.result c.from_residual-in_err-schema.ensures.1 in
-    rw (p.1, p.2) (if_answered_weaker _ (λ p. MatchOption name ⊥ (λ n. FileFails (file role.Schema n) here p)) (IsPrinted (Some asked) r) says c.in_err-schema.ensures.reads)
+    let r : Reading = reading_of g.F.Folder.held g.F.Folder.faults g.F.Folder.last_fault before c.read_last.new.folder in
+    let schema : Option (List ℕ) = option_map (λ b. b.now) c.bytes_of.result in
+    let given : AreRead (g.F.Folder.held before) last (c.as_slice-set.result.now ∷ if_given schema) =
+    last_read (g.F.Folder.held before) last c.as_slice-set.result.now schema c.in_ok-files.files c.as_slice-set.ensures.value c.bytes_of.ensures c.in_ok-files.ensures.reads.0 in
+    let says : (p : Printed) → IsCertifiedSummaryPrinted (summarising_in arguments.summary) (summary_contents c.as_slice-set.result.now schema) p → IsPrinted (Some asked) r p =
+    λ p v. may_print asked r c.in_ok-files.ensures.reads.1 p (record { contents = summary_contents c.as_slice-set.result.now schema; read = given; holds = subst (λ (b : Bool). IsSummaryTold (summarising_in arguments.summary) b (summary_contents c.as_slice-set.result.now schema) p) (sym c.if-arguments.true) v }) in
+    or_answered_weaker c.print_certified_summary.result _ (IsPrinted (Some asked) r) _ (IsPrinted (Some asked) r) says says c.print_certified_summary.ensures
 
 pub returns-clause-prints : goal.returns-clause-prints
 returns-clause-prints g c =
     let arguments = c.args.arguments.now in
-    let asked : Asked = a_summary (summarising_in arguments) in
-    let name : Option (List ℕ) = option_map (λ n. string_bytes n) arguments.schema in
+    let asked : Asked = a_summary (summarising_in arguments.summary) arguments.certified in
+    let last : List FileName = last_names role.Set (string_bytes arguments.summary.set) (option_map (λ n. string_bytes n) arguments.summary.schema) in
     let before = c.args.folder.now in
-    let r : Reading = reading_of g.F.Folder.held g.F.Folder.faults g.F.Folder.last_fault before c.read_if_named.new.folder in
-    let named_set : c.as_str.result.now ≡ string_bytes arguments.set = c.as_str.ensures.value in
-    let short_set : IsShort (g.F.Folder.held before) role.Set (string_bytes arguments.set) c.in_ok-set.set.items =
-    subst (λ (n : List ℕ). IsShort (g.F.Folder.held before) role.Set n c.in_ok-set.set.items) named_set c.in_ok-set.ensures.reads.0 in
-    let bytes : Option (List ℕ) = option_map (λ f. f.now) c.bytes_of.result in
-    let short_schema : IsShortIfNamed (g.F.Folder.held c.read_file.new.folder) role.Schema name bytes =
-    subst (λ (bs : Option (List ℕ)). IsShortIfNamed (g.F.Folder.held c.read_file.new.folder) role.Schema name bs) (sym c.bytes_of.ensures) c.in_ok-schema.ensures.reads.0 in
-    let given : AreRead (g.F.Folder.held before) (if_named role.Schema name) (if_given bytes) =
-    named_later g.F.Folder.held g.F.Folder.faults g.F.Folder.last_fault before c.read_file.new.folder (c.in_ok-set.ensures.held) role.Schema name bytes short_schema in
-    let calm : r.last ≡ r.last_before = c.in_ok-schema.ensures.reads.1 ∙ c.in_ok-set.ensures.reads.1 in
-    let sliced_set : IsShort (g.F.Folder.held before) role.Set (string_bytes arguments.set) c.as_slice.result.now =
-    subst (λ (bs : List ℕ). IsShort (g.F.Folder.held before) role.Set (string_bytes arguments.set) bs) (sym c.as_slice.ensures.value) short_set in
-    let says : (p : Printed) → IsSummaryPrinted (summarising_in arguments) (summary_contents c.as_slice.result.now bytes) p → IsPrinted (Some asked) r p =
-    λ p v. may_print asked r calm p (record { contents = (summary_contents c.as_slice.result.now bytes); read = (sliced_set, given); holds = v }) in
-    or_answered_weaker c.print_summary.result (IsSummaryPrinted (summarising_in arguments) (summary_contents c.as_slice.result.now bytes)) (IsPrinted (Some asked) r) (IsSummaryPrinted (summarising_in arguments) (summary_contents c.as_slice.result.now bytes)) (IsPrinted (Some asked) r) says says c.print_summary.ensures
+    let r : Reading = reading_of g.F.Folder.held g.F.Folder.faults g.F.Folder.last_fault before c.read_last.new.folder in
+    let schema : Option (List ℕ) = option_map (λ b. b.now) c.bytes_of-else-arguments.result in
+    let given : AreRead (g.F.Folder.held before) last (c.as_slice-set.result.now ∷ if_given schema) =
+    last_read (g.F.Folder.held before) last c.as_slice-set.result.now schema c.in_ok-files.files c.as_slice-set.ensures.value c.bytes_of-else-arguments.ensures c.in_ok-files.ensures.reads.0 in
+    let says : (p : Printed) → IsSummaryPrinted (summarising_in arguments.summary) (summary_contents c.as_slice-set.result.now schema) p → IsPrinted (Some asked) r p =
+    λ p v. may_print asked r c.in_ok-files.ensures.reads.1 p (record { contents = summary_contents c.as_slice-set.result.now schema; read = given; holds = subst (λ (b : Bool). IsSummaryTold (summarising_in arguments.summary) b (summary_contents c.as_slice-set.result.now schema) p) (sym c.if-arguments.false) v }) in
+    or_answered_weaker c.print_summary.result _ (IsPrinted (Some asked) r) _ (IsPrinted (Some asked) r) says says c.print_summary.ensures
