@@ -33,7 +33,7 @@ snoc_last false k taken c e (d ∷ []) = grind arith
 snoc_last false k taken c e (d ∷ b ∷ t) = grind arith
 
 -- the pieces with p at the end, after nothing
-accepts-at_nil : {X : Type 0} (taken : Piece → X → Bool) (ps : List Piece) (p : Piece) → accepts_by taken (ps ++ p ∷ []) [] ≡ (is_many p && accepts_by taken ps [])
+pub accepts-at_nil : {X : Type 0} (taken : Piece → X → Bool) (ps : List Piece) (p : Piece) → accepts_by taken (ps ++ p ∷ []) [] ≡ (is_many p && accepts_by taken ps [])
 accepts-at_nil taken [] p = grind arith
 accepts-at_nil taken (q ∷ ps) p = grind (arith, accepts-at_nil taken ps p)
 
@@ -48,7 +48,7 @@ accepts-snoc taken (q ∷ ps) p c t =
     ]
 
 -- no pieces and something that is taken
-accepts-none : {X : Type 0} (taken : Piece → X → Bool) (c : X) (t : List X) → accepts_by taken [] (t ++ c ∷ []) ≡ false
+pub accepts-none : {X : Type 0} (taken : Piece → X → Bool) (c : X) (t : List X) → accepts_by taken [] (t ++ c ∷ []) ≡ false
 accepts-none taken c [] = refl
 accepts-none taken c (d ∷ t) = refl
 
@@ -110,7 +110,7 @@ Decides-accepts ps t = (accepts-to ps t, accepts-from ps t)
 -- ---- places and steps, of whatever is taken
 
 -- the next place, after one more character
-accepts-more : {X : Type 0} (taken : Piece → X → Bool) (ps : List Piece) (i : ℕ) (d : Piece) (c : X) (t : List X) → i < length ps →
+pub accepts-more : {X : Type 0} (taken : Piece → X → Bool) (ps : List Piece) (i : ℕ) (d : Piece) (c : X) (t : List X) → i < length ps →
     accepts_by taken (take (i + 1) ps) (t ++ c ∷ []) ≡ mark_by taken (get_or ps i d) c (accepts_by taken (take i ps) t) (accepts_by taken (take (i + 1) ps) t) (accepts_by taken (take i ps) (t ++ c ∷ []))
 accepts-more taken ps i d c t h = rw (take_more ps i d h) (accepts-snoc taken (take i ps) (get_or ps i d) c t)
 

@@ -63,22 +63,3 @@ pub answer_covers : (b : Bool) (q p pieces others : List Piece) → pieces ≡ q
 answer_covers b q p pieces others same own e =
     let same_test : covers pieces others ≡ covers q p = rw (same, own) refl in
     Decides-at _ _ (e ∙ same_test) (Decides-covers q p)
-
--- ---- the last pieces
-
-refused_mark : (m k old below before : Bool) → m ≡ false → k ≡ false → cond m ((k && old) || below) (k && before) ≡ false
-refused_mark m k old below before e f = rw (e, f) refl
-
-covers-ends : (q p : List Piece) (a x : Piece) → is_many a ≡ false → takes_next a x ≡ false → covers (q ++ a ∷ []) (p ++ x ∷ []) ≡ false
-covers-ends q p a x one refused = accepts-snoc takes_next q a x p ∙ refused_mark (is_many a) (takes_next a x) _ _ _ one refused
-
-last_split : (xs : List Piece) (a : Piece) → 0 < length xs → a ≡ get_or xs (length xs - 1) a → xs ≡ take (length xs - 1) xs ++ a ∷ []
-last_split xs a some e =
-    let m : length xs ≡ length xs - 1 + 1 = omega arith in
-    sym (take_all (length xs) xs (omega arith)) ∙ ap (λ n. take n xs) m ∙ take_more xs (length xs - 1) a (omega arith) ∙ ap (λ y. take (length xs - 1) xs ++ y ∷ []) (sym e)
-
-pub last_refuses : (q p : List Piece) (a x : Piece) → 0 < length q → 0 < length p → a ≡ get_or q (length q - 1) a → x ≡ get_or p (length p - 1) x →
-    is_many a ≡ false → takes_next a x ≡ false → covers q p ≡ false
-last_refuses q p a x some others e f one refused =
-    ap (λ u. covers u p) (last_split q a some e) ∙ ap (λ u. covers (take (length q - 1) q ++ a ∷ []) u) (last_split p x others f) ∙
-    covers-ends (take (length q - 1) q) (take (length p - 1) p) a x one refused

@@ -16,3 +16,5 @@ mod Stepping
 mod Sharing
 mod Including
 mod Covered
+mod Narrowing
+mod Ends

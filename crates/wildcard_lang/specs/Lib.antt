@@ -3,6 +3,7 @@ pub mod Matching
 pub mod Patterns
 pub mod Limits
 pub mod Accepts
+pub mod Window
 pub mod Symbols
 pub mod Reading
 pub mod SymbolFaults

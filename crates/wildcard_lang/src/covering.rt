@@ -1,10 +1,10 @@
 //! Whether a pattern takes all that another takes, or nothing of it.
-ghost use Rattle.std.specs.Prelude.{◌≡◌, ◌≤◌, ◌↔◌, IsTrue, false, length};
-ghost use Rattle.wildcard_lang.specs.Covering.{CoversPattern, Clash, covers, clashes, has_one, shares, takes_no_colon, takes_next, takes_piece, is_wildcard, CoveringIsInclusion, ClashingIsDisjoint, CoveringIsReflexive, StarsCoverAll, LiteralsAreCovered};
+ghost use Rattle.std.specs.Prelude.{◌≡◌, ◌↔◌, IsTrue};
+ghost use Rattle.wildcard_lang.specs.Covering.{CoversPattern, Clash, clashes, has_one, shares, takes_no_colon, takes_next, takes_piece, is_wildcard, CoveringIsInclusion, ClashingIsDisjoint, CoveringIsReflexive, StarsCoverAll, LiteralsAreCovered};
 ghost use Rattle.wildcard_lang.specs.Patterns.{is_wide};
 
 use crate::matching::matches_pieces;
-use crate::pattern::{MOST_PIECES, Pattern};
+use crate::pattern::Pattern;
 use crate::piece::Piece;
 
 /// What a pattern matches is matched by each pattern that covers it.
@@ -98,31 +98,7 @@ fn has_one(pieces: &[Piece]) -> bool
 pub fn covers(pattern: &Pattern, other: &Pattern) -> bool
     ensures { IsTrue result ↔ CoversPattern pattern.now other.now }
 {
-    covers_pieces(pattern.as_slice(), other.as_slice())
-}
-
-// Most pairs with a common front differ in the last piece, which is told before the places are kept.
-fn covers_pieces(pieces: &[Piece], others: &[Piece]) -> bool
-    requires { length pieces.now ≤ MOST_PIECES }
-    ensures { result ≡ covers pieces.now others.now }
-{
-    if ends_apart(pieces, others) {
-        return false;
-    }
-    matches_pieces::<Piece, _>(pieces, others)
-}
-
-// Whether the last piece is for one character, and doesn't take the last of the others.
-fn ends_apart(pieces: &[Piece], others: &[Piece]) -> bool
-    ensures { IsTrue result → covers pieces.now others.now ≡ false }
-{
-    let (Some(last), Some(end)) = (pieces.last(), others.last()) else {
-        return false;
-    };
-    if last.is_many() {
-        return false;
-    }
-    !takes_next(*last, *end)
+    matches_pieces::<Piece, _>(pattern.as_slice(), other.as_slice())
 }
 
 /// Whether the patterns clash, and so match no text both. It takes no memory. The answer may be no

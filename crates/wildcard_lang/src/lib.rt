@@ -16,6 +16,7 @@ mod source;
 mod symbol;
 mod taken;
 mod text;
+mod window;
 mod writing;
 mod written_again;
 

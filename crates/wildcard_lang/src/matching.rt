@@ -1,5 +1,6 @@
-//! Whether a pattern matches a text. The pieces in front of the first for any number are compared one
-//! by one. From there on the body keeps the places of the pattern and steps through the text once.
+//! Whether a pattern matches a text. The pieces behind the last for any number are compared one by one
+//! from the end, and those in front of the first from the front. What is between is matched by keeping
+//! the places of the pattern and stepping through the text once.
 ghost use Rattle.std.specs.Prelude.{◌≡◌, ◌≤◌, ◌↔◌, ℕ, List, IsTrue, length, chars};
 ghost use Rattle.wildcard_lang.specs.declared.piece.Piece.{Piece};
 ghost use Rattle.wildcard_lang.specs.Accepts.{accepts, accepts_by};
@@ -7,10 +8,11 @@ ghost use Rattle.wildcard_lang.specs.Matching.{Matches};
 
 use crate::pattern::{MOST_PIECES, Pattern};
 use crate::piece::Piece;
-use crate::places::{start, step};
+use crate::places::start;
 use crate::source::Source;
 use crate::taken::Taken;
 use crate::text::Text;
+use crate::window::{Window, is_star, step_window};
 
 /// The test `accepts` of the definitions answers whether the pieces match the text.
 pub fn accepts_is_matches()
@@ -31,8 +33,32 @@ pub fn matches_str(pattern: &Pattern, text: &str) -> bool
     matches_pieces::<char, _>(pattern.as_slice(), text)
 }
 
-// Compares the pieces in front of the first for any number one by one.
+// Compares the pieces behind the last for any number one by one, from the end.
 pub(crate) fn matches_pieces<X: Taken, S: Source<X>>(pieces: &[Piece], text: S) -> bool
+    requires { length pieces.now ≤ MOST_PIECES }
+    ensures { result ≡ accepts_by X.taken pieces.now (S.left text) }
+{
+    let mut rest = pieces;
+    let mut left = text;
+    'back: loop {
+        let [more @ .., piece] = rest else {
+            return left.next_item().is_none();
+        };
+        if piece.is_many() {
+            return matches_front::<X, S>(rest, left);
+        }
+        let Some(x) = left.last_item() else {
+            return false;
+        };
+        if !x.is_taken(*piece) {
+            return false;
+        }
+        rest = more;
+    }
+}
+
+// Compares the pieces in front of the first for any number one by one.
+fn matches_front<X: Taken, S: Source<X>>(pieces: &[Piece], text: S) -> bool
     requires { length pieces.now ≤ MOST_PIECES }
     ensures { result ≡ accepts_by X.taken pieces.now (S.left text) }
 {
@@ -55,16 +81,10 @@ pub(crate) fn matches_pieces<X: Taken, S: Source<X>>(pieces: &[Piece], text: S) 
     }
 }
 
-// Whether the piece takes any number of any characters.
-fn is_star(piece: Piece) -> bool
-    ensures { IsTrue result ↔ (piece ≡ Piece.Many) }
-{
-    matches!(piece, Piece::Many)
-}
-
 // Keeps the places of the pieces, of which the first is for any number.
 fn matches_places<X: Taken, S: Source<X>>(pieces: &[Piece], text: S) -> bool
-    requires { length pieces.now ≤ MOST_PIECES }
+    requires some { 1 ≤ length pieces.now }
+    requires most { length pieces.now ≤ MOST_PIECES }
     ensures { result ≡ accepts_by X.taken pieces.now (S.left text) }
 {
     if let [piece] = pieces {
@@ -74,9 +94,16 @@ fn matches_places<X: Taken, S: Source<X>>(pieces: &[Piece], text: S) -> bool
     }
     let mut places = [false; MOST_PIECES + 1];
     start::<X>(pieces, &mut places);
+    let mut window = Window {
+        low: 0,
+        high: pieces.len(),
+    };
     let mut left = text;
     'text: while let Some(x) = left.next_item() {
-        step(pieces, &mut places, x);
+        window = step_window(pieces, &mut places, window, x);
+        if window.low == pieces.len() {
+            return true;
+        }
     }
     places[pieces.len()]
 }

@@ -21,7 +21,7 @@ pub(crate) fn start<X: Taken>(pieces: &[Piece], places: &mut [bool])
 
 // Whether the place behind the piece is one after x, where `before` and `old` say whether the places
 // before and behind it were ones, and `below` whether the place before it is one after x.
-fn mark_after<X: Taken>(piece: Piece, x: X, before: bool, old: bool, below: bool) -> bool
+pub(crate) fn mark_after<X: Taken>(piece: Piece, x: X, before: bool, old: bool, below: bool) -> bool
     ensures { result ≡ mark_by X.taken piece x before old below }
 {
     if piece.is_many() {

@@ -1,5 +1,5 @@
-//! The characters of a text or the pieces of a pattern, taken from the front one by one.
-ghost use Rattle.std.specs.Prelude.{◌≡◌, ℕ, List, [], ◌∷◌, IfSome, IfNone};
+//! The characters of a text or the pieces of a pattern, taken from the front or the end one by one.
+ghost use Rattle.std.specs.Prelude.{◌≡◌, ℕ, List, [], ◌∷◌, ◌++◌, IfSome, IfNone};
 ghost use Rattle.std.specs.Str.{chars};
 
 // What gives items one by one. Matching goes over it, so that a `Text`, a `str` and a pattern share it.
@@ -10,6 +10,10 @@ pub(crate) trait Source<X>: Drop {
     fn next_item(&mut self) -> Option<X>
         ensures some { IfSome result (λ x. left self.old ≡ x ∷ left self.new) }
         ensures none { IfNone result (left self.old ≡ []) };
+
+    fn last_item(&mut self) -> Option<X>
+        ensures some { IfSome result (λ x. left self.old ≡ left self.new ++ x ∷ []) }
+        ensures none { IfNone result (left self.old ≡ []) };
 }
 
 impl<'a, X: Copy> Source<X> for &'a [X] {
@@ -17,6 +21,12 @@ impl<'a, X: Copy> Source<X> for &'a [X] {
 
     fn next_item(&mut self) -> Option<X> {
         let (x, rest) = self.split_first()?;
+        *self = rest;
+        Some(*x)
+    }
+
+    fn last_item(&mut self) -> Option<X> {
+        let (x, rest) = self.split_last()?;
         *self = rest;
         Some(*x)
     }
@@ -30,6 +40,12 @@ impl<'a> Source<char> for &'a str {
         *self = rest;
         Some(c)
     }
+
+    fn last_item(&mut self) -> Option<char> {
+        let (c, rest) = split_last(*self)?;
+        *self = rest;
+        Some(c)
+    }
 }
 
 fn split_first(text: &str) -> Option<(char, &str)>
@@ -38,5 +54,14 @@ fn split_first(text: &str) -> Option<(char, &str)>
 {
     let mut rest = text.chars();
     let c = rest.next()?;
+    Some((c, rest.as_str()))
+}
+
+fn split_last(text: &str) -> Option<(char, &str)>
+    ensures some { IfSome result (λ r. chars text.now ≡ chars r.1.now ++ r.0 ∷ []) }
+    ensures none { IfNone result (chars text.now ≡ []) }
+{
+    let mut rest = text.chars();
+    let c = rest.next_back()?;
     Some((c, rest.as_str()))
 }
