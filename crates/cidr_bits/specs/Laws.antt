@@ -1,10 +1,9 @@
--- What the forms, the computed readings and what is written say of one another, and what a block around an address is.
+-- What the forms, the computed readings and what is written say of one another.
 use Rattle.std.specs.Prelude.{◌≡◌, ◌↔◌, ℕ, List, Some, Result, Ok, IsOkAnd}
 use Rattle.cidr_bits.specs.declared.address.Address.{Address}
 use Rattle.cidr_bits.specs.declared.address.BadAddress.{BadAddress}
 use Rattle.cidr_bits.specs.declared.block.Block.{Block}
 use Rattle.cidr_bits.specs.Numbers.{IsAddress}
-use Rattle.cidr_bits.specs.Blocks.{LiesIn, block_around}
 use Rattle.cidr_bits.specs.Forms.{IsAddressText, IsBlockText, ReadsAddress, ReadsBlock}
 use Rattle.cidr_bits.specs.Readings.{address_of, block_of}
 use Rattle.cidr_bits.specs.Texts.{address_text, block_text}
@@ -42,11 +41,3 @@ abbrev pub BlockReadBack : Type 0
 BlockReadBack = (block : Block) (r : Result Block BadAddress) → IsAddress block.first →
     ReadsBlock (block_text block.first block.prefix) r →
     IsOkAnd r (λ read. (read.first ≡ block.first) × (read.prefix ≡ block.prefix))
-
--- a block is the one of its prefix length around its first address
-abbrev pub BlockIsAroundItsFirst : Type 0
-BlockIsAroundItsFirst = (block : Block) → block_around block.first block.prefix ≡ block
-
--- an address lies in each block around it
-abbrev pub AddressIsInBlocksAround : Type 0
-AddressIsInBlocksAround = (a : Address) (prefix : ℕ) → LiesIn (block_around a prefix) a

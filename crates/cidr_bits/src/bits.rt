@@ -56,7 +56,8 @@ fn last_address(first: Address, prefix: u8) -> Address
     }
 }
 
-// The number, whose last `free` of `bits` bits are zero, with those bits set to one.
+// The number, whose last `free` of `bits` bits are zero, with those bits set to one. Only the clauses
+// read `bits`: by it the sum is shown to fit.
 fn last_number(first: u128, free: u8, bits: u8) -> u128
     requires free { free ≤ bits }
     requires bits { bits ≤ 128 }

@@ -13,8 +13,7 @@ pub use address::{Address, BadAddress};
 pub use bits::{bounds, contains};
 pub use block::Block;
 pub use meanings::{
-    a_block_is_around_its_first, address_is_read_back, address_of_is_the_form,
-    an_address_is_in_blocks_around, block_is_read_back, block_of_is_the_form,
+    address_is_read_back, address_of_is_the_form, block_is_read_back, block_of_is_the_form,
     text_spells_one_address, text_spells_one_block, written_address_spells, written_block_spells,
 };
 pub use read::{read_address, read_block};

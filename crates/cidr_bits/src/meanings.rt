@@ -1,5 +1,5 @@
-//! Laws of reading and writing, and of blocks. The functions do nothing: their contracts are the laws.
-ghost use Rattle.cidr_bits.specs.Laws.{OneAddress, OneBlock, AddressOfIsTheForm, BlockOfIsTheForm, AddressIsSpelled, BlockIsSpelled, AddressReadBack, BlockReadBack, BlockIsAroundItsFirst, AddressIsInBlocksAround};
+//! Laws of reading and writing. The functions do nothing: their contracts are the laws.
+ghost use Rattle.cidr_bits.specs.Laws.{OneAddress, OneBlock, AddressOfIsTheForm, BlockOfIsTheForm, AddressIsSpelled, BlockIsSpelled, AddressReadBack, BlockReadBack};
 
 /// A text spells one address at most.
 pub fn text_spells_one_address()
@@ -39,14 +39,4 @@ pub fn address_is_read_back()
 /// What is written for a block is read as that block.
 pub fn block_is_read_back()
     ensures { BlockReadBack }
-{}
-
-/// A block is the one of its prefix length around its first address.
-pub fn a_block_is_around_its_first()
-    ensures { BlockIsAroundItsFirst }
-{}
-
-/// An address lies in each block around it.
-pub fn an_address_is_in_blocks_around()
-    ensures { AddressIsInBlocksAround }
 {}

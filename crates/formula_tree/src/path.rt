@@ -43,6 +43,7 @@ impl Path {
         ensures value { result.now ≡ self.now }
         ensures distinct { IsDistinct self.now }
     {
+        // Brings in what the index says of the pairs: no test stands twice.
         let _by_test = &self.by_test;
         self.pairs.as_slice()
     }
@@ -52,6 +53,7 @@ impl Path {
         ensures value { result ≡ length self.now }
         ensures distinct { IsDistinct self.now }
     {
+        // As in `as_slice`.
         let _by_test = &self.by_test;
         self.pairs.len()
     }

@@ -1,52 +1,22 @@
 -- What readers that stand above need: the first fault of a list of checks by its parts, loops over the members of a list or of an
 -- object, each read by its own checks, and texts that are read again.
+-- the first fault of checks by their parts
+pub use Rattle.json_shapes.proofs.Faults.{first_fault-front, first_fault-rest, front_passes, front_passes-none}
+-- readers one after another
+pub use Rattle.json_shapes.proofs.Steps.{passed_two, passed_three, passed_four, passed_five, passes_one, passes_two, passes_four, passes_at, Refuses, refuses_at, refused_last, refused, refused_first, refused_whole, continued}
 -- what holds of each member of an object and of one that is put in holds of all
 pub use Rattle.json_shapes.proofs.Rising.{each-put}
 -- the compact text of a value that is spelled is read as that value, alone and with a line feed behind it
 pub use Rattle.json_shapes.proofs.Spelling.{read-again}
 -- an object that is spelled is so still where a member that is spelled is put in
 pub use Rattle.json_shapes.proofs.Spelling.{spelled-put}
-use Rattle.std.proofs.Common.{◌≡◌, ◌≤◌, ◌<◌, ◌+◌, ℕ, List, [], ◌∷◌, ◌++◌, Bool, true, false, Option, Some, None, map, length, drop, get_or, append-nil, String, Global, string_bytes, refl, ap, sym, ◌∙◌, if◌then◌else◌}
+use Rattle.std.proofs.Common.{◌≡◌, ◌≤◌, ◌<◌, ◌+◌, ℕ, List, [], ◌∷◌, ◌++◌, Some, None, map, length, drop, get_or, append-nil, String, Global, string_bytes, ap, sym, ◌∙◌}
 use Rattle.std.proofs.lemmas.List.{append_assoc, drop_more, drop_all}
 use Rattle.std.specs.List.{flat_map}
 use Rattle.serde_json.specs.View.{view, members_view}
 use Rattle.serde_json.specs.declared.value.Value.{Value}
 use Rattle.json_shapes.specs.Checks.{Check, first_fault}
 use Rattle.json_shapes.specs.Json.{pairs_of}
-
--- ---- the first fault
-
-one-front : {F : Type 0} (b : Bool) (own : F) (front more : Option F) (fault : F) → (front ≡ Some fault → more ≡ Some fault) → (if b then front else Some own) ≡ Some fault → (if b then more else Some own) ≡ Some fault
-one-front true own front more fault step e = step e
-one-front false own front more fault step e = e
-
--- where the front has a fault, it is the first of all
-pub first_fault-front : {F : Type 0} (front rest : List (Check F)) (fault : F) → first_fault front ≡ Some fault → first_fault (front ++ rest) ≡ Some fault
-first_fault-front [] rest fault e = cc
-first_fault-front (c ∷ front) rest fault e = one-front c.passes c.fault (first_fault front) (first_fault (front ++ rest)) fault (first_fault-front front rest fault) e
-
-one-rest : {F : Type 0} (b : Bool) (own : F) (front more rest : Option F) → (front ≡ None → more ≡ rest) → (if b then front else Some own) ≡ None → (if b then more else Some own) ≡ rest
-one-rest true own front more rest step e = step e
-one-rest false own front more rest step e = cc
-
--- where it has none, the first of the rest is the first of all
-pub first_fault-rest : {F : Type 0} (front rest : List (Check F)) → first_fault front ≡ None → first_fault (front ++ rest) ≡ first_fault rest
-first_fault-rest [] rest e = refl
-first_fault-rest (c ∷ front) rest e = one-rest c.passes c.fault (first_fault front) (first_fault (front ++ rest)) (first_fault rest) (first_fault-rest front rest) e
-
-if_passes : {F : Type 0} (b : Bool) (own : F) (rest : Option F) → (if b then rest else Some own) ≡ None → b ≡ true
-if_passes true own rest e = refl
-if_passes false own rest e = cc
-
--- whether the first check is passed
-abbrev pub front_passes : {F : Type 0} → List (Check F) → Bool
-front_passes [] = true
-front_passes (c ∷ cs) = c.passes
-
--- where no check fails, the first is passed
-pub front_passes-none : {F : Type 0} (checks : List (Check F)) → first_fault checks ≡ None → front_passes checks ≡ true
-front_passes-none [] e = refl
-front_passes-none (c ∷ cs) e = if_passes c.passes c.fault (first_fault cs) e
 
 -- ---- loops
 

@@ -1,4 +1,6 @@
 pub mod Laws
+mod Faults
+mod Steps
 mod Finding
 mod LineFeeds
 mod Readings

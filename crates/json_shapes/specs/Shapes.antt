@@ -1,10 +1,10 @@
 -- The shapes of values.
-use Rattle.std.specs.Prelude.{ℕ, List, Bool, true, false, ◌||◌, map, Option, Some, None}
+use Rattle.std.specs.Prelude.{ℕ, List, Bool, true, false, ◌||◌, ◌&&◌, map, Option, Some, None}
 use Rattle.std.specs.Borrow.{Bor}
 use Rattle.std.specs.List.{list_any, list_all}
 use Rattle.std.specs.Str.{bytes_eq}
 use Rattle.serde_json.specs.Data.{Data, null, boolean, number, string, array, object}
-use Rattle.json_shapes.specs.Json.{one_or_more}
+use Rattle.json_shapes.specs.Json.{one_or_more, pairs_in}
 
 abbrev pub is_string : Data → Bool
 is_string null = false
@@ -63,3 +63,11 @@ texts names = map (λ name. name.now) names
 -- the name is one of these
 abbrev pub is_among : List (List ℕ) → List ℕ → Bool
 is_among names name = list_any (bytes_eq name) names
+
+-- the value is an object whose names are among these
+abbrev pub is_object_of : List (List ℕ) → Data → Bool
+is_object_of names d = is_object d && list_all (λ pair. is_among names pair.0) (pairs_in d)
+
+-- the value's members are strings
+abbrev pub has_strings : Data → Bool
+has_strings d = list_all (λ pair. is_string pair.1) (pairs_in d)

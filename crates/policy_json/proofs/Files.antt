@@ -4,12 +4,12 @@ use Rattle.std.specs.Str.{chars}
 use Rattle.serde_json.specs.Data.{Data}
 use Rattle.policy_model.specs.declared.set.PolicySet.{PolicySet}
 use Rattle.policy_json.specs.declared.fault.PolicyFault.{PolicyFault}
-use Rattle.policy_json.specs.declared.fault.PolicyAnswer.{PolicyAnswer}
-use Rattle.policy_json.specs.declared.fault.PolicyAnswer.TheVariants.{Refused, NoMemory}
 use Rattle.policy_json.specs.declared.fault.PolicyCode.TheVariants.{P1NotJson}
-use Rattle.policy_json.specs.Checks.{IsReadOf, IsRefusal, fault_at}
+use Rattle.policy_json.specs.Checks.{fault_at, PolicyAnswer}
 use Rattle.json_shapes.specs.Json.{json_of}
 use Rattle.policy_json.specs.Sets.{IsSetOf, not_json, nowhere, set_checks, set_of, set_or, set_read}
+use Rattle.json_shapes.specs.declared.read_error.ReadError.TheVariants.{Refused, NoMemory}
+use Rattle.json_shapes.specs.Checks.{IsReadOf, IsRefusal}
 
 not_json_at : fault_at nowhere P1NotJson [] ≡ not_json
 unfolding chars

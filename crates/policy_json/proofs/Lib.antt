@@ -1,4 +1,3 @@
-mod Answering
 mod Choosing
 mod Files
 mod FormsOfSets
@@ -13,4 +12,3 @@ mod Patterns
 mod Roots
 mod Sound
 mod SoundConditions
-mod Steps

@@ -2,11 +2,9 @@
 use Rattle.std.proofs.Common.{◌≡◌, List, [], ◌∷◌, ◌++◌, None, Result, ap, sym, ◌∙◌}
 use Rattle.std.proofs.lemmas.List.{append_assoc}
 use Rattle.std.specs.Result.{IsErrAnd}
-use Rattle.policy_json.specs.declared.fault.PolicyAnswer.{PolicyAnswer}
-use Rattle.json_shapes.specs.Checks.{first_fault}
-use Rattle.policy_json.specs.Checks.{PolicyCheck, IsReadOf}
-use Rattle.json_shapes.proofs.Laws.{first_fault-rest}
-use Rattle.policy_json.proofs.Steps.{Refuses, refused}
+use Rattle.json_shapes.specs.Checks.{first_fault, IsReadOf}
+use Rattle.policy_json.specs.Checks.{PolicyCheck, PolicyAnswer}
+use Rattle.json_shapes.proofs.Laws.{first_fault-rest, Refuses, refused}
 
 -- so far no check has failed, and these meanings are read
 pub record Reading {X : Type 0} (all rest : List PolicyCheck) (whole done left : List X) : Type 0 where

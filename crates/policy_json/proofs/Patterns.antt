@@ -11,14 +11,13 @@ use Rattle.policy_model.specs.declared.operator.Family.{Family}
 use Rattle.policy_model.specs.declared.operator.Family.TheVariants as family
 use Rattle.policy_model.specs.declared.operator.Operand.{Operand}
 use Rattle.policy_model.specs.Operators.{family_of}
-use Rattle.json_shapes.specs.Checks.{first_fault}
-use Rattle.policy_json.specs.declared.fault.PolicyAnswer.{PolicyAnswer}
-use Rattle.policy_json.specs.declared.fault.PolicyAnswer.TheVariants.{NoMemory}
+use Rattle.json_shapes.specs.Checks.{first_fault, IsReadOf}
 use Rattle.policy_json.specs.declared.fault.PolicyCode.TheVariants.{P11PolicyVariable, P13BadValue, P14ArnParts, P17Limit}
 use Rattle.policy_json.specs.declared.operands.KeyLocation.{KeyLocation}
-use Rattle.policy_json.specs.Checks.{PolicyCheck, IsReadOf, check, fault_at}
+use Rattle.policy_json.specs.Checks.{PolicyCheck, check, fault_at, PolicyAnswer}
 use Rattle.policy_json.specs.Operands.{IsPatternRefusal, IsPatternUnder, has_parts, has_patterns, is_arn, is_of_form, operand_of, pieces_of_value, pieces_under, text_in}
-use Rattle.policy_json.proofs.Answering.{refused}
+use Rattle.json_shapes.specs.declared.read_error.ReadError.TheVariants.{NoMemory}
+use Rattle.json_shapes.proofs.Laws.{refused_first}
 
 more : (n m : ℕ) → n < m → nat_le m n ≡ false
 more n m h = grind arith
@@ -45,21 +44,21 @@ no_memory : (checks : List PolicyCheck) (wanted : Operand) (answer : PolicyAnswe
 no_memory checks wanted answer is = subst (λ (a : PolicyAnswer). IsReadOf {X = Operand} checks wanted (Err a)) (sym is) tt
 
 of_arn : (at : KeyLocation) (p : Option (List Piece)) (wanted : Operand) (fault : PatternFault) (answer : PolicyAnswer) → IsArnRead p (Err fault) → IsPatternRefusal at fault answer → IsReadOf (checks_by at family.Arn true p) wanted (Err answer)
-of_arn at None wanted pattern_fault.PolicyVariable answer read is = refused (checks_by at family.Arn true None) wanted _ answer is refl
+of_arn at None wanted pattern_fault.PolicyVariable answer read is = refused_first (checks_by at family.Arn true None) wanted _ answer is refl
 of_arn at (Some ps) wanted pattern_fault.PolicyVariable answer read is = absurd cc
 of_arn at None wanted pattern_fault.ArnParts answer read is = absurd read
-of_arn at (Some ps) wanted pattern_fault.ArnParts answer read is = refused (checks_by at family.Arn true (Some ps)) wanted _ answer is (third at family.Arn ps (more (colons ps) 5 read))
+of_arn at (Some ps) wanted pattern_fault.ArnParts answer read is = refused_first (checks_by at family.Arn true (Some ps)) wanted _ answer is (third at family.Arn ps (more (colons ps) 5 read))
 of_arn at None wanted pattern_fault.TooLong answer read is = absurd read
 of_arn at (Some ps) wanted pattern_fault.TooLong answer read is =
-    refused (checks_by at family.Arn true (Some ps)) wanted _ answer is (fourth at family.Arn ps (less 5 (colons ps) read.0) (more MOST_PIECES (length ps) read.1))
+    refused_first (checks_by at family.Arn true (Some ps)) wanted _ answer is (fourth at family.Arn ps (less 5 (colons ps) read.0) (more MOST_PIECES (length ps) read.1))
 of_arn at p wanted pattern_fault.NoMemory answer read is = no_memory (checks_by at family.Arn true p) wanted answer is
 
 of_text : (at : KeyLocation) (p : Option (List Piece)) (wanted : Operand) (fault : PatternFault) (answer : PolicyAnswer) → IsRead p (Err fault) → IsPatternRefusal at fault answer → IsReadOf (checks_by at family.Text true p) wanted (Err answer)
-of_text at None wanted pattern_fault.PolicyVariable answer read is = refused (checks_by at family.Text true None) wanted _ answer is refl
+of_text at None wanted pattern_fault.PolicyVariable answer read is = refused_first (checks_by at family.Text true None) wanted _ answer is refl
 of_text at (Some ps) wanted pattern_fault.PolicyVariable answer read is = absurd cc
 of_text at p wanted pattern_fault.ArnParts answer read is = absurd read
 of_text at None wanted pattern_fault.TooLong answer read is = absurd read
-of_text at (Some ps) wanted pattern_fault.TooLong answer read is = refused (checks_by at family.Text true (Some ps)) wanted _ answer is (fourth at family.Text ps refl (more MOST_PIECES (length ps) read))
+of_text at (Some ps) wanted pattern_fault.TooLong answer read is = refused_first (checks_by at family.Text true (Some ps)) wanted _ answer is (fourth at family.Text ps refl (more MOST_PIECES (length ps) read))
 of_text at p wanted pattern_fault.NoMemory answer read is = no_memory (checks_by at family.Text true p) wanted answer is
 
 -- the same of the text that a value has, by the family

@@ -1,16 +1,15 @@
 -- Checks of a set's file, each with the fault that it gives where it isn't passed.
-use Rattle.std.specs.Prelude.{◌≡◌, ⊤, ℕ, List, map, Bool, Some, None, Result, Ok, Err}
+use Rattle.std.specs.Prelude.{ℕ, List, map, Bool}
 use Rattle.std.specs.Str.{chars}
 use Rattle.serde_json.specs.Data.{Data}
-use Rattle.json_shapes.specs.Checks.{Check, first_fault}
+use Rattle.json_shapes.specs.Checks.{Check}
 use Rattle.json_shapes.specs.Json.{pairs_in}
 use Rattle.json_shapes.specs.Shapes.{is_among}
 use Rattle.policy_json.specs.declared.location.Location.{Location}
 use Rattle.policy_json.specs.declared.fault.PolicyFault.{PolicyFault}
 use Rattle.policy_json.specs.declared.fault.PolicyCode.{PolicyCode}
 use Rattle.policy_json.specs.declared.fault.PolicyCode.TheVariants.{P3UnknownElement}
-use Rattle.policy_json.specs.declared.fault.PolicyAnswer.{PolicyAnswer}
-use Rattle.policy_json.specs.declared.fault.PolicyAnswer.TheVariants.{Refused, NoMemory}
+use Rattle.json_shapes.specs.declared.read_error.ReadError.{ReadError}
 
 -- a check of a set's file
 abbrev pub PolicyCheck : Type 0
@@ -33,14 +32,6 @@ check location passes code name = record { passes = passes; fault = fault_at loc
 abbrev pub name_checks : Location → List (List ℕ) → Data → List PolicyCheck
 name_checks location names d = map (λ pair. check location (is_among names pair.0) P3UnknownElement pair.0) (pairs_in d)
 
--- the answer is a refusal with this fault, or want of memory
-abbrev pub IsRefusal : PolicyFault → PolicyAnswer → Type 0
-IsRefusal fault (Refused given) = given ≡ fault
-IsRefusal fault NoMemory = ⊤
-
--- what a reader of a part answers: what the part stands for where all checks are passed, and otherwise the first fault, besides
--- want of memory
-abbrev pub IsReadOf : {X : Type 0} → List PolicyCheck → X → Result X PolicyAnswer → Type 0
-IsReadOf checks meaning (Ok x) = (first_fault checks ≡ None) × (x ≡ meaning)
-IsReadOf checks meaning (Err (Refused fault)) = first_fault checks ≡ Some fault
-IsReadOf checks meaning (Err NoMemory) = ⊤
+-- what stands instead of a set
+abbrev pub PolicyAnswer : Type 0
+PolicyAnswer = ReadError PolicyFault

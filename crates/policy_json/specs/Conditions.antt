@@ -9,15 +9,15 @@ use Rattle.policy_model.specs.declared.operator.Base.TheVariants.{Null}
 use Rattle.policy_model.specs.declared.operator.Operator.{Operator}
 use Rattle.policy_model.specs.declared.operator.Quantifier.TheVariants.{Plain}
 use Rattle.policy_model.specs.declared.operator.Condition.{Condition}
-use Rattle.policy_json.specs.declared.fault.PolicyAnswer.{PolicyAnswer}
 use Rattle.policy_json.specs.declared.fault.PolicyCode.TheVariants.{P4WrongShape, P12UnknownOperator}
 use Rattle.policy_json.specs.declared.location.Location.{Location}
 use Rattle.policy_json.specs.declared.operands.KeyLocation.{KeyLocation}
-use Rattle.policy_json.specs.Checks.{PolicyCheck, IsReadOf, check}
+use Rattle.policy_json.specs.Checks.{PolicyCheck, check, PolicyAnswer}
 use Rattle.json_shapes.specs.Json.{one_or_more, pairs_in}
 use Rattle.json_shapes.specs.Shapes.{is_object}
 use Rattle.policy_json.specs.OperatorNames.{operator_of, operator_with}
 use Rattle.policy_json.specs.Operands.{operand_of, value_checks}
+use Rattle.json_shapes.specs.Checks.{IsReadOf}
 
 -- ---- what is checked
 

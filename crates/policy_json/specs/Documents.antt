@@ -6,13 +6,13 @@ use Rattle.serde_json.specs.Find.{get}
 use Rattle.policy_model.specs.declared.set.Document.{Document}
 use Rattle.policy_json.specs.declared.fault.PolicyCode.TheVariants.{P2SetShape, P4WrongShape, P5MissingElement, P7BadVersion, P17Limit}
 use Rattle.policy_json.specs.declared.location.Location.{Location}
-use Rattle.policy_json.specs.declared.fault.PolicyAnswer.{PolicyAnswer}
 use Rattle.policy_model.specs.declared.set.Statement.{Statement}
-use Rattle.policy_json.specs.Checks.{PolicyCheck, IsReadOf, check, name_checks}
+use Rattle.policy_json.specs.Checks.{PolicyCheck, check, name_checks, PolicyAnswer}
 use Rattle.json_shapes.specs.Json.{has_name, one_or_more}
 use Rattle.json_shapes.specs.Shapes.{is_object, is_object_or_list, is_string, is_text, is_there_and, where_there}
 use Rattle.policy_json.specs.Statements.{statement_checks, statement_of}
 use Rattle.policy_json.specs.declared.document.TheConstants.{MOST_DOCUMENTS}
+use Rattle.json_shapes.specs.Checks.{IsReadOf}
 
 -- the names that a document may have
 abbrev pub document_names : List (List ℕ)

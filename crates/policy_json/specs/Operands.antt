@@ -27,12 +27,12 @@ use Rattle.policy_model.specs.declared.operator.Family.TheVariants as family
 use Rattle.policy_model.specs.declared.operator.Operand.{Operand}
 use Rattle.policy_model.specs.declared.operator.Operand.TheVariants as operand
 use Rattle.policy_model.specs.Operators.{family_of, truth_word}
-use Rattle.policy_json.specs.declared.fault.PolicyAnswer.{PolicyAnswer}
-use Rattle.policy_json.specs.declared.fault.PolicyAnswer.TheVariants.{NoMemory}
 use Rattle.policy_json.specs.declared.fault.PolicyCode.TheVariants.{P11PolicyVariable, P13BadValue, P14ArnParts, P17Limit}
 use Rattle.policy_json.specs.declared.location.Location.{Location}
 use Rattle.policy_json.specs.declared.operands.KeyLocation.{KeyLocation}
-use Rattle.policy_json.specs.Checks.{PolicyCheck, IsReadOf, IsRefusal, check, fault_at}
+use Rattle.policy_json.specs.Checks.{PolicyCheck, check, fault_at, PolicyAnswer}
+use Rattle.json_shapes.specs.declared.read_error.ReadError.TheVariants.{NoMemory}
+use Rattle.json_shapes.specs.Checks.{IsReadOf, IsRefusal}
 
 -- ---- what a value is as a text, a number, a moment, a truth value, bytes and a block; none where it isn't of the form
 

@@ -14,10 +14,10 @@ use Rattle.policy_model.specs.Principals.{behind_colon, behind_prefix, has_colon
 use Rattle.policy_model.specs.Soundness.{IsAccount}
 use Rattle.policy_json.specs.declared.fault.PolicyCode.TheVariants.{P4WrongShape, P9PrincipalKind, P10PrincipalWildcard, P17Limit}
 use Rattle.policy_json.specs.declared.location.Location.{Location}
-use Rattle.policy_json.specs.declared.fault.PolicyAnswer.{PolicyAnswer}
-use Rattle.policy_json.specs.Checks.{PolicyCheck, IsReadOf, check}
+use Rattle.policy_json.specs.Checks.{PolicyCheck, check, PolicyAnswer}
 use Rattle.json_shapes.specs.Json.{one_or_more, pairs_in, text_of}
 use Rattle.json_shapes.specs.Shapes.{are_strings, is_among, is_object, is_text}
+use Rattle.json_shapes.specs.Checks.{IsReadOf}
 
 -- ---- what is checked
 

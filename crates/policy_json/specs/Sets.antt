@@ -6,18 +6,17 @@ use Rattle.serde_json.specs.Data.{Data}
 use Rattle.serde_json.specs.Find.{get}
 use Rattle.policy_model.specs.declared.set.PolicySet.{PolicySet}
 use Rattle.policy_json.specs.declared.fault.PolicyFault.{PolicyFault}
-use Rattle.policy_json.specs.declared.fault.PolicyAnswer.{PolicyAnswer}
-use Rattle.policy_json.specs.declared.fault.PolicyAnswer.TheVariants.{Refused, NoMemory}
 use Rattle.policy_json.specs.declared.fault.PolicyCode.TheVariants.{P1NotJson, P2SetShape, P4WrongShape, P5MissingElement, P17Limit}
 use Rattle.policy_json.specs.declared.location.Location.{Location}
 use Rattle.policy_json.specs.declared.counts.Counts.{Counts}
 use Rattle.policy_model.specs.declared.set.Document.{Document}
-use Rattle.json_shapes.specs.Checks.{first_fault}
-use Rattle.policy_json.specs.Checks.{PolicyCheck, IsReadOf, check, name_checks}
+use Rattle.json_shapes.specs.Checks.{first_fault, IsReadOf}
+use Rattle.policy_json.specs.Checks.{PolicyCheck, check, name_checks, PolicyAnswer}
 use Rattle.json_shapes.specs.Json.{has_name, json_of, list_under, values_in}
 use Rattle.json_shapes.specs.Shapes.{is_list, is_object, is_object_or_list, is_there_and}
 use Rattle.policy_json.specs.Documents.{document_checks, document_of, statements_in}
 use Rattle.policy_json.specs.declared.set.TheConstants.{MOST_GUARDS}
+use Rattle.json_shapes.specs.declared.read_error.ReadError.TheVariants.{Refused, NoMemory}
 
 -- the file as a whole
 abbrev pub nowhere : Location

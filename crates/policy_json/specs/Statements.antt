@@ -7,9 +7,8 @@ use Rattle.policy_model.specs.declared.matcher.Matcher.{Matcher}
 use Rattle.policy_model.specs.declared.set.Statement.{Statement}
 use Rattle.policy_json.specs.declared.fault.PolicyCode.TheVariants.{P4WrongShape, P5MissingElement, P8BadEffect, P17Limit}
 use Rattle.policy_json.specs.declared.location.Location.{Location}
-use Rattle.policy_json.specs.declared.fault.PolicyAnswer.{PolicyAnswer}
 use Rattle.policy_model.specs.declared.principal.Entry.{Entry}
-use Rattle.policy_json.specs.Checks.{PolicyCheck, IsReadOf, check, name_checks}
+use Rattle.policy_json.specs.Checks.{PolicyCheck, check, name_checks, PolicyAnswer}
 use Rattle.policy_json.specs.Conditions.{condition_checks, conditions_of}
 use Rattle.policy_json.specs.Elements.{both_checks}
 use Rattle.json_shapes.specs.Json.{has_name}
@@ -17,6 +16,7 @@ use Rattle.json_shapes.specs.Shapes.{is_object, is_string, is_text, is_there_and
 use Rattle.policy_json.specs.Texts.{matcher_of, patterns_checks, globs_of}
 use Rattle.policy_json.specs.Principals.{entries_of, principal_checks}
 use Rattle.policy_json.specs.declared.statement.TheConstants.{MOST_STATEMENTS}
+use Rattle.json_shapes.specs.Checks.{IsReadOf}
 
 -- the names that a statement may have
 abbrev pub statement_names : List (List ℕ)

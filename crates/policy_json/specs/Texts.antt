@@ -9,11 +9,11 @@ use Rattle.wildcard_lang.specs.Reading.{glob_pieces}
 use Rattle.policy_model.specs.declared.matcher.Matcher.{Matcher}
 use Rattle.policy_json.specs.declared.fault.PolicyCode.TheVariants.{P4WrongShape, P11PolicyVariable, P17Limit}
 use Rattle.policy_json.specs.declared.location.Location.{Location}
-use Rattle.policy_json.specs.declared.fault.PolicyAnswer.{PolicyAnswer}
-use Rattle.policy_json.specs.Checks.{PolicyCheck, IsReadOf, check}
+use Rattle.policy_json.specs.Checks.{PolicyCheck, check, PolicyAnswer}
 use Rattle.json_shapes.specs.Json.{one_or_more, text_of}
 use Rattle.json_shapes.specs.Shapes.{are_strings}
 use Rattle.wildcard_lang.specs.declared.pattern.TheConstants.{MOST_PIECES}
+use Rattle.json_shapes.specs.Checks.{IsReadOf}
 
 -- the pieces that a string stands for, or none where a policy variable stands in it
 abbrev pub pieces_of : Bool → Bool → Data → Option (List Piece)

@@ -6,9 +6,9 @@ ghost use Rattle.serde_json.specs.View.{view};
 ghost use Rattle.policy_model.specs.Soundness.{DocumentIsSound, StatementIsSound};
 ghost use Rattle.policy_json.specs.declared.document.TheConstants.{MOST_DOCUMENTS};
 ghost use Rattle.policy_json.specs.declared.statement.TheConstants.{MOST_STATEMENTS};
-ghost use Rattle.policy_json.specs.Checks.{IsReadOf};
 ghost use Rattle.policy_json.specs.Documents.{AreStatementsRead, IsDocumentRead, element_checks, has_escapes, head_checks, is_version, object_checks, statements_in};
 ghost use Rattle.json_shapes.specs.Json.{views};
+ghost use Rattle.json_shapes.specs.Checks.{IsReadOf};
 
 use crate::fault::{PolicyAnswer, PolicyCode, refusal};
 use crate::location::Location;

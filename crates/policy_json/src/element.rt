@@ -1,7 +1,7 @@
 //! Elements of a statement that have a Not element, such as `Action` and `NotAction`.
 ghost use Rattle.serde_json.specs.View.{view};
-ghost use Rattle.policy_json.specs.Checks.{IsReadOf};
 ghost use Rattle.policy_json.specs.Elements.{IsElementOf, both_checks};
+ghost use Rattle.json_shapes.specs.Checks.{IsReadOf};
 
 use crate::fault::{PolicyAnswer, PolicyCode, refusal};
 use crate::location::Location;

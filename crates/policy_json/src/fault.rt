@@ -1,10 +1,11 @@
 //! Why a file is refused as a set of policies.
 ghost use Rattle.std.specs.Prelude.{◌≡◌};
-ghost use Rattle.policy_json.specs.Checks.{IsRefusal, fault_at};
-ghost use Rattle.policy_json.specs.declared.fault.PolicyAnswer.TheVariants.{NoMemory};
+ghost use Rattle.policy_json.specs.Checks.{fault_at};
+ghost use Rattle.json_shapes.specs.Checks.{IsRefusal};
 
 use crate::location::Location;
-use std::alloc::{AllocError, Global};
+use json_shapes::ReadError;
+use std::alloc::Global;
 use wildcard_lang::Text;
 
 /// What is wrong with a file.
@@ -57,21 +58,8 @@ pub struct PolicyFault {
     pub element: Text,
 }
 
-/// What stands instead of a set.
-#[derive(Drop)]
-pub enum PolicyAnswer {
-    /// The file's first fault.
-    Refused(PolicyFault),
-    NoMemory,
-}
-
-impl From<AllocError> for PolicyAnswer {
-    ghost from_gives = { λ _ e. e ≡ NoMemory };
-
-    fn from(_: AllocError) -> Self {
-        PolicyAnswer::NoMemory
-    }
-}
+/// What stands instead of a set: the file's first fault, or want of memory.
+pub type PolicyAnswer = ReadError<PolicyFault>;
 
 /// The fault of this code at the location, in the element of this name, or want of memory.
 pub(crate) fn refusal(

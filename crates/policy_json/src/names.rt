@@ -1,7 +1,8 @@
 //! The names of an object's members.
 ghost use Rattle.serde_json.specs.View.{view};
-ghost use Rattle.policy_json.specs.Checks.{IsReadOf, name_checks};
+ghost use Rattle.policy_json.specs.Checks.{name_checks};
 ghost use Rattle.json_shapes.specs.Shapes.{texts};
+ghost use Rattle.json_shapes.specs.Checks.{IsReadOf};
 
 use crate::fault::{PolicyAnswer, PolicyCode, refusal};
 use crate::location::Location;

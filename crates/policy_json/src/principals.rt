@@ -3,11 +3,11 @@ ghost use Rattle.std.specs.Prelude.{◌≡◌, ◌++◌, IfOk, OnOk, Some, None,
 ghost use Rattle.std.specs.List.{flat_map};
 ghost use Rattle.serde_json.specs.View.{view, members_view};
 ghost use Rattle.policy_model.specs.Soundness.{PrincipalIsSound};
-ghost use Rattle.policy_json.specs.Checks.{IsReadOf};
 ghost use Rattle.json_shapes.specs.Json.{pairs_of, views};
 ghost use Rattle.json_shapes.specs.Shapes.{is_among};
 ghost use Rattle.policy_json.specs.Principals.{AddsKind, AreEntriesRead, AreKindsRead, IsIdRead, IsKindRead, IsStarRead, account_of, account_or_exact, entries_at, entry_of, has_wildcard, id_checks, is_star_id, kind_names, kind_of};
 ghost use Rattle.policy_json.specs.Statements.{IsWhoRead};
+ghost use Rattle.json_shapes.specs.Checks.{IsReadOf};
 
 use crate::accounts::account_of;
 use crate::element::{element_of, not_both};

@@ -1,6 +1,7 @@
 //! Single checks of a file.
 ghost use Rattle.std.specs.Prelude.{[], ◌∷◌};
-ghost use Rattle.policy_json.specs.Checks.{IsReadOf, check};
+ghost use Rattle.policy_json.specs.Checks.{check};
+ghost use Rattle.json_shapes.specs.Checks.{IsReadOf};
 
 use crate::fault::{PolicyAnswer, PolicyCode, refusal};
 use crate::location::Location;

@@ -5,10 +5,10 @@ ghost use Rattle.serde_json.specs.Find.{get};
 ghost use Rattle.serde_json.specs.View.{view};
 ghost use Rattle.policy_model.specs.Soundness.{DocumentIsSound, IsSound};
 ghost use Rattle.policy_json.specs.declared.set.TheConstants.{MOST_GUARDS};
-ghost use Rattle.policy_json.specs.Checks.{IsReadOf};
 ghost use Rattle.json_shapes.specs.Json.{json_of, values_in, views, list_under};
 ghost use Rattle.json_shapes.specs.Shapes.{is_list};
 ghost use Rattle.policy_json.specs.Sets.{AreDocumentsRead, AreGuardsRead, AreSetPartsRead, CountsDocuments, CountsGuards, CountsStatements, IsSetOf, IsValueRead, guarded_checks, guards_in, is_guarded, list_checks};
+ghost use Rattle.json_shapes.specs.Checks.{IsReadOf};
 
 use crate::counts::Counts;
 use crate::document::read_document;

@@ -2,8 +2,8 @@
 ghost use Rattle.std.specs.Prelude.{IfOk};
 ghost use Rattle.serde_json.specs.View.{view};
 ghost use Rattle.policy_model.specs.Soundness.{StatementIsSound};
-ghost use Rattle.policy_json.specs.Checks.{IsReadOf};
 ghost use Rattle.policy_json.specs.Statements.{IsEffectRead, IsStatementRead, form_checks};
+ghost use Rattle.json_shapes.specs.Checks.{IsReadOf};
 
 use crate::conditions::read_conditions;
 use crate::fault::{PolicyAnswer, PolicyCode, refusal};

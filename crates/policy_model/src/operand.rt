@@ -47,6 +47,7 @@ fn is_word_folded(text: &[char], word: &[char]) -> bool
 fn is_word_of(truth: bool, text: &Text) -> bool
     ensures { IsTrue result ↔ Matches (literals true (truth_word truth)) text.now }
 {
+    // Its contract shows that the folded word matches no other texts than its spellings.
     literal_matches_itself();
     if truth {
         is_word_folded(text.as_slice(), &['t', 'r', 'u', 'e'])

@@ -6,7 +6,6 @@ mod KeysRead
 mod Listed
 mod Permitting
 mod Shaped
-mod Steps
 mod Swapping
 mod WrittenBytes
 mod WrittenKeys

@@ -12,7 +12,7 @@ use Rattle.wildcard_lang.specs.Text.{IsText}
 use Rattle.wildcard_lang.specs.declared.piece.Piece.{Piece}
 use Rattle.json_shapes.specs.Checks.{first_fault}
 use Rattle.json_shapes.specs.Json.{pairs_of}
-use Rattle.json_shapes.specs.Shapes.{where_there}
+use Rattle.json_shapes.specs.Shapes.{where_there, is_object_of}
 use Rattle.policy_model.specs.declared.principal.PrincipalKind.{PrincipalKind}
 use Rattle.policy_model.specs.declared.principal.PrincipalKind.TheVariants.{Aws, Service, Federated, CanonicalUser}
 use Rattle.policy_model.specs.declared.request.Request.{Request}
@@ -23,7 +23,6 @@ use Rattle.policy_model.specs.declared.value.Value.{Value}
 use Rattle.policy_model.specs.Keys.{IsFolded}
 use Rattle.policy_model.specs.Principals.{kind_word}
 use Rattle.policy_model.specs.Requests.{EntryIsValid, IsThere, IsValid, IsWellKept, IsWord, PermitsValues, WordsAreValid, shape_of}
-use Rattle.request_schema.specs.SchemaHeads.{is_object_of}
 use Rattle.request_json.specs.RequestChecks.{request_check}
 use Rattle.request_json.specs.RequestFiles.{context_of, is_word, request_checks, request_of, request_or, request_read, request_with, whole_checks, word_checks_of}
 use Rattle.request_json.specs.RequestKeys.{context_checks, fits_shape, required_checks}
@@ -33,11 +32,11 @@ use Rattle.request_json.specs.declared.fault.RequestCode.{RequestCode}
 use Rattle.request_json.specs.declared.fault.RequestFault.{RequestFault}
 use Rattle.request_json.proofs.KeysRead.{Keys}
 use Rattle.request_json.proofs.Permitting.{and-of, fits-shape}
-use Rattle.request_json.proofs.Steps.{passed_three, passes_at}
 use Rattle.request_json.proofs.WrittenBytes.{value-utf8}
 use Rattle.request_json.proofs.WrittenTexts.{AreUtf8, AreWritten}
 use Rattle.request_json.proofs.WrittenKeys.{AreKept, keys-again, keys-apart, keys-pass, keys-strings}
 use Rattle.request_json.proofs.WrittenValues.{chars-encoded}
+use Rattle.json_shapes.proofs.Laws.{passed_three, passes_at}
 
 -- ---- its keys
 

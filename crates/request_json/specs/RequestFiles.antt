@@ -12,13 +12,12 @@ use Rattle.policy_model.specs.Requests.{shape_of}
 use Rattle.json_shapes.specs.Checks.{first_fault}
 use Rattle.json_shapes.specs.Json.{json_of, pairs_in}
 use Rattle.request_schema.specs.SchemaRules.{string_in}
-use Rattle.request_json.specs.RequestChecks.{RequestCheck, request_check, request_fault}
+use Rattle.request_json.specs.RequestChecks.{RequestCheck, request_check, request_fault, RequestAnswer}
 use Rattle.request_json.specs.RequestKeys.{context_checks, context_from, fits_shape, required_checks}
 use Rattle.request_json.specs.RequestShapes.{is_request, keys_of_request, kind_of_name}
 use Rattle.request_json.specs.declared.fault.RequestCode.TheVariants.{Q1NotJson, Q2Shape, Q4NotValid}
 use Rattle.request_json.specs.declared.fault.RequestFault.{RequestFault}
-use Rattle.request_json.specs.declared.fault.RequestAnswer.{RequestAnswer}
-use Rattle.request_json.specs.declared.fault.RequestAnswer.TheVariants.{Refused, NoMemory}
+use Rattle.json_shapes.specs.declared.read_error.ReadError.TheVariants.{Refused, NoMemory}
 
 -- ---- what a file stands for
 

@@ -7,8 +7,7 @@ use Rattle.serde_json.specs.Find.{get}
 use Rattle.policy_model.specs.declared.principal.PrincipalKind.{PrincipalKind}
 use Rattle.policy_model.specs.declared.principal.PrincipalKind.TheVariants.{Aws, Service, Federated, CanonicalUser}
 use Rattle.json_shapes.specs.Json.{pairs_in}
-use Rattle.json_shapes.specs.Shapes.{are_strings, is_object, is_string, is_there_and, where_there}
-use Rattle.request_schema.specs.SchemaHeads.{has_strings, is_object_of}
+use Rattle.json_shapes.specs.Shapes.{are_strings, is_object, is_string, is_there_and, where_there, has_strings, is_object_of}
 use Rattle.request_schema.specs.SchemaRules.{same_key}
 
 -- the names of the kinds of principals

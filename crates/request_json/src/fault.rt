@@ -1,9 +1,10 @@
 //! Why a request file is refused.
 ghost use Rattle.std.specs.Prelude.{◌≡◌, [], ◌∷◌};
-ghost use Rattle.request_json.specs.RequestChecks.{IsPieceRead, IsRequestRefusal, request_check, request_fault};
-ghost use Rattle.request_json.specs.declared.fault.RequestAnswer.TheVariants.{NoMemory};
+ghost use Rattle.request_json.specs.RequestChecks.{request_check, request_fault};
+ghost use Rattle.json_shapes.specs.Checks.{IsReadOf, IsRefusal};
 
-use std::alloc::{AllocError, Global};
+use json_shapes::ReadError;
+use std::alloc::Global;
 use wildcard_lang::Text;
 
 /// What is wrong with a request file.
@@ -29,25 +30,12 @@ pub struct RequestFault {
     pub element: Text,
 }
 
-/// What stands instead of a request.
-#[derive(Drop)]
-pub enum RequestAnswer {
-    /// The file's first fault.
-    Refused(RequestFault),
-    NoMemory,
-}
-
-impl From<AllocError> for RequestAnswer {
-    ghost from_gives = { λ _ e. e ≡ NoMemory };
-
-    fn from(_: AllocError) -> Self {
-        RequestAnswer::NoMemory
-    }
-}
+/// What stands instead of a request: the file's first fault, or want of memory.
+pub type RequestAnswer = ReadError<RequestFault>;
 
 /// The fault of this code at the name, or want of memory.
 pub(crate) fn refusal(alloc: Global, code: RequestCode, name: &str) -> RequestAnswer
-    ensures { IsRequestRefusal (request_fault code name.now) result }
+    ensures { IsRefusal (request_fault code name.now) result }
 {
     match Text::of(alloc, name) {
         Err(_) => RequestAnswer::NoMemory,
@@ -62,7 +50,7 @@ pub(crate) fn require(
     code: RequestCode,
     name: &str,
 ) -> Result<(), RequestAnswer>
-    ensures { IsPieceRead (request_check passes code name.now ∷ []) tt result }
+    ensures { IsReadOf (request_check passes code name.now ∷ []) tt result }
 {
     if passes {
         Ok(())

@@ -5,10 +5,11 @@ ghost use Rattle.json_shapes.specs.Json.{pairs_of};
 ghost use Rattle.text_table.specs.Table.{item_at};
 ghost use Rattle.policy_model.specs.Requests.{EntryIsValid, IsOfKind, IsThere, PermitsValues};
 ghost use Rattle.request_schema.specs.SchemaRules.{are_of_kind, string_in, strings_of, values_of_kind};
-ghost use Rattle.request_json.specs.RequestChecks.{IsPieceRead, request_check};
+ghost use Rattle.request_json.specs.RequestChecks.{request_check};
 ghost use Rattle.request_json.specs.RequestKeys.{are_permitted, checks_by_rule, context_checks, context_from, request_key_checks, required_check, required_checks, rule_at, values_read, with_key};
 ghost use Rattle.request_json.specs.RequestShapes.{keys_of_request};
 ghost use Rattle.request_json.specs.declared.fault.RequestCode.TheVariants.{Q3BadValue};
+ghost use Rattle.json_shapes.specs.Checks.{IsReadOf};
 
 use crate::fault::{RequestAnswer, RequestCode, RequestFault, refusal, require};
 use json_shapes::members;
@@ -32,7 +33,7 @@ fn read_each(
     kind: Kind,
     values: &[Value],
 ) -> Result<ValueList, RequestAnswer>
-    ensures read { IsPieceRead
+    ensures read { IsReadOf
         (request_check (are_of_kind kind (strings_of values.now)) Q3BadValue name.now ∷ [])
         (values_of_kind kind (strings_of values.now)) result }
     ensures kind { IfOk result (All (IsOfKind kind)) }
@@ -63,7 +64,7 @@ fn read_values(
     name: &str,
     values: &Value,
 ) -> Result<ValueList, RequestAnswer>
-    ensures read { IsPieceRead (request_key_checks rule.now (name.now, view values.now))
+    ensures read { IsReadOf (request_key_checks rule.now (name.now, view values.now))
         (values_read rule.now (view values.now)) result }
     ensures permitted { IfOk result (PermitsValues rule.now) }
 {
@@ -81,7 +82,7 @@ fn add_key(
     values: &Value,
     mut context: Context,
 ) -> Result<Context, RequestAnswer>
-    ensures read { IsPieceRead
+    ensures read { IsReadOf
         (checks_by_rule (rule_at keys.now name.now) (name.now, view values.now))
         (with_key (rule_at keys.now name.now) context (name.now, view values.now)) result }
     ensures valid { IfOk result (λ new.
@@ -105,7 +106,7 @@ fn read_context(
     keys: &KeyRules,
     given: &Map<String, Value>,
 ) -> Result<Context, RequestAnswer>
-    ensures read { IsPieceRead (context_checks keys.now (pairs_of (members_view given.now.entries)))
+    ensures read { IsReadOf (context_checks keys.now (pairs_of (members_view given.now.entries)))
         (context_from keys.now [] (pairs_of (members_view given.now.entries))) result }
     ensures valid { IfOk result (All (EntryIsValid keys.now)) }
 {
@@ -122,7 +123,7 @@ pub(crate) fn read_keys(
     keys: &KeyRules,
     file: &Value,
 ) -> Result<Context, RequestAnswer>
-    ensures read { IsPieceRead (context_checks keys.now (keys_of_request (view file.now)))
+    ensures read { IsReadOf (context_checks keys.now (keys_of_request (view file.now)))
         (context_from keys.now [] (keys_of_request (view file.now))) result }
     ensures valid { IfOk result (All (EntryIsValid keys.now)) }
 {
@@ -142,7 +143,7 @@ fn is_there(context: &Context, key: &Text, rule: &KeyRule) -> bool
 
 // Passes where the key has a value, if its rule asks for one.
 fn require_key(context: &Context, key: &Text, rule: &KeyRule) -> Result<(), RequestAnswer>
-    ensures read { IsPieceRead (required_check context.now (key.now, rule.now) ∷ []) tt result }
+    ensures read { IsReadOf (required_check context.now (key.now, rule.now) ∷ []) tt result }
     ensures there { OnOk result (IsThere context.now (key.now, rule.now)) }
 {
     if is_there(context, key, rule) {
@@ -155,7 +156,7 @@ fn require_key(context: &Context, key: &Text, rule: &KeyRule) -> Result<(), Requ
 
 /// Passes where each key has a value whose rule asks for one.
 pub(crate) fn require_keys(keys: &KeyRules, context: &Context) -> Result<(), RequestAnswer>
-    ensures read { IsPieceRead (required_checks keys.now context.now) tt result }
+    ensures read { IsReadOf (required_checks keys.now context.now) tt result }
     ensures there { OnOk result (All (IsThere context.now) keys.now) }
 {
     for (key, rule) in keys.iter() {

@@ -2,8 +2,8 @@
 ghost use Rattle.std.specs.Prelude.{IfOk};
 ghost use Rattle.serde_json.specs.View.{view};
 ghost use Rattle.policy_model.specs.Requests.{IsValid};
-ghost use Rattle.request_json.specs.RequestChecks.{IsPieceRead};
 ghost use Rattle.request_json.specs.RequestFiles.{IsRequestFrom, request_checks, request_of, whole_checks};
+ghost use Rattle.json_shapes.specs.Checks.{IsReadOf};
 
 use crate::fault::{RequestAnswer, RequestCode, refusal, require};
 use crate::keys::{read_keys, require_keys};
@@ -16,7 +16,7 @@ use std::alloc::Global;
 
 // What is checked of a file whatever the schema.
 fn check_shape(alloc: Global, file: &Value) -> Result<(), RequestAnswer>
-    ensures { IsPieceRead (whole_checks (view file.now)) tt result }
+    ensures { IsReadOf (whole_checks (view file.now)) tt result }
 {
     let shape = is_request(alloc, file)?;
     require(alloc, shape, RequestCode::Q2Shape, "")
@@ -24,7 +24,7 @@ fn check_shape(alloc: Global, file: &Value) -> Result<(), RequestAnswer>
 
 // The request of a file that is JSON.
 fn read_file(alloc: Global, schema: &Schema, file: &Value) -> Result<Request, RequestAnswer>
-    ensures read { IsPieceRead (request_checks schema.now (view file.now))
+    ensures read { IsReadOf (request_checks schema.now (view file.now))
         (request_of schema.now (view file.now)) result }
     ensures valid { IfOk result (IsValid schema.now) }
 {

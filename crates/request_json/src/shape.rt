@@ -3,46 +3,15 @@ ghost use Rattle.std.specs.Prelude.{◌≡◌, ◌==◌, [], IfOk, codes, length
 ghost use Rattle.serde_json.specs.Find.{get};
 ghost use Rattle.serde_json.specs.View.{members_view, view};
 ghost use Rattle.json_shapes.specs.Json.{pairs_in, pairs_of};
-ghost use Rattle.json_shapes.specs.Shapes.{is_string, is_there_and, texts, where_there};
-ghost use Rattle.request_schema.specs.SchemaHeads.{has_strings, is_object_of};
+ghost use Rattle.json_shapes.specs.Shapes.{is_string, is_there_and, where_there};
 ghost use Rattle.request_json.specs.RequestShapes.{are_apart, has_form, has_words, have_values, is_context, is_one_id, is_request, names_of};
 
-use json_shapes::{are_strings, is_among, members};
+use json_shapes::{are_strings, has_strings, is_object_of, members};
 use plain_lists::NoMemory;
 use serde_json::{Map, Value};
 use std::alloc::Global;
 use text_table::Table;
 use wildcard_lang::Text;
-
-// Whether the value is an object whose names are among these.
-fn is_object_of(names: &[&str], value: &Value) -> bool
-    ensures { result ≡ is_object_of (texts names.now) (view value.now) }
-{
-    let Some(members) = value.as_object() else {
-        return false;
-    };
-    for (name, _) in members {
-        if !is_among(names, name.as_str()) {
-            return false;
-        }
-    }
-    true
-}
-
-// Whether the value's members are strings.
-fn has_strings(value: &Value) -> bool
-    ensures { result ≡ has_strings (view value.now) }
-{
-    let Some(members) = value.as_object() else {
-        return true;
-    };
-    for (_, member) in members {
-        if !member.is_string() {
-            return false;
-        }
-    }
-    true
-}
 
 // Whether the value is an object with one member.
 fn has_one_member(value: &Value) -> bool

@@ -3,10 +3,10 @@ ghost use Rattle.std.specs.Prelude.{◌≡◌, IfOk, IsTrue, OnOk};
 ghost use Rattle.serde_json.specs.View.{members_view, view};
 ghost use Rattle.json_shapes.specs.Json.{pairs_of};
 ghost use Rattle.policy_model.specs.Requests.{IsWord, WordsAreValid};
-ghost use Rattle.request_json.specs.RequestChecks.{IsPieceRead};
 ghost use Rattle.request_json.specs.RequestFiles.{first_pair, is_word, principal_named, request_with, word_at, word_checks_of};
 ghost use Rattle.request_json.specs.RequestKeys.{fits_shape};
 ghost use Rattle.request_json.specs.RequestShapes.{kind_of_name};
+ghost use Rattle.json_shapes.specs.Checks.{IsReadOf};
 
 use crate::fault::{RequestAnswer, RequestCode, require};
 use crate::keys::string_in;
@@ -104,7 +104,7 @@ pub(crate) fn check_words(
     shapes: &Shapes,
     request: &Request,
 ) -> Result<(), RequestAnswer>
-    ensures read { IsPieceRead (word_checks_of shapes.now request.now) tt result }
+    ensures read { IsReadOf (word_checks_of shapes.now request.now) tt result }
     ensures valid { OnOk result (WordsAreValid shapes.now request.now) }
 {
     let id = is_word(shape_of(shapes, request.kind), &request.id);

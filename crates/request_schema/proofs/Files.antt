@@ -12,8 +12,8 @@ use Rattle.request_schema.specs.SchemaFiles.{keys_in, schema_of}
 use Rattle.request_schema.specs.SchemaHeads.{is_second}
 use Rattle.request_schema.specs.SchemaRules.{keys_checks, rules_of}
 use Rattle.request_schema.specs.SchemaWords.{shapes_in}
-use Rattle.request_schema.specs.declared.schema_fault.SchemaAnswer.{SchemaAnswer}
-use Rattle.request_schema.proofs.Steps.{Refuses}
+use Rattle.request_schema.specs.SchemaChecks.{SchemaAnswer}
+use Rattle.json_shapes.proofs.Laws.{Refuses}
 
 refuse : (b c : Bool) (d : Data) (e : SchemaAnswer) → b ≡ c → Refuses (keys_checks b [] (keys_in d)) e → Refuses (keys_checks c [] (keys_in d)) e
 refuse b c d e same is = subst (λ (x : Bool). Refuses (keys_checks x [] (keys_in d)) e) same is

@@ -11,4 +11,3 @@ mod OfSets
 mod Passing
 mod Putting
 mod RuleSound
-mod Steps

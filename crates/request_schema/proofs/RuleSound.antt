@@ -6,7 +6,7 @@ use Rattle.wildcard_lang.specs.declared.piece.Piece.{Piece}
 use Rattle.wildcard_lang.specs.Patterns.{IsPattern}
 use Rattle.json_shapes.specs.Checks.{first_fault}
 use Rattle.json_shapes.specs.Json.{has_name, values_in}
-use Rattle.json_shapes.specs.Shapes.{is_string, where_there}
+use Rattle.json_shapes.specs.Shapes.{is_string, where_there, is_object_of}
 use Rattle.policy_model.specs.declared.value.Kind.{Kind}
 use Rattle.policy_model.specs.declared.value.Kind.TheVariants as kind
 use Rattle.policy_model.specs.declared.value.Value.{Value}
@@ -14,10 +14,10 @@ use Rattle.policy_model.specs.declared.schema.KeyRule.{KeyRule}
 use Rattle.policy_model.specs.Requests.{IsOfKind}
 use Rattle.policy_model.specs.Soundness.{IsShortValue, ListIsSound, RuleIsSound, ShapeIsSound}
 use Rattle.request_schema.specs.declared.schema_fault.SchemaCode.TheVariants.{S2Shape, S3UnknownKind, S4KeyTwice, S7EmptyValues, S9Limit}
-use Rattle.request_schema.specs.SchemaHeads.{is_object_of}
 use Rattle.request_schema.specs.SchemaRules.{among_of, are_few, rule_form_checks, has_kind, has_limits, is_list_of_strings, is_rule, is_some_list, is_text_kind, kind_in, kind_of_rule, listed_checks, listed_in, rule_names, shape_in, shape_pieces, string_in, values_of_kind}
 use Rattle.request_schema.proofs.Listed.{and-both, few-short, some-values}
-use Rattle.request_schema.proofs.Steps.{passes_four, passes_two}
+use Rattle.json_shapes.proofs.Laws.{passes_four, passes_two}
+use Rattle.request_schema.specs.SchemaChecks.{schema_check}
 
 listed-sound : (k : Kind) (listed : Option (List (List ℕ))) (among : Option (List Value)) (rule : KeyRule) → where_there is_some_list listed ≡ true → where_there (are_few k) listed ≡ true
     → among ≡ option_map (values_of_kind k) listed → IfSome among (All (IsOfKind k)) → rule.kind ≡ k → ListIsSound among rule
@@ -49,11 +49,11 @@ pub rule-sound : (second twice many required : Bool) (key : List ℕ × Data) (k
 rule-sound second twice many required key k among shape form same listed shape_is pattern among_is of_kind =
     let d = key.1 in
     let rule : KeyRule = record { kind = k; many = many; required = required; among = among; shape = shape } in
-    let checks = passes_four (is_rule second d) (is_some (kind_in d)) (not (has_name (codes "Shape") d) || is_text_kind (kind_of_rule d)) (not twice) S2Shape S3UnknownKind S2Shape S4KeyTwice key.0 form in
+    let checks = passes_four (schema_check (is_rule second d) S2Shape key.0) (schema_check (is_some (kind_in d)) S3UnknownKind key.0) (schema_check (not (has_name (codes "Shape") d) || is_text_kind (kind_of_rule d)) S2Shape key.0) (schema_check (not twice) S4KeyTwice key.0) form in
     let limits = and-both (has_kind d) (has_limits d) (and-both (is_object_of (rule_names second) d) (has_kind d && has_limits d) checks.0).1 in
     let apart = and-both (where_there is_string (get (codes "Shape") d)) (not (has_name (codes "Values") d && has_name (codes "Shape") d)) (and-both (where_there is_list_of_strings (get (codes "Values") d)) (where_there is_string (get (codes "Shape") d) && not (has_name (codes "Values") d && has_name (codes "Shape") d)) limits.1).1 in
     let text = subst (λ (l : Kind). (not (has_name (codes "Shape") d) || is_text_kind l) ≡ true) (sym same) checks.2 in
-    let some = passes_two (where_there is_some_list (listed_in d)) (where_there (are_few k) (listed_in d)) S7EmptyValues S9Limit key.0 listed in
+    let some = passes_two (schema_check (where_there is_some_list (listed_in d)) S7EmptyValues key.0) (schema_check (where_there (are_few k) (listed_in d)) S9Limit key.0) listed in
     record {
       listed = listed-sound k (listed_in d) among rule some.0 some.1 among_is of_kind refl;
       shape = shape-sound k (get (codes "Values") d) (get (codes "Shape") d) among shape rule apart.1 text shape_is pattern among_is refl refl;

@@ -7,14 +7,13 @@ use Rattle.policy_model.specs.declared.schema.Schema.{Schema}
 use Rattle.json_shapes.specs.Checks.{first_fault}
 use Rattle.json_shapes.specs.Json.{json_of, pairs_in}
 use Rattle.request_schema.specs.BuiltIn.{built_in_rules, with_rules}
-use Rattle.request_schema.specs.SchemaChecks.{SchemaCheck, schema_fault}
+use Rattle.request_schema.specs.SchemaChecks.{SchemaCheck, schema_fault, SchemaAnswer}
 use Rattle.request_schema.specs.SchemaHeads.{file_checks, is_second, word_names}
 use Rattle.request_schema.specs.SchemaRules.{keys_checks, rules_of}
 use Rattle.request_schema.specs.SchemaWords.{shapes_in, word_checks}
 use Rattle.request_schema.specs.declared.schema_fault.SchemaCode.TheVariants.{S1NotJson}
 use Rattle.request_schema.specs.declared.schema_fault.SchemaFault.{SchemaFault}
-use Rattle.request_schema.specs.declared.schema_fault.SchemaAnswer.{SchemaAnswer}
-use Rattle.request_schema.specs.declared.schema_fault.SchemaAnswer.TheVariants.{Refused, NoMemory}
+use Rattle.json_shapes.specs.declared.read_error.ReadError.TheVariants.{Refused, NoMemory}
 
 -- the keys of a file as written, in the order of their names
 abbrev pub keys_in : Data → List (List ℕ × Data)

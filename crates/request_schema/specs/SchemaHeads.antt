@@ -1,10 +1,8 @@
 -- Schema files as wholes, in two versions: this project's own form.
 use Rattle.std.specs.Prelude.{ℕ, List, [], ◌∷◌, Bool, ◌&&◌, ◌||◌, ◌==◌, option_and_then, codes, if◌then◌else◌}
-use Rattle.std.specs.List.{list_all}
 use Rattle.serde_json.specs.Data.{Data}
 use Rattle.serde_json.specs.Find.{as_number, as_u64, get}
-use Rattle.json_shapes.specs.Json.{pairs_in}
-use Rattle.json_shapes.specs.Shapes.{is_among, is_object, is_string, is_there_and, where_there}
+use Rattle.json_shapes.specs.Shapes.{has_strings, is_object, is_object_of, is_there_and, where_there}
 use Rattle.request_schema.specs.declared.schema_fault.SchemaCode.TheVariants.{S2Shape}
 use Rattle.request_schema.specs.SchemaChecks.{SchemaCheck, schema_check}
 
@@ -28,14 +26,6 @@ file_names second =
 abbrev pub word_names : List (List ℕ)
 word_names =
     codes "AWS" ∷ codes "Action" ∷ codes "CanonicalUser" ∷ codes "Federated" ∷ codes "Resource" ∷ codes "Service" ∷ []
-
--- the value is an object whose names are among these
-abbrev pub is_object_of : List (List ℕ) → Data → Bool
-is_object_of names d = is_object d && list_all (λ pair. is_among names pair.0) (pairs_in d)
-
--- the value's members are strings
-abbrev pub has_strings : Data → Bool
-has_strings d = list_all (λ pair. is_string pair.1) (pairs_in d)
 
 -- the shapes of words: an object of known names, each with a string
 abbrev pub are_word_shapes : Data → Bool

@@ -15,10 +15,9 @@ use Rattle.policy_model.specs.declared.value.Value.TheVariants.{Word}
 use Rattle.policy_model.specs.declared.schema.KeyRule.{KeyRule}
 use Rattle.serde_json.specs.declared.value.Value.{Value as JsonValue}
 use Rattle.json_shapes.specs.Json.{has_name, values_in, views}
-use Rattle.json_shapes.specs.Shapes.{is_list, is_string, is_there_and, where_there}
+use Rattle.json_shapes.specs.Shapes.{is_list, is_string, is_there_and, where_there, is_object_of}
 use Rattle.request_schema.specs.BuiltIn.{NamedRule, folded_name, is_key}
 use Rattle.request_schema.specs.SchemaChecks.{SchemaCheck, schema_check}
-use Rattle.request_schema.specs.SchemaHeads.{is_object_of}
 use Rattle.request_schema.specs.ValueTexts.{value_written}
 use Rattle.request_schema.specs.declared.schema_fault.SchemaCode.TheVariants.{S2Shape, S3UnknownKind, S4KeyTwice, S7EmptyValues, S8BadValue, S9Limit}
 use Rattle.request_schema.specs.declared.rules.TheConstants.{MOST_VALUES}

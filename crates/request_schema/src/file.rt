@@ -5,10 +5,10 @@ ghost use Rattle.json_shapes.specs.Json.{pairs_of};
 ghost use Rattle.text_table.specs.Table.{with_item};
 ghost use Rattle.policy_model.specs.Soundness.{RuleIsSound, SchemaIsSound};
 ghost use Rattle.request_schema.specs.BuiltIn.{RulesAreSound, built_in_rules, folded_name, with_rules};
-ghost use Rattle.request_schema.specs.SchemaChecks.{IsPartRead};
 ghost use Rattle.request_schema.specs.SchemaHeads.{is_second};
 ghost use Rattle.request_schema.specs.SchemaFiles.{IsSchemaFrom, keys_in, schema_checks, schema_of};
 ghost use Rattle.request_schema.specs.SchemaRules.{is_noted, keys_checks, rule_checks, rule_of, rules_of};
+ghost use Rattle.json_shapes.specs.Checks.{IsReadOf};
 
 use crate::global_keys::built_in_rules;
 use crate::head::{check_file, is_second};
@@ -31,7 +31,7 @@ fn add_rule(
     seen: &mut Table<()>,
     rules: &mut KeyRules,
 ) -> Result<(), SchemaAnswer>
-    ensures read { IsPartRead
+    ensures read { IsReadOf
         (rule_checks second (is_noted seen.old name.now) (name.now, view rule.now)) tt result }
     ensures noted { OnOk result (seen.new ≡ with_item seen.old (folded_name name.now) tt) }
     ensures added { OnOk result (rules.new ≡
@@ -52,7 +52,7 @@ fn read_rules(
     second: bool,
     keys: &Map<String, Value>,
 ) -> Result<KeyRules, SchemaAnswer>
-    ensures read { IsPartRead (keys_checks second [] (pairs_of (members_view keys.now.entries)))
+    ensures read { IsReadOf (keys_checks second [] (pairs_of (members_view keys.now.entries)))
         (with_rules built_in_rules (rules_of (pairs_of (members_view keys.now.entries)))) result }
     ensures sound { IfOk result RulesAreSound }
 {
@@ -66,7 +66,7 @@ fn read_rules(
 
 // The rules of the keys that a file has, and of the built-in ones.
 fn read_keys(alloc: Global, second: bool, file: &Value) -> Result<KeyRules, SchemaAnswer>
-    ensures read { IsPartRead (keys_checks second [] (keys_in (view file.now)))
+    ensures read { IsReadOf (keys_checks second [] (keys_in (view file.now)))
         (with_rules built_in_rules (rules_of (keys_in (view file.now)))) result }
     ensures sound { IfOk result RulesAreSound }
 {
@@ -85,7 +85,7 @@ fn version_number(second: bool) -> u32
 
 // The schema of a file that is JSON.
 fn read_file(alloc: Global, file: &Value) -> Result<Schema, SchemaAnswer>
-    ensures read { IsPartRead (schema_checks (view file.now)) (schema_of (view file.now)) result }
+    ensures read { IsReadOf (schema_checks (view file.now)) (schema_of (view file.now)) result }
     ensures sound { IfOk result SchemaIsSound }
 {
     check_file(alloc, file)?;

@@ -2,13 +2,13 @@
 ghost use Rattle.std.specs.Prelude.{◌≡◌, codes};
 ghost use Rattle.serde_json.specs.Find.{get};
 ghost use Rattle.serde_json.specs.View.{view};
-ghost use Rattle.json_shapes.specs.Shapes.{is_object, is_there_and, where_there};
-ghost use Rattle.request_schema.specs.SchemaChecks.{IsPartRead};
-ghost use Rattle.request_schema.specs.SchemaHeads.{are_word_shapes, file_checks, file_names, is_object_of, is_schema_version, is_second, word_names};
+ghost use Rattle.json_shapes.specs.Shapes.{is_object, is_there_and, where_there, is_object_of};
+ghost use Rattle.request_schema.specs.SchemaHeads.{are_word_shapes, file_checks, file_names, is_schema_version, is_second, word_names};
+ghost use Rattle.json_shapes.specs.Checks.{IsReadOf};
 
-use crate::requirement::{has_strings, is_object_of, is_whole, require};
+use crate::requirement::{is_whole, require};
 use crate::schema_fault::{SchemaAnswer, SchemaCode};
-use json_shapes::is_object;
+use json_shapes::{has_strings, is_object, is_object_of};
 use serde_json::Value;
 use std::alloc::Global;
 
@@ -80,7 +80,7 @@ fn has_word_shapes(file: &Value) -> bool
 
 /// All that is checked of a file before its keys.
 pub(crate) fn check_file(alloc: Global, file: &Value) -> Result<(), SchemaAnswer>
-    ensures { IsPartRead (file_checks (view file.now)) tt result }
+    ensures { IsReadOf (file_checks (view file.now)) tt result }
 {
     require(alloc, has_names(file), SchemaCode::S2Shape, "")?;
     require(alloc, has_version(file), SchemaCode::S2Shape, "")?;

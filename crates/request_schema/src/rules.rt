@@ -3,19 +3,19 @@ ghost use Rattle.std.specs.Prelude.{◌≡◌, [], ◌∷◌, All, IfOk, IfSome,
 ghost use Rattle.std.specs.List.{list_all};
 ghost use Rattle.serde_json.specs.Find.{get};
 ghost use Rattle.serde_json.specs.View.{view};
-ghost use Rattle.json_shapes.specs.Shapes.{is_string, is_there_and, where_there};
+ghost use Rattle.json_shapes.specs.Shapes.{is_string, is_there_and, where_there, is_object_of};
 ghost use Rattle.policy_model.specs.Requests.{IsOfKind};
 ghost use Rattle.policy_model.specs.Soundness.{RuleIsSound};
 ghost use Rattle.wildcard_lang.specs.Patterns.{IsPattern};
-ghost use Rattle.request_schema.specs.SchemaChecks.{IsPartRead, schema_check};
-ghost use Rattle.request_schema.specs.SchemaHeads.{is_object_of};
+ghost use Rattle.request_schema.specs.SchemaChecks.{schema_check};
 ghost use Rattle.request_schema.specs.SchemaRules.{among_of, are_few, are_of_kind, rule_form_checks, has_kind, has_limits, is_list_of_strings, is_rule, is_short, is_some_list, is_text_kind, is_truth, kind_in, kind_named, kind_of_rule, listed_checks, listed_in, rule_checks, rule_names, rule_of, shape_checks, shape_in, shape_pieces, string_at, string_in, strings_of, truth_at, value_kind_checks, values_of_kind};
 ghost use Rattle.request_schema.specs.declared.schema_fault.SchemaCode.TheVariants.{S8BadValue, S9Limit};
+ghost use Rattle.json_shapes.specs.Checks.{IsReadOf};
 
-use crate::requirement::{is_object_of, require};
+use crate::requirement::require;
 use crate::schema_fault::{SchemaAnswer, SchemaCode, refusal};
 use crate::value_text::value_written;
-use json_shapes::{are_strings, has, is_absent_or_string, is_list, values_in};
+use json_shapes::{are_strings, has, is_absent_or_string, is_list, is_object_of, values_in};
 use policy_model::{KeyRule, Kind, List, ValueList};
 use serde_json::Value;
 use std::alloc::Global;
@@ -207,7 +207,7 @@ fn read_kind(
     name: &str,
     rule: &Value,
 ) -> Result<Kind, SchemaAnswer>
-    ensures { IsPartRead (rule_form_checks second twice (name.now, view rule.now))
+    ensures { IsReadOf (rule_form_checks second twice (name.now, view rule.now))
         (kind_of_rule (view rule.now)) result }
 {
     require(alloc, is_rule(second, rule), SchemaCode::S2Shape, name)?;
@@ -222,7 +222,7 @@ fn read_kind(
 
 // Values of a key, where they are listed, are some and few.
 fn check_listed(alloc: Global, name: &str, kind: Kind, rule: &Value) -> Result<(), SchemaAnswer>
-    ensures { IsPartRead (listed_checks kind (name.now, view rule.now)) tt result }
+    ensures { IsReadOf (listed_checks kind (name.now, view rule.now)) tt result }
 {
     require(alloc, is_some_listed(rule), SchemaCode::S7EmptyValues, name)?;
     require(alloc, are_few_listed(kind, rule), SchemaCode::S9Limit, name)
@@ -235,7 +235,7 @@ pub(crate) fn read_pattern(
     fold: bool,
     text: &str,
 ) -> Result<Pattern, SchemaAnswer>
-    ensures read { IsPartRead (schema_check (is_short text.now) S9Limit name.now ∷ [])
+    ensures read { IsReadOf (schema_check (is_short text.now) S9Limit name.now ∷ [])
         (shape_pieces fold text.now) result }
     ensures pattern { IfOk result IsPattern }
 {
@@ -248,7 +248,7 @@ pub(crate) fn read_pattern(
 
 // The shape of a key, where one is given.
 fn read_shape(alloc: Global, name: &str, rule: &Value) -> Result<Option<Pattern>, SchemaAnswer>
-    ensures read { IsPartRead (shape_checks (name.now, view rule.now))
+    ensures read { IsReadOf (shape_checks (name.now, view rule.now))
         (shape_in (view rule.now)) result }
     ensures pattern { IfOk result (λ shape. IfSome shape IsPattern) }
 {
@@ -266,7 +266,7 @@ fn read_each(
     kind: Kind,
     values: &[Value],
 ) -> Result<ValueList, SchemaAnswer>
-    ensures read { IsPartRead
+    ensures read { IsReadOf
         (schema_check (are_of_kind kind (strings_of values.now)) S8BadValue name.now ∷ [])
         (values_of_kind kind (strings_of values.now)) result }
     ensures kind { IfOk result (All (IsOfKind kind)) }
@@ -288,7 +288,7 @@ fn read_values(
     kind: Kind,
     rule: &Value,
 ) -> Result<Option<ValueList>, SchemaAnswer>
-    ensures read { IsPartRead (value_kind_checks kind (name.now, view rule.now))
+    ensures read { IsReadOf (value_kind_checks kind (name.now, view rule.now))
         (among_of kind (view rule.now)) result }
     ensures kind { IfOk result (λ among. IfSome among (All (IsOfKind kind))) }
 {
@@ -307,7 +307,7 @@ pub(crate) fn read_rule(
     name: &str,
     rule: &Value,
 ) -> Result<KeyRule, SchemaAnswer>
-    ensures read { IsPartRead (rule_checks second twice (name.now, view rule.now))
+    ensures read { IsReadOf (rule_checks second twice (name.now, view rule.now))
         (rule_of (view rule.now)) result }
     ensures sound { IfOk result RuleIsSound }
 {

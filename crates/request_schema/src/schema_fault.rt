@@ -1,9 +1,10 @@
 //! Why a schema file is refused.
 ghost use Rattle.std.specs.Prelude.{◌≡◌};
-ghost use Rattle.request_schema.specs.SchemaChecks.{IsSchemaRefusal, schema_fault};
-ghost use Rattle.request_schema.specs.declared.schema_fault.SchemaAnswer.TheVariants.{NoMemory};
+ghost use Rattle.request_schema.specs.SchemaChecks.{schema_fault};
+ghost use Rattle.json_shapes.specs.Checks.{IsRefusal};
 
-use std::alloc::{AllocError, Global};
+use json_shapes::ReadError;
+use std::alloc::Global;
 use wildcard_lang::Text;
 
 /// What is wrong with a schema file.
@@ -37,25 +38,12 @@ pub struct SchemaFault {
     pub element: Text,
 }
 
-/// What stands instead of a schema.
-#[derive(Drop)]
-pub enum SchemaAnswer {
-    /// The file's first fault.
-    Refused(SchemaFault),
-    NoMemory,
-}
-
-impl From<AllocError> for SchemaAnswer {
-    ghost from_gives = { λ _ e. e ≡ NoMemory };
-
-    fn from(_: AllocError) -> Self {
-        SchemaAnswer::NoMemory
-    }
-}
+/// What stands instead of a schema: the file's first fault, or want of memory.
+pub type SchemaAnswer = ReadError<SchemaFault>;
 
 /// The fault of this code at the name, or want of memory.
 pub(crate) fn refusal(alloc: Global, code: SchemaCode, name: &str) -> SchemaAnswer
-    ensures { IsSchemaRefusal (schema_fault code name.now) result }
+    ensures { IsRefusal (schema_fault code name.now) result }
 {
     match Text::of(alloc, name) {
         Err(_) => SchemaAnswer::NoMemory,

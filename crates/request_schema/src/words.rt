@@ -4,9 +4,9 @@ ghost use Rattle.std.specs.List.{flat_map};
 ghost use Rattle.std.specs.Str.{chars};
 ghost use Rattle.serde_json.specs.View.{view};
 ghost use Rattle.policy_model.specs.Soundness.{ShapesAreSound, WordShapeIsSound};
-ghost use Rattle.request_schema.specs.SchemaChecks.{IsPartRead};
 ghost use Rattle.request_schema.specs.SchemaHeads.{word_names};
 ghost use Rattle.request_schema.specs.SchemaWords.{shapes_in, word_checks, word_shape, word_text};
+ghost use Rattle.json_shapes.specs.Checks.{IsReadOf};
 
 use crate::requirement::require;
 use crate::rules::{read_pattern, string_at};
@@ -40,7 +40,7 @@ fn read_word(
     fold: bool,
     name: &str,
 ) -> Result<Option<Pattern>, SchemaAnswer>
-    ensures read { IsPartRead (word_checks (view file.now) name.now)
+    ensures read { IsReadOf (word_checks (view file.now) name.now)
         (word_shape fold name.now (view file.now)) result }
     ensures sound { IfOk result WordShapeIsSound }
 {
@@ -54,7 +54,7 @@ fn read_word(
 
 /// The shapes of words, which are read in the order of the words' names.
 pub(crate) fn read_words(alloc: Global, file: &Value) -> Result<Shapes, SchemaAnswer>
-    ensures read { IsPartRead (flat_map (word_checks (view file.now)) word_names)
+    ensures read { IsReadOf (flat_map (word_checks (view file.now)) word_names)
         (shapes_in (view file.now)) result }
     ensures sound { IfOk result ShapesAreSound }
 {

@@ -9,24 +9,24 @@ use Rattle.json_shapes.specs.Checks.{first_fault}
 use Rattle.json_shapes.proofs.Laws.{first_fault-rest}
 use Rattle.trust_zones.specs.declared.list.ZoneList.{ZoneList}
 use Rattle.trust_zones.specs.declared.list.ZoneList.TheVariants.{Accounts, Blocks, Organizations, Vpcs}
+use Rattle.trust_zones.specs.ZoneChecks.{ZoneCheck}
 use Rattle.trust_zones.specs.ZoneFiles.{list_checks_in, members_of, texts_of, zone_checks, zone_form_checks, zone_of}
-use Rattle.trust_zones.proofs.Steps.{Checks}
 
 module _ (schema : Schema) (d : Data) where
-  abbrev of : ZoneList → Checks
+  abbrev of : ZoneList → List ZoneCheck
   of l = list_checks_in schema d l
 
-  abbrev first : Checks → Type 0
+  abbrev first : List ZoneCheck → Type 0
   first rest = first_fault (zone_checks schema d) ≡ first_fault rest
 
   -- what stands behind the accounts, the blocks and the organisations
-  abbrev pub other-lists : Checks
+  abbrev pub other-lists : List ZoneCheck
   other-lists = of Blocks ++ (of Organizations ++ (of Vpcs ++ []))
 
-  abbrev pub text-lists : Checks
+  abbrev pub text-lists : List ZoneCheck
   text-lists = of Organizations ++ (of Vpcs ++ [])
 
-  abbrev pub last-list : Checks
+  abbrev pub last-list : List ZoneCheck
   last-list = of Vpcs ++ []
 
   pub behind-form : first_fault (zone_form_checks d) ≡ None → first (of Accounts ++ other-lists)

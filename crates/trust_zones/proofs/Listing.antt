@@ -18,13 +18,12 @@ use Rattle.policy_model.specs.declared.schema.Schema.{Schema}
 use Rattle.policy_model.specs.declared.value.Kind.{Kind}
 use Rattle.policy_model.specs.declared.value.Kind.TheVariants as kind
 use Rattle.policy_model.specs.Soundness.{IsAccount}
-use Rattle.json_shapes.specs.Checks.{Check, first_fault}
+use Rattle.json_shapes.specs.Checks.{Check, first_fault, IsReadOf}
 use Rattle.json_shapes.specs.Shapes.{is_there_and, where_there}
-use Rattle.trust_zones.specs.ZoneChecks.{IsZonePart, ZoneCheck, zone_check}
+use Rattle.trust_zones.specs.ZoneChecks.{ZoneCheck, zone_check, ZoneAnswer}
 use Rattle.trust_zones.specs.ZoneFiles.{has_form_of, has_single_key, is_account_number, is_same_kind, is_short_name, is_single_of, is_zone_file, key_of, list_checks_in, list_name, members_of, texts_of, zone_checks, zone_list_checks, zone_of}
 use Rattle.trust_zones.specs.ZoneKeys.{HasSingleKey, IsSingleOf, address_name, key_named, organization_name, vpc_name}
 use Rattle.trust_zones.specs.Zones.{TakesZone, ZoneIsSound}
-use Rattle.trust_zones.specs.declared.fault.ZoneAnswer.{ZoneAnswer}
 use Rattle.trust_zones.specs.declared.fault.ZoneCode.TheVariants.{Z2Shape, Z3BadValue, Z4KeyKind, Z5Limit}
 use Rattle.trust_zones.specs.declared.list.TheConstants.{MOST_LISTED}
 use Rattle.trust_zones.specs.declared.list.ZoneList.{ZoneList}
@@ -150,10 +149,10 @@ zone-passed schema d e =
       };
     }
 
-pub takes-of : (schema : Schema) (d : Data) (result : Result Zone ZoneAnswer) → IsZonePart (zone_checks schema d) (zone_of d) result → IfOk result (TakesZone schema)
+pub takes-of : (schema : Schema) (d : Data) (result : Result Zone ZoneAnswer) → IsReadOf (zone_checks schema d) (zone_of d) result → IfOk result (TakesZone schema)
 takes-of schema d (Ok zone) is = subst (TakesZone schema) (sym is.1) (zone-passed schema d is.0).takes
 takes-of schema d (Err e) is = tt
 
-pub sound-of : (schema : Schema) (d : Data) (result : Result Zone ZoneAnswer) → IsZonePart (zone_checks schema d) (zone_of d) result → IfOk result ZoneIsSound
+pub sound-of : (schema : Schema) (d : Data) (result : Result Zone ZoneAnswer) → IsReadOf (zone_checks schema d) (zone_of d) result → IfOk result ZoneIsSound
 sound-of schema d (Ok zone) is = subst ZoneIsSound (sym is.1) (zone-passed schema d is.0).sound
 sound-of schema d (Err e) is = tt

@@ -17,16 +17,15 @@ use Rattle.json_shapes.specs.Checks.{first_fault}
 use Rattle.serde_json.specs.declared.value.Value.{Value as JsonValue}
 use Rattle.json_shapes.specs.Json.{json_of, list_under, pairs_in, values_in, views}
 use Rattle.json_shapes.specs.Shapes.{is_among, is_list, is_object, is_string, is_there_and, where_there}
-use Rattle.trust_zones.specs.ZoneChecks.{ZoneCheck, zone_check, zone_fault}
+use Rattle.trust_zones.specs.ZoneChecks.{ZoneCheck, zone_check, zone_fault, ZoneAnswer}
 use Rattle.trust_zones.specs.ZoneKeys.{address_name, key_named, organization_name, vpc_name}
 use Rattle.trust_zones.specs.declared.fault.ZoneCode.TheVariants.{Z1NotJson, Z2Shape, Z3BadValue, Z4KeyKind, Z5Limit}
 use Rattle.trust_zones.specs.declared.fault.ZoneFault.{ZoneFault}
-use Rattle.trust_zones.specs.declared.fault.ZoneAnswer.{ZoneAnswer}
-use Rattle.trust_zones.specs.declared.fault.ZoneAnswer.TheVariants.{Refused, NoMemory}
 use Rattle.trust_zones.specs.declared.list.ZoneList.{ZoneList}
 use Rattle.trust_zones.specs.declared.list.ZoneList.TheVariants.{Accounts, Blocks, Organizations, Vpcs}
 use Rattle.trust_zones.specs.declared.list.TheConstants.{MOST_LISTED}
 use Rattle.trust_zones.specs.declared.zone.Zone.{Zone}
+use Rattle.json_shapes.specs.declared.read_error.ReadError.TheVariants.{Refused, NoMemory}
 
 -- ---- the four lists
 

@@ -1,9 +1,10 @@
 //! Why a zone file is refused.
 ghost use Rattle.std.specs.Prelude.{◌≡◌};
-ghost use Rattle.trust_zones.specs.ZoneChecks.{IsZoneRefusal, zone_fault};
-ghost use Rattle.trust_zones.specs.declared.fault.ZoneAnswer.TheVariants.{NoMemory};
+ghost use Rattle.trust_zones.specs.ZoneChecks.{zone_fault};
+ghost use Rattle.json_shapes.specs.Checks.{IsRefusal};
 
-use std::alloc::{AllocError, Global};
+use json_shapes::ReadError;
+use std::alloc::Global;
 use wildcard_lang::Text;
 
 /// What is wrong with a zone file.
@@ -31,25 +32,12 @@ pub struct ZoneFault {
     pub element: Text,
 }
 
-/// What stands instead of a zone.
-#[derive(Drop)]
-pub enum ZoneAnswer {
-    /// The file's first fault.
-    Refused(ZoneFault),
-    NoMemory,
-}
-
-impl From<AllocError> for ZoneAnswer {
-    ghost from_gives = { λ _ e. e ≡ NoMemory };
-
-    fn from(_: AllocError) -> Self {
-        ZoneAnswer::NoMemory
-    }
-}
+/// What stands instead of a zone: the file's first fault, or want of memory.
+pub type ZoneAnswer = ReadError<ZoneFault>;
 
 /// The fault of this code at the name, or want of memory.
 pub(crate) fn refusal(alloc: Global, code: ZoneCode, name: &str) -> ZoneAnswer
-    ensures { IsZoneRefusal (zone_fault code name.now) result }
+    ensures { IsRefusal (zone_fault code name.now) result }
 {
     match Text::of(alloc, name) {
         Err(_) => ZoneAnswer::NoMemory,

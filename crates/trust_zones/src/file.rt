@@ -7,10 +7,11 @@ ghost use Rattle.serde_json.specs.View.{view, members_view};
 ghost use Rattle.cidr_bits.specs.Readings.{block_spelled};
 ghost use Rattle.json_shapes.specs.Json.{pairs_of, views};
 ghost use Rattle.json_shapes.specs.Shapes.{where_there};
-ghost use Rattle.trust_zones.specs.ZoneChecks.{IsZonePart, zone_check};
+ghost use Rattle.trust_zones.specs.ZoneChecks.{zone_check};
 ghost use Rattle.trust_zones.specs.ZoneFiles.{IsZoneFrom, has_form_of, has_single_key, is_same_kind, is_single_of, is_string_list, is_zone_file, is_zone_member, zone_key_checks, key_of, list_checks_in, members_of, string_of, strings_in, texts_of, zone_checks, zone_form_checks, zone_list_checks, zone_of};
 ghost use Rattle.trust_zones.specs.declared.list.ZoneList.TheVariants as list_of;
 ghost use Rattle.trust_zones.specs.Zones.{TakesZone, ZoneIsSound};
+ghost use Rattle.json_shapes.specs.Checks.{IsReadOf};
 
 use crate::fault::{ZoneAnswer, ZoneCode, refusal};
 use crate::keys::key_named;
@@ -57,7 +58,7 @@ fn is_zone_file(file: &Value) -> bool
 
 // The file is of this form.
 fn check_form(alloc: Global, file: &Value) -> Result<(), ZoneAnswer>
-    ensures { IsZonePart (zone_form_checks (view file.now)) tt result }
+    ensures { IsReadOf (zone_form_checks (view file.now)) tt result }
 {
     require(alloc, is_zone_file(file), ZoneCode::Z2Shape, "")
 }
@@ -116,7 +117,7 @@ fn check_key(
     list: ZoneList,
     values: &[Value],
 ) -> Result<(), ZoneAnswer>
-    ensures { IsZonePart (zone_key_checks schema.now list (strings_in values.now)) tt result }
+    ensures { IsReadOf (zone_key_checks schema.now list (strings_in values.now)) tt result }
 {
     if values.is_empty() {
         return Ok(());
@@ -132,7 +133,7 @@ fn check_list(
     list: ZoneList,
     values: &[Value],
 ) -> Result<(), ZoneAnswer>
-    ensures { IsZonePart (zone_list_checks schema.now list (strings_in values.now)) tt result }
+    ensures { IsReadOf (zone_list_checks schema.now list (strings_in values.now)) tt result }
 {
     let few = values.len() <= MOST_LISTED;
     require(alloc, few, ZoneCode::Z5Limit, list.name())?;
@@ -172,7 +173,7 @@ fn read_texts(
     list: ZoneList,
     file: &Value,
 ) -> Result<TextList, ZoneAnswer>
-    ensures { IsZonePart (list_checks_in schema.now (view file.now) list)
+    ensures { IsReadOf (list_checks_in schema.now (view file.now) list)
         (texts_of (members_of list (view file.now))) result }
 {
     let values = list_under(file, list.name());
@@ -182,7 +183,7 @@ fn read_texts(
 
 // Reads the list of blocks.
 fn read_blocks(alloc: Global, schema: &Schema, file: &Value) -> Result<BlockList, ZoneAnswer>
-    ensures { IsZonePart (list_checks_in schema.now (view file.now) list_of.Blocks)
+    ensures { IsReadOf (list_checks_in schema.now (view file.now) list_of.Blocks)
         (filter_map block_spelled (members_of list_of.Blocks (view file.now))) result }
 {
     let list = ZoneList::Blocks;
@@ -193,7 +194,7 @@ fn read_blocks(alloc: Global, schema: &Schema, file: &Value) -> Result<BlockList
 
 // The zone of a file that is JSON.
 fn read_file(alloc: Global, schema: &Schema, file: &Value) -> Result<Zone, ZoneAnswer>
-    ensures { IsZonePart (zone_checks schema.now (view file.now)) (zone_of (view file.now)) result }
+    ensures { IsReadOf (zone_checks schema.now (view file.now)) (zone_of (view file.now)) result }
 {
     check_form(alloc, file)?;
     let accounts = read_texts(alloc, schema, ZoneList::Accounts, file)?;

@@ -9,7 +9,7 @@ use policy_model::{Document, PolicySet};
 use std::alloc::Global;
 
 // The set with this document behind its grants.
-fn with_document(alloc: Global, set: &PolicySet, document: Document) -> Result<PolicySet, NoMemory>
+fn with_document(set: &PolicySet, document: Document) -> Result<PolicySet, NoMemory>
     ensures { IfOk result (λ made. made ≡ with_document set.now document) }
 {
     let mut grants = set.grants.copy()?;
@@ -29,6 +29,6 @@ pub fn outside(alloc: Global, set: &PolicySet, zone: &Zone) -> Result<PolicySet,
     ensures fits { IfOk result (KeepsFit set.now zone.now) }
 {
     let document = zone_document(alloc, zone)?;
-    let made = with_document(alloc, set, document)?;
+    let made = with_document(set, document)?;
     Ok(made)
 }

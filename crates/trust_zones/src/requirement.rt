@@ -1,6 +1,7 @@
 //! Single checks of a zone file.
 ghost use Rattle.std.specs.Prelude.{◌≡◌, [], ◌∷◌};
-ghost use Rattle.trust_zones.specs.ZoneChecks.{IsZonePart, zone_check};
+ghost use Rattle.trust_zones.specs.ZoneChecks.{zone_check};
+ghost use Rattle.json_shapes.specs.Checks.{IsReadOf};
 
 use crate::fault::{ZoneAnswer, ZoneCode, refusal};
 use std::alloc::Global;
@@ -12,7 +13,7 @@ pub(crate) fn require(
     code: ZoneCode,
     name: &str,
 ) -> Result<(), ZoneAnswer>
-    ensures { IsZonePart (zone_check passes code name.now ∷ []) tt result }
+    ensures { IsReadOf (zone_check passes code name.now ∷ []) tt result }
 {
     if passes {
         Ok(())

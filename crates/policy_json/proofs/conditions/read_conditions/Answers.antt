@@ -3,10 +3,10 @@ use Rattle.serde_json.specs.Data.{Data}
 use Rattle.serde_json.specs.View.{view}
 use Rattle.policy_model.specs.declared.operator.Condition.{Condition}
 use Rattle.policy_model.specs.Soundness.{ConditionIsSound}
-use Rattle.policy_json.specs.declared.fault.PolicyAnswer.{PolicyAnswer}
 use Rattle.policy_json.specs.declared.location.Location.{Location}
 use Rattle.policy_json.specs.Conditions.{IsConditionElementRead}
 use Rattle.policy_json.proofs.SoundConditions.{conditions_sound}
+use Rattle.policy_json.specs.Checks.{PolicyAnswer}
 use Rattle.policy_json.proofs.conditions.read_conditions.Goals as goal
 
 -- what is read is sound

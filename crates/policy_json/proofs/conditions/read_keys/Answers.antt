@@ -5,9 +5,8 @@ use Rattle.serde_json.specs.View.{view, members_view}
 use Rattle.serde_json.specs.declared.value.Value.{Value}
 use Rattle.policy_model.specs.declared.operator.Condition.{Condition}
 use Rattle.json_shapes.specs.Json.{pairs_of}
-use Rattle.json_shapes.proofs.Laws.{all_read, one_more, pairs_from, refused_next}
+use Rattle.json_shapes.proofs.Laws.{all_read, one_more, pairs_from, refused_next, refused_whole}
 use Rattle.policy_json.specs.Conditions.{condition_of, key_checks}
-use Rattle.policy_json.proofs.Answering.{refused_whole}
 use Rattle.policy_json.proofs.conditions.read_keys.Goals as goal
 
 pub returns-in_err-condition-clause-read : goal.returns-in_err-condition-clause-read

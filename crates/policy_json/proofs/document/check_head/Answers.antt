@@ -1,8 +1,7 @@
 use Rattle.std.proofs.Common.{refl}
 use Rattle.serde_json.specs.View.{view}
 use Rattle.policy_json.specs.Documents.{element_checks, head_checks, object_checks}
-use Rattle.json_shapes.proofs.Laws.{first_fault-rest}
-use Rattle.policy_json.proofs.Steps.{continued, refused}
+use Rattle.json_shapes.proofs.Laws.{first_fault-rest, continued, refused}
 use Rattle.policy_json.proofs.document.check_head.Goals as goal
 
 pub returns-in_err-check_object : goal.returns-in_err-check_object

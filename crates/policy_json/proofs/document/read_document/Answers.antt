@@ -6,8 +6,7 @@ use Rattle.policy_model.specs.declared.set.Statement.{Statement}
 use Rattle.json_shapes.specs.Checks.{first_fault}
 use Rattle.policy_json.specs.Documents.{document_checks, document_of, has_escapes, head_checks, numbered_checks, statements_in}
 use Rattle.policy_json.specs.Statements.{statement_of}
-use Rattle.json_shapes.proofs.Laws.{first_fault-rest}
-use Rattle.policy_json.proofs.Steps.{refused, refused_last}
+use Rattle.json_shapes.proofs.Laws.{first_fault-rest, refused, refused_last}
 use Rattle.policy_json.proofs.document.read_document.Goals as goal
 
 -- behind its head, the document has the checks of its statements

@@ -1,10 +1,9 @@
 use Rattle.std.proofs.Common.{◌+◌, ◌∷◌, [], map, drop, refl, sym, ap, List}
 use Rattle.std.specs.List.{flat_map}
 use Rattle.serde_json.specs.View.{view}
-use Rattle.json_shapes.proofs.Laws.{all_read, from_end, from_here, one_more, refused_next}
+use Rattle.json_shapes.proofs.Laws.{all_read, from_end, from_here, one_more, refused_next, refused_whole}
 use Rattle.policy_model.specs.declared.operator.Operand.{Operand}
 use Rattle.policy_json.specs.Operands.{operand_of, value_checks}
-use Rattle.policy_json.proofs.Answering.{refused_whole}
 use Rattle.policy_json.proofs.operands.read_operands.Goals as goal
 
 pub returns-in_err-operand : goal.returns-in_err-operand

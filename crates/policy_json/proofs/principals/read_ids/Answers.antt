@@ -5,8 +5,7 @@ use Rattle.serde_json.specs.View.{view}
 use Rattle.policy_model.specs.declared.principal.Entry.{Entry}
 use Rattle.policy_json.specs.Principals.{entry_of, id_checks}
 use Rattle.json_shapes.specs.Json.{text_of}
-use Rattle.policy_json.proofs.Answering.{refused_whole}
-use Rattle.json_shapes.proofs.Laws.{all_read, from_end, from_here, one_more, refused_next}
+use Rattle.json_shapes.proofs.Laws.{all_read, from_end, from_here, one_more, refused_next, refused_whole}
 use Rattle.policy_json.proofs.principals.read_ids.Goals as goal
 
 pub returns-in_err-entry-clause-read : goal.returns-in_err-entry-clause-read

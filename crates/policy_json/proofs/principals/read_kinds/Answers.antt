@@ -6,8 +6,7 @@ use Rattle.serde_json.specs.declared.value.Value.{Value}
 use Rattle.policy_model.specs.declared.principal.Entry.{Entry}
 use Rattle.json_shapes.specs.Json.{pairs_of}
 use Rattle.policy_json.specs.Principals.{entries_of_kind, kind_checks}
-use Rattle.policy_json.proofs.Answering.{refused_whole}
-use Rattle.json_shapes.proofs.Laws.{all_read, one_more, refused_next, pairs_from}
+use Rattle.json_shapes.proofs.Laws.{all_read, one_more, refused_next, pairs_from, refused_whole}
 use Rattle.policy_json.proofs.principals.read_kinds.Goals as goal
 
 pub returns-in_err-read_kind : goal.returns-in_err-read_kind

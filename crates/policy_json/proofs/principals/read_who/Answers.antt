@@ -7,9 +7,9 @@ use Rattle.serde_json.specs.Find.{get}
 use Rattle.policy_json.specs.Statements.{who_checks}
 use Rattle.policy_json.specs.Principals.{entries_of, principal_checks}
 use Rattle.policy_json.specs.Texts.{matcher_of}
-use Rattle.policy_json.proofs.Answering.{refused_whole}
 use Rattle.policy_json.proofs.Choosing.{faults_of_one}
 use Rattle.policy_json.proofs.Sound.{entries_sound}
+use Rattle.json_shapes.proofs.Laws.{refused_whole}
 use Rattle.policy_json.proofs.principals.read_who.Goals as goal
 
 pub returns-in_err-items-in-Some-clause-read : goal.returns-in_err-items-in-Some-clause-read

@@ -2,8 +2,7 @@ use Rattle.std.proofs.Common.{[], ◌∷◌, codes, refl}
 use Rattle.serde_json.specs.View.{view}
 use Rattle.policy_json.specs.Checks.{name_checks}
 use Rattle.policy_json.specs.Sets.{guarded_checks, list_checks, nowhere}
-use Rattle.json_shapes.proofs.Laws.{first_fault-rest}
-use Rattle.policy_json.proofs.Steps.{continued, refused}
+use Rattle.json_shapes.proofs.Laws.{first_fault-rest, continued, refused}
 use Rattle.policy_json.proofs.set.check_guarded.Goals as goal
 
 pub returns-in_err-check_names-clause-read : goal.returns-in_err-check_names-clause-read

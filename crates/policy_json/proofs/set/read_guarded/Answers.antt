@@ -3,13 +3,11 @@ use Rattle.std.specs.List.{flat_map}
 use Rattle.serde_json.specs.Data.{Data}
 use Rattle.serde_json.specs.View.{view}
 use Rattle.policy_model.specs.declared.set.PolicySet.{PolicySet}
-use Rattle.json_shapes.specs.Checks.{first_fault}
-use Rattle.policy_json.specs.Checks.{IsReadOf}
+use Rattle.json_shapes.specs.Checks.{first_fault, IsReadOf}
 use Rattle.json_shapes.specs.Json.{values_in}
 use Rattle.json_shapes.specs.Shapes.{is_object}
 use Rattle.policy_json.specs.Sets.{documents_checks, documents_in, granting, guarded_checks, guards_in, is_guarded, plain_checks, set_checks, set_of, set_with}
-use Rattle.json_shapes.proofs.Laws.{first_fault-rest}
-use Rattle.policy_json.proofs.Steps.{continued, refused}
+use Rattle.json_shapes.proofs.Laws.{first_fault-rest, continued, refused}
 use Rattle.policy_json.proofs.set.read_guarded.Goals as goal
 
 -- the checks of the form, and then those of the grants and of the guards

@@ -7,9 +7,8 @@ use Rattle.json_shapes.specs.Checks.{first_fault}
 use Rattle.policy_json.specs.Documents.{document_of}
 use Rattle.json_shapes.specs.Json.{values_in}
 use Rattle.policy_json.specs.Sets.{documents_checks, set_with, statement_count}
-use Rattle.json_shapes.proofs.Laws.{first_fault-rest}
+use Rattle.json_shapes.proofs.Laws.{first_fault-rest, refused, refused_last}
 use Rattle.policy_json.proofs.Numbering.{documents_checks-append}
-use Rattle.policy_json.proofs.Steps.{refused, refused_last}
 use Rattle.policy_json.proofs.set.read_parts.Goals as goal
 
 -- behind the grants the guards are read, with the numbers that follow

@@ -11,8 +11,7 @@ use Rattle.policy_json.specs.Checks.{PolicyCheck}
 use Rattle.serde_json.specs.Find.{get}
 use Rattle.policy_json.specs.Conditions.{condition_checks}
 use Rattle.policy_json.specs.Statements.{action_checks, effect_checks, form_checks, resource_checks, statement_checks, statement_of, who_checks}
-use Rattle.json_shapes.proofs.Laws.{first_fault-rest}
-use Rattle.policy_json.proofs.Steps.{refused, refused_last, passed_two, passed_three, passed_four, passed_five}
+use Rattle.json_shapes.proofs.Laws.{first_fault-rest, refused, refused_last, passed_two, passed_three, passed_four, passed_five}
 use Rattle.policy_json.proofs.statement.read_statement.Goals as goal
 
 -- a statement of these parts

@@ -4,8 +4,7 @@ use Rattle.wildcard_lang.specs.declared.piece.Piece.{Piece}
 use Rattle.serde_json.specs.Data.{Data}
 use Rattle.serde_json.specs.View.{view}
 use Rattle.policy_json.specs.Texts.{pattern_checks, pieces_of}
-use Rattle.policy_json.proofs.Answering.{refused_whole}
-use Rattle.json_shapes.proofs.Laws.{all_read, from_end, from_here, one_more, refused_next}
+use Rattle.json_shapes.proofs.Laws.{all_read, from_end, from_here, one_more, refused_next, refused_whole}
 use Rattle.policy_json.proofs.texts.read_each.Goals as goal
 
 pub returns-in_err-pattern : goal.returns-in_err-pattern

@@ -6,8 +6,8 @@ use Rattle.serde_json.specs.View.{view}
 use Rattle.serde_json.specs.Find.{get}
 use Rattle.policy_json.specs.Statements.{resource_checks}
 use Rattle.policy_json.specs.Texts.{matcher_of, patterns_checks, globs_of}
-use Rattle.policy_json.proofs.Answering.{refused_whole}
 use Rattle.policy_json.proofs.Choosing.{faults_of_one}
+use Rattle.json_shapes.proofs.Laws.{refused_whole}
 use Rattle.policy_json.proofs.texts.read_resource.Goals as goal
 
 pub returns-in_err-items-in-Some : goal.returns-in_err-items-in-Some

@@ -7,7 +7,7 @@ use Rattle.policy_model.specs.declared.schema.KeyRule.{KeyRule}
 use Rattle.request_schema.specs.BuiltIn.{folded_name}
 use Rattle.request_json.specs.RequestKeys.{checks_by_rule, request_key_checks, rule_at, with_key}
 use Rattle.request_json.proofs.KeysRead.{has-rule, valid-with}
-use Rattle.request_json.proofs.Steps.{refused_last}
+use Rattle.json_shapes.proofs.Laws.{refused_last}
 use Rattle.request_json.proofs.keys.add_key.Goals as goal
 
 pub returns-in_err-values-clause-read : goal.returns-in_err-values-clause-read

@@ -1,11 +1,10 @@
 use Rattle.std.proofs.Common.{[]}
 use Rattle.serde_json.specs.View.{view, members_view}
 use Rattle.json_shapes.specs.Json.{pairs_of}
-use Rattle.json_shapes.proofs.Laws.{pairs_from}
+use Rattle.json_shapes.proofs.Laws.{pairs_from, refused}
 use Rattle.request_json.specs.RequestKeys.{checks_by_rule, context_checks, context_from, rule_at}
 use Rattle.request_json.proofs.Apart.{FileKey}
 use Rattle.request_json.proofs.KeysRead.{next-faults, reads-key}
-use Rattle.request_json.proofs.Steps.{refused}
 use Rattle.request_json.proofs.keys.read_context.Goals as goal
 
 pub returns-in_err-context-clause-read : goal.returns-in_err-context-clause-read

@@ -1,5 +1,5 @@
 use Rattle.std.proofs.Common.{◌≡◌, ◌++◌, refl, ap, sym, subst, ◌∙◌}
-use Rattle.json_shapes.proofs.Laws.{first_fault-rest}
+use Rattle.json_shapes.proofs.Laws.{first_fault-rest, passed_two, passed_three, passes_at, refused, refused_last, refuses_at}
 use Rattle.serde_json.specs.View.{view}
 use Rattle.policy_model.specs.declared.request.Request.{Request}
 use Rattle.policy_model.specs.Requests.{KeysAreValid}
@@ -7,7 +7,6 @@ use Rattle.request_json.specs.RequestFiles.{context_of, request_checks, request_
 use Rattle.request_json.specs.RequestKeys.{context_checks, required_checks}
 use Rattle.request_json.specs.RequestShapes.{keys_of_request}
 use Rattle.request_json.proofs.KeysRead.{Keys}
-use Rattle.request_json.proofs.Steps.{passed_two, passed_three, passes_at, refused, refused_last, refuses_at}
 use Rattle.request_json.proofs.read.read_file.Goals as goal
 
 pub returns-in_err-check_shape-clause-read : goal.returns-in_err-check_shape-clause-read

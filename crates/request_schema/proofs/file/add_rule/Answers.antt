@@ -8,7 +8,7 @@ use Rattle.policy_model.specs.Soundness.{RuleIsSound}
 use Rattle.request_schema.specs.BuiltIn.{folded_name}
 use Rattle.request_schema.specs.SchemaRules.{is_noted, rule_checks}
 use Rattle.request_schema.proofs.Keys.{FileKey, Seen, some-copied}
-use Rattle.request_schema.proofs.Steps.{refused_last}
+use Rattle.json_shapes.proofs.Laws.{refused_last}
 use Rattle.request_schema.proofs.file.add_rule.Goals as goal
 
 pub returns-in_err-rule-clause-read : goal.returns-in_err-rule-clause-read

@@ -1,13 +1,12 @@
 use Rattle.std.proofs.Common.{[], ◌++◌, refl, ◌∙◌}
 use Rattle.std.specs.List.{flat_map}
-use Rattle.json_shapes.proofs.Laws.{first_fault-rest}
+use Rattle.json_shapes.proofs.Laws.{first_fault-rest, passed_two, refused, refused_last}
 use Rattle.serde_json.specs.View.{view}
 use Rattle.request_schema.specs.SchemaFiles.{keys_in, schema_checks, schema_of}
 use Rattle.request_schema.specs.SchemaHeads.{file_checks, is_second, word_names}
 use Rattle.request_schema.specs.SchemaRules.{keys_checks}
 use Rattle.request_schema.specs.SchemaWords.{word_checks}
 use Rattle.request_schema.proofs.Files.{keys-pass, keys-refuse, whole-schema}
-use Rattle.request_schema.proofs.Steps.{passed_two, refused, refused_last}
 use Rattle.request_schema.proofs.file.read_file.Goals as goal
 
 pub returns-in_err-check_file-clause-read : goal.returns-in_err-check_file-clause-read

@@ -1,11 +1,10 @@
 use Rattle.std.proofs.Common.{◌∷◌, [], refl}
 use Rattle.serde_json.specs.View.{view, members_view}
 use Rattle.json_shapes.specs.Json.{pairs_of}
-use Rattle.json_shapes.proofs.Laws.{pairs_from}
+use Rattle.json_shapes.proofs.Laws.{pairs_from, refused}
 use Rattle.request_schema.specs.BuiltIn.{built_in_rules, with_rules}
 use Rattle.request_schema.specs.SchemaRules.{is_noted, keys_checks, rule_checks, rule_of, rules_of}
 use Rattle.request_schema.proofs.Keys.{FileKey, next-faults, reads-key}
-use Rattle.request_schema.proofs.Steps.{refused}
 use Rattle.request_schema.proofs.file.read_rules.Goals as goal
 
 pub returns-in_err-add_rule-clause-read : goal.returns-in_err-add_rule-clause-read

@@ -1,5 +1,5 @@
 use Rattle.std.proofs.Common.{◌≡◌, ◌∙◌, ap, refl, Bool, List, ◌++◌, ℕ, Option}
-use Rattle.json_shapes.proofs.Laws.{first_fault-rest}
+use Rattle.json_shapes.proofs.Laws.{first_fault-rest, passed_two, passed_three, passes_at, refused, refused_last, refuses_at}
 use Rattle.serde_json.specs.Data.{Data}
 use Rattle.serde_json.specs.View.{view}
 use Rattle.wildcard_lang.specs.declared.piece.Piece.{Piece}
@@ -8,7 +8,6 @@ use Rattle.policy_model.specs.declared.value.Value.{Value}
 use Rattle.policy_model.specs.declared.schema.KeyRule.{KeyRule}
 use Rattle.request_schema.specs.SchemaRules.{among_of, rule_form_checks, kind_of_rule, listed_checks, rule_checks, rule_of, shape_checks, value_kind_checks}
 use Rattle.request_schema.proofs.RuleSound.{rule-sound}
-use Rattle.request_schema.proofs.Steps.{passed_two, passed_three, passes_at, refused, refused_last, refuses_at}
 use Rattle.request_schema.proofs.rules.read_rule.Goals as goal
 
 -- a rule of these parts

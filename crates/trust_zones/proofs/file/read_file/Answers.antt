@@ -1,10 +1,9 @@
 use Rattle.std.proofs.Common.{[], ◌++◌, refl, ◌∙◌}
-use Rattle.json_shapes.proofs.Laws.{first_fault-rest}
+use Rattle.json_shapes.proofs.Laws.{first_fault-rest, refused}
 use Rattle.serde_json.specs.View.{view}
 use Rattle.trust_zones.specs.declared.list.ZoneList.TheVariants.{Accounts, Blocks, Organizations, Vpcs}
 use Rattle.trust_zones.specs.ZoneFiles.{list_checks_in, zone_checks, zone_form_checks, zone_of}
 use Rattle.trust_zones.proofs.Files.{behind-accounts, behind-blocks, behind-form, behind-organizations, last-list, other-lists, text-lists, whole-zone}
-use Rattle.trust_zones.proofs.Steps.{refused}
 use Rattle.trust_zones.proofs.file.read_file.Goals as goal
 
 pub returns-in_err-check_form : goal.returns-in_err-check_form

@@ -1,8 +1,8 @@
 use Rattle.std.proofs.Common.{◌≡◌}
 use Rattle.serde_json.specs.Data.{object}
 use Rattle.serde_json.specs.View.{view, members_view}
-use Rattle.request_schema.specs.SchemaHeads.{has_strings}
-use Rattle.request_schema.proofs.requirement.has_strings.Given as goal
+use Rattle.json_shapes.specs.Shapes.{has_strings}
+use Rattle.json_shapes.proofs.objects.has_strings.Given as goal
 
 abbrev pub invariant-loop-member : goal.invariant-loop-member
 invariant-loop-member l = record {

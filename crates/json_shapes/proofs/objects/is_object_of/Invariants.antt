@@ -1,8 +1,8 @@
 use Rattle.std.proofs.Common.{◌≡◌, map}
 use Rattle.serde_json.specs.Data.{object}
 use Rattle.serde_json.specs.View.{view, members_view}
-use Rattle.request_schema.specs.SchemaHeads.{is_object_of}
-use Rattle.request_schema.proofs.requirement.is_object_of.Given as goal
+use Rattle.json_shapes.specs.Shapes.{is_object_of}
+use Rattle.json_shapes.proofs.objects.is_object_of.Given as goal
 
 abbrev pub invariant-loop-name : goal.invariant-loop-name
 invariant-loop-name l = record {
