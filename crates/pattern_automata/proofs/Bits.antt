@@ -1,8 +1,8 @@
 -- The bits of a word, as tests.
-use Rattle.std.proofs.Common.{◌≡◌, ℕ, zero, suc, ◌+◌, ◌*◌, ◌/◌, ◌%◌, ◌^◌, ◌-◌, ◌<◌, ◌≤◌, Bool, true, false, cond, ◌||◌, ◌&&◌, eqb, refl, sym, ap, ◌∙◌, arith, pow-suc, min, max, bit_and, bit_or, List, [], ◌∷◌, length, ◌++◌, get_or, drop, take}
+use Rattle.std.proofs.Common.{◌≡◌, ℕ, zero, suc, ◌+◌, ◌*◌, ◌/◌, ◌%◌, ◌^◌, ◌-◌, ◌<◌, ◌≤◌, Bool, true, false, cond, ◌||◌, ◌&&◌, eqb, refl, sym, ap, ◌∙◌, arith, pow-suc, min, max, bit_and, bit_or, bit_xor, List, [], ◌∷◌, length, ◌++◌, get_or, drop, take}
 use Rattle.std.specs.Int.{bit_at}
 use Rattle.std.proofs.lemmas.Nat.{or_shifted}
-use Rattle.std.proofs.lemmas.Nat.Bits.{bit_at_and, bit_at_or, bit_at-lt, bit_at_cat_low, bit_at_cat_high, same_from_bits_below}
+use Rattle.std.proofs.lemmas.Nat.Bits.{bit_at_and, bit_at_or, bit_at_xor, bit_at-lt, bit_at_cat_low, bit_at_cat_high, same_from_bits_below}
 use mir.Val.{bool_byte}
 use Rattle.std.proofs.Math.Pow.{pow_mono}
 use Rattle.std.proofs.lemmas.List.{at_drop_more, length-drop, drop-drop, take_all}
@@ -29,6 +29,18 @@ on-and a b i = ap (λ x. eqb x 1) (bit_at_and a b i) ∙ both-set (bit_at a i) (
 
 pub on-or : (a b i : ℕ) → on (bit_or a b) i ≡ (on a i || on b i)
 on-or a b i = ap (λ x. eqb x 1) (bit_at_or a b i) ∙ one-set (bit_at a i) (bit_at b i) (bit_at-lt a i) (bit_at-lt b i)
+
+xor-clear : (x y : ℕ) → x < 2 → y < 2 → eqb ((x + y) % 2) 1 ≡ false → eqb x 1 ≡ eqb y 1
+xor-clear zero zero h k e = refl
+xor-clear zero (suc zero) h k e = absurd (cc)
+xor-clear (suc zero) zero h k e = absurd (cc)
+xor-clear (suc zero) (suc zero) h k e = refl
+xor-clear (suc (suc x)) y h k e = absurd (omega arith)
+xor-clear x (suc (suc y)) h k e = absurd (omega arith)
+
+-- where no bit differs
+pub on-xor : (a b i : ℕ) → on (bit_xor a b) i ≡ false → on a i ≡ on b i
+on-xor a b i off = xor-clear (bit_at a i) (bit_at b i) (bit_at-lt a i) (bit_at-lt b i) (ap (λ x. eqb x 1) (sym (bit_at_xor a b i)) ∙ off)
 
 same-bit : (x y : ℕ) → x < 2 → y < 2 → eqb x 1 ≡ eqb y 1 → x ≡ y
 same-bit zero zero h k e = refl

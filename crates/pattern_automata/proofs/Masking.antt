@@ -1,5 +1,5 @@
 -- The masks with the patches of a character in their place say what it does, and a step by them is the step of the marks.
-use Rattle.std.proofs.Common.{◌≡◌, ℕ, zero, suc, ◌+◌, ◌*◌, ◌/◌, ◌%◌, ◌<◌, ◌≤◌, ◌⊎◌, Bool, true, false, not, eqb, refl, sym, ap, ◌∙◌, subst, inl, inr, arith, List, [], ◌∷◌, ◌++◌, length, map, get_or, Option, None, Some, All}
+use Rattle.std.proofs.Common.{◌≡◌, ℕ, zero, suc, ◌+◌, ◌*◌, ◌/◌, ◌%◌, ◌<◌, ◌≤◌, ◌⊎◌, Bool, true, false, not, ◌||◌, ◌&&◌, eqb, refl, sym, ap, ◌∙◌, subst, inl, inr, arith, List, [], ◌∷◌, ◌++◌, length, map, get_or, Option, None, Some, All}
 use Rattle.std.specs.Bool.{beq}
 use Rattle.std.proofs.lemmas.Bool.{cases_lt, cases_eq, cases_Bool, or_parts}
 use Rattle.std.proofs.lemmas.List.{ext_get_or, get_or_past, length-append, length-map}
@@ -14,7 +14,7 @@ use Rattle.pattern_automata.specs.Closed.{names, names_any, named}
 use Rattle.pattern_automata.specs.Marks.{total, all_reached}
 use Rattle.pattern_automata.specs.Packed.{on, word_mark, before, filled, moved, stepped, marks_by, pack, words_for}
 use Rattle.pattern_automata.specs.Moves.{takes_others, tells, piece_test, fronts, if_piece, does, IsMasks, IsPatch, IsToldApart, HasPatch, IsMove}
-use Rattle.pattern_automata.specs.Steps.{moved_at, AreMoved, IsPatched, IsAlike, AreMasksOf, AreStepped}
+use Rattle.pattern_automata.specs.Steps.{moved_at, near_at, AreMoved, IsPatched, IsAlike, IsAway, AreMasksOf, AreStepped}
 use Rattle.pattern_automata.specs.Search.{LeadsByWords}
 use Rattle.pattern_automata.proofs.Empty.{colon-named}
 use Rattle.pattern_automata.proofs.Parts.{length-all_reached}
@@ -60,7 +60,7 @@ keeps-alike c (Some OneNoColon) h = refl
 keeps-alike c (Some ManyNoColon) h = sym (same-of (takes ManyNoColon c) true h)
 
 -- a character that is neither named nor the colon isn't told from others
-tells-none : (c : ℕ) (p : Piece) → names p c ≡ false → eqb c 58 ≡ false → tells c p ≡ false
+pub tells-none : (c : ℕ) (p : Piece) → names p c ≡ false → eqb c 58 ≡ false → tells c p ≡ false
 tells-none c (Lit d) h k = let e : takes (Lit d) c ≡ false = h in rw e refl
 tells-none c (LitFold d) h k = let e : takes (LitFold d) c ≡ false = h in rw e refl
 tells-none c One h k = refl
@@ -184,6 +184,38 @@ module _ (m : Masks) (patches : List Patch) (state : List ℕ) (one stay : ℕ �
     moved-alike j =
         let e : 64 * (j / 64) + j % 64 ≡ j = omega arith in
         rw e at (word-alike (j / 64) (j % 64) (omega arith))
+
+-- ---- patches that no mark comes near
+
+and-true : (a b : Bool) → b ≡ true → (a && b) ≡ a
+and-true true b h = h
+and-true false b h = refl
+
+quiet : (f x o s p t : Bool) → f ≡ false → x ≡ false → ((f && o) || (x && s)) ≡ ((f && p) || (x && t))
+quiet f x o s p t e g = rw (e, g) refl
+
+same-words : (f x o s p t : Bool) → o ≡ p → s ≡ t → ((f && o) || (x && s)) ≡ ((f && p) || (x && t))
+same-words f x o s p t e g = rw (e, g) refl
+
+away-alike : (F : List (Option Piece)) (m : Masks) → IsMasks F m → (c : ℕ) (p : Patch) → IsPatch F c p → (state : List ℕ) → IsAway state p → IsAlike m state p
+away-alike F m masks c p patch state away b l =
+    let k : ℕ = p.index in
+    let own : ℕ = get_or state k 0 in
+    let first : Bool = before (before false (word_mark state) (64 * k)) (on own) b in
+    elim (cases_Bool (on p.differs b)) [
+      | inl there ↦
+          let off : near_at state k b ≡ false = sym (and-true (near_at state k b) (on p.differs b) there) ∙ away b l in
+          let parts = or_parts (on own b) first off in
+          quiet first (on own b) (on p.one b) (on p.stay b) (on (get_or m.one.items k 0) b) (on (get_or m.many.items k 0) b) parts.1 parts.0
+      | inr none ↦
+          let same = patch.differs b l none in
+          let ones : on p.one b ≡ on (get_or m.one.items k 0) b = patch.one b l ∙ (same.0 ∙ (sym (masks.one (64 * k + b)) ∙ mark-at m.one.items k b l)) in
+          let stays : on p.stay b ≡ on (get_or m.many.items k 0) b = patch.stay b l ∙ (same.1 ∙ (sym (masks.many (64 * k + b)) ∙ mark-at m.many.items k b l)) in
+          same-words first (on own b) (on p.one b) (on p.stay b) (on (get_or m.one.items k 0) b) (on (get_or m.many.items k 0) b) ones stays
+    ]
+
+pub all-alike : (F : List (Option Piece)) (m : Masks) → IsMasks F m → (c : ℕ) (ps : List Patch) → All (IsPatch F c) ps → (state : List ℕ) → All (IsAway state) ps → All (IsAlike m state) ps
+all-alike F m masks c ps right state away k d h = away-alike F m masks c (get_or ps k d) (right k d h) state (away k d h)
 
 -- ---- a step of marks
 

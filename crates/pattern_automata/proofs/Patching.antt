@@ -10,7 +10,7 @@ use Rattle.pattern_automata.specs.declared.moves.Move.{Move}
 use Rattle.pattern_automata.specs.Marks.{total}
 use Rattle.pattern_automata.specs.Packed.{on, word_mark, filled, words_for}
 use Rattle.pattern_automata.specs.Moves.{HasPatch, IsMasks, IsMove, fronts}
-use Rattle.pattern_automata.specs.Steps.{moved_at, HaveSize, AreMoved, IsMovedBy, IsPatched, IsAlike, AreStepped}
+use Rattle.pattern_automata.specs.Steps.{moved_at, HaveSize, AreMoved, IsMovedBy, IsPatched, AreStepped}
 use Rattle.pattern_automata.specs.Search.{LeadsByWords}
 use Rattle.pattern_automata.proofs.Masking.{all-filled, leads, length-fronts}
 
@@ -72,10 +72,6 @@ patched-none state words k = inr (refl, λ w. absurd (omega (arith, w.2)))
 pub patched-end : (state : List ℕ) (patches : List Patch) (i : ℕ) (old words : List ℕ) → length patches ≤ i → ((k : ℕ) → k < length state → IsPatched state (take i patches) old words k) →
     (k : ℕ) → k < length state → IsPatched state patches old words k
 patched-end state patches i old words h are = let e : take i patches ≡ patches = take_all i patches h in rw e at are
-
-pub alike-of : (m : Masks) (state : List ℕ) (p : Patch) (own other : ℕ) → own ≡ other → ((b : ℕ) → b < 64 → on own b ≡ moved_at p.one p.stay state p.index b) →
-    ((b : ℕ) → b < 64 → on other b ≡ moved_at (get_or m.one.items p.index 0) (get_or m.many.items p.index 0) state p.index b) → IsAlike m state p
-alike-of m state p own other same a d b l = sym (a b l) ∙ (ap (λ x. on x b) same ∙ d b l)
 
 -- the whole step
 pub step-ok : {E : Type 0} (result : Result (Unit {0}) E) (m : Masks) (patches : List Patch) (state base moved words : List ℕ) → AreMoved m state base →

@@ -1,155 +1,205 @@
--- The patches of the characters that pieces tell from others.
-use Rattle.std.proofs.Common.{◌≡◌, ℕ, ◌+◌, ◌/◌, ◌<◌, ◌≤◌, ◌⊎◌, Bool, true, false, not, cond, eqb, refl, sym, ap, ◌∙◌, subst, inl, inr, arith, List, [], ◌∷◌, ◌++◌, length, get_or, Option, None, Some, All, Vec, Result, Ok, Err, IfOk, OnOk, take}
-use Rattle.std.specs.Bool.{beq}
-use Rattle.std.specs.declared.alloc.Global.{Global}
-use Rattle.std.specs.Char.{IsScalar, to_ascii_uppercase}
-use Rattle.std.proofs.lemmas.Bool.{cases_lt, cases_eq, eqb-true, eq-eqb, or_cases, false_from_ne_true}
-use Rattle.std.proofs.lemmas.List.{length-append, get_or_append_left, map_push, take_more}
-use Rattle.std.proofs.lemmas.List.Elements.{All-push, All-nil}
+-- What pieces name, and the patches of the characters.
+use Rattle.std.proofs.Common.{◌≡◌, ℕ, zero, suc, ◌+◌, ◌*◌, ◌/◌, ◌%◌, ◌^◌, ◌<◌, ◌≤◌, Bool, true, false, cond, ◌||◌, ◌&&◌, eqb, refl, sym, ap, ◌∙◌, inl, inr, arith, bit_or, bit_xor, w64, List, [], ◌∷◌, ◌++◌, length, get_or, set, take, Option, None, Some}
+use Rattle.std.specs.Option.{option_to_list}
+use Rattle.std.specs.Prelude.{MatchOption}
+use Rattle.std.proofs.lemmas.Bool.{cases_lt, cases_eq, eqb-true, eq-eqb, or_parts, or_right, false_from_ne_true}
+use Rattle.std.proofs.lemmas.Nat.Bits.{bit_at_set_same, bit_at_set_other, bit_at-zero}
+use Rattle.std.proofs.lemmas.List.{append-nil, get_or_append_left, length-append, map_push, take_more}
+use Rattle.std.proofs.lemmas.List.Elements.{All-head, All-push, All-tail}
 use Rattle.std.proofs.lemmas.List.Quantifiers.{Any-push}
-use Rattle.indexmap.specs.IndexMap.{IndexMap}
 use Rattle.wildcard_lang.specs.declared.piece.Piece.{Piece}
-use Rattle.wildcard_lang.specs.declared.piece.Piece.TheVariants.{Lit, LitFold, OneNoColon, ManyNoColon}
-use Rattle.pattern_automata.specs.declared.moves.Patch.{Patch}
+use Rattle.wildcard_lang.specs.declared.piece.Piece.TheVariants.{Lit, LitFold, One, Many, OneNoColon, ManyNoColon}
+use Rattle.pattern_automata.specs.declared.fronts.Kind.TheVariants.{Passes, Keeps, PassesOthers, Leads}
+use Rattle.pattern_automata.specs.declared.moves.Masks.{Masks}
 use Rattle.pattern_automata.specs.declared.moves.Move.{Move}
-use Rattle.pattern_automata.specs.Moves.{tells, if_piece, IsPatch, HasPatch, IsToldApart, IsMove, items_of, characters_of, AreTold, AreMovesBy}
+use Rattle.pattern_automata.specs.declared.moves.Patch.{Patch}
+use Rattle.pattern_automata.specs.declared.named.Named.{Named}
+use Rattle.pattern_automata.specs.Closed.{names}
+use Rattle.pattern_automata.specs.Moves.{characters_of, does, if_piece, piece_test, tells, HasPatch, IsMasks, IsPatch, IsToldApart}
+use Rattle.pattern_automata.specs.Named.{bits_of, names_before, AddsBit, HasNamesAt, HasNone, IsLikeOthersAt, IsPatchAt, IsPosition}
+use Rattle.pattern_automata.specs.Packed.{on}
+use Rattle.pattern_automata.proofs.Bits.{on-or, on-xor}
+use Rattle.pattern_automata.proofs.Masking.{tells-none}
+use Rattle.pattern_automata.proofs.Packing.{mark-at}
 
-pub patch-kept : (xs ys : List Patch) (k : ℕ) → HasPatch xs k → HasPatch (xs ++ ys) k
-patch-kept xs ys k w = (w.0, w.1, omega (arith, w.2, length-append xs ys), get_or_append_left xs ys w.1 w.0 w.2 ∙ w.3, w.4)
+or-false : (a b : Bool) → b ≡ false → (a || b) ≡ a
+or-false true b h = refl
+or-false false b h = h
 
-pub told-push : (F : List (Option Piece)) (n c : ℕ) (old new : List Patch) (p : Patch) → new ≡ old ++ p ∷ [] → IsPatch F c p → IsToldApart F n c old → IsToldApart F n c new
-told-push F n c old new p is right told = rw is (record {
-  right = All-push (IsPatch F c) old p told.right right;
-  covers = λ j h e. patch-kept old (p ∷ []) (j / 64) (told.covers j h e);
-})
+not-equal : (a b : ℕ) → (a ≡ b → ⊥) → eqb a b ≡ false
+not-equal a b ne = false_from_ne_true (eqb a b) (λ g. ne (eqb-true a b g))
 
-pub patch-pushed : (old new : List Patch) (p : Patch) (k : ℕ) → new ≡ old ++ p ∷ [] → p.index ≡ k → HasPatch new k
-patch-pushed old new p k is at = rw is (Any-push (λ (x : Patch). x.index ≡ k) old p at)
+-- ---- bits of characters
 
-pub told-none : (F : List (Option Piece)) (c : ℕ) → IsToldApart F 0 c []
-told-none F c = record { right = All-nil (IsPatch F c); covers = λ j h e. absurd (omega arith) }
+pub set-bit : (word bit i : ℕ) → bit < 64 → on (bit_or word (1 * 2 ^ bit % 18446744073709551616)) i ≡ (on word i || eqb i bit)
+set-bit word bit i h =
+    elim (cases_eq i bit) [
+      | inl e ↦
+          ap (λ k. on (bit_or word (1 * 2 ^ bit % 18446744073709551616)) k) e
+          ∙ (ap (λ x. eqb x 1) (bit_at_set_same w64 word bit h) ∙ sym (or_right (on word i) (eqb i bit) (eq-eqb i bit e)))
+      | inr ne ↦ ap (λ x. eqb x 1) (bit_at_set_other w64 word bit h i ne) ∙ sym (or-false (on word i) (eqb i bit) (not-equal i bit ne))
+    ]
 
--- what a map says after the value at c is taken out and another one put in
-pub put-back : (c : ℕ) (old mid new : ℕ → Option (Vec Patch Global)) (found : Option (Vec Patch Global)) (v : Vec Patch Global) → found ≡ old c →
-    ((q : ℕ) → mid q ≡ cond (eqb c q) None (old q)) → ((q : ℕ) → new q ≡ cond (eqb c q) (Some v) (mid q)) → (d : ℕ) →
-    ((c ≡ d) × (items_of (new d) ≡ v.items) × (items_of (old d) ≡ items_of found)) ⊎ (items_of (new d) ≡ items_of (old d))
-put-back c old mid new found v is out in' d =
+abbrev IsOther : ℕ → Named → Type 0
+IsOther c x = x.character ≡ c → ⊥
+
+abbrev entry : ℕ → ℕ → Named
+entry c w = record { character = c; bits = w }
+
+bits-here : (named : List Named) (i : ℕ) (x : Named) (c : ℕ) → i < length named → (get_or named i x).character ≡ c → HasNone c (take i named) → bits_of named c ≡ (get_or named i x).bits
+bits-here [] i x c h e none = absurd (omega arith)
+bits-here (y ∷ ys) zero x c h e none = let t : eqb y.character c ≡ true = eq-eqb y.character c e in rw t refl
+bits-here (y ∷ ys) (suc i) x c h e none =
+    let f : eqb y.character c ≡ false = not-equal y.character c (All-head (IsOther c) y (take i ys) none) in
+    rw f (bits-here ys i x c (omega arith) e (All-tail (IsOther c) y (take i ys) none))
+
+cond-twice : (b : Bool) (u v z : ℕ) → cond b u z ≡ cond b u (cond b v z)
+cond-twice true u v z = refl
+cond-twice false u v z = refl
+
+-- an entry of another character in front
+bits-behind : (y : Named) (c w d old new : ℕ) → (y.character ≡ c → ⊥) → new ≡ cond (eqb c d) w old → cond (eqb y.character d) y.bits new ≡ cond (eqb c d) w (cond (eqb y.character d) y.bits old)
+bits-behind y c w d old new other is =
+    elim (cases_eq c d) [
+      | inl s ↦
+          let t : eqb c d ≡ true = eq-eqb c d s in
+          let f : eqb y.character d ≡ false = not-equal y.character d (λ g. other (g ∙ sym s)) in
+          rw (f, is, t) refl
+      | inr ne ↦ let f : eqb c d ≡ false = not-equal c d ne in rw (is, f) refl
+    ]
+
+bits-set : (named : List Named) (i : ℕ) (x : Named) (c w : ℕ) → i < length named → (get_or named i x).character ≡ c → HasNone c (take i named) → (d : ℕ) →
+    bits_of (set named i (entry c w)) d ≡ cond (eqb c d) w (bits_of named d)
+bits-set [] i x c w h e none d = absurd (omega arith)
+bits-set (y ∷ ys) zero x c w h e none d = let same : y.character ≡ c = e in rw same (cond-twice (eqb c d) w y.bits (bits_of ys d))
+bits-set (y ∷ ys) (suc i) x c w h e none d =
+    bits-behind y c w d (bits_of ys d) (bits_of (set ys i (entry c w)) d) (All-head (IsOther c) y (take i ys) none)
+    (bits-set ys i x c w (omega arith) e (All-tail (IsOther c) y (take i ys) none) d)
+
+bits-push : (named : List Named) (c w : ℕ) → HasNone c named → (d : ℕ) → bits_of (named ++ entry c w ∷ []) d ≡ cond (eqb c d) w (bits_of named d)
+bits-push [] c w none d = refl
+bits-push (y ∷ ys) c w none d =
+    bits-behind y c w d (bits_of ys d) (bits_of (ys ++ entry c w ∷ []) d) (All-head (IsOther c) y ys none) (bits-push ys c w (All-tail (IsOther c) y ys none) d)
+
+bits-absent : (named : List Named) (c : ℕ) → HasNone c named → bits_of named c ≡ 0
+bits-absent [] c none = refl
+bits-absent (y ∷ ys) c none =
+    let f : eqb y.character c ≡ false = not-equal y.character c (All-head (IsOther c) y ys none) in
+    rw f (bits-absent ys c (All-tail (IsOther c) y ys none))
+
+adds : (old new : ℕ → ℕ) (c w bit : ℕ) → ((d : ℕ) → new d ≡ cond (eqb c d) w (old d)) → ((i : ℕ) → on w i ≡ (on (old c) i || eqb i bit)) →
+    (d i : ℕ) → on (new d) i ≡ (on (old d) i || (eqb d c && eqb i bit))
+adds old new c w bit are made d i =
     elim (cases_eq c d) [
       | inl e ↦
-          let same : eqb c d ≡ true = eq-eqb c d e in
-          let after : new d ≡ Some v = rw same at (in' d) in
-          inl (e, ap items_of after, ap items_of (ap old (sym e) ∙ sym is))
+          let t : eqb c d ≡ true = eq-eqb c d e in
+          let u : eqb d c ≡ true = eq-eqb d c (sym e) in
+          let n : new d ≡ w = rw t at (are d) in
+          rw (n, u, ← e) (made i)
       | inr ne ↦
-          let other : eqb c d ≡ false = false_from_ne_true _ (λ h. ne (eqb-true c d h)) in
-          let a : new d ≡ mid d = rw other at (in' d) in
-          let b : mid d ≡ old d = rw other at (out d) in
-          inr (ap items_of (a ∙ b))
+          let f : eqb c d ≡ false = not-equal c d ne in
+          let g : eqb d c ≡ false = not-equal d c (λ s. ne (sym s)) in
+          let n : new d ≡ old d = rw f at (are d) in
+          rw (n, g) (sym (or-false (on (old d) i) false refl))
     ]
 
-pub put-told : (F : List (Option Piece)) (n c : ℕ) (old mid new : ℕ → Option (Vec Patch Global)) (found : Option (Vec Patch Global)) (given : List Patch) (v : Vec Patch Global) → found ≡ old c →
-    ((q : ℕ) → mid q ≡ cond (eqb c q) None (old q)) → ((q : ℕ) → new q ≡ cond (eqb c q) (Some v) (mid q)) → given ≡ items_of found →
-    (IsToldApart F n c given → IsToldApart F n c v.items) → ((d : ℕ) → IsToldApart F n d (items_of (old d))) → (d : ℕ) → IsToldApart F n d (items_of (new d))
-put-told F n c old mid new found given v is out in' are told all d =
-    elim (put-back c old mid new found v is out in' d) [
-      | inl w ↦
-          let before : IsToldApart F n c given = rw (are, ← w.2, w.0) (all d) in
-          let after : IsToldApart F n c v.items = told before in
-          rw (w.1, ← w.0) after
-      | inr e ↦ rw e (all d)
-    ]
+pub set-adds : (old : List Named) (c w bit i : ℕ) (x : Named) → IsPosition c old i → x ≡ get_or old i x → ((j : ℕ) → on w j ≡ (on x.bits j || eqb j bit)) →
+    AddsBit old c bit (set old i (entry c w))
+set-adds old c w bit i x at read made =
+    let here : bits_of old c ≡ x.bits = bits-here old i x c at.within (at.is x) at.first ∙ ap (λ (n : Named). n.bits) (sym read) in
+    adds (bits_of old) (bits_of (set old i (entry c w))) c w bit (bits-set old i x c w at.within (at.is x) at.first) (λ j. made j ∙ ap (λ (v : ℕ). on v j || eqb j bit) (sym here))
 
-pub put-kept : (c : ℕ) (old mid new : ℕ → Option (Vec Patch Global)) (found : Option (Vec Patch Global)) (given : List Patch) (v : Vec Patch Global) → found ≡ old c →
-    ((q : ℕ) → mid q ≡ cond (eqb c q) None (old q)) → ((q : ℕ) → new q ≡ cond (eqb c q) (Some v) (mid q)) → given ≡ items_of found →
-    ((k : ℕ) → HasPatch given k → HasPatch v.items k) → (d k : ℕ) → HasPatch (items_of (old d)) k → HasPatch (items_of (new d)) k
-put-kept c old mid new found given v is out in' are kept d k h =
-    elim (put-back c old mid new found v is out in' d) [
-      | inl w ↦ subst (λ (x : List Patch). HasPatch x k) (sym w.1) (kept k (subst (λ (x : List Patch). HasPatch x k) (w.2 ∙ sym are) h))
-      | inr e ↦ subst (λ (x : List Patch). HasPatch x k) (sym e) h
-    ]
+pub push-adds : (old new : List Named) (c w bit : ℕ) → new ≡ old ++ entry c w ∷ [] → HasNone c old → ((j : ℕ) → on w j ≡ (on 0 j || eqb j bit)) → AddsBit old c bit new
+push-adds old new c w bit is none made =
+    rw is (adds (bits_of old) (bits_of (old ++ entry c w ∷ [])) c w bit (bits-push old c w none) (λ j. made j ∙ ap (λ (v : ℕ). on v j || eqb j bit) (sym (bits-absent old c none))))
 
--- one more piece
-pub told-more : (F : List (Option Piece)) (n : ℕ) (old new : ℕ → List Patch) → (((m : ℕ) → ((c : ℕ) → IsToldApart F m c (old c)) → (c : ℕ) → IsToldApart F m c (new c))) →
-    ((c : ℕ) → if_piece (tells c) (get_or F n None) ≡ true → HasPatch (new c) (n / 64)) → ((c : ℕ) → IsToldApart F n c (old c)) → (c : ℕ) → IsToldApart F (n + 1) c (new c)
-told-more F n old new kept here all c =
-    let t = kept n all c in
+-- ---- patches
+
+untold-front : (c : ℕ) (x : Option Piece) → if_piece (λ p. names p c) x ≡ false → eqb c 58 ≡ false → if_piece (tells c) x ≡ true → ⊥
+untold-front c None h k told = absurd (cc)
+untold-front c (Some p) h k told = let f : tells c p ≡ false = tells-none c p h k in absurd (cc)
+
+pub like-others : (F : List (Option Piece)) (k c : ℕ) (named : List Named) (bits : ℕ) → (c ≡ 58 → ⊥) → HasNamesAt F k named → bits ≡ bits_of named c → bits ≡ 0 → IsLikeOthersAt F k c
+like-others F k c named bits other are is none j at told =
+    let e : 64 * k + j % 64 ≡ j = omega (arith, at) in
+    let zero-bits : bits_of named c ≡ 0 = sym is ∙ none in
+    let off : on (bits_of named c) (j % 64) ≡ false = ap (λ x. on x (j % 64)) zero-bits ∙ ap (λ x. eqb x 1) (bit_at-zero (j % 64)) in
+    let unnamed : names_before F (64 * k + j % 64) c ≡ false = sym (are c (j % 64) (omega arith)) ∙ off in
+    untold-front c (get_or F j None) (ap (λ n. names_before F n c) (sym e) ∙ unnamed) (not-equal c 58 other) told
+
+passes-named : (c : ℕ) (x : Option Piece) → eqb c 58 ≡ false → (if_piece (piece_test PassesOthers) x || if_piece (λ p. names p c) x) ≡ if_piece (piece_test (Passes c)) x
+passes-named c None k = refl
+passes-named c (Some (Lit d)) k = refl
+passes-named c (Some (LitFold d)) k = refl
+passes-named c (Some One) k = refl
+passes-named c (Some Many) k = refl
+passes-named c (Some OneNoColon) k = rw k refl
+passes-named c (Some ManyNoColon) k = refl
+
+keeps-named : (c : ℕ) (x : Option Piece) → eqb c 58 ≡ false → if_piece (piece_test Leads) x ≡ if_piece (piece_test (Keeps c)) x
+keeps-named c None k = refl
+keeps-named c (Some (Lit d)) k = refl
+keeps-named c (Some (LitFold d)) k = refl
+keeps-named c (Some One) k = refl
+keeps-named c (Some Many) k = refl
+keeps-named c (Some OneNoColon) k = refl
+keeps-named c (Some ManyNoColon) k = rw k refl
+
+pub named-patch : (F : List (Option Piece)) (m : Masks) (k c : ℕ) (named : List Named) (one stay bits : ℕ) → IsMasks F m → 64 * k ≤ length F → (c ≡ 58 → ⊥) → HasNamesAt F k named →
+    one ≡ get_or m.one.items k 0 → stay ≡ get_or m.many.items k 0 → bits ≡ bits_of named c → IsPatch F c (record { index = k; one = bit_or one bits; stay = stay; differs = bits })
+named-patch F m k c named one stay bits masks within other are ones stays is =
+    let colon = not-equal c 58 other in
+    let second : (b : ℕ) → b < 64 → on bits b ≡ names_before F (64 * k + b) c = λ b l. ap (λ x. on x b) is ∙ are c b l in
     record {
-      right = t.right;
-      covers = λ j h e.
-          elim (cases_lt j n) [
-            | inl l ↦ t.covers j l e
-            | inr g ↦ let same : j ≡ n = omega arith in rw same (here c (rw same at e))
-          ];
+      within = within;
+      one = λ b l.
+          let first : on one b ≡ does PassesOthers F (64 * k + b) = ap (λ x. on x b) ones ∙ (sym (mark-at m.one.items k b l) ∙ masks.one (64 * k + b)) in
+          on-or one bits b ∙ rw (first, second b l) (passes-named c (get_or F (64 * k + b) None) colon);
+      stay = λ b l. ap (λ x. on x b) stays ∙ (sym (mark-at m.many.items k b l) ∙ (masks.many (64 * k + b) ∙ keeps-named c (get_or F (64 * k + b) None) colon));
+      differs = λ b l off.
+          let none : names_before F (64 * k + b) c ≡ false = sym (second b l) ∙ off in (
+            sym (passes-named c (get_or F (64 * k + b) None) colon) ∙ or-false (does PassesOthers F (64 * k + b)) (names_before F (64 * k + b) c) none,
+            sym (keeps-named c (get_or F (64 * k + b) None) colon),
+          );
     }
 
--- which characters a piece tells from others
-told-true : (a : Bool) → not (beq a false) ≡ true → a ≡ true
-told-true true h = refl
-told-true false h = absurd (cc)
+pub whole-patch : (F : List (Option Piece)) (m : Masks) (k c one stay others many : ℕ) → IsMasks F m → 64 * k ≤ length F → others ≡ get_or m.one.items k 0 → many ≡ get_or m.many.items k 0 →
+    ((b : ℕ) → b < 64 → on one b ≡ does (Passes c) F (64 * k + b)) → ((b : ℕ) → b < 64 → on stay b ≡ does (Keeps c) F (64 * k + b)) →
+    IsPatch F c (record { index = k; one = one; stay = stay; differs = bit_or (bit_xor one others) (bit_xor stay many) })
+whole-patch F m k c one stay others many masks within first second ones stays = record {
+  within = within;
+  one = ones;
+  stay = stays;
+  differs = λ b l off.
+      let parts = or_parts (on (bit_xor one others) b) (on (bit_xor stay many) b) (sym (on-or (bit_xor one others) (bit_xor stay many) b) ∙ off) in (
+        sym (ones b l) ∙ (on-xor one others b parts.0 ∙ (ap (λ x. on x b) first ∙ (sym (mark-at m.one.items k b l) ∙ masks.one (64 * k + b)))),
+        sym (stays b l) ∙ (on-xor stay many b parts.1 ∙ (ap (λ x. on x b) second ∙ (sym (mark-at m.many.items k b l) ∙ masks.many (64 * k + b)))),
+      );
+}
 
-told-false : (a : Bool) → not (beq (not a) true) ≡ true → a ≡ true
-told-false true h = refl
-told-false false h = absurd (cc)
+patch-kept : (xs ys : List Patch) (k : ℕ) → HasPatch xs k → HasPatch (xs ++ ys) k
+patch-kept xs ys k w = (w.0, w.1, omega (arith, w.2, length-append xs ys), get_or_append_left xs ys w.1 w.0 w.2 ∙ w.3, w.4)
 
-pub tells-literal : (c d : ℕ) → tells c (Lit d) ≡ true → d ≡ c
-tells-literal c d h = sym (eqb-true c d (told-true (eqb c d) h))
-
-pub tells-folded : (c d : ℕ) → tells c (LitFold d) ≡ true → (d ≡ c) ⊎ (to_ascii_uppercase d ≡ c)
-tells-folded c d h =
-    elim (or_cases (eqb c d) (eqb c (to_ascii_uppercase d)) (told-true _ h)) [
-      | inl e ↦ inl (sym (eqb-true c d e))
-      | inr e ↦ inr (sym (eqb-true c (to_ascii_uppercase d) e))
-    ]
-
-pub tells-one : (c : ℕ) → tells c OneNoColon ≡ true → 58 ≡ c
-tells-one c h = sym (eqb-true c 58 (told-false (eqb c 58) h))
-
-pub tells-many : (c : ℕ) → tells c ManyNoColon ≡ true → 58 ≡ c
-tells-many c h = sym (eqb-true c 58 (told-false (eqb c 58) h))
-
--- a piece that tells one character, or two
-pub tell-one : {E : Type 0} (r : Result (Unit {0}) E) (F : List (Option Piece)) (n d : ℕ) (old new : ℕ → List Patch) →
-    OnOk r ((m : ℕ) → ((c : ℕ) → IsToldApart F m c (old c)) → (c : ℕ) → IsToldApart F m c (new c)) → OnOk r (HasPatch (new d) (n / 64)) →
-    ((c : ℕ) → if_piece (tells c) (get_or F n None) ≡ true → d ≡ c) →
-    OnOk r (((c : ℕ) → IsToldApart F n c (old c)) → (c : ℕ) → IsToldApart F (n + 1) c (new c))
-tell-one (Ok u) F n d old new kept patch told = told-more F n old new kept (λ c h. subst (λ (x : ℕ). HasPatch (new x) (n / 64)) (told c h) patch)
-tell-one (Err e) F n d old new kept patch told = kept
-
-pub tell-two : {E : Type 0} (r : Result (Unit {0}) E) (F : List (Option Piece)) (n d u : ℕ) (old mid new : ℕ → List Patch) →
-    ((m : ℕ) → ((c : ℕ) → IsToldApart F m c (old c)) → (c : ℕ) → IsToldApart F m c (mid c)) → HasPatch (mid d) (n / 64) →
-    OnOk r ((m : ℕ) → ((c : ℕ) → IsToldApart F m c (mid c)) → (c : ℕ) → IsToldApart F m c (new c)) →
-    OnOk r ((x k : ℕ) → HasPatch (mid x) k → HasPatch (new x) k) → OnOk r (HasPatch (new u) (n / 64)) →
-    ((c : ℕ) → if_piece (tells c) (get_or F n None) ≡ true → (d ≡ c) ⊎ (u ≡ c)) →
-    OnOk r (((c : ℕ) → IsToldApart F n c (old c)) → (c : ℕ) → IsToldApart F (n + 1) c (new c))
-tell-two (Ok x) F n d u old mid new first patch kept more other told =
-    told-more F n old new (λ m h. kept m (first m h)) (λ c h.
-    elim (told c h) [
-      | inl e ↦ subst (λ (y : ℕ). HasPatch (new y) (n / 64)) e (more d (n / 64) patch)
-      | inr e ↦ subst (λ (y : ℕ). HasPatch (new y) (n / 64)) e other
-    ])
-tell-two (Err e) F n d u old mid new first patch kept more other told = kept
-
-pub tell-no : (F : List (Option Piece)) (n : ℕ) (old : ℕ → List Patch) → ((c : ℕ) → if_piece (tells c) (get_or F n None) ≡ true → ⊥) →
-    ((c : ℕ) → IsToldApart F n c (old c)) → (c : ℕ) → IsToldApart F (n + 1) c (old c)
-tell-no F n old none = told-more F n old old (λ m h. h) (λ c h. absurd (none c h))
-
-pub told-end : (F : List (Option Piece)) (n : ℕ) (told : ℕ → List Patch) → length F ≤ n → n ≤ length F → ((c : ℕ) → IsToldApart F n c (told c)) → (c : ℕ) → IsToldApart F (length F) c (told c)
-told-end F n told h k all = let e : n ≡ length F = omega arith in rw e at all
-
-pub move-next : (F : List (Option Piece)) (told : ℕ → List Patch) (moves new : List Move) (m : Move) (x : ℕ) → new ≡ moves ++ m ∷ [] → m.character ≡ x → IsScalar x → m.patches.items ≡ told x →
-    ((c : ℕ) → IsToldApart F (length F) c (told c)) → All (IsMove F) moves → All (IsMove F) new
-move-next F told moves new m x pushed named scalar same all before =
-    let one : IsMove F m = record { scalar = rw named scalar; told = rw (named, same) (all x) } in
-    rw pushed (All-push (IsMove F) moves m before one)
+-- one more word
+pub told-next : (F : List (Option Piece)) (k c : ℕ) (patch : Option Patch) (old new : List Patch) → MatchOption patch (IsLikeOthersAt F k c) (IsPatchAt F k c) → new ≡ old ++ option_to_list patch →
+    IsToldApart F (64 * k) c old → IsToldApart F (64 * (k + 1)) c new
+told-next F k c None old new like is told =
+    let same : new ≡ old = is ∙ append-nil old in
+    rw same (record {
+      right = told.right;
+      covers = λ j h e. elim (cases_lt j (64 * k)) [ inl l ↦ told.covers j l e | inr g ↦ absurd (like j (omega arith) e) ];
+    })
+told-next F k c (Some p) old new patch is told =
+    rw is (record {
+      right = All-push (IsPatch F c) old p told.right patch.1;
+      covers = λ j h e.
+          elim (cases_lt j (64 * k)) [
+            | inl l ↦ patch-kept old (p ∷ []) (j / 64) (told.covers j l e)
+            | inr g ↦ let q : k ≡ j / 64 = omega arith in Any-push (λ (x : Patch). x.index ≡ j / 64) old p (patch.0 ∙ q)
+          ];
+    })
 
 pub characters-next : (moves new : List Move) (m : Move) (x i : ℕ) (characters : List ℕ) → characters_of moves ≡ take i characters → new ≡ moves ++ m ∷ [] → m.character ≡ x → i < length characters → x ≡ get_or characters i x →
     characters_of new ≡ take (i + 1) characters
 characters-next moves new m x i characters are pushed named h read =
     ap characters_of pushed ∙ (map_push (λ (y : Move). y.character) moves m ∙ rw (are, named, take_more characters i x h, ← read) refl)
-
-pub moves-right : {S E : Type 0} (F : List (Option Piece)) (told : IndexMap ℕ (Vec Patch Global) S) (moves : Result (Vec Move Global) E) → AreTold F (length F) told →
-    IfOk moves (λ v. AreMovesBy told v.items) → IfOk moves (λ v. All (IsMove F) v.items)
-moves-right F told (Ok v) are h = h F are
-moves-right F told (Err e) are h = h
-
-pub tells-wide : false ≡ true → ⊥
-tells-wide h = absurd (cc)

@@ -3,6 +3,7 @@ use Rattle.std.specs.Prelude.{◌≡◌, ℕ, ◌-◌, ◌<◌, ◌≤◌, ◌++
 use Rattle.wildcard_lang.specs.declared.piece.Piece.{Piece}
 use Rattle.wildcard_lang.specs.Text.{IsText}
 use Rattle.pattern_automata.specs.declared.wants.Literal.{Literal}
+use Rattle.pattern_automata.specs.declared.wants.Wants.{Wants}
 use Rattle.pattern_automata.specs.declared.outcome.Product.{Product}
 use Rattle.pattern_automata.specs.declared.outcome.Product.TheVariants.{Found, Empty, TooMany}
 use Rattle.pattern_automata.specs.declared.tree.Parent.{Parent}
@@ -20,6 +21,14 @@ abbrev pub IsProduct : List (List Piece) → List (List Literal) → ℕ → Pro
 IsProduct patterns clauses limit (Found t) = Meets patterns clauses t × IsText t
 IsProduct patterns clauses limit (Empty closed) = IsClosed patterns clauses closed × (length closed ≤ limit)
 IsProduct patterns clauses limit (TooMany texts) = ShowWider patterns limit texts
+
+-- the product may answer so at this limit and at each greater one
+abbrev pub IsProductFrom : Wants → ℕ → Product → Type 0
+IsProductFrom wants least answer = (limit : ℕ) → least ≤ limit → IsProduct wants.patterns wants.clauses limit answer
+
+-- the text meets the wants
+abbrev pub IsTextFor : Wants → List ℕ → Type 0
+IsTextFor wants t = Meets wants.patterns wants.clauses t × IsText t
 
 -- each state has a word for each 64 marks
 abbrev pub HaveWords : List (List Piece) → List (List ℕ) → Type 0

@@ -5,6 +5,7 @@ pub mod Answer
 pub mod Checked
 pub mod Packed
 pub mod Moves
+pub mod Named
 pub mod Steps
 pub mod Spare
 pub mod Machine

@@ -1,10 +1,8 @@
 -- What characters do to the marks of patterns, word by word.
 use Rattle.std.specs.Prelude.{◌≡◌, ℕ, ◌+◌, ◌*◌, ◌/◌, ◌<◌, ◌≤◌, List, [], ◌∷◌, ◌++◌, length, map}
-use Rattle.std.specs.Prelude.{slice_index_or, Option, None, Some, Bool, true, false, not, ◌&&◌, nat_eq, All, Any, Vec}
+use Rattle.std.specs.Prelude.{slice_index_or, Option, None, Some, Bool, true, false, not, ◌&&◌, All, Any}
 use Rattle.std.specs.Bool.{beq}
 use Rattle.std.specs.Char.{IsScalar}
-use Rattle.std.specs.declared.alloc.Global.{Global}
-use Rattle.indexmap.specs.IndexMap.{IndexMap, get}
 use Rattle.wildcard_lang.specs.declared.piece.Piece.{Piece}
 use Rattle.wildcard_lang.specs.declared.piece.Piece.TheVariants.{Lit, LitFold, One, Many, OneNoColon, ManyNoColon}
 use Rattle.wildcard_lang.specs.Matching.{takes, is_many}
@@ -56,11 +54,16 @@ pub record IsMasks (before : List (Option Piece)) (m : Masks) : Type 0 where
   pub one : (j : ℕ) → word_mark m.one.items j ≡ does PassesOthers before j
   pub many : (j : ℕ) → word_mark m.many.items j ≡ does Leads before j
 
+-- the piece before the mark does to it at the character what it does at those that no piece names
+abbrev pub DoesAsForOthers : List (Option Piece) → ℕ → ℕ → Type 0
+DoesAsForOthers before c j = (does (Passes c) before j ≡ does PassesOthers before j) × (does (Keeps c) before j ≡ does Leads before j)
+
 -- the words of the character at the patch's index
 pub record IsPatch (before : List (Option Piece)) (c : ℕ) (p : Patch) : Type 0 where
   pub within : 64 * p.index ≤ length before
   pub one : (b : ℕ) → b < 64 → on p.one b ≡ does (Passes c) before (64 * p.index + b)
   pub stay : (b : ℕ) → b < 64 → on p.stay b ≡ does (Keeps c) before (64 * p.index + b)
+  pub differs : (b : ℕ) → b < 64 → on p.differs b ≡ false → DoesAsForOthers before c (64 * p.index + b)
 
 -- one of the patches is at the index
 abbrev pub HasPatch : List Patch → ℕ → Type 0
@@ -71,17 +74,6 @@ pub record IsToldApart (before : List (Option Piece)) (n c : ℕ) (patches : Lis
   pub right : All (IsPatch before c) patches
   pub covers : (j : ℕ) → j < n → if_piece (tells c) (slice_index_or before j None) ≡ true → HasPatch patches (j / 64)
 
-abbrev pub items_of : Option (Vec Patch Global) → List Patch
-items_of None = []
-items_of (Some v) = v.items
-
--- the patches that the map has of a character
-abbrev pub patches_of : {S : Type 0} → IndexMap ℕ (Vec Patch Global) S → ℕ → List Patch
-patches_of told c = items_of (get nat_eq told c)
-
-abbrev pub AreTold : {S : Type 0} → List (Option Piece) → ℕ → IndexMap ℕ (Vec Patch Global) S → Type 0
-AreTold before n told = (c : ℕ) → IsToldApart before n c (patches_of told c)
-
 -- what the character of the move does to the marks
 pub record IsMove (before : List (Option Piece)) (m : Move) : Type 0 where
   pub scalar : IsScalar m.character
@@ -89,26 +81,3 @@ pub record IsMove (before : List (Option Piece)) (m : Move) : Type 0 where
 
 abbrev pub characters_of : List Move → List ℕ
 characters_of moves = map (λ m. m.character) moves
-
--- what is told of a character stays so
-abbrev pub StaysTold : List (Option Piece) → ℕ → List Patch → List Patch → Type 0
-StaysTold before c old new = (n : ℕ) → IsToldApart before n c old → IsToldApart before n c new
-
-abbrev pub StayTold : {S T : Type 0} → List (Option Piece) →
-    IndexMap ℕ (Vec Patch Global) S → IndexMap ℕ (Vec Patch Global) T → Type 0
-StayTold before old new = (n : ℕ) → AreTold before n old → AreTold before n new
-
-abbrev pub IsToldNext : {S T : Type 0} → List (Option Piece) → ℕ →
-    IndexMap ℕ (Vec Patch Global) S → IndexMap ℕ (Vec Patch Global) T → Type 0
-IsToldNext before n old new = AreTold before n old → AreTold before (n + 1) new
-
-abbrev pub KeepPatches : {S T : Type 0} → IndexMap ℕ (Vec Patch Global) S → IndexMap ℕ (Vec Patch Global) T → Type 0
-KeepPatches old new = (c k : ℕ) → HasPatch (patches_of old c) k → HasPatch (patches_of new c) k
-
--- the move of a character is by its patches
-abbrev pub IsMoveOf : {S : Type 0} → IndexMap ℕ (Vec Patch Global) S → ℕ → Move → Type 0
-IsMoveOf told c m = (m.character ≡ c) × IsScalar c × (m.patches.items ≡ patches_of told c)
-
--- the moves are right wherever what the map tells is
-abbrev pub AreMovesBy : {S : Type 0} → IndexMap ℕ (Vec Patch Global) S → List Move → Type 0
-AreMovesBy told moves = (before : List (Option Piece)) → AreTold before (length before) told → All (IsMove before) moves

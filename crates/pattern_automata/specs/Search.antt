@@ -1,5 +1,5 @@
 -- What a search keeps, of the structs of its functions.
-use Rattle.std.specs.Prelude.{◌≡◌, ℕ, ◌<◌, List, [], ◌∷◌, length, slice_index_or, Bool}
+use Rattle.std.specs.Prelude.{◌≡◌, ℕ, ◌<◌, ◌≤◌, List, [], ◌∷◌, length, slice_index_or, Bool}
 use Rattle.wildcard_lang.specs.declared.piece.Piece.{Piece}
 use Rattle.pattern_automata.specs.declared.wants.Wants.{Wants}
 use Rattle.pattern_automata.specs.declared.machine.Machine.{Machine}
@@ -10,7 +10,7 @@ use Rattle.pattern_automata.specs.declared.tree.Step.{Step}
 use Rattle.pattern_automata.specs.Marks.{all_reached, total}
 use Rattle.pattern_automata.specs.Moves.{characters_of}
 use Rattle.pattern_automata.specs.Packed.{all_words, pack}
-use Rattle.pattern_automata.specs.Tree.{IsTurn, IsBase, IsVisit, IsLeft, IsExpansion, IsOutcome}
+use Rattle.pattern_automata.specs.Tree.{IsTree, IsTurn, IsBase, IsVisit, IsLeft, IsExpansion, IsOutcome}
 
 -- the search has found the product state of the empty text alone
 pub record HasBegun (patterns : List (List Piece)) (s : Search) : Type 0 where
@@ -53,3 +53,11 @@ Expands w m s i limit =
 
 abbrev pub Ends : Wants → Machine → Search → ℕ → Step → Type 0
 Ends w m s limit = IsOutcome w.patterns m.ends.items w.clauses (characters_of m.moves.items) s.found s.parents.items limit
+
+-- the product states of the search are a tree
+abbrev pub HasTree : Wants → Search → Type 0
+HasTree w s = IsTree w.patterns s.found s.parents.items
+
+-- they still are, and none was taken away
+abbrev pub GrowsTree : Wants → Search → Search → Bool → Type 0
+GrowsTree w old new met = HasTree w new × (length old.found ≤ length new.found)

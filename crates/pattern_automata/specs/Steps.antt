@@ -1,5 +1,5 @@
 -- A step of words of marks: by masks, and by patches in their place.
-use Rattle.std.specs.Prelude.{◌≡◌, ℕ, ◌+◌, ◌*◌, ◌<◌, ◌⊎◌, List, length, slice_index, slice_index_or, Bool, false, Any}
+use Rattle.std.specs.Prelude.{◌≡◌, ℕ, ◌+◌, ◌*◌, ◌<◌, ◌⊎◌, List, length, slice_index, slice_index_or, Bool, false, ◌||◌, ◌&&◌, Any}
 use Rattle.pattern_automata.specs.declared.moves.Masks.{Masks}
 use Rattle.pattern_automata.specs.declared.moves.Patch.{Patch}
 use Rattle.pattern_automata.specs.Packed.{on, word_mark, before, filled, moved, stepped}
@@ -45,6 +45,14 @@ AreFilled set leads words = (j : ℕ) → j < 64 * length set → word_mark word
 -- the patch moves as the masks do
 abbrev pub IsAlike : Masks → List ℕ → Patch → Type 0
 IsAlike masks state p = (b : ℕ) → b < 64 → moved_at p.one p.stay state p.index b ≡ masked_at masks state p.index b
+
+-- the bit of the word at k is marked, or the mark before it is
+abbrev pub near_at : List ℕ → ℕ → ℕ → Bool
+near_at state k b = on (slice_index_or state k 0) b || before (before false (word_mark state) (64 * k)) (on (slice_index_or state k 0)) b
+
+-- no mark of the state comes near the bits at which the patch differs
+abbrev pub IsAway : List ℕ → Patch → Type 0
+IsAway state p = (b : ℕ) → b < 64 → (near_at state p.index b && on p.differs b) ≡ false
 
 -- the masks with the patches in their place say what a character does
 pub record AreMasksOf (masks : Masks) (patches : List Patch) (one stay : ℕ → Bool) : Type 0 where

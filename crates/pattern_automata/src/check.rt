@@ -19,6 +19,9 @@ use plain_lists::NoMemory;
 use std::alloc::Global;
 use wildcard_lang::Pattern;
 
+/// For how many marks there is room from the start.
+const ROOM: usize = 256;
+
 /// What a check keeps: the words that passed, and room for those of a step.
 #[derive(Drop)]
 struct Passed {
@@ -114,7 +117,7 @@ fn marks_of(alloc: Global, patterns: &[Pattern], state: &State<'_>) -> Result<Ve
     requires { IsShaped patterns.now state.now }
     ensures { IfOk result (λ v. v.items ≡ marks_from patterns.now state.now) }
 {
-    let mut marks = Vec::new(alloc);
+    let mut marks = Vec::with_capacity(alloc, ROOM)?;
     for i in 0..patterns.len() {
         push_marks(state.get(i), patterns[i].len() + 1, &mut marks)?;
     }
@@ -169,7 +172,7 @@ fn index_of(alloc: Global, patterns: &[Pattern], closed: &Closed) -> Result<Foun
     requires { All (IsShaped patterns.now) closed.now }
     ensures { IfOk result (IsIndex patterns.now closed.now (length closed.now)) }
 {
-    let mut index = Found::new(alloc);
+    let mut index = Found::new(alloc)?;
     for i in 0..closed.len() {
         let state = closed.get(i);
         index_state(alloc, patterns, &state, &mut index)?;
@@ -289,7 +292,7 @@ fn all_pass(
     ensures { IfOk result (λ yes. IsTrue yes ↔ AllPass wants.now machine.now index.now closed.now) }
 {
     let mut passed = Passed {
-        words: Found::new(alloc),
+        words: Found::new(alloc)?,
         room: Room {
             moved: Vec::new(alloc),
             words: Vec::new(alloc),

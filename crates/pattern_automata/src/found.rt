@@ -1,11 +1,14 @@
 //! The product states that a search has found, as words of marks, each once, in the order in which
 //! they were found.
-ghost use Rattle.std.specs.Prelude.{◌≡◌, ◌+◌, ◌<◌, ◌++◌, ◌∷◌, ◌↔◌, ℕ, List, [], map, length, slice_index_or, IsTrue, OnOk, OnErr, Contains};
+ghost use Rattle.std.specs.Prelude.{◌≡◌, ◌+◌, ◌<◌, ◌++◌, ◌∷◌, ◌↔◌, ℕ, List, [], map, length, slice_index_or, IfOk, IsTrue, OnOk, OnErr, Contains};
 
 use indexmap::IndexSet;
 use plain_lists::NoMemory;
 use std::alloc::Global;
 use std::marker::Model;
+
+/// For how many product states there is room from the start.
+const ROOM: usize = 64;
 
 /// Product states as words of marks.
 #[derive(Drop)]
@@ -23,12 +26,12 @@ impl Model for Found {
 }
 
 impl Found {
-    pub fn new(alloc: Global) -> Found
-        ensures { result ≡ [] }
+    pub fn new(alloc: Global) -> Result<Found, NoMemory>
+        ensures { IfOk result (λ f. f ≡ []) }
     {
-        Found {
-            set: IndexSet::new(alloc),
-        }
+        Ok(Found {
+            set: IndexSet::with_capacity(alloc, ROOM)?,
+        })
     }
 
     pub fn len(&self) -> usize

@@ -60,11 +60,15 @@ fn push_fronts(pattern: &Pattern, fronts: &mut Vec<Option<Piece>>) -> Result<(),
     Ok(())
 }
 
-/// The pieces before the marks of the patterns.
-pub fn fronts_of(alloc: Global, patterns: &[Pattern]) -> Result<Vec<Option<Piece>>, NoMemory>
+/// The pieces before the marks of the patterns, of which there are so many.
+pub fn fronts_of(
+    alloc: Global,
+    patterns: &[Pattern],
+    count: usize,
+) -> Result<Vec<Option<Piece>>, NoMemory>
     ensures { IfOk result (λ v. v.items ≡ fronts patterns.now) }
 {
-    let mut fronts = Vec::new(alloc);
+    let mut fronts = Vec::with_capacity(alloc, count)?;
     for pattern in patterns {
         push_fronts(pattern, &mut fronts)?;
     }

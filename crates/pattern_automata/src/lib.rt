@@ -3,19 +3,24 @@
 #![tactic(auto)]
 
 mod check;
+mod eager;
 mod found;
 mod fronts;
+mod left;
 mod machine;
 mod marks;
 mod meets;
 mod moves;
+mod named;
 mod names;
 mod outcome;
 mod places;
+mod proposal;
 mod search;
 mod states;
 mod theorems;
 mod tree;
+mod waiting;
 mod wants;
 mod words;
 

@@ -52,13 +52,15 @@ pub fn machine_of(alloc: Global, patterns: &[Pattern]) -> Result<Machine, NoMemo
     ensures { IfOk result (IsMachine patterns.now) }
 {
     let (characters, spared) = alphabet(alloc, patterns)?;
-    let fronts = fronts_of(alloc, patterns)?;
     let count = total_of(patterns)?;
+    let fronts = fronts_of(alloc, patterns, count)?;
+    let masks = masks_of(alloc, fronts.as_slice())?;
+    let moves = moves_of(alloc, fronts.as_slice(), &masks, characters.as_slice())?;
     Ok(Machine {
         ends: ends_of(alloc, patterns)?,
         count,
-        masks: masks_of(alloc, fronts.as_slice())?,
-        moves: moves_of(alloc, fronts.as_slice(), characters.as_slice())?,
+        masks,
+        moves,
         spared,
     })
 }

@@ -10,6 +10,9 @@ use plain_lists::NoMemory;
 use std::alloc::Global;
 use wildcard_lang::{Pattern, Piece};
 
+/// For how many characters there is room from the start. Patterns of names have fewer, mostly.
+const MANY: usize = 64;
+
 /// Adds the character, unless it is there.
 fn add(set: &mut IndexSet<char>, c: char) -> Result<(), NoMemory>
     ensures { OnOk result ((d : ℕ) → has set.new.keys d ≡ (has set.old.keys d || (c == d))) }
@@ -46,7 +49,7 @@ fn add_pattern(set: &mut IndexSet<char>, pattern: &Pattern) -> Result<(), NoMemo
 pub fn named_characters(alloc: Global, patterns: &[Pattern]) -> Result<IndexSet<char>, NoMemory>
     ensures { IfOk result (λ s. (d : ℕ) → IsScalar d → has s.keys d ≡ named patterns.now d) }
 {
-    let mut set = IndexSet::new(alloc);
+    let mut set = IndexSet::with_capacity(alloc, MANY)?;
     add(&mut set, ':')?;
     for pattern in patterns {
         add_pattern(&mut set, pattern)?;

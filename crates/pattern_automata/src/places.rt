@@ -6,58 +6,64 @@ ghost use Rattle.pattern_automata.specs.Packed.{word_mark, words_for};
 ghost use Rattle.pattern_automata.specs.Answer.{AreStatesOf, GrowsByState, HaveWords, IsStateOf};
 
 use crate::found::Found;
-use crate::states::{Closed, PlaceList, PlaceLists};
+use crate::states::{Closed, PlaceLists};
 use crate::words::has_mark;
 use plain_lists::NoMemory;
 use std::alloc::Global;
 use wildcard_lang::Pattern;
 
-/// The places that are marked among so many from a place on.
-fn places_in(alloc: Global, words: &[u64], at: usize, count: usize) -> Result<PlaceList, NoMemory>
+/// Makes the list the places that are marked among so many from a place on.
+fn places_in(words: &[u64], at: usize, count: usize, list: &mut Vec<u32>) -> Result<(), NoMemory>
     requires count { count ≤ 2 ^ 32 }
     requires within { at + count ≤ 64 * length words.now }
     requires room { at + count ≤ usize.MAX }
-    ensures { IfOk result (λ v. v ≡ rising (λ j. word_mark words.now (at + j)) 0 count) }
+    ensures { OnOk result (list.new.items ≡ rising (λ j. word_mark words.now (at + j)) 0 count) }
 {
-    let mut list = PlaceList::new(alloc);
+    list.clear();
     for i in 0..count {
         if has_mark(words, at + i) {
             list.push(i as u32)?;
         }
     }
-    Ok(list)
+    Ok(())
 }
 
-/// The places that are marked, pattern by pattern.
-fn lists_in(alloc: Global, patterns: &[Pattern], words: &[u64]) -> Result<PlaceLists, NoMemory>
+/// Makes the lists the places that are marked, pattern by pattern. The list is room for those of one.
+fn lists_in(
+    patterns: &[Pattern],
+    words: &[u64],
+    list: &mut Vec<u32>,
+    lists: &mut PlaceLists,
+) -> Result<(), NoMemory>
     requires size { length words.now ≡ words_for (total patterns.now) }
     requires room { total patterns.now < usize.MAX }
-    ensures { IfOk result (IsStateOf patterns.now words.now) }
+    ensures { OnOk result (IsStateOf patterns.now words.now lists.new) }
 {
-    let mut lists = PlaceLists::new(alloc);
+    lists.truncate(0);
     let mut at = 0;
     for pattern in patterns {
         let count = pattern.len() + 1;
-        let places = places_in(alloc, words, at, count)?;
-        lists.push(places.as_slice())?;
+        places_in(words, at, count, list)?;
+        lists.push(list.as_slice())?;
         at += count;
     }
-    Ok(lists)
+    Ok(())
 }
 
-/// Adds the product state of the words.
+/// Adds the product state of the words. The lists are room for it.
 fn add_state(
-    alloc: Global,
     patterns: &[Pattern],
     words: &[u64],
+    list: &mut Vec<u32>,
+    lists: &mut PlaceLists,
     closed: &mut Closed,
 ) -> Result<(), NoMemory>
     requires size { length words.now ≡ words_for (total patterns.now) }
     requires room { total patterns.now < usize.MAX }
     ensures { OnOk result (GrowsByState patterns.now words.now closed.old closed.new) }
 {
-    let state = lists_in(alloc, patterns, words)?;
-    closed.push(&state)?;
+    lists_in(patterns, words, list, lists)?;
+    closed.push(lists)?;
     Ok(())
 }
 
@@ -69,8 +75,10 @@ pub fn closed_of(alloc: Global, patterns: &[Pattern], found: &Found) -> Result<C
     ensures each { IfOk result (AreStatesOf patterns.now found.now) }
 {
     let mut closed = Closed::new(alloc);
+    let mut list = Vec::new(alloc);
+    let mut lists = PlaceLists::new(alloc);
     for i in 0..found.len() {
-        add_state(alloc, patterns, found.get(i), &mut closed)?;
+        add_state(patterns, found.get(i), &mut list, &mut lists, &mut closed)?;
     }
     Ok(closed)
 }

@@ -1,5 +1,5 @@
 //! The search over product states, as words of marks.
-ghost use Rattle.std.specs.Prelude.{◌≡◌, List, Bool, ◌+◌, ◌∷◌, ◌<◌, ◌≤◌, ℕ, [], length, slice_index_or, All, IfOk, IsTrue, OnOk};
+ghost use Rattle.std.specs.Prelude.{◌≡◌, List, Bool, ◌+◌, ◌∷◌, ◌<◌, ◌≤◌, ℕ, [], length, slice_index_or, All, IfOk, IfSome, IsTrue, OnOk};
 ghost use Rattle.pattern_automata.specs.Marks.{total};
 ghost use Rattle.pattern_automata.specs.Tree.{IsRooted, IsTree, words_meet};
 ghost use Rattle.pattern_automata.specs.Moves.{IsMove, fronts};
@@ -7,8 +7,9 @@ ghost use Rattle.pattern_automata.specs.Packed.{all_words, words_for};
 ghost use Rattle.pattern_automata.specs.Closed.{InRange};
 ghost use Rattle.pattern_automata.specs.Machine.{IsMachine};
 ghost use Rattle.pattern_automata.specs.Search.{Ends, Expands, HasBegun, IsLeftAt, IsUnderWay, LeadsInto, StepsAsFirst, Turns, Visits};
-ghost use Rattle.pattern_automata.specs.Answer.{HaveWords, IsProduct, IsReport};
+ghost use Rattle.pattern_automata.specs.Answer.{HaveWords, IsProduct, IsProductFrom, IsReport};
 
+use crate::eager::eager_text;
 use crate::found::Found;
 use crate::machine::{Machine, machine_of};
 use crate::marks::start_all;
@@ -16,6 +17,7 @@ use crate::meets::clauses_met;
 use crate::moves::Move;
 use crate::outcome::Product;
 use crate::places::closed_of;
+use crate::proposal::proposed;
 use crate::tree::{Parent, Step, text_of, texts_of};
 use crate::wants::Wants;
 use crate::words::{leads_alike, pack, step_words};
@@ -92,11 +94,11 @@ pub fn leads_as_first(
     if !machine.spared {
         return false;
     }
-    leads_alike(state, &machine.masks, step.patches.as_slice())
+    leads_alike(state, step.patches.as_slice())
 }
 
 /// Steps the product state at i by the move, and keeps what is new.
-fn turn(
+pub fn turn(
     wants: &Wants,
     machine: &Machine,
     search: &mut Search,
@@ -204,7 +206,7 @@ fn explore(
 fn first_found(alloc: Global, words: &[u64]) -> Result<Found, NoMemory>
     ensures { IfOk result (λ f. f ≡ words.now ∷ []) }
 {
-    let mut found = Found::new(alloc);
+    let mut found = Found::new(alloc)?;
     found.push(Vec::from_slice(alloc, words)?)?;
     Ok(found)
 }
@@ -222,7 +224,7 @@ fn first_parents(alloc: Global) -> Result<Vec<Parent>, NoMemory>
 }
 
 /// A search that has found the product state of the empty text.
-fn begin(alloc: Global, patterns: &[Pattern], count: usize) -> Result<Search, NoMemory>
+pub fn begin(alloc: Global, patterns: &[Pattern], count: usize) -> Result<Search, NoMemory>
     requires { count ≡ total patterns.now }
     ensures { IfOk result (HasBegun patterns.now) }
 {
@@ -291,7 +293,7 @@ fn solve_from(
     answer(alloc, wants.patterns.as_slice(), search, step)
 }
 
-/// The product, from what there is to know of the patterns.
+/// The product, from what there is to know of the patterns, by a search in the order of finding.
 fn solve(alloc: Global, wants: &Wants, machine: &Machine, limit: usize) -> Result<Product, NoMemory>
     requires range { InRange (length wants.now.patterns) wants.now.clauses }
     requires some { 1 ≤ limit }
@@ -300,6 +302,46 @@ fn solve(alloc: Global, wants: &Wants, machine: &Machine, limit: usize) -> Resul
 {
     let mut search = begin(alloc, wants.patterns.as_slice(), machine.count)?;
     solve_from(alloc, wants, machine, &mut search, limit)
+}
+
+/// How many product states are looked at before the search that looks first where the fewest pieces are
+/// left, and from how many of them that one goes on.
+const FEW: usize = 2000;
+
+/// The product, where few product states show it, or a text where it is found soon.
+fn solve_soon(alloc: Global, wants: &Wants, machine: &Machine) -> Result<Option<Product>, NoMemory>
+    requires range { InRange (length wants.now.patterns) wants.now.clauses }
+    requires machine { IsMachine wants.now.patterns machine.now }
+    ensures { IfOk result (λ found. IfSome found (IsProductFrom wants.now FEW)) }
+{
+    match solve(alloc, wants, machine, FEW)? {
+        Product::Found(text) => Ok(Some(Product::Found(text))),
+        Product::Empty(closed) => Ok(Some(Product::Empty(closed))),
+        Product::TooMany(_) => match eager_text(alloc, wants, machine, FEW)? {
+            Some(text) => Ok(Some(Product::Found(text))),
+            None => Ok(None),
+        },
+    }
+}
+
+/// The product, from what there is to know of the patterns.
+fn solve_by(
+    alloc: Global,
+    wants: &Wants,
+    machine: &Machine,
+    limit: usize,
+) -> Result<Product, NoMemory>
+    requires range { InRange (length wants.now.patterns) wants.now.clauses }
+    requires some { 1 ≤ limit }
+    requires machine { IsMachine wants.now.patterns machine.now }
+    ensures { IfOk result (IsProduct wants.now.patterns wants.now.clauses limit) }
+{
+    if limit > FEW {
+        if let Some(answer) = solve_soon(alloc, wants, machine)? {
+            return Ok(answer);
+        }
+    }
+    solve(alloc, wants, machine, limit)
 }
 
 /// Answers a text that meets the wants; or a closed set of at most `limit` product states, so that no
@@ -312,6 +354,12 @@ pub fn product(alloc: Global, wants: &Wants, limit: u32) -> Result<Product, NoMe
     requires some { 1 ≤ limit }
     ensures { IfOk result (IsProduct wants.now.patterns wants.now.clauses limit) }
 {
+    // Under a smaller limit the search in the order of finding answers alone.
+    if limit as usize > FEW {
+        if let Some(text) = proposed(alloc, wants)? {
+            return Ok(Product::Found(text));
+        }
+    }
     let machine = machine_of(alloc, wants.patterns.as_slice())?;
-    solve(alloc, wants, &machine, limit as usize)
+    solve_by(alloc, wants, &machine, limit as usize)
 }

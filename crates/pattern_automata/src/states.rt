@@ -95,7 +95,7 @@ impl PlaceLists {
     }
 
     // Takes away all but the first lists.
-    fn truncate(&mut self, count: usize)
+    pub(crate) fn truncate(&mut self, count: usize)
         requires { count ≤ length self.old }
         ensures { self.new ≡ take count self.old }
     {

@@ -2,7 +2,7 @@
 
 ghost use Rattle.std.specs.Prelude.{◌≡◌, ◌<◌, ◌≤◌, ◌*◌, ℕ, false, length, slice_index, All, IfOk, IsTrue, OnOk};
 ghost use Rattle.pattern_automata.specs.Packed.{before, filled, on, pack, word_mark, word_with};
-ghost use Rattle.pattern_automata.specs.Steps.{masked_at, moved_at, AreFilled, AreMoved, ArePatched, AreStepped, AreWords, HaveSize, IsAlike};
+ghost use Rattle.pattern_automata.specs.Steps.{masked_at, moved_at, near_at, AreFilled, AreMoved, ArePatched, AreStepped, AreWords, HaveSize, IsAway};
 
 use crate::moves::{Masks, Patch};
 use plain_lists::NoMemory;
@@ -144,16 +144,30 @@ fn fill_words(moved: &[u64], leads: &[u64], words: &mut Vec<u64>) -> Result<(), 
     Ok(())
 }
 
+/// The marks of the state at an index, and those that follow them.
+fn near_word(state: &[u64], index: usize) -> u64
+    requires { index < length state.now }
+    ensures { (b : ℕ) → b < 64 → on result b ≡ near_at state.now index b }
+{
+    state[index] | shifted(state[index], carry(state, index))
+}
+
+/// Whether no mark of the state comes near the bits at which the patch differs from the masks.
+fn is_away(state: &[u64], patch: Patch) -> bool
+    requires { patch.index < length state.now }
+    ensures { IsTrue result → IsAway state.now patch }
+{
+    near_word(state, patch.index) & patch.differs == 0
+}
+
 /// Whether a character with these patches leads from the state where one that no piece names does. Only
 /// where it doesn't it is worth a step.
-pub fn leads_alike(state: &[u64], masks: &Masks, patches: &[Patch]) -> bool
-    requires size { HaveSize masks.now (length state.now) }
-    requires within { All (λ p. p.index < length state.now) patches.now }
-    ensures { IsTrue result → All (IsAlike masks.now state.now) patches.now }
+pub fn leads_alike(state: &[u64], patches: &[Patch]) -> bool
+    requires { All (λ p. p.index < length state.now) patches.now }
+    ensures { IsTrue result → All (IsAway state.now) patches.now }
 {
     for patch in patches {
-        let own = moved_word(state, patch.index, patch.one, patch.stay);
-        if own != masked_word(state, patch.index, masks) {
+        if !is_away(state, *patch) {
             return false;
         }
     }

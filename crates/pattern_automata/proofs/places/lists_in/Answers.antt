@@ -6,7 +6,7 @@ use Rattle.pattern_automata.proofs.places.lists_in.Goals as goal
 pub loop-pattern-preserved : goal.loop-pattern-preserved
 loop-pattern-preserved c = (
   omega (arith, total-more _ _ _ c.loop-pattern-test.true c.pattern-item.is),
-  λ t is. lists-more _ _ _ t c.args.words.now c.loop-pattern.at _ _ _ _ c.loop-pattern-test.true c.pattern-item.is (omega arith) c.loop-pattern.invariant.0 is (c.as_slice.ensures ∙ c.in_ok-places.ensures) (c.loop-pattern.invariant.1 t is) c.in_ok-push.ensures.ok,
+  λ t is. lists-more _ _ _ t c.args.words.now c.loop-pattern.at _ _ _ _ c.loop-pattern-test.true c.pattern-item.is (omega arith) c.loop-pattern.invariant.0 is (c.as_slice.ensures.value ∙ c.in_ok-places_in.ensures) (c.loop-pattern.invariant.1 t is) c.in_ok-push.ensures.ok,
 )
 
 pub places_in-requires-clause-within : goal.places_in-requires-clause-within

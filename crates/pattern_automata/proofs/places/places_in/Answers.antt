@@ -1,4 +1,5 @@
-use Rattle.std.proofs.Common.{◌∙◌, ◌+◌, sym}
+use Rattle.std.proofs.Common.{◌∙◌, ◌+◌, ap, sym, ℕ, Vec}
+use Rattle.std.specs.declared.alloc.Global.{Global}
 use Rattle.pattern_automata.specs.Packed.{word_mark}
 use Rattle.pattern_automata.proofs.Listing.{push-place, skip-place}
 use Rattle.pattern_automata.proofs.places.places_in.Goals as goal
@@ -7,6 +8,6 @@ use Rattle.pattern_automata.proofs.places.places_in.Goals.{then-has_mark+in_ok-p
 pub loop-i-preserved : goal.loop-i-preserved
 loop-i-preserved c =
     elim c.if-has_mark.branch [
-      | then-has_mark+in_ok-push w ↦ push-place (λ j. word_mark c.args.words.now (c.args.at + j)) c.loop-i.i c.loop-i.list c.loop-i.invariant _ (sym c.has_mark.ensures ∙ w.if-has_mark.true) (w.list-is ∙ w.in_ok-push.ensures.ok)
-      | else-has_mark w ↦ w.list-is ∙ skip-place (λ j. word_mark c.args.words.now (c.args.at + j)) c.loop-i.i c.loop-i.list c.loop-i.invariant (sym c.has_mark.ensures ∙ w.if-has_mark.false)
+      | then-has_mark+in_ok-push w ↦ push-place (λ j. word_mark c.args.words.now (c.args.at + j)) c.loop-i.i c.loop-i.list.items c.loop-i.invariant _ (sym c.has_mark.ensures ∙ w.if-has_mark.true) (ap (λ (v : Vec ℕ Global). v.items) w.list-is ∙ w.in_ok-push.ensures.items)
+      | else-has_mark w ↦ ap (λ (v : Vec ℕ Global). v.items) w.list-is ∙ skip-place (λ j. word_mark c.args.words.now (c.args.at + j)) c.loop-i.i c.loop-i.list.items c.loop-i.invariant (sym c.has_mark.ensures ∙ w.if-has_mark.false)
     ]

@@ -4,4 +4,4 @@ use Rattle.wildcard_lang.specs.Places.{rising}
 use Rattle.pattern_automata.proofs.places.places_in.Given as goal
 
 abbrev pub invariant-loop-i : goal.invariant-loop-i
-invariant-loop-i l = l.list ≡ rising (λ j. word_mark l.words (l.at + j)) 0 l.i
+invariant-loop-i l = l.list.items ≡ rising (λ j. word_mark l.words (l.at + j)) 0 l.i

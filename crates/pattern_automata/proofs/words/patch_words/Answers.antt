@@ -6,7 +6,7 @@ use Rattle.pattern_automata.proofs.words.patch_words.Goals as goal
 
 pub loop-patch-preserved : goal.loop-patch-preserved
 loop-patch-preserved c =
-    let d : Patch = record { index = 0; one = 0; stay = 0 } in
+    let d : Patch = record { index = 0; one = 0; stay = 0; differs = 0 } in
     let i = c.loop-patch.patch-index in
     let p : Patch = get_or c.args.patches.now i d in
     let w = c.loop-patch.invariant in
