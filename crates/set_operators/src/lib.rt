@@ -4,6 +4,7 @@
 
 mod answer;
 mod ask;
+mod few;
 mod listed;
 mod numbered;
 mod one;
@@ -16,6 +17,7 @@ mod wants;
 
 pub use answer::KeyAnswer;
 pub use ask::{KeyAsk, KeyAsks};
+pub use few::few_asks;
 pub use plain_lists::NoMemory;
 pub use search::solve;
 pub use shown::{

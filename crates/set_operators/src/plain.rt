@@ -14,7 +14,8 @@ use plain_lists::{EqualClone, NoMemory};
 use policy_model::{Cond, KeyRule, Kind, Value};
 use std::alloc::Global;
 use value_theory::{
-    Literal, PlainCond, PlainKind, PlainValue, PlainWants, Solved, meets_is_meaning, solve,
+    Literal, PlainCond, PlainKind, PlainValue, PlainWants, Solved, meets_is_meaning, sample_points,
+    solve,
 };
 
 impl Item for PlainCond {
@@ -87,6 +88,23 @@ fn plain_wants(
         conds: asked.items,
         clauses: asked.clauses,
     })
+}
+
+/// Values of the kind, one of which answers the asks if any does. Of asks on values of another kind there
+/// are none.
+pub fn points_of(
+    alloc: Global,
+    kind: PlainKind,
+    asks: &[(KeyAsk, bool)],
+) -> Result<Vec<Option<Value>>, NoMemory> {
+    let mut values = Vec::new(alloc);
+    let wants = plain_wants(alloc, kind, asks, Choice::Each)?;
+    if wants.is_proper() {
+        for point in sample_points(alloc, kind, wants.conds.as_slice())?.into_vec() {
+            values.push(Some(value_of(point)))?;
+        }
+    }
+    Ok(values)
 }
 
 // A value of the kind that answers the chosen asks, by the sample points of their conditions.

@@ -1,12 +1,12 @@
 -- Cores that grow and shrink.
-use Rattle.std.proofs.Common.{◌≡◌, ◌≢◌, ℕ, zero, suc, ◌+◌, ◌<◌, ◌≤◌, List, [], ◌∷◌, length, get_or, take, drop, Bool, true, nat_le, IsSome, All, Contains, refl, sym, ap, ◌∙◌, subst, inl, inr, arith}
-use Rattle.std.specs.List.{filter, insert, remove}
-use Rattle.std.proofs.lemmas.Bool.{and_parts, and_from, cases_Bool}
+use Rattle.std.proofs.Common.{◌≡◌, ◌≢◌, ℕ, zero, suc, ◌+◌, ◌<◌, ◌≤◌, List, [], ◌∷◌, length, get_or, take, drop, Bool, true, nat_le, IsSome, All, Contains, refl, sym, ◌∙◌, subst, arith}
+use Rattle.std.specs.List.{filter, insert}
+use Rattle.std.proofs.lemmas.Bool.{and_parts, and_from}
 use Rattle.std.proofs.lemmas.Bool.Decides.{nat_tests}
 use Rattle.std.proofs.lemmas.List.{get_or_default}
 use Rattle.std.proofs.lemmas.List.Edits.{length-insert}
 use Rattle.std.proofs.lemmas.List.Sums.{length-filter, count_by-le-length}
-use Rattle.std.proofs.lemmas.List.Elements.{All-cons, All-head, All-tail, All-append, All-filter, All-take, All-drop}
+use Rattle.std.proofs.lemmas.List.Elements.{All-cons, All-head, All-tail, All-append, All-take, All-drop}
 use Rattle.pattern_automata.specs.Closed.{rises_from}
 use Rattle.formula_tree.specs.Answers.{Answers, answer_of}
 use Rattle.policy_model.specs.declared.test.Slot.{Slot}
@@ -20,13 +20,6 @@ le-test a b h = grind (arith, nat_tests)
 test-le : (a b : ℕ) → nat_le a b ≡ true → a ≤ b
 test-le a b h = grind (arith, nat_tests)
 
--- numbers that rise from a number rise from a lesser one
-rises-lower : (a b : ℕ) (xs : List ℕ) → a ≤ b → rises_from b xs ≡ true → rises_from a xs ≡ true
-rises-lower a b [] h r = refl
-rises-lower a b (x ∷ xs) h r =
-    let both = and_parts (nat_le b x) (rises_from (x + 1) xs) r in
-    and_from _ _ (le-test a x (omega (arith, test-le b x both.0))) both.1
-
 pub rises-insert : (xs : List ℕ) (i a n : ℕ) → rises_from a xs ≡ true → a ≤ n → i ≤ length xs → ((k : ℕ) → k < i → get_or xs k 0 < n) → (i < length xs → n < get_or xs i 0) → rises_from a (insert xs i n) ≡ true
 rises-insert [] zero a n r h w before behind = and_from _ _ (le-test a n h) refl
 rises-insert [] (suc i) a n r h w before behind = absurd (omega arith)
@@ -38,27 +31,6 @@ rises-insert (x ∷ xs) (suc i) a n r h w before behind =
     let below : x < n = before zero (omega arith) in
     let both = and_parts (nat_le a x) (rises_from (x + 1) xs) r in
     and_from _ _ both.0 (rises-insert xs i (x + 1) n both.1 (omega arith) (omega arith) (λ k l. before (suc k) (omega arith)) (λ l. behind (omega arith)))
-
-pub rises-remove : (xs : List ℕ) (i a : ℕ) → rises_from a xs ≡ true → rises_from a (remove xs i) ≡ true
-rises-remove [] zero a r = refl
-rises-remove [] (suc i) a r = refl
-rises-remove (x ∷ xs) zero a r =
-    let both = and_parts (nat_le a x) (rises_from (x + 1) xs) r in
-    rises-lower a (x + 1) xs (omega (arith, test-le a x both.0)) both.1
-rises-remove (x ∷ xs) (suc i) a r =
-    let both = and_parts (nat_le a x) (rises_from (x + 1) xs) r in
-    and_from _ _ both.0 (rises-remove xs i (x + 1) both.1)
-
--- numbers that rise and pass a test rise
-rises-filter : (p : ℕ → Bool) (xs : List ℕ) (a : ℕ) → rises_from a xs ≡ true → rises_from a (filter p xs) ≡ true
-rises-filter p [] a r = refl
-rises-filter p (x ∷ xs) a r =
-    let both = and_parts (nat_le a x) (rises_from (x + 1) xs) r in
-    let rest = rises-filter p xs (x + 1) both.1 in
-    elim (cases_Bool (p x)) [
-      | inl e ↦ rw e (and_from _ _ both.0 rest)
-      | inr e ↦ rw e (rises-lower a (x + 1) (filter p xs) (omega (arith, test-le a x both.0)) rest)
-    ]
 
 -- numbers below a bound that rise are at most as many
 pub few : (xs : List ℕ) (a n : ℕ) → rises_from a xs ≡ true → All (λ m. m < n) xs → a ≤ n → a + length xs ≤ n
@@ -74,12 +46,6 @@ filter-few p xs = omega (arith, length-filter p xs, count_by-le-length p xs)
 
 pub All-insert : (P : ℕ → Type 0) (xs : List ℕ) (i n : ℕ) → All P xs → P n → All P (insert xs i n)
 All-insert P xs i n a p = All-append P (take i xs) (n ∷ drop i xs) (All-take P i xs a) (All-cons P n (drop i xs) p (All-drop P i xs a))
-
-pub All-remove : (P : ℕ → Type 0) (xs : List ℕ) (i : ℕ) → All P xs → All P (remove xs i)
-All-remove P [] zero a = a
-All-remove P [] (suc i) a = a
-All-remove P (x ∷ xs) zero a = All-tail P x xs a
-All-remove P (x ∷ xs) (suc i) a = All-cons P x (remove xs i) (All-head P x xs a) (All-remove P xs i (All-tail P x xs a))
 
 -- a number that isn't in the core, and isn't below those before its index, is above them
 pub above : (xs : List ℕ) (n i k : ℕ) → (Contains xs n → ⊥) → i ≤ length xs → ((j : ℕ) → j < i → get_or xs j 0 ≤ n) → k < i → get_or xs k 0 < n
@@ -102,11 +68,6 @@ with-by core n index numbers more r new within before behind same is =
       rises = rw e (rises-insert core index 0 n r (omega arith) within (λ k h. above core n index k new within before h) behind);
     }
 
-pub length-less : (xs : List ℕ) (i : ℕ) → i < length xs → length (remove xs i) + 1 ≡ length xs
-length-less [] i h = absurd (omega arith)
-length-less (x ∷ xs) zero h = omega arith
-length-less (x ∷ xs) (suc i) h = omega (arith, length-less xs i (omega arith))
-
 module _ (tests : List Test) (path : Answers) (s : Slot) (core : List ℕ) where
   -- the core with one more test is a core
   pub core-with : (n : ℕ) (more : List ℕ) → IsCore tests path core s → IsAnsweredOn tests path s n → n < length tests → IsWith core n more → IsCore tests path more s
@@ -122,28 +83,6 @@ module _ (tests : List Test) (path : Answers) (s : Slot) (core : List ℕ) where
 
   pub length-with : (n : ℕ) (more : List ℕ) → IsWith core n more → length more ≡ length core + 1
   length-with n more with = rw with.is (length-insert core with.index n with.within)
-
-  -- the core without one of its tests is a core where one is left
-  pub core-without : (i : ℕ) (fewer : List ℕ) → IsCore tests path core s → fewer ≡ remove core i → 0 < length fewer → IsCore tests path fewer s
-  core-without i fewer is e h = record {
-    some = some-length fewer h;
-    rises = rw e (rises-remove core i 0 is.rises);
-    within = rw e (All-remove (λ m. m < length tests) core i is.within);
-    answered = rw e (All-remove (λ m. IsSome (answer_of path m)) core i is.answered);
-    on_slot = rw e (All-remove (λ m. slot_of (test_at tests m) ≡ s) core i is.on_slot);
-  }
-
-  -- and so are those of its tests that pass a test, where some do
-  pub core-filter : (p : ℕ → Bool) (few view : List ℕ) → IsCore tests path core s → few ≡ filter p view → view ≡ core → ¬ (few ≡ []) → IsCore tests path few s
-  core-filter p few view is e same some =
-      let own : few ≡ filter p core = e ∙ ap (filter p) same in
-      record {
-        some = some;
-        rises = rw own (rises-filter p core 0 is.rises);
-        within = rw own (All-filter p (λ m. m < length tests) core is.within);
-        answered = rw own (All-filter p (λ m. IsSome (answer_of path m)) core is.answered);
-        on_slot = rw own (All-filter p (λ m. slot_of (test_at tests m) ≡ s) core is.on_slot);
-      }
 
   pub core-count : IsCore tests path core s → length core ≤ length tests
   core-count is = omega (arith, few core 0 (length tests) is.rises is.within (omega arith))

@@ -1,6 +1,5 @@
 -- The steps of a search for a value: a value for a core is tried on all answered tests of the slot.
-use Rattle.std.specs.Prelude.{◌≡◌, ◌==◌, ◌||◌, ℕ, List, Contains, Bool, true, false, not, unwrap_or}
-use Rattle.std.specs.List.{filter}
+use Rattle.std.specs.Prelude.{◌≡◌, ℕ, List, Contains, Bool, false, unwrap_or}
 use Rattle.wildcard_lang.specs.Places.{ShowWider}
 use Rattle.formula_tree.specs.Answers.{Answers, answer_of}
 use Rattle.policy_model.specs.declared.principal.PrincipalKind.{PrincipalKind}
@@ -10,8 +9,6 @@ use Rattle.slot_theory.specs.declared.steps.Attempt.{Attempt}
 use Rattle.slot_theory.specs.declared.steps.Attempt.TheVariants as attempt
 use Rattle.slot_theory.specs.declared.steps.KindAttempt.{KindAttempt}
 use Rattle.slot_theory.specs.declared.steps.KindAttempt.TheVariants as kind_attempt
-use Rattle.slot_theory.specs.declared.outcome.SlotProof.{SlotProof}
-use Rattle.slot_theory.specs.declared.outcome.SlotProof.TheVariants.{Member, SomeMember}
 use Rattle.slot_theory.specs.declared.outcome.SlotValue.{SlotValue}
 use Rattle.slot_theory.specs.declared.question.Question.{Question}
 use Rattle.slot_theory.specs.Slots.{AnswersSlot, AnswersTest, IsSlotValue, patterns_at, slot_of, test_at}
@@ -49,14 +46,3 @@ IsAttempt q states core (attempt.Wrong n) = IsAnsweredOf q n × (Contains core n
 abbrev pub IsKindAttempt : Question → ℕ → List ℕ → PrincipalKind → KindAttempt → Type 0
 IsKindAttempt q states core k (kind_attempt.Empty proof) = KindShowsOf q core k proof
 IsKindAttempt q states core k (kind_attempt.Whole made) = IsAttempt q states core made
-
--- whether the proof rests on the test, which is answered so: one for a member of a key's values on that member's test and on those
--- that are answered no, and any other proof on all tests of its core
-abbrev pub is_named : SlotProof → ℕ → Bool → Bool
-is_named (Member t set) n holds = (n == t) || not holds
-is_named (SomeMember set) n holds = not holds
-is_named proof n holds = true
-
--- the tests of a core that its proof rests on
-abbrev pub named_tests : Answers → SlotProof → List ℕ → List ℕ
-named_tests path proof core = filter (λ n. is_named proof n (unwrap_or (answer_of path n) false)) core

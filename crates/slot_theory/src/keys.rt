@@ -7,16 +7,16 @@ ghost use Rattle.slot_theory.specs.Question.{IsAskable, IsCoreOf, IsOnKey, KeySh
 ghost use Rattle.slot_theory.specs.Steps.{IsAttempt};
 
 use crate::cores::index_in;
-use crate::outcome::{SlotProof, SlotValue};
+use crate::outcome::{Core, SlotProof, SlotValue};
 use crate::question::Question;
 use crate::slots::ask_of;
 use crate::steps::Attempt;
 use crate::trial::tried;
 use pattern_automata::Closed;
 use plain_lists::NoMemory;
-use policy_model::KeyRule;
+use policy_model::{KeyRule, Slot};
 use set_operators::{
-    KeyAnswer, KeyAsks, shows_absent, shows_member, shows_points, shows_required,
+    KeyAnswer, KeyAsks, few_asks, shows_absent, shows_member, shows_points, shows_required,
     shows_some_member, shows_together, solve,
 };
 use std::alloc::Global;
@@ -33,6 +33,32 @@ fn asks_of(alloc: Global, question: &Question<'_>, core: &[u32]) -> Result<KeyAs
         asks.push((ask, holds))?;
     }
     Ok(asks)
+}
+
+/// The rule of the key that is the slot.
+pub fn rule_of<'a>(question: &Question<'a>) -> Option<&'a KeyRule> {
+    match question.slot {
+        Slot::Key(name) => question.schema.get(name),
+        _ => None,
+    }
+}
+
+/// Few tests of the core that no values of a key answer, if the key's values aren't texts. That is a
+/// proposal: nothing is promised of it.
+pub fn few_of(alloc: Global, question: &Question<'_>, core: &[u32]) -> Result<Core, NoMemory>
+    requires core { IsCoreOf question.now core.now }
+{
+    let mut few = Core::new(alloc);
+    let asks = asks_of(alloc, question, core)?;
+    if let Some(rule) = rule_of(question) {
+        let falling = few_asks(alloc, rule, asks.as_slice())?;
+        for i in (0..falling.len()).rev() {
+            if let Some(n) = core.get(falling[i]) {
+                few.push(*n)?;
+            }
+        }
+    }
+    Ok(few)
 }
 
 /// Values of the key for the core, tried on all answered tests of the slot.

@@ -45,7 +45,7 @@ names-more conds clause i old new k within named has each n met = by (scaled.eq-
 
     same : holds_at conds n (get_or clause i no_literal) ≡ true → k ≡ n
     same here =
-        let own : IsNamedAlone conds (get_or clause i no_literal) true k = named no_literal in
+        let own : IsNamedAlone conds (get_or clause i no_literal) k = named no_literal in
         let yes = holds-so (get_or (answers conds (Value.Number n)) (get_or clause i no_literal).pattern false) (get_or clause i no_literal).holds own.0 here in
         sym ((Decides-int_eq n k).0 (sym (own.1 n) ∙ yes))
 

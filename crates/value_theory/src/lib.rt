@@ -2,6 +2,7 @@
 #![tactic(auto)]
 
 mod clause;
+mod guesses;
 mod kinds;
 mod meaning;
 mod samples;
@@ -12,5 +13,5 @@ pub use clause::{ClauseList, Literal, LiteralList};
 pub use kinds::{PlainCond, PlainCondList, PlainKind, PlainValue};
 pub use meaning::{meets_condition, meets_is_meaning};
 pub use plain_lists::NoMemory;
-pub use samples::samples_stand_for_all;
+pub use samples::{SampleList, sample_points, samples_stand_for_all};
 pub use search::{PlainWants, Solved, solve};

@@ -17,10 +17,12 @@ use std::alloc::Global;
 /// The least number: 10^27 is out of range.
 const LEAST_UNITS: i128 = -999_999_999_999_999_999_999_999_999;
 
-pub(crate) type SampleList = List<PlainValue>;
+/// A list of values.
+pub type SampleList = List<PlainValue>;
 
-/// All sample points of the kind for these conditions.
-pub(crate) fn samples_of(
+/// The sample points of the kind for these conditions, which are on values of it: each value of the kind
+/// has one that answers all conditions as it does. They are in the order in which they are tried.
+pub fn sample_points(
     alloc: Global,
     kind: PlainKind,
     conds: &[PlainCond],

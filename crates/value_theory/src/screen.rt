@@ -1,11 +1,10 @@
-//! Numbers that clauses rule out at once. A list of n numbers makes 2 n sample points, and to look at
-//! each of them through n clauses takes n times as long again.
-ghost use Rattle.std.specs.Prelude.{◌≡◌, ◌<◌, ⊤, All, IfOk, OnOk, IsTrue, MatchOption, length};
+//! Numbers that a clause names one by one. A list of n numbers makes 2 n sample points, and to look for each of
+//! them in the list takes n times as long again.
+ghost use Rattle.std.specs.Prelude.{◌≡◌, ◌<◌, ⊤, All, IfOk, IsTrue, MatchOption, length};
 ghost use Rattle.intervals.specs.declared.compare.Compare.TheVariants.{Equal};
 ghost use Rattle.value_theory.specs.declared.kinds.PlainCond.TheVariants.{Compares};
-ghost use Rattle.value_theory.specs.declared.kinds.PlainValue.TheVariants as Value;
 ghost use Rattle.value_theory.specs.Clauses.{OnConditions};
-ghost use Rattle.value_theory.specs.Screens.{AddsRuledOut, HasAllOf, IsNamedAlone, IsNamedAt, IsOut, IsRuledOut, IsScreen, LacksAllOf, NamesEach};
+ghost use Rattle.value_theory.specs.Screens.{HasAllOf, IsNamedAlone, IsNamedAt, IsOut, IsScreen, NamesEach};
 
 use crate::clause::{Literal, LiteralList};
 use crate::kinds::{PlainCond, PlainValue};
@@ -17,10 +16,8 @@ use std::alloc::Global;
 /// What is known of the numbers that meet clauses.
 #[derive(Drop)]
 pub(crate) struct Screen {
-    /// Numbers that don't.
-    pub(crate) out: IndexSet<Scaled>,
     /// Where a clause names the numbers that meet it: no others do.
-    pub(crate) only: Option<IndexSet<Scaled>>,
+    only: Option<IndexSet<Scaled>>,
 }
 
 // The bound of a comparison that only the bound itself meets.
@@ -43,57 +40,15 @@ fn only_number(cond: &PlainCond) -> Option<Scaled>
     }
 }
 
-// The only number that meets the literal's condition, where the literal holds so.
-fn named(conds: &[PlainCond], literal: &Literal, holds: bool) -> Option<Scaled>
+// The only number that meets the literal.
+fn named(conds: &[PlainCond], literal: &Literal) -> Option<Scaled>
     requires { literal.now.pattern < length conds.now }
-    ensures { MatchOption result ⊤ (IsNamedAlone conds.now literal.now holds) }
+    ensures { MatchOption result ⊤ (IsNamedAlone conds.now literal.now) }
 {
-    if literal.holds != holds {
+    if !literal.holds {
         return None;
     }
     only_number(&conds[literal.pattern as usize])
-}
-
-// The number that the clause rules out, where that is all it does.
-fn ruled_out(conds: &[PlainCond], clause: &[Literal]) -> Option<Scaled>
-    requires { All (λ l. l.pattern < length conds.now) clause.now }
-    ensures { MatchOption result ⊤ (IsRuledOut conds.now clause.now) }
-{
-    if clause.len() != 1 {
-        return None;
-    }
-    named(conds, &clause[0], false)
-}
-
-// Adds the number that the clause rules out, if it does.
-fn add_ruled_out(
-    conds: &[PlainCond],
-    clause: &[Literal],
-    out: &mut IndexSet<Scaled>,
-) -> Result<(), NoMemory>
-    requires { All (λ l. l.pattern < length conds.now) clause.now }
-    ensures { OnOk result (AddsRuledOut conds.now clause.now out.old.keys out.new.keys) }
-{
-    if let Some(number) = ruled_out(conds, clause) {
-        out.insert_full(number)?;
-    }
-    Ok(())
-}
-
-// Numbers that don't meet the clauses.
-fn out_of(
-    alloc: Global,
-    conds: &[PlainCond],
-    clauses: &[LiteralList],
-) -> Result<IndexSet<Scaled>, NoMemory>
-    requires { OnConditions (length conds.now) clauses.now }
-    ensures { IfOk result (λ out. LacksAllOf conds.now clauses.now out.keys) }
-{
-    let mut out = IndexSet::new(alloc);
-    for clause in clauses {
-        add_ruled_out(conds, clause.as_slice(), &mut out)?;
-    }
-    Ok(out)
 }
 
 // The only number that meets the literal at the index.
@@ -102,7 +57,7 @@ fn named_at(conds: &[PlainCond], clause: &[Literal], index: usize) -> Option<Sca
     requires within { index < length clause.now }
     ensures { MatchOption result ⊤ (IsNamedAt conds.now clause.now index) }
 {
-    named(conds, &clause[index], true)
+    named(conds, &clause[index])
 }
 
 // The numbers that meet the clause, where it names each of them.
@@ -152,30 +107,16 @@ pub(crate) fn screen_of(
     requires { OnConditions (length conds.now) clauses.now }
     ensures { IfOk result (IsScreen conds.now clauses.now) }
 {
-    let out = out_of(alloc, conds, clauses)?;
     let only = only_of(alloc, conds, clauses)?;
-    Ok(Screen { out, only })
-}
-
-// Whether it is known that the number doesn't meet the clauses.
-fn is_number_out(screen: &Screen, number: Scaled) -> bool
-    ensures { IsTrue result → IsOut screen.now (Value.Number number) }
-{
-    if screen.out.contains(&number) {
-        return true;
-    }
-    match &screen.only {
-        None => false,
-        Some(only) => !only.contains(&number),
-    }
+    Ok(Screen { only })
 }
 
 /// Whether it is known that the value doesn't meet the clauses.
 pub(crate) fn is_out(screen: &Screen, point: &PlainValue) -> bool
     ensures { IsTrue result → IsOut screen.now point.now }
 {
-    match point {
-        PlainValue::Number(number) => is_number_out(screen, *number),
-        PlainValue::Truth(_) | PlainValue::Address(_) | PlainValue::Bytes(_) => false,
+    match (&screen.only, point) {
+        (Some(only), PlainValue::Number(number)) => !only.contains(number),
+        _ => false,
     }
 }

@@ -1,14 +1,15 @@
 //! A value that meets clauses, or none.
-ghost use Rattle.std.specs.Prelude.{◌≡◌, ◌<◌, ◌↔◌, length, All, IfOk, IsTrue};
+ghost use Rattle.std.specs.Prelude.{◌≡◌, ◌<◌, ◌↔◌, false, length, All, IfOk, IsTrue};
 ghost use Rattle.value_theory.specs.Clauses.{OnConditions};
 ghost use Rattle.value_theory.specs.Meaning.{plain_kind};
 ghost use Rattle.value_theory.specs.Screens.{IsScreen};
 ghost use Rattle.value_theory.specs.Solutions.{IsProper, IsSolution, PrefersZero, IsFirstMeeting, meets_clause, meets_clauses};
 
 use crate::clause::{ClauseList, Literal, LiteralList, are_in_range, literal_holds};
+use crate::guesses::guesses_of;
 use crate::kinds::{PlainCond, PlainCondList, PlainKind, PlainValue};
 use crate::meaning::meets_condition;
-use crate::samples::samples_of;
+use crate::samples::sample_points;
 use crate::screen::{Screen, is_out, screen_of};
 use plain_lists::NoMemory;
 use std::alloc::Global;
@@ -68,6 +69,14 @@ pub fn solve(alloc: Global, wants: &PlainWants) -> Result<Solved, NoMemory>
     )
 }
 
+/// What is known and what is guessed of the points before they are looked at.
+#[derive(Drop)]
+struct Known {
+    screen: Screen,
+    /// For each point the index of a clause that it may not meet.
+    guesses: Vec<Option<usize>>,
+}
+
 // The first sample point that meets the clauses.
 fn find(
     alloc: Global,
@@ -80,7 +89,7 @@ fn find(
     ensures answer { IfOk result (IsSolution kind conds.now clauses.now) }
     ensures zero { IfOk result (PrefersZero kind conds.now clauses.now) }
 {
-    let points = samples_of(alloc, kind, conds)?;
+    let points = sample_points(alloc, kind, conds)?;
     let first = first_of(alloc, points.as_slice(), conds, clauses)?;
     match first {
         Some(index) => Ok(Solved::Found(points.into_vec().remove(index))),
@@ -99,38 +108,68 @@ fn first_of(
     ensures { IfOk result (IsFirstMeeting points.now conds.now clauses.now) }
 {
     let screen = screen_of(alloc, conds, clauses)?;
-    Ok(first_meeting(points, &screen, conds, clauses))
+    let guesses = guesses_of(alloc, points, conds, clauses)?;
+    let known = Known { screen, guesses };
+    Ok(first_meeting(points, &known, conds, clauses))
 }
 
 // The index of the first point that meets the clauses.
 fn first_meeting(
     points: &[PlainValue],
-    screen: &Screen,
+    known: &Known,
     conds: &[PlainCond],
     clauses: &[LiteralList],
 ) -> Option<usize>
     requires range { OnConditions (length conds.now) clauses.now }
-    requires screen { IsScreen conds.now clauses.now screen.now }
+    requires screen { IsScreen conds.now clauses.now known.now.screen }
     ensures { IsFirstMeeting points.now conds.now clauses.now result }
 {
     for (index, point) in points.iter().enumerate() {
-        if passes(point, screen, conds, clauses) {
+        if passes(point, index, known, conds, clauses) {
             return Some(index);
         }
     }
     None
 }
 
-// Whether the point meets the clauses, which most points of long lists are known not to.
-fn passes(point: &PlainValue, screen: &Screen, conds: &[PlainCond], clauses: &[LiteralList]) -> bool
+// Whether the point at the index meets the clauses, which most points of long lists are known not to.
+fn passes(
+    point: &PlainValue,
+    index: usize,
+    known: &Known,
+    conds: &[PlainCond],
+    clauses: &[LiteralList],
+) -> bool
     requires range { OnConditions (length conds.now) clauses.now }
-    requires screen { IsScreen conds.now clauses.now screen.now }
+    requires screen { IsScreen conds.now clauses.now known.now.screen }
     ensures { result ≡ meets_clauses conds.now clauses.now point.now }
 {
-    if is_out(screen, point) {
+    if is_out(&known.screen, point) {
+        return false;
+    }
+    let guess = known.guesses.get(index).copied().flatten();
+    if is_refused(point, guess, conds, clauses) {
         return false;
     }
     point_meets(point, conds, clauses)
+}
+
+// Whether the point doesn't meet the clause at the index, where one is given.
+fn is_refused(
+    point: &PlainValue,
+    guess: Option<usize>,
+    conds: &[PlainCond],
+    clauses: &[LiteralList],
+) -> bool
+    requires range { OnConditions (length conds.now) clauses.now }
+    ensures { IsTrue result → meets_clauses conds.now clauses.now point.now ≡ false }
+{
+    match guess {
+        Some(index) if index < clauses.len() => {
+            !clause_meets(point, conds, clauses[index].as_slice())
+        }
+        _ => false,
+    }
 }
 
 fn point_meets(point: &PlainValue, conds: &[PlainCond], clauses: &[LiteralList]) -> bool

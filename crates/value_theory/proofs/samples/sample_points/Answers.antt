@@ -6,7 +6,7 @@ use Rattle.value_theory.specs.declared.kinds.PlainValue.{PlainValue}
 use Rattle.value_theory.specs.Meaning.{plain_kind, IsOfPlainKind}
 use Rattle.value_theory.specs.Samples.{first_samples, last_samples, samples_at}
 use Rattle.value_theory.proofs.Pushing.{more_points, more_kinds}
-use Rattle.value_theory.proofs.samples.samples_of.Goals as goal
+use Rattle.value_theory.proofs.samples.sample_points.Goals as goal
 
 pub loop-cond-preserved : goal.loop-cond-preserved
 loop-cond-preserved c =

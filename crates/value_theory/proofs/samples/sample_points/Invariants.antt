@@ -2,7 +2,7 @@ use Rattle.std.proofs.Common.{◌≡◌, ◌++◌, take, All}
 use Rattle.std.specs.List.{flat_map}
 use Rattle.value_theory.specs.Meaning.{IsOfPlainKind}
 use Rattle.value_theory.specs.Samples.{first_samples, samples_at}
-use Rattle.value_theory.proofs.samples.samples_of.Given as goal
+use Rattle.value_theory.proofs.samples.sample_points.Given as goal
 
 abbrev pub invariant-loop-cond : goal.invariant-loop-cond
 invariant-loop-cond l = record {

@@ -1,0 +1,112 @@
+//! The search with all answered tests of a slot at once. A key whose values aren't texts has finitely many
+//! values that stand for all, which are looked at in one pass however many tests there are, while a core
+//! that grows test by test takes a pass for each.
+ghost use Rattle.std.specs.Prelude.{◌≡◌, ◌≤◌, IfOk, IfSome};
+ghost use Rattle.slot_theory.specs.Question.{IsAskable, IsCoreOf, IsOutcomeOf};
+ghost use Rattle.slot_theory.specs.Shrinking.{IsKept};
+
+use crate::attempt::attempt;
+use crate::cores::is_core;
+use crate::cutting::{confirmed, found_or};
+use crate::keys::{few_of, rule_of};
+use crate::outcome::{Core, Possible};
+use crate::question::Question;
+use crate::slots::is_on;
+use crate::steps::{Attempt, Kept};
+use plain_lists::NoMemory;
+use policy_model::Kind;
+use std::alloc::Global;
+
+/// Cores with fewer tests grow test by test.
+const FEW_TESTS: usize = 16;
+
+/// Whether a core of so many tests has taken as long to grow as all tests at once would take.
+fn is_long(question: &Question<'_>, count: usize) -> bool {
+    if count < FEW_TESTS || count.saturating_mul(count) < question.path.len() {
+        return false;
+    }
+    match rule_of(question) {
+        Some(rule) => rule.kind != Kind::Text,
+        None => false,
+    }
+}
+
+/// The answered tests of the slot.
+fn answered_tests(alloc: Global, question: &Question<'_>) -> Result<Core, NoMemory> {
+    let mut numbers = Vec::new(alloc);
+    for (n, _) in question.path.as_slice() {
+        if let Some(test) = question.tests.get(*n as usize) {
+            if is_on(question.slot, test) {
+                numbers.push(*n)?;
+            }
+        }
+    }
+    numbers.sort()?;
+    Ok(Core::from_vec(numbers))
+}
+
+/// The conflict with fewer tests, by what answers them otherwise, or else by leaving out each.
+fn reduced(
+    alloc: Global,
+    question: &Question<'_>,
+    states: u32,
+    first: Kept,
+) -> Result<Kept, NoMemory>
+    requires askable { IsAskable question.now }
+    requires some { 1 ≤ states }
+    requires kept { IsKept question.now first }
+    ensures { IfOk result (IsKept question.now) }
+{
+    let few = few_of(alloc, question, first.core.as_slice())?;
+    let fewer = confirmed(alloc, question, states, few);
+    found_or(fewer, first)
+}
+
+/// What a search with this core answers, unless the core grows.
+fn settled(
+    alloc: Global,
+    question: &Question<'_>,
+    states: u32,
+    core: Core,
+) -> Result<Option<Possible>, NoMemory>
+    requires askable { IsAskable question.now }
+    requires core { IsCoreOf question.now core }
+    requires some { 1 ≤ states }
+    ensures { IfOk result (λ found. IfSome found (IsOutcomeOf question.now states)) }
+{
+    match attempt(alloc, question, core.as_slice(), states)? {
+        Attempt::Empty(proof) => {
+            let kept = reduced(alloc, question, states, Kept { core, proof })?;
+            Ok(Some(Possible::Conflict(kept.core, kept.proof)))
+        }
+        Attempt::Full(texts) => Ok(Some(Possible::TooMany(texts))),
+        Attempt::Right(value) => Ok(Some(Possible::Found(value))),
+        Attempt::Wrong(_) => Ok(None),
+    }
+}
+
+/// What a search with all answered tests answers, where a core that grows has come to many of them.
+pub fn all_at_once(
+    alloc: Global,
+    question: &Question<'_>,
+    count: usize,
+    states: u32,
+) -> Result<Option<Possible>, NoMemory>
+    requires askable { IsAskable question.now }
+    requires some { 1 ≤ states }
+    ensures { IfOk result (λ found. IfSome found (IsOutcomeOf question.now states)) }
+{
+    if !is_long(question, count) {
+        return Ok(None);
+    }
+    let core = answered_tests(alloc, question)?;
+    if !is_core(
+        question.tests,
+        question.path,
+        question.slot,
+        core.as_slice(),
+    ) {
+        return Ok(None);
+    }
+    settled(alloc, question, states, core)
+}
