@@ -15,7 +15,7 @@ use crate::location::{Location, answer_at, line_at, with_label};
 use crate::read::LineList;
 use crate::slots::read_slot_proof;
 use plain_lists::NoMemory;
-use refute_check::Refutation;
+use refute_check::{Refutation, SharedProofs};
 use slot_theory::Core;
 use std::alloc::Global;
 use std::rc::Rc;
@@ -27,6 +27,8 @@ pub(crate) struct Trail {
     pub inside: Vec<u32>,
     /// The line of each node so far.
     pub lines: LineList,
+    /// The proofs of slots so far, each kept once.
+    pub proofs: SharedProofs,
 }
 
 /// The node, to be shared.
@@ -57,6 +59,7 @@ fn read_core<'a>(
     limits: Limits,
     core: Core,
     location: Location<'a>,
+    proofs: &mut SharedProofs,
 ) -> Result<(Rc<Refutation>, Location<'a>), ProofAnswer>
     requires { HasLineRoom location }
     ensures read { ArePartsRead (λ node. lines_behind (proof_of node.value)) limits
@@ -64,6 +67,7 @@ fn read_core<'a>(
     ensures core { IfOk result (λ r. IsOfCore core (proof_of r.0.value)) }
 {
     let (proof, end) = read_slot_proof(alloc, limits, location)?;
+    let proof = proofs.share(alloc, proof)?.proof;
     Ok((shared(alloc, Refutation::BySlot { core, proof })?, end))
 }
 
@@ -124,7 +128,7 @@ pub(crate) fn read_node<'a>(
                 end,
             ))
         }
-        Ok(NodeLine::Slot(core)) => read_core(alloc, limits, core, behind),
+        Ok(NodeLine::Slot(core)) => read_core(alloc, limits, core, behind, &mut trail.proofs),
         Ok(NodeLine::Value) => Ok((again(value)?, behind)),
         Ok(NodeLine::Clauses(hints)) => Ok((
             shared(alloc, Refutation::ByClauses { hints })?,

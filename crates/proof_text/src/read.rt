@@ -12,7 +12,7 @@ use crate::location::{
 };
 use crate::nodes::{Trail, read_node, shared};
 use plain_lists::List;
-use refute_check::Refutation;
+use refute_check::{Refutation, SharedProofs};
 use std::alloc::Global;
 use std::rc::Rc;
 
@@ -85,6 +85,7 @@ fn read_at(alloc: Global, limits: Limits, start: Location<'_>) -> Result<ReadPro
     let mut trail = Trail {
         inside: Vec::new(alloc),
         lines: LineList::new(alloc),
+        proofs: SharedProofs::new(alloc),
     };
     let value = shared(alloc, Refutation::ByValue)?;
     let (refutation, end) = read_node(alloc, limits, 0, behind, &value, &mut trail)?;

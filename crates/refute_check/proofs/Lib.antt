@@ -2,6 +2,7 @@ mod Agreeing
 mod Closed
 mod Deciding
 mod Ending
+mod Equals
 mod Existing
 mod Extending
 mod Failing

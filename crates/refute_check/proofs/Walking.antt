@@ -28,7 +28,7 @@ of-split n y z r is = ap proof_of is ∙ search (rules, the_lemmas)
 pub of-value : (r : Refutation) → r ≡ ByValue → proof_of r ≡ by_value
 of-value r is = ap proof_of is ∙ search (rules, the_lemmas)
 
-pub of-slot : (core : List ℕ) (proof : SlotProof) (r : Refutation) → r ≡ BySlot core proof → proof_of r ≡ by_slot core proof
+pub of-slot : (core : List ℕ) (proof : Rc SlotProof Global) (r : Refutation) → r ≡ BySlot core proof → proof_of r ≡ by_slot core proof.value
 of-slot core proof r is = ap proof_of is ∙ search (rules, the_lemmas)
 
 pub of-clauses : (hints : List ℕ) (r : Refutation) → r ≡ ByClauses hints → proof_of r ≡ by_clauses hints
@@ -64,7 +64,7 @@ module _ (schema : Schema) (q : Query) where
   pub fails-here : (before after : Before) (p : Proof) (path : Answers) → (OwnRule schema q.tests tree before p path → ⊥) → Walks before p path after (Failed 0)
   fails-here before after p path broken = (0, here broken, refl)
 
-  pub slot-rule : (before : Before) (core : List ℕ) (proof : SlotProof) (part : Refutation) (path : Answers) → part ≡ BySlot core proof → HoldsHere schema q before part path ≡ Accepts schema q.tests path core proof
+  pub slot-rule : (before : Before) (core : List ℕ) (proof : Rc SlotProof Global) (part : Refutation) (path : Answers) → part ≡ BySlot core proof → HoldsHere schema q before part path ≡ Accepts schema q.tests path core proof.value
   slot-rule before core proof part path is = ap (λ (p : Proof). OwnRule schema q.tests tree before p path) (of-slot core proof part is)
 
   -- ---- the sides of a split

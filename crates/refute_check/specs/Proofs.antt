@@ -19,7 +19,7 @@ pub data Proof : Type 0 where
 abbrev pub refutation_step : Refutation-F Proof → Proof
 refutation_step (Refutation-F.Split n y z) = split n y.value z.value
 refutation_step Refutation-F.ByValue = by_value
-refutation_step (Refutation-F.BySlot core proof) = by_slot core proof
+refutation_step (Refutation-F.BySlot core proof) = by_slot core proof.value
 refutation_step (Refutation-F.ByClauses hints) = by_clauses hints
 refutation_step (Refutation-F.Label n answers inner) = label n answers inner.value
 refutation_step (Refutation-F.Reuse n) = reuse n

@@ -21,7 +21,8 @@ pub enum Refutation {
     /// No value of one slot answers the tests of a core as the path does.
     BySlot {
         core: Core,
-        proof: SlotProof,
+        /// It may stand in other refutations too.
+        proof: Rc<SlotProof>,
     },
     /// Unit propagation from the path meets a conflict: the hints replay.
     ByClauses {

@@ -86,7 +86,7 @@ of-split n y z r is = ap proof_of is ∙ search (rules, the_lemmas)
 of-value : (r : Refutation) → r ≡ ByValue → proof_of r ≡ by_value
 of-value r is = ap proof_of is ∙ search (rules, the_lemmas)
 
-of-slot : (core : List ℕ) (proof : SlotProof) (r : Refutation) → r ≡ BySlot core proof → proof_of r ≡ by_slot core proof
+of-slot : (core : List ℕ) (proof : Rc SlotProof Global) (r : Refutation) → r ≡ BySlot core proof → proof_of r ≡ by_slot core proof.value
 of-slot core proof r is = ap proof_of is ∙ search (rules, the_lemmas)
 
 of-clauses : (hints : List ℕ) (r : Refutation) → r ≡ ByClauses hints → proof_of r ≡ by_clauses hints
@@ -110,10 +110,10 @@ module _ (s : Shortening) (r : Refutation) (path : Answers) (ok : Bool) where
   pub still-value : r ≡ ByValue → IsTrue ok ↔ (value path tree ≡ No) → Still (proof_of r)
   still-value is says = subst Still (sym (of-value r is)) (λ schema many inside closes. says)
 
-  pub still-slot : (core : List ℕ) (proof : SlotProof) → r ≡ BySlot core proof → IsTrue ok ↔ All (λ n. IsSome (answer_of path n)) core → Still (proof_of r)
+  pub still-slot : (core : List ℕ) (proof : Rc SlotProof Global) → r ≡ BySlot core proof → IsTrue ok ↔ All (λ n. IsSome (answer_of path n)) core → Still (proof_of r)
   still-slot core proof is says =
       subst Still (sym (of-slot core proof r is)) (λ schema many inside closes. (
-        λ yes. accepts_alike schema s.query.now.tests many path core proof (λ k d small. sym (core-within core path many inside (says.0 yes) k d small)) closes,
+        λ yes. accepts_alike schema s.query.now.tests many path core proof.value (λ k d small. sym (core-within core path many inside (says.0 yes) k d small)) closes,
         λ accepts. says.1 accepts.conflict.core_is.answered,
       ))
 

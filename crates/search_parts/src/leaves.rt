@@ -46,8 +46,13 @@ pub fn clauses_part(alloc: Global, conflict: Conflict) -> Result<Part, NoMemory>
 /// The part that a core closes under the path. It needs the path's answers to the core's tests.
 ///
 /// The only error is want of memory.
-pub fn slot_part(alloc: Global, path: &Path, core: Core, proof: SlotProof) -> Result<Part, NoMemory>
-    ensures { IfOk result (IsSlotPart path.now core proof) }
+pub fn slot_part(
+    alloc: Global,
+    path: &Path,
+    core: Core,
+    proof: Rc<SlotProof>,
+) -> Result<Part, NoMemory>
+    ensures { IfOk result (IsSlotPart path.now core proof.value) }
 {
     let answers = answers_to(alloc, core.as_slice(), path)?;
     Ok(Part {

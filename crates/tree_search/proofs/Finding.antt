@@ -23,12 +23,11 @@ use Rattle.tree_search.specs.declared.found.Found.{Found}
 use Rattle.tree_search.specs.declared.found.Found.TheVariants.{Refuted}
 use Rattle.tree_search.specs.declared.search.Search.{Search}
 use Rattle.tree_search.specs.declared.state.State.{State}
-use Rattle.tree_search.specs.Decisions.{NeedMore}
-use Rattle.tree_search.specs.Search.{Carries, Follows, IsFoundFrom, IsFoundHere, IsJoinedHere, IsReady, IsRefutedPart, IsRestored, IsSide, NothingLearned, Spent, Stands}
+use Rattle.tree_search.specs.Search.{Carries, Follows, IsFoundFrom, IsFoundHere, IsJoinedHere, IsReady, IsRefutedPart, IsRestored, IsShortOf, IsSide, NothingLearned, Spent, Stands}
 use Rattle.tree_search.specs.States.{AreAllUnmet, IsEvaluated}
 use Rattle.tree_search.proofs.Following.{quiet-here}
 use Rattle.tree_search.proofs.Picking.{pick-within}
-use Rattle.tree_search.proofs.Searching.{after-no, after-yes, join-refuted, need-one, skip-refuted}
+use Rattle.tree_search.proofs.Searching.{after-no, after-yes, join-refuted, short-here, skip-refuted}
 
 -- the same is found from the same path
 pub found-at : (schema : Schema) (query : Query) (states : ℕ) (p q : Answers) (a b : Spent) (f : Found) → p ≡ q → a ≡ b → IsFoundFrom schema query states p a f → IsFoundFrom schema query states q b f
@@ -85,8 +84,8 @@ module _ (s : Search) (state : State) (ready : IsReady s) (stands : Stands s sta
     test-open = pick-unanswered path tree t e
 
     -- where no split is left
-    pub found-short : state.left ≡ 0 → NeedMore schema query path state.left
-    found-short none = subst (λ (most : ℕ). NeedMore schema query path most) (sym none) (need-one schema query path t can quiet e)
+    pub found-short : state.left ≡ 0 → IsShortOf schema query lists (length lists) state.left path
+    found-short none = short-here schema query path lists state.left t none can quiet e
 
     module _ (some : 0 < state.left) (middle : State) (back : middle.left ≤ state.left - 1) where
       -- what is found on the yes side, unless that is refuted

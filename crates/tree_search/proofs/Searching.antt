@@ -1,16 +1,17 @@
 -- What is found at a node of a search, and from there at the node before it.
 use Rattle.std.proofs.Common.{◌≡◌, ◌≢◌, ℕ, ◌+◌, ◌<◌, ◌≤◌, ◌++◌, List, length, All, true, false, Some, refl, sym, subst, arith, length-append}
 use Rattle.formula_tree.specs.Answers.{Answers, Contained}
-use Rattle.formula_tree.specs.Nodes.{EndsWithNone, IsNode, at_start, in_no, in_yes}
+use Rattle.formula_tree.specs.Nodes.{EndsWithNone, at_start, in_no, in_yes}
 use Rattle.formula_tree.specs.Runs.{Run, answered}
 use Rattle.formula_tree.specs.Trees.{Tree}
 use Rattle.formula_tree.specs.Values.{pick, value}
-use Rattle.formula_tree.specs.declared.value.Three.TheVariants.{No}
+use Rattle.formula_tree.specs.declared.value.Three.TheVariants.{No, Yes}
 use Rattle.formula_tree.proofs.Laws.{pick-unanswered}
 use Rattle.cnf_clauses.specs.declared.following.Conflict.{Conflict}
 use Rattle.cnf_clauses.specs.Following.{IsConflictAt}
 use Rattle.cnf_clauses.specs.Numbering.{clauses_of}
 use Rattle.nogoods.specs.Hits.{NoHit, answers_at}
+use Rattle.policy_model.specs.declared.request.Request.{Request}
 use Rattle.policy_model.specs.declared.schema.Schema.{Schema}
 use Rattle.policy_model.specs.declared.test.Slot.{Slot}
 use Rattle.policy_model.specs.Soundness.{TestSuits}
@@ -22,8 +23,8 @@ use Rattle.slot_theory.specs.Slots.{patterns_at}
 use Rattle.wildcard_lang.specs.Places.{ShowWider}
 use Rattle.slot_theory.specs.Cores.{Accepts, HasTest}
 use Rattle.slot_theory.proofs.Laws.{impossible}
-use Rattle.refute_check.specs.Laws.{NoneMeets, TreeInRange}
-use Rattle.refute_check.specs.Proofs.{Proof, by_clauses, by_value, labels, reuse, splits}
+use Rattle.refute_check.specs.Laws.{IsMetBy, NoneMeets, TreeInRange}
+use Rattle.refute_check.specs.Proofs.{Proof, by_clauses, by_value, labels, reuse}
 use Rattle.refute_check.specs.Propagated.{MeetsConflict, PropagatedRun}
 use Rattle.refute_check.proofs.RunLaws.{plain-ends, propagated-ends, unmet-by-clauses, unmet-by-path, unmet-by-value}
 use Rattle.search_parts.specs.declared.part.Needs.TheVariants.{Just, Open}
@@ -35,8 +36,8 @@ use Rattle.search_parts.proofs.Laws.{clauses-made, closed-none, closes-grows, ke
 use Rattle.tree_search.specs.declared.found.Found.{Found}
 use Rattle.tree_search.specs.declared.found.Found.TheVariants.{Refuted, Met, OutOfSplits, OutOfStates}
 use Rattle.tree_search.specs.Decisions.{NeedMore}
-use Rattle.tree_search.specs.Leading.{LeadBy, nowhere, to_yes, to_no}
-use Rattle.tree_search.specs.Search.{IsFoundFrom, IsRefutedPart, IsWideBy}
+use Rattle.tree_search.specs.Leading.{IsReachedBy, LeadBy, nowhere, to_yes, to_no}
+use Rattle.tree_search.specs.Search.{IsFoundFrom, IsMetThere, IsRefutedPart, IsShortOf, IsWideBy}
 use Rattle.tree_search.specs.States.{AreAllUnmet}
 use Rattle.tree_search.proofs.Splitting.{Runs, both-end, needs-no, needs-one, needs-yes, plain-splits, propagated-splits, skip-end}
 
@@ -72,7 +73,7 @@ module _ (schema : Schema) (query : Query) where
     on_no = answered p t false
 
     -- both runs from it split
-    pub need-one : NeedMore schema query p 0
+    need-one : NeedMore schema query p 0
     need-one = record {
       plain = needs-one R on_yes on_no p (plain-splits schema query.tests tree p t h e);
       propagated = needs-one S on_yes on_no p (propagated-splits schema query.tests tree p t h e quiet);
@@ -85,15 +86,28 @@ module _ (schema : Schema) (query : Query) where
       propagated = needs-yes S on_yes on_no p (propagated-splits schema query.tests tree p t h e quiet) left rest count more.propagated;
     }
 
+    -- a node that is reached from its yes side
+    reached-yes : (store : List Answers) (ended k used : ℕ) (node : Answers) → used ≡ k + 1 → IsReachedBy schema query store ended k on_yes node → IsReachedBy schema query store ended used p node
+    reached-yes store ended k used node sum r = record { on_run = in_yes p node t h e r.on_run; lead = to_yes ended p node t k used r.lead sum }
+
     -- what is found on the yes side, unless that is refuted
     pub after-yes : (states left rest k used : ℕ) (old new : List Answers) (f : Found) → rest + 1 ≡ left → used ≡ k + 1 → ((r : _) → f ≡ Refuted r → ⊥) →
         IsFoundFrom schema query states on_yes (record { old = old; new = new; left = rest; used = k }) f → IsFoundFrom schema query states p (record { old = old; new = new; left = left; used = used }) f
     after-yes states left rest k used old new (Refuted r) count sum other is = absurd (other r refl)
-    after-yes states left rest k used old new (Met q) count sum other is = is
-    after-yes states left rest k used old new OutOfSplits count sum other is = need-yes left rest count is
+    after-yes states left rest k used old new (Met q) count sum other is = record {
+      node = is.node;
+      reached = reached-yes new (length old) k used is.node sum is.reached;
+      met = is.met;
+      is_yes = is.is_yes;
+    }
+    after-yes states left rest k used old new OutOfSplits count sum other is = record {
+      more = need-yes left rest count is.more;
+      node = is.node;
+      reached = reached-yes new (length old) rest left is.node (sym count) is.reached;
+      next = is.next;
+    }
     after-yes states left rest k used old new (OutOfStates w) count sum other is = record {
-      node = in_yes p w.path t h e is.node;
-      near = record { count = is.near.count + 1; lead = to_yes (length old) p w.path t is.near.count (is.near.count + 1) is.near.lead refl; few = let few = is.near.few in omega arith };
+      reached = reached-yes new (length old) k used w.path sum is.reached;
       not_no = is.not_no;
       asked = is.asked;
       texts = is.texts;
@@ -123,25 +137,34 @@ module _ (schema : Schema) (query : Query) where
           let long = length-append middle more in
           rw grows (omega arith)
 
-      lead-no : (new more : List Answers) (node : Answers) (count : ℕ) → new ≡ middle ++ more → LeadBy schema query.tests tree new (length middle) count on_no node →
-          LeadBy schema query.tests tree new (length old) (splits (part_proof y) + count + 1) p node
-      lead-no new more node count grows lead =
-          to_no (length old) p node t count (splits (part_proof y) + count + 1) (part_proof y) (side-closes new more grows) side_yes.made.closed.order (side-ended new more grows)
-          (subst (λ (n : ℕ). LeadBy schema query.tests tree new n count on_no node) side_yes.made.closed.stored lead) refl
+      -- a node that is reached from the no side
+      reached-no : (new more : List Answers) (m used : ℕ) (node : Answers) → new ≡ middle ++ more → used ≡ k + m + 1 → IsReachedBy schema query new (length middle) m on_no node → IsReachedBy schema query new (length old) used p node
+      reached-no new more m used node grows sum r = record {
+        on_run = in_no p node t h e yes-side-ends r.on_run;
+        lead =
+            to_no (length old) p node t k m used (part_proof y)
+            (record { closes = side-closes new more grows; order = side_yes.made.closed.order; within = side-ended new more grows; among = side_yes.made.trim.few; counted = side_yes.counted })
+            (subst (λ (n : ℕ). LeadBy schema query new n m on_no node) side_yes.made.closed.stored r.lead) sum;
+      }
 
       -- what is found on the no side, unless that is refuted
       pub after-no : (states left rest m used : ℕ) (new more : List Answers) (f : Found) → rest + k + 1 ≡ left → used ≡ k + m + 1 → new ≡ middle ++ more → ((r : _) → f ≡ Refuted r → ⊥) →
           IsFoundFrom schema query states on_no (record { old = middle; new = new; left = rest; used = m }) f → IsFoundFrom schema query states p (record { old = old; new = new; left = left; used = used }) f
       after-no states left rest m used new more (Refuted r) count sum grows other is = absurd (other r refl)
-      after-no states left rest m used new more (Met q) count sum grows other is = is
-      after-no states left rest m used new more OutOfSplits count sum grows other is = need-no left rest count is
+      after-no states left rest m used new more (Met q) count sum grows other is = record {
+        node = is.node;
+        reached = reached-no new more m used is.node grows sum is.reached;
+        met = is.met;
+        is_yes = is.is_yes;
+      }
+      after-no states left rest m used new more OutOfSplits count sum grows other is = record {
+        more = need-no left rest count is.more;
+        node = is.node;
+        reached = reached-no new more rest left is.node grows (omega arith) is.reached;
+        next = is.next;
+      }
       after-no states left rest m used new more (OutOfStates w) count sum grows other is = record {
-        node = in_no p w.path t h e yes-side-ends is.node;
-        near = record {
-          count = splits (part_proof y) + is.near.count + 1;
-          lead = lead-no new more w.path is.near.count grows is.near.lead;
-          few = let few = is.near.few in let first = side_yes.made.trim.few in omega arith;
-        };
+        reached = reached-no new more m used w.path grows sum is.reached;
         not_no = is.not_no;
         asked = is.asked;
         texts = is.texts;
@@ -181,14 +204,27 @@ module _ (schema : Schema) (query : Query) where
   -- ---- a node that isn't
 
   module _ (path : Answers) (store : List Answers) where
-    pub wide-here : (states used : ℕ) (copy : Answers) (s : Slot) (texts : List (List ℕ)) → copy ≡ path → value path tree ≢ No → HasTest query.tests path s → ShowWider (patterns_at schema query.tests path s) states texts →
+    reached-here : (used : ℕ) (node : Answers) → used ≡ 0 → node ≡ path → IsReachedBy schema query store (length store) used path node
+    reached-here used node none same = rw (none, same) (record { on_run = at_start path; lead = nowhere (length store) path })
+
+    pub wide-here : (states used : ℕ) (copy : Answers) (s : Slot) (texts : List (List ℕ)) → used ≡ 0 → copy ≡ path → value path tree ≢ No → HasTest query.tests path s → ShowWider (patterns_at schema query.tests path s) states texts →
         IsWideBy schema query store (length store) used states path (record { path = copy; slot = s; texts = texts })
-    wide-here states used copy s texts same says asked wide = record {
-      node = subst (λ (q : Answers). IsNode P tree path q) (sym same) (at_start path);
-      near = record { count = 0; lead = subst (λ (q : Answers). LeadBy schema query.tests tree store (length store) 0 path q) (sym same) (nowhere (length store) path); few = omega arith };
+    wide-here states used copy s texts none same says asked wide = record {
+      reached = reached-here used copy none same;
       not_no = subst (λ (q : Answers). value q tree ≢ No) (sym same) says;
       asked = subst (λ (q : Answers). HasTest query.tests q s) (sym same) asked;
       texts = subst (λ (q : Answers). ShowWider (patterns_at schema query.tests q s) states texts) (sym same) wide;
+    }
+
+    pub met-here : (used : ℕ) (q : Request) → used ≡ 0 → IsMetBy schema query.tests tree path q → value path tree ≡ Yes → IsMetThere schema query store (length store) used path q
+    met-here used q none met is_yes = record { node = path; reached = reached-here used path none refl; met = met; is_yes = is_yes }
+
+    pub short-here : (left t : ℕ) → left ≡ 0 → P path → ¬ MeetsConflict query.tests tree path → pick path tree ≡ Some t → IsShortOf schema query store (length store) left path
+    short-here left t none h quiet e = record {
+      more = subst (λ (most : ℕ). NeedMore schema query path most) (sym none) (need-one path t h quiet e);
+      node = path;
+      reached = reached-here left path none refl;
+      next = record { possible = h; test = t; picks = e; quiet = quiet };
     }
 
     module _ (below : TreeInRange query.tests tree) (range : PathInRange query.tests path) where

@@ -10,7 +10,7 @@ use Rattle.policy_model.specs.declared.test.Test.{Test}
 use Rattle.slot_theory.specs.Possible.{IsPossible}
 use Rattle.refute_check.specs.Propagated.{MeetsConflict, PropagatedRun}
 use Rattle.refute_check.specs.Propagated as propagated
-use Rattle.tree_search.specs.Search.{EndsUnmet}
+use Rattle.tree_search.specs.Nodes.{EndsUnmet}
 
 -- paths, each with how a run from it may end, and its splits
 abbrev pub Runs : Type 1

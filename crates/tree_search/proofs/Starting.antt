@@ -19,6 +19,7 @@ use Rattle.cnf_clauses.specs.Numbering.{clauses_of}
 use Rattle.nogoods.specs.Hits.{NoHit}
 use Rattle.nogoods.specs.Tracking.{Tracked}
 use Rattle.policy_model.specs.declared.test.Slot.{Slot}
+use Rattle.refute_check.specs.Closing.{at_first}
 use Rattle.refute_check.specs.Laws.{TreeInRange}
 use Rattle.refute_check.specs.Proofs.{by_clauses, by_value}
 use Rattle.request_build.specs.Built.{AreSlotValues}
@@ -30,9 +31,10 @@ use Rattle.tree_search.specs.declared.found.Found.{Found}
 use Rattle.tree_search.specs.declared.found.Found.TheVariants as found
 use Rattle.tree_search.specs.declared.outcome.Budgets.{Budgets}
 use Rattle.tree_search.specs.declared.outcome.Decided.{Decided}
-use Rattle.tree_search.specs.Decisions.{IsDecision, IsRefutation}
+use Rattle.tree_search.specs.Decisions.{IsDecision, IsNear, IsRefutation, IsWithinSplits}
+use Rattle.tree_search.specs.Leading.{IsReachedBy}
 use Rattle.tree_search.specs.declared.state.State.{State}
-use Rattle.tree_search.specs.Search.{AreCarried, IsFoundFrom, IsRefutedPart, IsWideBy, followed_at, spent}
+use Rattle.tree_search.specs.Search.{AreCarried, IsFoundFrom, IsRefutedPart, followed_at, spent}
 use Rattle.tree_search.specs.States.{IsStanding, IsLearned, IsStartState}
 use Rattle.tree_search.specs.Whole.{HasFewLabels, IsTold, IsWholeSearch}
 use Rattle.tree_search.proofs.Finding.{found-at}
@@ -46,25 +48,49 @@ module _ (schema : Schema) (query : Query) where
       let done : IsRefutationOf schema query.tests (asked_tree query) used (renamed [] 0 (part_proof part)) = finished-made schema query.tests (asked_tree query) store used part is.made in
       rw same (record { closes = done.closes; few = let splits = done.few in omega arith; nests = done.nests; trimmed = done.trimmed })
 
+  near-from : (store : List Answers) (most used : ℕ) (node : Answers) → IsReachedBy schema query store 0 used [] node → used ≤ most → IsNear schema query at_first most [] node
+  near-from store most used node reached few = record {
+    count = used;
+    lead = leads-renamed schema query store 0 used [] node 0 [] reached.lead (names-none 0);
+    few = few;
+  }
+
   -- what was found is what is decided
   pub told-decides : (budgets : Budgets) (f : Found) (d : Decided) → IsWholeSearch schema query budgets f → IsTold f d → IsDecision schema query budgets d
   told-decides budgets (found.Refuted part) d whole told =
       subst (λ (x : Decided). IsDecision schema query budgets x) (sym told.1) (refutation-from whole.store budgets.splits whole.used part (proof_of told.0.value) whole.is whole.few told.2)
-  told-decides budgets (found.Met q) d whole told = subst (λ (x : Decided). IsDecision schema query budgets x) (sym told) whole.is
-  told-decides budgets found.OutOfSplits d whole told = subst (λ (x : Decided). IsDecision schema query budgets x) (sym told) whole.is
+  told-decides budgets (found.Met q) d whole told = subst (λ (x : Decided). IsDecision schema query budgets x) (sym told) (record { valid = whole.is.met.valid; meets = whole.is.met.meets })
+  told-decides budgets found.OutOfSplits d whole told = subst (λ (x : Decided). IsDecision schema query budgets x) (sym told) whole.is.more
   told-decides budgets (found.OutOfStates w) d whole told =
-      let wide : IsWideBy schema query whole.store 0 whole.used budgets.states [] w = whole.is in
       subst (λ (x : Decided). IsDecision schema query budgets x) (sym told) (record {
-        node = wide.node;
-        near = record {
-          count = wide.near.count;
-          lead = leads-renamed schema query.tests (asked_tree query) whole.store 0 wide.near.count [] w.path 0 [] wide.near.lead (names-none 0);
-          few = let less = wide.near.few in let most = whole.few in omega arith;
-        };
-        not_no = wide.not_no;
-        asked = wide.asked;
-        texts = wide.texts;
+        node = whole.is.reached.on_run;
+        near = near-from whole.store budgets.splits whole.used w.path whole.is.reached whole.few;
+        not_no = whole.is.not_no;
+        asked = whole.is.asked;
+        texts = whole.is.texts;
       })
+
+  -- and comes within the budget of splits
+  pub told-within : (budgets : Budgets) (f : Found) (d : Decided) → IsWholeSearch schema query budgets f → IsTold f d → IsWithinSplits schema query budgets.splits d
+  told-within budgets (found.Refuted part) d whole told =
+      subst (λ (x : Decided). IsWithinSplits schema query budgets.splits x) (sym told.1) (refutation-from whole.store budgets.splits whole.used part (proof_of told.0.value) whole.is whole.few told.2).few
+  told-within budgets (found.Met q) d whole told =
+      subst (λ (x : Decided). IsWithinSplits schema query budgets.splits x) (sym told) (record {
+        node = whole.is.node;
+        on_run = whole.is.reached.on_run;
+        near = near-from whole.store budgets.splits whole.used whole.is.node whole.is.reached whole.few;
+        answers = whole.is.met.answers;
+        is_yes = whole.is.is_yes;
+      })
+  told-within budgets found.OutOfSplits d whole told =
+      subst (λ (x : Decided). IsWithinSplits schema query budgets.splits x) (sym told) (record {
+        node = whole.is.node;
+        on_run = whole.is.reached.on_run;
+        lead = leads-renamed schema query whole.store 0 budgets.splits [] whole.is.node 0 [] whole.is.reached.lead (names-none 0);
+        next = whole.is.next;
+      })
+  told-within budgets (found.OutOfStates w) d whole told =
+      subst (λ (x : Decided). IsWithinSplits schema query budgets.splits x) (sym told) (near-from whole.store budgets.splits whole.used w.path whole.is.reached whole.few)
 
   -- and its labels are few
   pub few-labels : (budgets : Budgets) (f : Found) → IsWholeSearch schema query budgets f → HasFewLabels f

@@ -1,22 +1,37 @@
 -- How many splits lead to a node while a search runs.
 use Rattle.std.specs.Prelude.{◌≡◌, ◌≤◌, ◌+◌, ℕ, List, length, true, false}
 use Rattle.formula_tree.specs.Answers.{Answers}
+use Rattle.formula_tree.specs.Nodes.{IsNode}
 use Rattle.formula_tree.specs.Runs.{answered}
-use Rattle.formula_tree.specs.Trees.{Tree}
 use Rattle.policy_model.specs.declared.schema.Schema.{Schema}
-use Rattle.policy_model.specs.declared.test.Test.{Test}
+use Rattle.policy_compile.specs.declared.outcome.Query.{Query}
+use Rattle.policy_compile.specs.Queries.{asked_tree}
 use Rattle.refute_check.specs.Proofs.{Proof, labels, splits}
 use Rattle.search_parts.specs.Parts.{ClosesByStore, EndInOrder}
+use Rattle.slot_theory.specs.Possible.{IsPossible}
+use Rattle.tree_search.specs.Nodes.{IsCounted}
 
--- So many splits lead from the first path to the second, while labels are numbered in the order of learning: those on the way, and of
--- each yes side that is passed those of a refutation that closes it by what is stored. Of the stored lists so many had ended before.
-pub data LeadBy (schema : Schema) (tests : List Test) (tree : Tree) (store : List Answers) : ℕ → ℕ → Answers → Answers → Type 0 where
-  nowhere : (ended : ℕ) (path : Answers) → LeadBy schema tests tree store ended 0 path path
-  to_yes : (ended : ℕ) (path node : Answers) (n k all : ℕ) →
-      LeadBy schema tests tree store ended k (answered path n true) node → all ≡ k + 1 →
-      LeadBy schema tests tree store ended all path node
-  to_no : (ended : ℕ) (path node : Answers) (n k all : ℕ) (passed : Proof) →
-      ClosesByStore store schema tests tree passed (answered path n true) → EndInOrder ended passed →
-      ended + labels passed ≤ length store →
-      LeadBy schema tests tree store (ended + labels passed) k (answered path n false) node → all ≡ splits passed + k + 1 →
-      LeadBy schema tests tree store ended all path node
+-- The path is closed by so many splits, by what is stored, while labels are numbered in the order of learning. Of the stored lists so
+-- many had ended before.
+pub record IsPassedBy (schema : Schema) (query : Query) (store : List Answers) (ended made : ℕ) (path : Answers) (passed : Proof)
+    : Type 0 where
+  pub closes : ClosesByStore store schema query.tests (asked_tree query) passed path
+  pub order : EndInOrder ended passed
+  pub within : ended + labels passed ≤ length store
+  pub among : splits passed ≤ made
+  pub counted : IsCounted schema query path made
+
+-- so many splits lead from the first path to the second
+pub data LeadBy (schema : Schema) (query : Query) (store : List Answers) : ℕ → ℕ → Answers → Answers → Type 0 where
+  nowhere : (ended : ℕ) (path : Answers) → LeadBy schema query store ended 0 path path
+  to_yes : (ended : ℕ) (path node : Answers) (n k all : ℕ) → LeadBy schema query store ended k (answered path n true) node →
+      all ≡ k + 1 → LeadBy schema query store ended all path node
+  to_no : (ended : ℕ) (path node : Answers) (n made k all : ℕ) (passed : Proof) →
+      IsPassedBy schema query store ended made (answered path n true) passed →
+      LeadBy schema query store (ended + labels passed) k (answered path n false) node → all ≡ made + k + 1 →
+      LeadBy schema query store ended all path node
+
+-- to a node of the plain run from the first
+pub record IsReachedBy (schema : Schema) (query : Query) (store : List Answers) (ended made : ℕ) (path node : Answers) : Type 0 where
+  pub on_run : IsNode (IsPossible schema query.tests) (asked_tree query) path node
+  pub lead : LeadBy schema query store ended made path node

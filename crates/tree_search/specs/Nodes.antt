@@ -1,20 +1,46 @@
--- How many splits lead to a node of a plain run.
-use Rattle.std.specs.Prelude.{◌≡◌, ◌+◌, ℕ, List, true, false}
+-- How many splits a search makes on its way to a node of the run.
+use Rattle.std.specs.Prelude.{◌≡◌, ◌≤◌, ◌+◌, ℕ, Bool, true, false, Some}
 use Rattle.formula_tree.specs.Answers.{Answers}
-use Rattle.formula_tree.specs.Runs.{answered}
-use Rattle.formula_tree.specs.Trees.{Tree}
+use Rattle.formula_tree.specs.Runs.{Run, answered}
+use Rattle.formula_tree.specs.Values.{pick}
 use Rattle.policy_model.specs.declared.schema.Schema.{Schema}
-use Rattle.policy_model.specs.declared.test.Test.{Test}
+use Rattle.policy_compile.specs.declared.outcome.Query.{Query}
+use Rattle.policy_compile.specs.Queries.{asked_tree}
+use Rattle.slot_theory.specs.Possible.{IsPossible}
 use Rattle.refute_check.specs.Closing.{Before, Closes, after_part}
 use Rattle.refute_check.specs.Proofs.{Proof, splits}
+use Rattle.refute_check.specs.Propagated.{MeetsConflict, PropagatedRun}
 
--- So many splits lead from the first path to the second, after what stands before: those on the way, and of each yes side that is
--- passed those of a refutation that closes it. What is passed stands before what follows.
-pub data LeadTo (schema : Schema) (tests : List Test) (tree : Tree) : Before → ℕ → Answers → Answers → Type 0 where
-  nowhere : (before : Before) (path : Answers) → LeadTo schema tests tree before 0 path path
-  to_yes : (before : Before) (path node : Answers) (n k all : ℕ) →
-      LeadTo schema tests tree before k (answered path n true) node → all ≡ k + 1 → LeadTo schema tests tree before all path node
-  to_no : (before : Before) (path node : Answers) (n k all : ℕ) (passed : Proof) →
-      Closes schema tests tree before passed (answered path n true) →
-      LeadTo schema tests tree (after_part before passed) k (answered path n false) node → all ≡ splits passed + k + 1 →
-      LeadTo schema tests tree before all path node
+-- a run from the path ends without a request, after at least so many splits
+abbrev pub EndsUnmet : (Answers → Bool → ℕ → Type 0) → Answers → ℕ → Type 0
+EndsUnmet runs path used = (end : Bool) (n : ℕ) → runs path end n → (end ≡ false) × (used ≤ n)
+
+-- both runs from the path end without a request and have at least so many splits
+pub record IsCounted (schema : Schema) (query : Query) (path : Answers) (used : ℕ) : Type 0 where
+  pub plain : EndsUnmet (Run (IsPossible schema query.tests) (asked_tree query)) path used
+  pub propagated : EndsUnmet (PropagatedRun schema query.tests (asked_tree query)) path used
+
+-- The path is closed by so many splits, after what stands before. Those of the refutation are among them; others proved needless. Both
+-- runs from the path have at least as many.
+pub record IsClosedAfter (schema : Schema) (query : Query) (before : Before) (made : ℕ) (path : Answers) (passed : Proof) : Type 0 where
+  pub closes : Closes schema query.tests (asked_tree query) before passed path
+  pub among : splits passed ≤ made
+  pub counted : IsCounted schema query path made
+
+-- So many splits lead from the first path to the second, after what stands before: those on the way, and those by which each yes side
+-- that is passed is closed. What is passed stands before what follows.
+pub data LeadTo (schema : Schema) (query : Query) : Before → ℕ → Answers → Answers → Type 0 where
+  nowhere : (before : Before) (path : Answers) → LeadTo schema query before 0 path path
+  to_yes : (before : Before) (path node : Answers) (n k all : ℕ) → LeadTo schema query before k (answered path n true) node →
+      all ≡ k + 1 → LeadTo schema query before all path node
+  to_no : (before : Before) (path node : Answers) (n made k all : ℕ) (passed : Proof) →
+      IsClosedAfter schema query before made (answered path n true) passed →
+      LeadTo schema query (after_part before passed) k (answered path n false) node → all ≡ made + k + 1 →
+      LeadTo schema query before all path node
+
+-- both runs split at the path: it is possible, a test is picked, and unit propagation meets no conflict
+pub record IsToBeSplit (schema : Schema) (query : Query) (path : Answers) : Type 0 where
+  pub possible : IsPossible schema query.tests path
+  pub test : ℕ
+  pub picks : pick path (asked_tree query) ≡ Some test
+  pub quiet : ¬ MeetsConflict query.tests (asked_tree query) path

@@ -1,16 +1,16 @@
 -- What the steps of a search are asked and answer.
 use Rattle.std.specs.Prelude.{◌≡◌, ◌≢◌, ◌≤◌, ◌<◌, ◌-◌, ◌^◌, ◌++◌, ◌∷◌, ◌↔◌, [], ℕ, List, length, slice_set}
-use Rattle.std.specs.Prelude.{Bool, true, false, Option, Some, None, All, IsTrue}
+use Rattle.std.specs.Prelude.{Bool, true, Option, Some, None, All, IsTrue}
 use Rattle.formula_tree.specs.Answers.{Answers, answer_of}
-use Rattle.formula_tree.specs.Nodes.{IsNode}
-use Rattle.formula_tree.specs.Runs.{Run, answered}
+use Rattle.formula_tree.specs.Runs.{answered}
 use Rattle.formula_tree.specs.Values.{AreBelow, value}
-use Rattle.formula_tree.specs.declared.value.Three.TheVariants.{No}
+use Rattle.formula_tree.specs.declared.value.Three.TheVariants.{No, Yes}
 use Rattle.cnf_clauses.specs.Levels.{Followed}
 use Rattle.cnf_clauses.specs.Numbering.{clauses_of}
 use Rattle.nogoods.specs.Hits.{NoHit}
 use Rattle.text_table.specs.Table.{IsInOrder}
 use Rattle.wildcard_lang.specs.Places.{ShowWider}
+use Rattle.policy_model.specs.declared.request.Request.{Request}
 use Rattle.policy_model.specs.declared.schema.Schema.{Schema}
 use Rattle.policy_model.specs.declared.test.Slot.{Slot}
 use Rattle.policy_model.specs.Soundness.{SchemaIsSound, TestSuits}
@@ -18,10 +18,10 @@ use Rattle.policy_compile.specs.declared.outcome.Query.{Query}
 use Rattle.policy_compile.specs.Queries.{asked_tree}
 use Rattle.slot_theory.specs.declared.outcome.SlotValue.{SlotValue}
 use Rattle.slot_theory.specs.Cores.{HasTest}
-use Rattle.slot_theory.specs.Possible.{IsPossible, PathInRange}
+use Rattle.slot_theory.specs.Possible.{PathInRange}
 use Rattle.slot_theory.specs.Slots.{patterns_at}
 use Rattle.request_build.specs.Built.{AreSlotValues}
-use Rattle.refute_check.specs.Propagated.{PropagatedRun}
+use Rattle.refute_check.specs.Laws.{IsMetBy}
 use Rattle.search_parts.specs.declared.part.Halves.{Halves}
 use Rattle.search_parts.specs.declared.learning.TheConstants.{MOST_LEARNED}
 use Rattle.search_parts.specs.declared.part.Part.{Part}
@@ -35,8 +35,9 @@ use Rattle.tree_search.specs.declared.found.Found.TheVariants.{Refuted, Met, Out
 use Rattle.tree_search.specs.declared.outcome.Wide.{Wide}
 use Rattle.tree_search.specs.declared.search.Search.{Search}
 use Rattle.tree_search.specs.declared.state.State.{State}
-use Rattle.tree_search.specs.Decisions.{MeetsQuery, NeedMore}
-use Rattle.tree_search.specs.Leading.{LeadBy}
+use Rattle.tree_search.specs.Decisions.{NeedMore}
+use Rattle.tree_search.specs.Leading.{IsReachedBy}
+use Rattle.tree_search.specs.Nodes.{IsCounted, IsToBeSplit}
 use Rattle.tree_search.specs.States.{IsStanding}
 
 -- slots, each with a value
@@ -118,14 +119,9 @@ pub record IsRestored (s : Search) (old new : State) : Type 0 where
   pub more : List Answers
   pub grows : new.learned.lists ≡ old.learned.lists ++ more
 
--- a run from the path ends without a request, after at least so many splits
-abbrev pub EndsUnmet : (Answers → Bool → ℕ → Type 0) → Answers → ℕ → Type 0
-EndsUnmet runs path used = (end : Bool) (n : ℕ) → runs path end n → (end ≡ false) × (used ≤ n)
-
--- both runs from the path end without a request and have at least so many splits
-pub record IsCounted (schema : Schema) (query : Query) (path : Answers) (used : ℕ) : Type 0 where
-  pub plain : EndsUnmet (Run (IsPossible schema query.tests) (asked_tree query)) path used
-  pub propagated : EndsUnmet (PropagatedRun schema query.tests (asked_tree query)) path used
+-- a valid request answers the path and makes the query yes
+abbrev pub IsMetHere : Search → State → Request → Type 0
+IsMetHere s state = IsMetBy s.schema.now s.query.now.tests (asked_tree s.query.now) state.path
 
 -- the part closes the query under the path, where the first lists were stored before it and the second are now, by at most so many
 -- splits; and both runs from the path end without a request and have at least as many
@@ -134,18 +130,25 @@ pub record IsRefutedPart (schema : Schema) (query : Query) (path : Answers) (old
   pub made : IsMadePart schema query.tests (asked_tree query) old new path used part
   pub counted : IsCounted schema query path used
 
--- no more splits than so many lead from the first path to the second, by what is stored, of which so many lists had ended before
-pub record IsNearBy (schema : Schema) (query : Query) (store : List Answers) (ended most : ℕ) (path node : Answers) : Type 0 where
-  pub count : ℕ
-  pub lead : LeadBy schema query.tests (asked_tree query) store ended count path node
-  pub few : count ≤ most
+-- so many splits lead to a node whose path the request answers, and at which the query is yes
+pub record IsMetThere (schema : Schema) (query : Query) (store : List Answers) (ended used : ℕ) (path : Answers) (q : Request) : Type 0 where
+  pub node : Answers
+  pub reached : IsReachedBy schema query store ended used path node
+  pub met : IsMetBy schema query.tests (asked_tree query) node q
+  pub is_yes : value node (asked_tree query) ≡ Yes
 
--- the kept path is a node of the plain run from the path, to which no more splits than so many lead, and at which the query
--- isn't no; it answers a test of the slot, and the kept texts show the patterns of the slot there wider than the states
-pub record IsWideBy (schema : Schema) (query : Query) (store : List Answers) (ended most states : ℕ) (path : Answers) (w : Wide)
+-- both runs from the path need more splits than there may be, and as many as there may be lead to a node that is to be split
+pub record IsShortOf (schema : Schema) (query : Query) (store : List Answers) (ended left : ℕ) (path : Answers) : Type 0 where
+  pub more : NeedMore schema query path left
+  pub node : Answers
+  pub reached : IsReachedBy schema query store ended left path node
+  pub next : IsToBeSplit schema query node
+
+-- so many splits lead to the kept path, at which the query isn't no; it answers a test of the slot, and the kept texts show the
+-- patterns of the slot there wider than the states
+pub record IsWideBy (schema : Schema) (query : Query) (store : List Answers) (ended used states : ℕ) (path : Answers) (w : Wide)
     : Type 0 where
-  pub node : IsNode (IsPossible schema query.tests) (asked_tree query) path w.path
-  pub near : IsNearBy schema query store ended most path w.path
+  pub reached : IsReachedBy schema query store ended used path w.path
   pub not_no : value w.path (asked_tree query) ≢ No
   pub asked : HasTest query.tests w.path w.slot
   pub texts : ShowWider (patterns_at schema query.tests w.path w.slot) states w.texts
@@ -163,8 +166,8 @@ spent old new = record { old = old.learned.lists; new = new.learned.lists; left 
 -- what is found from a path
 abbrev pub IsFoundFrom : Schema → Query → ℕ → Answers → Spent → Found → Type 0
 IsFoundFrom schema query states path s (Refuted part) = IsRefutedPart schema query path s.old s.new s.used part
-IsFoundFrom schema query states path s (Met q) = MeetsQuery schema query q
-IsFoundFrom schema query states path s OutOfSplits = NeedMore schema query path s.left
+IsFoundFrom schema query states path s (Met q) = IsMetThere schema query s.new (length s.old) s.used path q
+IsFoundFrom schema query states path s OutOfSplits = IsShortOf schema query s.new (length s.old) s.left path
 IsFoundFrom schema query states path s (OutOfStates w) = IsWideBy schema query s.new (length s.old) s.used states path w
 
 -- what is found from the state's path

@@ -40,12 +40,13 @@ impl Cores {
         Ok(Some(part))
     }
 
-    /// Keeps a part by a core, while there is room.
-    pub(crate) fn keep(&mut self, part: &Part) -> Result<(), NoMemory>
+    /// Keeps a part by a core whose proof is kept, while there is room: so kept cores take no more memory
+    /// than kept proofs and the answers of so many lists.
+    pub(crate) fn keep(&mut self, part: &Part, kept: bool) -> Result<(), NoMemory>
         requires { AreNeedsWithin part.now.needs self.old.lists.path }
         ensures { OnOk result (IsKeptWith self.old part.now self.new) }
     {
-        if self.lists.len() >= MOST_LEARNED {
+        if !kept || self.lists.len() >= MOST_LEARNED {
             return Ok(());
         }
         let Needs::Just(answers) = &part.needs else {

@@ -4,8 +4,8 @@ ghost use Rattle.formula_tree.specs.Values.{AreBelow, value};
 ghost use Rattle.formula_tree.specs.declared.value.Three.TheVariants.{No};
 ghost use Rattle.policy_model.specs.Soundness.{SchemaIsSound, TestSuits};
 ghost use Rattle.policy_compile.specs.Queries.{asked_tree};
-ghost use Rattle.tree_search.specs.Decisions.{IsDecision};
-ghost use Rattle.tree_search.specs.Search.{followed_at};
+ghost use Rattle.tree_search.specs.Decisions.{IsDecision, IsWithinSplits};
+ghost use Rattle.tree_search.specs.Search.{IsAskedFor, followed_at};
 ghost use Rattle.tree_search.specs.States.{IsStartState};
 ghost use Rattle.tree_search.specs.Whole.{HasFewLabels, IsTold, IsWholeSearch};
 
@@ -25,7 +25,7 @@ use std::alloc::Global;
 /// value, by unit propagation over the query's clauses, by what it has learned or by a slot. Splits that have closed
 /// are learned under the answers that they need, up to a most; and where the yes side of a split closes without the
 /// split's answer, the no side isn't looked at. It stops for want of splits only where both the plain run and the
-/// propagated run need more.
+/// propagated run need more, and where one more split would be one more than the budget: each decision comes within it.
 ///
 /// The schema is sound and every test suits it, the formula's test numbers are below the number of
 /// tests, and both budgets are at least 1. The only error is want of memory.
@@ -42,7 +42,10 @@ pub fn decide(
     requires splits { 1 ≤ budgets.splits }
     requires states { 1 ≤ budgets.states }
     ensures decision { IfOk result (IsDecision schema.now query.now budgets) }
+    ensures within { IfOk result (IsWithinSplits schema.now query.now budgets.splits) }
 {
+    // The schema's keys are in order, so the request of values that answer a path is valid.
+    let _keys = schema.len();
     // The search and what it has learned are dropped before the labels are numbered anew.
     let found = found_of(alloc, schema, query, budgets)?;
     told(alloc, found)
@@ -55,11 +58,7 @@ fn found_of(
     query: &Query,
     budgets: Budgets,
 ) -> Result<Found, NoMemory>
-    requires sound { SchemaIsSound schema.now }
-    requires suit { All (TestSuits schema.now) query.now.tests }
-    requires count { length query.now.tests < 2 ^ 32 }
-    requires below { AreBelow (length query.now.tests) (asked_tree query.now) }
-    requires states { 1 ≤ budgets.states }
+    requires { IsAskedFor schema.now query.now budgets.states }
     ensures { IfOk result (IsWholeSearch schema.now query.now budgets) }
 {
     if let Three::No = value3(&query.formula, &Path::new(alloc)) {
@@ -80,11 +79,7 @@ fn begin(
     budgets: Budgets,
     following: Following,
 ) -> Result<Found, NoMemory>
-    requires sound { SchemaIsSound schema.now }
-    requires suit { All (TestSuits schema.now) query.now.tests }
-    requires count { length query.now.tests < 2 ^ 32 }
-    requires below { AreBelow (length query.now.tests) (asked_tree query.now) }
-    requires states { 1 ≤ budgets.states }
+    requires asked { IsAskedFor schema.now query.now budgets.states }
     requires follows { following ≡ followed_at query.now [] }
     requires may { value [] (asked_tree query.now) ≢ No }
     ensures { IfOk result (IsWholeSearch schema.now query.now budgets) }
@@ -101,18 +96,12 @@ fn search_from(
     budgets: Budgets,
     state: &mut State,
 ) -> Result<Found, NoMemory>
-    requires sound { SchemaIsSound schema.now }
-    requires suit { All (TestSuits schema.now) query.now.tests }
-    requires count { length query.now.tests < 2 ^ 32 }
-    requires below { AreBelow (length query.now.tests) (asked_tree query.now) }
-    requires states { 1 ≤ budgets.states }
+    requires asked { IsAskedFor schema.now query.now budgets.states }
     requires starts { IsStartState query.now (followed_at query.now []) budgets.splits state.old }
     requires may { value [] (asked_tree query.now) ≢ No }
     ensures { IfOk result (IsWholeSearch schema.now query.now budgets) }
 {
     let clauses = clauses_of(alloc, &query.formula, query.tests.len() as u32)?;
-    // The schema's keys are in order, so the request of values that answer a path is valid.
-    let _keys = schema.len();
     let search = Search {
         alloc,
         schema,

@@ -8,8 +8,7 @@ ghost use Rattle.formula_tree.specs.declared.value.Three.TheVariants.{No, Yes};
 ghost use Rattle.policy_compile.specs.Queries.{asked_tree};
 ghost use Rattle.search_parts.specs.Joining.{AreReady};
 ghost use Rattle.slot_theory.specs.Slots.{slot_of, test_at};
-ghost use Rattle.tree_search.specs.Decisions.{MeetsQuery};
-ghost use Rattle.tree_search.specs.Search.{Carries, CarriesWith, Follows, IsAhead, IsFoundHere, IsFoundThere, IsJoinedHere, IsOneLonger, IsReady, IsRestored, IsSide, MayBeYes, NothingLearned, SaysIfClosed, Stands};
+ghost use Rattle.tree_search.specs.Search.{Carries, CarriesWith, Follows, IsAhead, IsFoundHere, IsFoundThere, IsJoinedHere, IsMetHere, IsOneLonger, IsReady, IsRestored, IsSide, MayBeYes, NothingLearned, SaysIfClosed, Stands};
 ghost use Rattle.tree_search.specs.Values.{IsIndexOf};
 
 use crate::found::Found;
@@ -21,6 +20,7 @@ use formula_tree::Three;
 use plain_lists::NoMemory;
 use policy_compile::Query;
 use policy_model::{Request, Schema, Slot};
+use refute_check::SharedProof;
 use request_build::build;
 use search_parts::{
     Halves, Part, Shortening, clauses_part, join, reuse_part, slot_part, value_part,
@@ -82,7 +82,7 @@ impl<'a> Search<'a> {
         requires ready { IsReady self.now }
         requires carries { Carries self.now state.now }
         requires yes { value state.now.path (asked_tree self.now.query.now) ≡ Yes }
-        ensures { IfOk result (MeetsQuery self.now.schema.now self.now.query.now) }
+        ensures { IfOk result (IsMetHere self.now state.now) }
     {
         let tests = &self.query.tests;
         build(self.alloc, self.schema, tests, &state.path, &state.values)
@@ -227,8 +227,9 @@ impl<'a> Search<'a> {
         match possible(self.alloc, schema, tests, &state.path, &slot, self.states)? {
             Possible::Found(value) => self.go_on(state, (slot, value), index),
             Possible::Conflict(core, proof) => {
+                let SharedProof { proof, kept } = state.proofs.share(self.alloc, proof)?;
                 let part = slot_part(self.alloc, &state.path, core, proof)?;
-                state.cores.keep(&part)?;
+                state.cores.keep(&part, kept)?;
                 Ok(Found::Refuted(part))
             }
             Possible::TooMany(texts) => {

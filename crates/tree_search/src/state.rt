@@ -10,6 +10,7 @@ use formula_tree::Path;
 use nogoods::Tracking;
 use plain_lists::NoMemory;
 use policy_compile::Query;
+use refute_check::SharedProofs;
 use request_build::SlotValues;
 use std::alloc::Global;
 use tree_values::TreeValues;
@@ -25,6 +26,9 @@ pub(crate) struct State {
     /// The answers under which splits were learned.
     pub(crate) learned: Tracking,
     pub(crate) cores: Cores,
+    /// The proofs of slots that were found, each kept once: conflicts that differ in their tests alone
+    /// may have the same closed set.
+    pub(crate) proofs: SharedProofs,
     /// A value for each slot that the path asks about, and for no other slot. They are changed in
     /// place and put back, so that no split copies them.
     pub(crate) values: SlotValues,
@@ -50,6 +54,7 @@ impl State {
             clauses,
             learned,
             cores,
+            proofs: SharedProofs::new(alloc),
             values: SlotValues::new(alloc),
             left,
         })

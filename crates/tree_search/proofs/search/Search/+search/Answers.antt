@@ -2,7 +2,7 @@ use Rattle.std.proofs.Common.{◌≡◌, ◌≢◌, ◌∙◌, ◌↔◌, [], �
 use Rattle.std.proofs.lemmas.List.{length-set}
 use Rattle.formula_tree.specs.Answers.{Contained, answer_of}
 use Rattle.formula_tree.specs.Runs.{answered}
-use Rattle.formula_tree.specs.Values.{pick, value}
+use Rattle.formula_tree.specs.Values.{value}
 use Rattle.formula_tree.specs.declared.value.Three.TheVariants.{No}
 use Rattle.policy_compile.specs.Queries.{asked_tree}
 use Rattle.cnf_clauses.specs.Following.{IsConflictAt}
@@ -25,7 +25,7 @@ use Rattle.tree_search.proofs.Finding.{found-at, found-join, found-no, found-sho
 use Rattle.tree_search.proofs.Following.{back-there, conflict-there, followed-there, new-there}
 use Rattle.tree_search.proofs.Keeping.{kept-with, slot-kept, slot-within}
 use Rattle.tree_search.proofs.Picking.{waits-for-none}
-use Rattle.tree_search.proofs.Searching.{clauses-refuted, kept-refuted, reuse-refuted, slot-refuted, value-refuted, wide-here}
+use Rattle.tree_search.proofs.Searching.{clauses-refuted, kept-refuted, met-here, reuse-refuted, slot-refuted, value-refuted, wide-here}
 use Rattle.tree_search.proofs.Standing.{at-deeper, pick-said, restored-back, restored-same, restored-split, spent-back, value-said}
 use Rattle.tree_search.proofs.search.Search.+search.Goals as goal
 
@@ -209,7 +209,7 @@ renew-go_on-requires t c =
     (search rules, (c.requires.ready, (c.requires.stands, (c.requires.index, (with, (c.requires.follows, (c.requires.may, c.requires.nothing)))))))
 
 pub renew-keep-requires : goal.renew-keep-requires
-renew-keep-requires t c = slot-within c.args.self.now.schema.now c.args.self.now.query.now.tests c.args.state.now.path c.args.state.now.cores.lists.path c.in-Conflict.core c.in-Conflict.proof c.in_ok-part-in-Conflict.part c.in_ok-part-in-Conflict.ensures c.requires.stands.cores_path
+renew-keep-requires t c = slot-within c.args.self.now.schema.now c.args.self.now.query.now.tests c.args.state.now.path c.args.state.now.cores.lists.path c.in-Conflict.core c.in-Conflict.proof c.in_ok-part-in-Conflict.part (rw c.in_ok-proof-in-Conflict.ensures at c.in_ok-part-in-Conflict.ensures) c.requires.stands.cores_path
 
 pub renew-returns-in_ok-keep-in-Conflict-clause-found : goal.renew-returns-in_ok-keep-in-Conflict-clause-found
 renew-returns-in_ok-keep-in-Conflict-clause-found t c =
@@ -218,7 +218,7 @@ renew-returns-in_ok-keep-in-Conflict-clause-found t c =
     let path = c.args.state.now.path in
     let conflict : IsConflict schema query.tests path c.args.slot c.in-Conflict.core c.in-Conflict.proof = rw c.in-Conflict.is at c.in_ok-value.ensures.outcome in
     let range = longer-range schema query path c.args.state.now.values c.args.test c.args.answer c.requires.longer in
-    slot-refuted schema query path c.args.state.now.learned.lists c.requires.ready.asked.below range (c.args.state.now.left - c.args.state.now.left) c.in_ok-part-in-Conflict.part c.in-Conflict.core c.in-Conflict.proof (omega arith) c.in_ok-part-in-Conflict.ensures c.requires.ready.asked.suit (record { slot = c.args.slot; conflict = conflict })
+    slot-refuted schema query path c.args.state.now.learned.lists c.requires.ready.asked.below range (c.args.state.now.left - c.args.state.now.left) c.in_ok-part-in-Conflict.part c.in-Conflict.core c.in-Conflict.proof (omega arith) (rw c.in_ok-proof-in-Conflict.ensures at c.in_ok-part-in-Conflict.ensures) c.requires.ready.asked.suit (record { slot = c.args.slot; conflict = conflict })
 
 pub renew-returns-in_ok-keep-in-Conflict-clause-restored : goal.renew-returns-in_ok-keep-in-Conflict-clause-restored
 renew-returns-in_ok-keep-in-Conflict-clause-restored t c =
@@ -228,7 +228,7 @@ renew-returns-in_ok-keep-in-Conflict-clause-restored t c =
     let stands = c.requires.stands in
     let conflict : IsConflict schema query.tests path c.args.slot c.in-Conflict.core c.in-Conflict.proof = rw c.in-Conflict.is at c.in_ok-value.ensures.outcome in
     let kept = c.in_ok-keep-in-Conflict.ensures in
-    let core = slot-kept schema query.tests (asked_tree query) path c.in-Conflict.core c.in-Conflict.proof c.in_ok-part-in-Conflict.part c.in_ok-part-in-Conflict.ensures (record { slot = c.args.slot; conflict = conflict }) in
+    let core = slot-kept schema query.tests (asked_tree query) path c.in-Conflict.core c.in-Conflict.proof c.in_ok-part-in-Conflict.part (rw c.in_ok-proof-in-Conflict.ensures at c.in_ok-part-in-Conflict.ensures) (record { slot = c.args.slot; conflict = conflict }) in
     record {
       path = refl;
       values = refl;
@@ -251,17 +251,21 @@ renew-returns-in_ok-path-in-TooMany-clause-found t c =
     let path = c.args.state.now.path in
     let wide : ShowWider (patterns_at schema query.tests path c.args.slot) c.args.self.now.states c.in-TooMany.texts = rw c.in-TooMany.is at c.in_ok-value.ensures.outcome in
     let asked = longer-asked schema query path c.args.state.now.values c.args.test c.args.answer c.requires.longer c.args.slot c.requires.slot in
-    wide-here schema query path c.args.state.now.learned.lists c.args.self.now.states (c.args.state.now.left - c.args.state.now.left) c.in_ok-path-in-TooMany.path c.args.slot c.in-TooMany.texts c.in_ok-path-in-TooMany.ensures c.requires.may asked wide
+    wide-here schema query path c.args.state.now.learned.lists c.args.self.now.states (c.args.state.now.left - c.args.state.now.left) c.in_ok-path-in-TooMany.path c.args.slot c.in-TooMany.texts (omega arith) c.in_ok-path-in-TooMany.ensures c.requires.may asked wide
 
 pub renew-returns-in_ok-path-in-TooMany-clause-restored : goal.renew-returns-in_ok-path-in-TooMany-clause-restored
 renew-returns-in_ok-path-in-TooMany-clause-restored t c = restored-same c.args.self.now c.args.state.now c.requires.stands
 
 pub search-met-requires-clause-yes : goal.search-met-requires-clause-yes
 search-met-requires-clause-yes t c =
+    waits-for-none c.args.state.now.path (asked_tree c.args.self.now.query.now) (pick-said c.args.self.now.query.now c.args.state.now.path c.args.state.now.tree c.pick.result c.requires.stands.evaluated c.pick.ensures.value ∙ c.in_default.is) c.requires.may
+
+pub search-returns-in_default-clause-found : goal.search-returns-in_default-clause-found
+search-returns-in_default-clause-found t c =
     let query = c.args.self.now.query.now in
     let path = c.args.state.now.path in
-    let none : pick path (asked_tree query) ≡ None = pick-said query path c.args.state.now.tree c.pick.result c.requires.stands.evaluated c.pick.ensures.value ∙ c.in_default.is in
-    waits-for-none path (asked_tree query) none c.requires.may
+    let is_yes = waits-for-none path (asked_tree query) (pick-said query path c.args.state.now.tree c.pick.result c.requires.stands.evaluated c.pick.ensures.value ∙ c.in_default.is) c.requires.may in
+    met-here c.args.self.now.schema.now query path c.args.state.now.learned.lists (c.args.state.now.left - c.args.state.now.left) c.in_ok-met.field-0 (omega arith) c.in_ok-met.ensures is_yes
 
 pub search-returns-in_default-clause-restored : goal.search-returns-in_default-clause-restored
 search-returns-in_default-clause-restored t c = restored-same c.args.self.now c.args.state.now c.requires.stands

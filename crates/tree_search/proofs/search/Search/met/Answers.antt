@@ -11,4 +11,4 @@ from-both (Err e) P Q S f p h = tt
 pub returns : goal.returns
 returns c =
     let query = c.args.self.now.query.now in
-    from-both c.build.result _ _ _ (λ q valid says. record { valid = valid; meets = makes-yes query.tests (asked_tree query) c.args.state.now.path q c.requires.carries.range says c.requires.yes }) c.build.ensures.valid c.build.ensures.answers
+    from-both c.build.result _ _ _ (λ q valid says. record { valid = valid; answers = says; meets = makes-yes query.tests (asked_tree query) c.args.state.now.path q c.requires.carries.range says c.requires.yes }) c.build.ensures.valid c.build.ensures.answers
