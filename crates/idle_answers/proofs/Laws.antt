@@ -12,7 +12,7 @@ use Rattle.run_sets.specs.declared.one_set.OneSet.{OneSet}
 use Rattle.run_sets.specs.declared.refusal.Refusal.{Refusal}
 use Rattle.run_sets.specs.declared.refusal.Refusal.TheVariants as refusal
 use Rattle.run_sets.specs.declared.shortage.Shortage.TheVariants as shortage
-use Rattle.run_sets.specs.OneSets.{one_of}
+use Rattle.run_sets.specs.OneSets.{one_of, SetContents}
 use Rattle.run_sets.specs.Refusals.{IsRefusedBy}
 use Rattle.run_sets.proofs.Laws.{no_one_fails, of_same_set}
 use Rattle.set_questions.specs.Settling.{BothRunsFail}
@@ -22,7 +22,8 @@ use Rattle.idle_answers.specs.declared.answer.UseAnswer.{UseAnswer}
 use Rattle.idle_answers.specs.declared.answer.UseAnswer.TheVariants as answer
 use Rattle.idle_answers.specs.UseAnswers.{IsShortAt, IsUseAnswer}
 use Rattle.idle_answers.specs.UsesComplete.{FitsBudgets, IsAnswerable, UsesDecide}
-use Rattle.idle_answers.specs.UsesPrinted.{AreUsesPrinted, IsIdlePrinted, IsOnePastLimit, UseContents, use_budgets}
+use Rattle.run_sets.specs.PastLimits.{IsSetPastLimit}
+use Rattle.idle_answers.specs.UsesPrinted.{AreUsesPrinted, IsIdlePrinted, use_budgets}
 use Rattle.idle_answers.specs.UseTexts.{is_idle, is_undecided, uses_status}
 
 -- ---- statuses
@@ -39,12 +40,12 @@ refused_of_text : (Q : Refusal → Type 0) (p : Printed) → IsRefusedBy Q p →
 refused_of_text Q p (r, is, told) = with_status p status.Refused tt told.1
 
 set_of_text : (certified : Bool) (budgets : Budgets) (one : OneSet) (p : Printed) → AreUsesPrinted certified budgets one p → IsOfText p.status
-set_of_text certified budgets one p (inl past) = refused_of_text (IsOnePastLimit one) p past
+set_of_text certified budgets one p (inl past) = refused_of_text (IsSetPastLimit one.schema one.set) p past
 set_of_text certified budgets one p (inr says) =
     with_status p (uses_status says.answers) (uses_of_text (list_any is_undecided says.answers) (list_any is_idle says.answers)) says.told.1
 
 -- what is printed has a status that a text has
-pub idle_of_text : (u : UseQuestion) (c : UseContents) (p : Printed) → IsIdlePrinted u c p → IsOfText p.status
+pub idle_of_text : (u : UseQuestion) (c : SetContents) (p : Printed) → IsIdlePrinted u c p → IsOfText p.status
 idle_of_text u c p (inl none) = refused_of_text _ p none
 idle_of_text u c p (inr of) = set_of_text u.certified (use_budgets u) _ p of.holds.holds
 
@@ -76,7 +77,7 @@ decided_status true idle none s is = let no : true ≡ false = none in absurd (c
 decided_status false true none s is = inr is
 decided_status false false none s is = inl is
 
-not_past : (one : OneSet) (budgets : Budgets) → IsAnswerable budgets one → (r : Refusal) → IsOnePastLimit one r → ⊥
+not_past : (one : OneSet) (budgets : Budgets) → IsAnswerable budgets one → (r : Refusal) → IsSetPastLimit one.schema one.set r → ⊥
 not_past one budgets d refusal.TooManyTests past = d.limits.tests past
 not_past one budgets d refusal.TooManyPieces past = d.limits.pieces past
 not_past one budgets d _ past = past

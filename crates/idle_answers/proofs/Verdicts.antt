@@ -1,14 +1,16 @@
 -- What the search decides of a query says whether the set needs a statement.
-use Rattle.std.proofs.Common.{◌≡◌, ◌≤◌, ℕ, Bool, List, Option, IfSome, false, true, refl, inl, arith, subst, sym}
+use Rattle.std.proofs.Common.{◌≡◌, ◌≤◌, ℕ, Bool, List, MatchBool, Option, None, Some, IfSome, false, true, refl, inl, arith, subst, sym}
 use Rattle.std.specs.Prelude.{Contains, string_bytes}
 use Rattle.findings.specs.Answers.{QueryIsAskable}
 use Rattle.policy_model.specs.declared.schema.Schema.{Schema}
 use Rattle.policy_model.specs.declared.set.PolicySet.{PolicySet}
+use Rattle.policy_model.specs.declared.set.Statement.{Statement}
 use Rattle.policy_model.specs.declared.set.StatementName.{StatementName}
 use Rattle.policy_model.specs.StatementNames.{Named, named_set}
 use Rattle.policy_compile.specs.declared.outcome.Query.{Query}
 use Rattle.policy_compile.specs.Queries.{IsQuery, asked_tree}
 use Rattle.policy_compile.specs.Sets.{query_plan}
+use Rattle.policy_difference.specs.Apartness.{ApartStatementsSayNothing, AskTheSamePair, IsSmallerPair}
 use Rattle.policy_difference.specs.Differences.{IsDifference, SharedStatementsAddNothing}
 use Rattle.proof_text.specs.Laws.{ClosingProofsAreSmall, ClosingProofsHaveNoFault, HoldsSmallNumbers}
 use Rattle.proof_text.specs.Spelling.{spell}
@@ -17,9 +19,11 @@ use Rattle.refute_check.specs.Proofs.{Proof, proof_of}
 use Rattle.run_sets.specs.declared.one_set.OneSet.{OneSet}
 use Rattle.run_sets.specs.OneSets.{FitsItsSchema}
 use Rattle.set_questions.specs.Idle.{IsIdle, IsNameIn, OfNamed, without}
-use Rattle.set_questions.specs.Laws.{SmallerQuestionsTell, TellsUse}
+use Rattle.set_questions.specs.Laws.{SmallerQuestionsTell, TellsUse, WithoutStaysSound}
+use Rattle.set_questions.specs.Narrowing.{IsNarrowed, IsNarrowedChange, NarrowedPairsAskTheSame}
 use Rattle.set_questions.specs.Settling.{RefutesQuery, SettlesQuery}
 use Rattle.set_questions.specs.Uses.{IsUseAt, IsUseOf, OfChange}
+use Rattle.set_questions.specs.declared.narrowing.AskedPair.{AskedPair}
 use Rattle.set_questions.specs.declared.outcome.Use.{Use}
 use Rattle.set_questions.specs.declared.outcome.Use.TheVariants as use_of
 use Rattle.set_questions.specs.declared.settling.Settled.{Settled}
@@ -30,7 +34,7 @@ use Rattle.tree_search.specs.declared.outcome.Decided.TheVariants as decided
 use Rattle.tree_search.specs.Decisions.{IsDecision}
 use Rattle.idle_answers.specs.declared.answer.UseAnswer.{UseAnswer}
 use Rattle.idle_answers.specs.declared.answer.UseAnswer.TheVariants as answer
-use Rattle.idle_answers.specs.Deciding.{IsIdleAnswer, IsSettledVerdict, IsSmallerFor, IsToldUse, IsUseVerdict, settled_of}
+use Rattle.idle_answers.specs.Deciding.{IsAskedFor, IsIdleAnswer, IsPairWithoutApart, IsSettledVerdict, IsSmallerFor, IsToldUse, IsUseVerdict, settled_of}
 use Rattle.idle_answers.specs.UseAnswers.{CertifiesChange, IsUseAnswer, IsUseAnswerAt}
 
 -- what is decided of a query settles it
@@ -43,28 +47,61 @@ settles schema query budgets (decided.OutOfStates w) h = record { node = h.node;
 
 -- ---- the smaller query
 
--- the query of what is left beside the set without the statement
-pub is_smaller : SharedStatementsAddNothing → (one : OneSet) (name : StatementName) (left : PolicySet) (q : Query) → FitsItsSchema one
-    → IsNameIn one.set name → OfNamed one.set name (λ s. s.allow ≡ true) → IsDifference one.set (without one.set name) left
-    → IsQuery (query_plan one.schema left (without one.set name)) q → IsSmallerFor one name q
-is_smaller law one name left q fitting (k, n, within, at, same) allow difference is =
-    let there : Contains (named_set one.set) (name, n.1) = subst (λ (m : StatementName). Contains (named_set one.set) (m, n.1)) same (k, within, at) in
-    let adds = law one.set (without one.set name) left difference in (
-      n.1,
-      left,
+-- the named statement of the set
+there_is : (one : OneSet) (name : StatementName) → IsNameIn one.set name → (s : Statement) × Contains (named_set one.set) (name, s)
+there_is one name (k, n, within, at, same) = (n.1, subst (λ (m : StatementName). Contains (named_set one.set) (m, n.1)) same (k, within, at))
+
+-- the query of two sets that are asked in place of the set and the set without the statement
+pub is_smaller : (one : OneSet) (name : StatementName) (asked : AskedPair) (q : Query) → FitsItsSchema one → IsAskedFor one name asked
+    → IsQuery (query_plan one.schema asked.less asked.rest) q → IsSmallerFor one name q
+is_smaller one name asked q fitting (s, there, pair) is = (s, asked, record { fits = fitting.fits; named_there = there; pair = pair; is = is })
+
+-- what is left and the set without the statement, both maybe without what is apart
+pub difference_asks : SharedStatementsAddNothing → ApartStatementsSayNothing → WithoutStaysSound → (one : OneSet) (name : StatementName) (left : PolicySet) (asked : AskedPair)
+    → FitsItsSchema one → IsNameIn one.set name → OfNamed one.set name (λ s. s.allow ≡ true) → IsDifference one.set (without one.set name) left
+    → IsPairWithoutApart left (without one.set name) asked → IsAskedFor one name asked
+difference_asks shared apart stays one name left asked fitting named allow difference may =
+    let there = there_is one name named in
+    let part = without one.set name in
+    let fits = (stays one.set name).fits in
+    let adds = shared one.set part left difference in
+    let smaller : IsSmallerPair one.set part asked.less asked.rest = apart one.set part left asked.less asked.rest adds.0 adds.1 may.0 may.1 in (
+      there.0,
+      there.1,
       record {
-        fits = fitting.fits;
-        named_there = there;
-        allow = allow n.1 there;
-        same = adds.0;
-        left_fits = adds.1 one.schema fitting.fits;
-        is = is;
+        asks = subst (λ (b : Bool). MatchBool b (AskTheSamePair one.set part asked.less asked.rest) (AskTheSamePair part one.set asked.less asked.rest)) (sym (allow there.0 there.1)) smaller.asks;
+        less_fits = smaller.first_fits one.schema fitting.fits;
+        rest_fits = smaller.second_fits one.schema (fits one.schema fitting.fits);
       },
     )
 
+-- the sets in the order of the change query, by the effect
+pub narrowed_allow : (set : PolicySet) (name : StatementName) (t : Statement) (part : PolicySet) → OfNamed set name (λ s. t ≡ s) → part ≡ without set name → t.allow ≡ true
+    → (o : Option AskedPair) → IfSome o (IsNarrowed t set part) → IfSome o (λ asked. OfNamed set name (λ s. IsNarrowedChange set name s asked))
+narrowed_allow set name t part is same allow None n = tt
+narrowed_allow set name t part is same allow (Some asked) n = λ s there.
+    subst (λ (x : Statement). IsNarrowedChange set name x asked) (is s there)
+    (subst (λ (b : Bool). MatchBool b (IsNarrowed t set (without set name) asked) (IsNarrowed t (without set name) set asked)) (sym allow)
+    (subst (λ (p : PolicySet). IsNarrowed t set p asked) same n))
+
+pub narrowed_deny : (set : PolicySet) (name : StatementName) (t : Statement) (part : PolicySet) → OfNamed set name (λ s. t ≡ s) → part ≡ without set name → t.allow ≡ false
+    → (o : Option AskedPair) → IfSome o (IsNarrowed t part set) → IfSome o (λ asked. OfNamed set name (λ s. IsNarrowedChange set name s asked))
+narrowed_deny set name t part is same deny None n = tt
+narrowed_deny set name t part is same deny (Some asked) n = λ s there.
+    subst (λ (x : Statement). IsNarrowedChange set name x asked) (is s there)
+    (subst (λ (b : Bool). MatchBool b (IsNarrowed t set (without set name) asked) (IsNarrowed t (without set name) set asked)) (sym deny)
+    (subst (λ (p : PolicySet). IsNarrowed t p set asked) same n))
+
+-- what can apply with the statement
+pub narrowed_asks : NarrowedPairsAskTheSame → (one : OneSet) (name : StatementName) (asked : AskedPair) → FitsItsSchema one → IsNameIn one.set name
+    → OfNamed one.set name (λ s. IsNarrowedChange one.set name s asked) → IsAskedFor one name asked
+narrowed_asks law one name asked fitting named change =
+    let there = there_is one name named in
+    (there.0, there.1, law one.schema one.set name there.0 asked fitting.fits there.1 (change there.0 there.1))
+
 pub smaller_askable : SmallerQuestionsTell → (one : OneSet) (name : StatementName) (q : Query) → FitsItsSchema one → IsSmallerFor one name q
     → QueryIsAskable one.schema q
-smaller_askable law one name q fitting (s, left, smaller) = (law one.schema one.set (name, s) left q smaller).askable fitting.sound
+smaller_askable law one name q fitting (s, asked, question) = (law one.schema one.set (name, s) asked q question).askable fitting.sound
 
 verdict_if_tells : (one : OneSet) (name : StatementName) (q : Query) (splits states : ℕ) → TellsUse one.schema one.set name q
     → (st : Settled) → SettlesQuery one.schema splits states q st → (o : Option UseAnswer) → IsSettledVerdict st o → IfSome o (IsUseVerdict one name)
@@ -78,8 +115,8 @@ verdict_if_tells one name q splits states tells (settled.OutOfStates w) h o v = 
 -- what settles it is a verdict on the statement
 pub verdict_if_settled : SmallerQuestionsTell → (one : OneSet) (name : StatementName) (q : Query) (splits states : ℕ) → IsSmallerFor one name q
     → (st : Settled) → SettlesQuery one.schema splits states q st → (o : Option UseAnswer) → IsSettledVerdict st o → IfSome o (IsUseVerdict one name)
-verdict_if_settled law one name q splits states (s, left, smaller) st h o v =
-    verdict_if_tells one name q splits states (law one.schema one.set (name, s) left q smaller) st h o v
+verdict_if_settled law one name q splits states (s, asked, question) st h o v =
+    verdict_if_tells one name q splits states (law one.schema one.set (name, s) asked q question) st h o v
 
 -- and a verdict is an answer, where no certificate is asked for
 pub answer_if_verdict : (one : OneSet) (name : StatementName) (budgets : Budgets) (a : UseAnswer) → IsUseVerdict one name a → IsUseAnswerAt false budgets one name a

@@ -1,10 +1,12 @@
 -- The answers to what a search decides.
-use Rattle.std.specs.Prelude.{◌≡◌, ◌≤◌, ℕ, Bool, true, false, Option, Some, None, string_bytes}
+use Rattle.std.specs.Prelude.{◌≡◌, ◌≤◌, ℕ, Bool, true, false, Option, Some, None, Contains, string_bytes}
 use Rattle.policy_compile.specs.declared.outcome.Query.{Query}
 use Rattle.policy_model.specs.declared.set.PolicySet.{PolicySet}
 use Rattle.policy_model.specs.declared.set.Statement.{Statement}
 use Rattle.policy_model.specs.declared.set.StatementName.{StatementName}
 use Rattle.policy_model.specs.Requests.{IsWellKept}
+use Rattle.policy_model.specs.StatementNames.{named_set}
+use Rattle.policy_difference.specs.Apartness.{MayBeWithoutApart}
 use Rattle.proof_text.specs.Laws.{HoldsSmallNumbers}
 use Rattle.proof_text.specs.Spelling.{spell}
 use Rattle.proof_text.specs.declared.limits.TheConstants.{MOST_NUMBER}
@@ -12,7 +14,8 @@ use Rattle.refute_check.specs.Proofs.{Proof, proof_of}
 use Rattle.run_sets.specs.declared.one_set.OneSet.{OneSet}
 use Rattle.run_sets.specs.declared.shortage.Shortage.TheVariants.{Splits, States}
 use Rattle.set_questions.specs.Idle.{IsIdle, IsUsedBy}
-use Rattle.set_questions.specs.Laws.{IsSmallerQuestion}
+use Rattle.set_questions.specs.Laws.{AsksTheChange, IsSmallerQuestion}
+use Rattle.set_questions.specs.declared.narrowing.AskedPair.{AskedPair}
 use Rattle.set_questions.specs.declared.outcome.Use.{Use}
 use Rattle.set_questions.specs.declared.outcome.Use.TheVariants as use_of
 use Rattle.set_questions.specs.declared.settling.Settled.{Settled}
@@ -44,10 +47,19 @@ IsToldUse certified version budgets (use_of.Idle r) answer = IsIdleAnswer certif
 IsToldUse certified version budgets use_of.OutOfSplits answer = answer ≡ Undecided (Splits budgets.splits)
 IsToldUse certified version budgets (use_of.OutOfStates w) answer = answer ≡ Undecided (States budgets.states w.slot)
 
--- the query is that of what is left of the set beside the set without the statement, an Allow
+-- what is left of a first set and the second, both maybe without what is apart from the Allow statements that are left
+abbrev pub IsPairWithoutApart : PolicySet → PolicySet → AskedPair → Type 0
+IsPairWithoutApart left second asked = MayBeWithoutApart left left asked.less × MayBeWithoutApart left second asked.rest
+
+-- the same is asked of the two sets as of the set and the set without the statement of this name
+abbrev pub IsAskedFor : OneSet → StatementName → AskedPair → Type 0
+IsAskedFor one name asked =
+    (s : Statement) × Contains (named_set one.set) (name, s) × AsksTheChange one.schema one.set name s asked
+
+-- the query is that of two such sets
 abbrev pub IsSmallerFor : OneSet → StatementName → Query → Type 0
 IsSmallerFor one name query =
-    (s : Statement) × (left : PolicySet) × IsSmallerQuestion one.schema one.set (name, s) left query
+    (s : Statement) × (asked : AskedPair) × IsSmallerQuestion one.schema one.set (name, s) asked query
 
 -- the verdict on a statement
 abbrev pub IsUseVerdict : OneSet → StatementName → UseAnswer → Type 0

@@ -8,12 +8,12 @@ use Rattle.policy_compile.specs.Sets.{set_plan}
 use Rattle.run_files.specs.declared.printed.Printed.{Printed}
 use Rattle.run_files.specs.declared.status.Status.TheVariants.{Holds, Fails}
 use Rattle.run_sets.specs.declared.one_set.OneSet.{OneSet}
-use Rattle.run_sets.specs.OneSets.{OfOneSet}
+use Rattle.run_sets.specs.OneSets.{OfOneSet, SetContents}
 use Rattle.set_questions.specs.Settling.{BothRunsFail}
 use Rattle.set_questions.specs.Uses.{OfChange}
 use Rattle.tree_search.specs.declared.outcome.Budgets.{Budgets}
 use Rattle.idle_answers.specs.UseAnswers.{IsShortAt}
-use Rattle.idle_answers.specs.UsesPrinted.{IsIdlePrinted, UseContents, use_budgets}
+use Rattle.idle_answers.specs.UsesPrinted.{IsIdlePrinted, use_budgets}
 
 -- no budget is below the need of the statement's change query
 pub record FitsBudgets (budgets : Budgets) (one : OneSet) (named : Named) : Type 0 where
@@ -26,10 +26,10 @@ pub record IsAnswerable (budgets : Budgets) (one : OneSet) : Type 0 where
   pub fits : All (FitsBudgets budgets one) (named_set one.set)
 
 -- the files stand for such a set
-abbrev pub IsIdleAccepted : UseQuestion → UseContents → Type 0
+abbrev pub IsIdleAccepted : UseQuestion → SetContents → Type 0
 IsIdleAccepted u c = OfOneSet c.set c.schema (IsAnswerable (use_budgets u))
 
 -- and then each statement is decided
 abbrev pub UsesDecide : Type 0
-UsesDecide = (u : UseQuestion) (c : UseContents) (p : Printed) →
+UsesDecide = (u : UseQuestion) (c : SetContents) (p : Printed) →
     IsIdleAccepted u c → IsIdlePrinted u c p → (p.status ≡ Holds) ⊎ (p.status ≡ Fails)

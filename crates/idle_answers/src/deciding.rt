@@ -5,19 +5,25 @@ ghost use Rattle.policy_compile.specs.Sets.{set_plan};
 ghost use Rattle.refute_check.specs.Proofs.{proof_of};
 ghost use Rattle.run_sets.specs.OneSets.{FitsItsSchema};
 ghost use Rattle.set_questions.specs.Idle.{IsNameIn, OfNamed};
-ghost use Rattle.idle_answers.specs.Deciding.{IsIdleAnswer, IsSettledVerdict, IsSmallerFor, IsToldUse, IsUseVerdict};
+ghost use Rattle.set_questions.specs.Narrowing.{IsNarrowedChange};
+ghost use Rattle.idle_answers.specs.Deciding.{IsAskedFor, IsIdleAnswer, IsPairWithoutApart, IsSettledVerdict, IsSmallerFor, IsToldUse, IsUseVerdict};
 ghost use Rattle.idle_answers.specs.UseAnswers.{IsUseAnswerAt};
 
 use crate::answer::UseAnswer;
 use crate::settling::ByRefutation;
 use plain_lists::NoMemory;
 use policy_compile::{Query, QueryFault, query};
-use policy_difference::{shared_statements_add_nothing, without_shared};
+use policy_difference::{
+    apart_statements_say_nothing, shared_statements_add_nothing, without_apart, without_shared,
+};
 use policy_model::{PolicySet, StatementName};
 use proof_text::{closing_proofs_are_small, closing_proofs_have_no_fault, write_proof};
 use refute_check::Refutation;
 use run_sets::{OneSet, Shortage};
-use set_questions::{Settle, Settled, Use, is_allow, smaller_questions_tell, use_of, without};
+use set_questions::{
+    AskedPair, Settle, Settled, Use, is_allow, named_statement, narrowed,
+    narrowed_pairs_ask_the_same, smaller_questions_tell, use_of, without, without_stays_sound,
+};
 use std::alloc::{AllocError, Global};
 use tree_search::Budgets;
 
@@ -96,9 +102,48 @@ fn verdict_on(
     Ok(verdict_in(settled))
 }
 
-// The answer, where the set without what it allows without the statement too is enough to tell: most often
-// hardly more than the statement is left, and such a query is small.
-fn smaller_answer(
+// The answer by two sets that are asked in place of the set and the set without the statement, where it is decided.
+fn pair_answer(
+    alloc: Global,
+    one: &OneSet,
+    name: StatementName,
+    asked: &AskedPair,
+    budgets: Budgets,
+) -> Result<Option<UseAnswer>, NoMemory>
+    requires fitting { FitsItsSchema one.now }
+    requires asked { IsAskedFor one.now name asked.now }
+    requires splits { 1 ≤ budgets.splits }
+    requires states { 1 ≤ budgets.states }
+    ensures { IfOk result (λ answer. IfSome answer (IsUseVerdict one.now name)) }
+{
+    match query(alloc, &one.schema, &asked.less, &asked.rest) {
+        Ok(query) => verdict_on(alloc, one, name, &query, budgets),
+        Err(QueryFault::TooManyTests) => Ok(None),
+        Err(QueryFault::TooManyPieces) => Ok(None),
+        Err(QueryFault::NoMemory) => Err(AllocError),
+    }
+}
+
+// What is left of a first set and the second set, without what is apart from the Allow statements that are left,
+// where that isn't too much to compare.
+fn pair_without_apart(
+    alloc: Global,
+    left: PolicySet,
+    second: PolicySet,
+) -> Result<AskedPair, NoMemory>
+    ensures { IfOk result (IsPairWithoutApart left second) }
+{
+    let less = without_apart(alloc, &left, &left)?;
+    let rest = without_apart(alloc, &left, &second)?;
+    Ok(AskedPair {
+        less: less.unwrap_or(left),
+        rest: rest.unwrap_or(second),
+    })
+}
+
+// The answer to an Allow statement of the grants, where the set without what it allows without the statement too
+// is enough to tell: most often hardly more than the statement is left, and what else can apply with it.
+fn difference_answer(
     alloc: Global,
     one: &OneSet,
     name: StatementName,
@@ -115,13 +160,51 @@ fn smaller_answer(
     let Some(left) = without_shared(alloc, &one.set, &part)? else {
         return Ok(None);
     };
+    let asked = pair_without_apart(alloc, left, part)?;
     shared_statements_add_nothing();
-    match query(alloc, &one.schema, &left, &part) {
-        Ok(query) => verdict_on(alloc, one, name, &query, budgets),
-        Err(QueryFault::TooManyTests) => Ok(None),
-        Err(QueryFault::TooManyPieces) => Ok(None),
-        Err(QueryFault::NoMemory) => Err(AllocError),
+    apart_statements_say_nothing();
+    without_stays_sound();
+    pair_answer(alloc, one, name, &asked, budgets)
+}
+
+// Of the set and the set without the statement, in the order of the change query, what can apply with the
+// statement.
+fn narrowed_change(
+    alloc: Global,
+    set: &PolicySet,
+    name: StatementName,
+) -> Result<Option<AskedPair>, NoMemory>
+    requires { IsNameIn set.now name }
+    ensures { IfOk result (λ asked. IfSome asked (λ asked.
+        OfNamed set.now name (λ s. IsNarrowedChange set.now name s asked))) }
+{
+    let part = without(alloc, set, name)?;
+    let statement = named_statement(set, name);
+    if statement.allow {
+        narrowed(alloc, statement, set, &part)
+    } else {
+        narrowed(alloc, statement, &part, set)
     }
+}
+
+// The answer to a statement of either effect, of the grants or a guard, by what can apply with it.
+fn narrowed_answer(
+    alloc: Global,
+    one: &OneSet,
+    name: StatementName,
+    budgets: Budgets,
+) -> Result<Option<UseAnswer>, NoMemory>
+    requires fitting { FitsItsSchema one.now }
+    requires named { IsNameIn one.now.set name }
+    requires splits { 1 ≤ budgets.splits }
+    requires states { 1 ≤ budgets.states }
+    ensures { IfOk result (λ answer. IfSome answer (IsUseVerdict one.now name)) }
+{
+    let Some(asked) = narrowed_change(alloc, &one.set, name)? else {
+        return Ok(None);
+    };
+    narrowed_pairs_ask_the_same();
+    pair_answer(alloc, one, name, &asked, budgets)
 }
 
 // The answer by the whole change query, with a certificate of it where one is asked for.
@@ -146,7 +229,7 @@ fn whole_answer(
     told_use(alloc, told, one.schema.version, budgets, certified)
 }
 
-// Whether it is an Allow statement of the grants. Of a Deny or of a guard's statement nothing is left out.
+// Whether it is an Allow statement of the grants, of which the set may allow the most part without it.
 fn is_grant(set: &PolicySet, name: StatementName) -> bool
     requires { IsNameIn set.now name }
     ensures { IsTrue result → OfNamed set.now name (λ s. s.allow ≡ true) }
@@ -157,7 +240,7 @@ fn is_grant(set: &PolicySet, name: StatementName) -> bool
     is_allow(set, name)
 }
 
-// The answer by the smaller query, where there is one and it is decided.
+// The answer by a smaller query, where there is one and it is decided.
 fn quick_answer(
     alloc: Global,
     one: &OneSet,
@@ -171,9 +254,9 @@ fn quick_answer(
     ensures { IfOk result (λ answer. IfSome answer (IsUseVerdict one.now name)) }
 {
     if is_grant(&one.set, name) {
-        smaller_answer(alloc, one, name, budgets)
+        difference_answer(alloc, one, name, budgets)
     } else {
-        Ok(None)
+        narrowed_answer(alloc, one, name, budgets)
     }
 }
 

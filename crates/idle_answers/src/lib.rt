@@ -10,5 +10,5 @@ mod settling;
 mod text;
 
 pub use answer::UseAnswer;
-pub use certificates::idle_proofs_are_accepted;
+pub use certificates::{idle_proofs_are_accepted, used_requests_are_read_again};
 pub use printing::print_idle;

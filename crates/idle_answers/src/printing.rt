@@ -5,12 +5,13 @@ ghost use Rattle.policy_compile.specs.Limits.{IsWithinLimits};
 ghost use Rattle.policy_compile.specs.Sets.{set_plan};
 ghost use Rattle.policy_model.specs.StatementNames.{named_set};
 ghost use Rattle.run_files.specs.Printing.{IfPrinted, OrAnswered};
-ghost use Rattle.run_sets.specs.OneSets.{FitsItsSchema};
+ghost use Rattle.run_sets.specs.OneSets.{FitsItsSchema, set_contents};
 ghost use Rattle.run_sets.specs.Refusals.{IsRefusedBy};
 ghost use Rattle.set_questions.specs.Idle.{IsNameIn};
 ghost use Rattle.idle_answers.specs.Telling.{AddsUse, AreUsesTold, IsStarted, TellsNext, told_status};
 ghost use Rattle.idle_answers.specs.UseTexts.{is_idle, is_undecided};
-ghost use Rattle.idle_answers.specs.UsesPrinted.{AreUsesPrinted, IsIdlePrinted, IsOnePastLimit, use_contents};
+ghost use Rattle.run_sets.specs.PastLimits.{IsSetPastLimit};
+ghost use Rattle.idle_answers.specs.UsesPrinted.{AreUsesPrinted, IsIdlePrinted};
 
 use crate::answer::UseAnswer;
 use crate::deciding::use_answer;
@@ -141,7 +142,7 @@ fn uses_told(
 // That the query of the set is within its limits, or the line on the limit that it is past.
 fn meets_limits(alloc: Global, one: &OneSet) -> Result<(), EarlyEnd>
     ensures { OrAnswered result (λ done. IsWithinLimits (set_plan one.now.schema one.now.set))
-        (IsRefusedBy (IsOnePastLimit one.now)) }
+        (IsRefusedBy (IsSetPastLimit one.now.schema one.now.set)) }
 {
     match meet_limits(alloc, &one.schema, &one.set) {
         Ok(()) => Ok(()),
@@ -185,7 +186,7 @@ pub fn print_idle(
     requires splits { 1 ≤ arguments.now.splits }
     requires states { 1 ≤ arguments.now.states }
     ensures { IfPrinted result (IsIdlePrinted (use_question_in arguments.now)
-        (use_contents set.now (option_map (λ f. f.now) schema.entry))) }
+        (set_contents set.now (option_map (λ f. f.now) schema.entry))) }
 {
     let one = read_one(alloc, set, schema)?;
     let budgets = Budgets {

@@ -9,7 +9,7 @@ use Rattle.policy_model.specs.declared.set.PolicySet.{PolicySet}
 use Rattle.policy_model.specs.declared.set.Statement.{Statement}
 use Rattle.policy_difference.specs.declared.bounds.Bounds.{Bounds}
 use Rattle.policy_difference.specs.declared.left.LeftStatement.{LeftStatement}
-use Rattle.policy_difference.specs.Differences.{AsksNoMore, ClashStatement, HasWider, IsShared, Leaves, SharesAction, with_actions}
+use Rattle.policy_difference.specs.Differences.{AsksNoMore, ClashStatement, HasWider, IsShared, Leaves, with_actions}
 use Rattle.policy_difference.specs.Elements.{CoversMatcher}
 use Rattle.policy_difference.specs.Places.{AreWider, GoesWhole, HasPlace, IsUndenied}
 use Rattle.policy_difference.specs.Rivals.{ApartFromEach, AreBounds, IsLeftRecord}
@@ -71,9 +71,9 @@ module _ (first second : PolicySet) (bounds : Bounds) (are : AreBounds first sec
   undenied-shared : (s : Statement) → IsUndenied bounds s → IsShared first second s
   undenied-shared s free = (are s).0 (free.0, subst (λ ds. ApartFromEach ds s) (sym free.1) (All-nil (λ d. ClashStatement d.now s)))
 
-  each-shared : (s : Statement) → s.action.not ≡ false → IsUndenied bounds s → All (SharesAction first second s) s.action.items
+  each-shared : (s : Statement) → s.action.not ≡ false → IsUndenied bounds s → All (λ x. IsShared first second (with_actions s (x ∷ []))) s.action.items
   each-shared s plain free =
-      All-weaker (λ x. Any (λ y. y ≡ x) s.action.items) (SharesAction first second s) (λ x some. undenied-shared (with_actions s (x ∷ [])) (undenied-item bounds s x plain some free)) s.action.items (among-itself s.action.items)
+      All-weaker (λ x. Any (λ y. y ≡ x) s.action.items) (λ x. IsShared first second (with_actions s (x ∷ []))) (λ x some. undenied-shared (with_actions s (x ∷ [])) (undenied-item bounds s x plain some free)) s.action.items (among-itself s.action.items)
 
   goes-by : (s : Statement) (b : Bool) → s.action.not ≡ b → (l : LeftStatement) → GoesWhole bounds s → l.statement ≡ None → l.shared ≡ true → IsLeftRecord first second s l
   goes-by s true not l goes none shared =
@@ -82,7 +82,7 @@ module _ (first second : PolicySet) (bounds : Bounds) (are : AreBounds first sec
         shared = (λ e. record { allow = goes.0.0; shared = of-true s.action.not _ _ not own }, λ has. shared);
       }
   goes-by s false plain l goes none shared =
-      let P = SharesAction first second s in
+      let P = λ (x : List Piece). IsShared first second (with_actions s (x ∷ [])) in
       let all = each-shared s plain goes.1 in record {
         statement = of-true s.allow _ _ goes.0.0 (of-false s.action.not _ _ plain ([], leaves-nothing P s.action.items all, none));
         shared = (λ e. record { allow = goes.0.0; shared = of-false s.action.not _ _ plain (some-of-all P s.action.items all goes.0.1) }, λ has. shared);

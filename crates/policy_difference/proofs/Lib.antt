@@ -5,7 +5,10 @@ mod Meeting
 mod Implying
 mod Deciding
 mod Allowing
+mod Cutting
 mod Remaining
+mod Differing
+mod Aparting
 mod Sizes
 mod Seen
 mod Tested

@@ -1,6 +1,7 @@
 -- What is left of a statement, of statements and of documents.
 use Rattle.std.proofs.Common.{◌≡◌, ◌↔◌, ◌⊎◌, ℕ, ◌+◌, ◌<◌, ◌≤◌, drop, get_or, List, [], ◌∷◌, ◌++◌, length, Any, Bool, true, false, Option, Some, None, inl, inr, refl, sym, ap, ◌∙◌, subst, arith}
 use Rattle.std.specs.Bool.{MatchBool}
+use Rattle.std.specs.List.{AllZip}
 use Rattle.std.proofs.lemmas.List.{append_assoc, drop_all, drop_more}
 use Rattle.wildcard_lang.specs.declared.piece.Piece.{Piece}
 use Rattle.policy_model.specs.declared.matcher.Matcher.{Matcher}
@@ -10,8 +11,8 @@ use Rattle.policy_model.specs.declared.set.Statement.{Statement}
 use Rattle.policy_difference.specs.declared.bounds.Bounds.{Bounds}
 use Rattle.policy_difference.specs.declared.rivals.Rivals.{Rivals}
 use Rattle.policy_difference.specs.declared.left.LeftStatement.{LeftStatement}
-use Rattle.policy_difference.specs.Differences.{AreLeft, IsLeftOf, IsShared, Leaves, SharesAction, StatementsAreLeft, before_rest, some_with, with_actions}
-use Rattle.policy_difference.specs.Rivals.{AreBounds, AreRivals, StaysWhole, IsLeftRecord, IsLeftAtOnce, IsLeftByActions, IsLetThrough, item_alone, with_action}
+use Rattle.policy_difference.specs.Differences.{AreLeft, HasCut, IsCut, IsCutByActions, IsCutWhole, IsShared, Leaves, StatementsAreLeft, before_rest, some_with, with_actions}
+use Rattle.policy_difference.specs.Rivals.{AreBounds, AreRivals, IsBound, IsCutRecord, StaysWhole, IsLeftRecord, IsLeftAtOnce, IsLeftByActions, IsLetThrough, item_alone, with_action}
 use Rattle.policy_difference.proofs.Leaving.{apart, cases_some, here, none_of_none, there}
 
 -- ---- items
@@ -71,38 +72,66 @@ left-deny first second s l denies kept = record {
   shared = (λ e. absurd (apart (sym e ∙ kept.1)), λ shared. absurd (apart (sym shared.allow ∙ denies)));
 }
 
-module _ (first second : PolicySet) (bounds : Bounds) (s : Statement) (rivals : Rivals) (are : AreBounds first second bounds) (rival : AreRivals bounds s rivals) where
-  passed-shared : (a : Matcher (List Piece)) → IsLetThrough rivals a ↔ IsShared first second (with_action s a)
-  passed-shared a = (λ passed. (are (with_action s a)).0 ((rival a).0 passed), λ shared. (rival a).1 ((are (with_action s a)).1 shared))
+module _ (bounds : Bounds) (s : Statement) (rivals : Rivals) (rival : AreRivals bounds s rivals) where
+  action-bound : s.action.not ≡ false → (x : List Piece) → IsLetThrough rivals (item_alone x) ↔ IsBound bounds (with_actions s (x ∷ []))
+  action-bound plain x =
+      subst (λ n. IsLetThrough rivals (item_alone x) ↔ IsBound bounds (with_action s (record { not = n; items = x ∷ [] }))) (sym plain) (rival (item_alone x))
 
-  action-shared : s.action.not ≡ false → (x : List Piece) → IsLetThrough rivals (item_alone x) ↔ SharesAction first second s x
-  action-shared plain x =
-      subst (λ n. IsLetThrough rivals (item_alone x) ↔ IsShared first second (with_action s (record { not = n; items = x ∷ [] }))) (sym plain) (passed-shared (item_alone x))
-
-  pub left-whole : (l : LeftStatement) → s.allow ≡ true → s.action.not ≡ true → IsLeftAtOnce (IsLetThrough rivals s.action) s l → IsLeftRecord first second s l
-  left-whole l allows not (inl (passed, none, yes')) = record {
-    statement = of-true s.allow _ _ allows (of-true s.action.not _ _ not (inl ((passed-shared s.action).0 passed, none)));
-    shared = (λ e. record { allow = allows; shared = of-true s.action.not _ _ not ((passed-shared s.action).0 passed) }, λ shared. yes');
+  pub cut-whole : (l : LeftStatement) → s.action.not ≡ true → IsLeftAtOnce (IsLetThrough rivals s.action) s l → IsCutRecord (IsBound bounds) s l
+  cut-whole l not (inl (passed, none, yes')) = record {
+    statement = of-true s.action.not _ _ not (inl ((rival s.action).0 passed, none));
+    shared = (λ e. of-true s.action.not _ _ not ((rival s.action).0 passed), λ some. yes');
   }
-  left-whole l allows not (inr (other, kept)) = record {
-    statement = of-true s.allow _ _ allows (of-true s.action.not _ _ not (inr (λ shared. other ((passed-shared s.action).1 shared), kept.0)));
+  cut-whole l not (inr (other, kept)) = record {
+    statement = of-true s.action.not _ _ not (inr (λ bound. other ((rival s.action).1 bound), kept.0));
     shared = (
       λ e. absurd (apart (sym e ∙ kept.1)),
-      λ shared. absurd (other ((passed-shared s.action).1 (subst (λ b. MatchBool b (IsShared first second s) (Any (SharesAction first second s) s.action.items)) not shared.shared))),
+      λ some. absurd (other ((rival s.action).1 (subst (λ b. MatchBool b (IsBound bounds s) (Any (λ x. IsBound bounds (with_actions s (x ∷ []))) s.action.items)) not some))),
     );
   }
 
-  pub left-actions : (l : LeftStatement) → s.allow ≡ true → s.action.not ≡ false → IsLeftByActions (λ x. IsLetThrough rivals (item_alone x)) s l → IsLeftRecord first second s l
-  left-actions l allows plain left =
-      let same = action-shared plain in
+  pub cut-actions : (l : LeftStatement) → s.action.not ≡ false → IsLeftByActions (λ x. IsLetThrough rivals (item_alone x)) s l → IsCutRecord (IsBound bounds) s l
+  cut-actions l plain left =
+      let same = action-bound plain in
       let P = λ (x : List Piece). IsLetThrough rivals (item_alone x) in
-      let Q = SharesAction first second s in record {
-        statement = of-true s.allow _ _ allows (of-false s.action.not _ _ plain (left.actions, leaves-same P Q same s.action.items left.actions left.leaves, left.is));
+      let Q = λ (x : List Piece). IsBound bounds (with_actions s (x ∷ [])) in record {
+        statement = of-false s.action.not _ _ plain (left.actions, leaves-same P Q same s.action.items left.actions left.leaves, left.is);
         shared = (
-          λ e. record { allow = allows; shared = of-false s.action.not _ _ plain (any-same P Q same s.action.items (left.shared.0 e)) },
-          λ shared. left.shared.1 (any-same Q P (λ x. ((same x).1, (same x).0)) s.action.items (subst (λ b. MatchBool b (IsShared first second s) (Any Q s.action.items)) plain shared.shared)),
+          λ e. of-false s.action.not _ _ plain (any-same P Q same s.action.items (left.shared.0 e)),
+          λ some. left.shared.1 (any-same Q P (λ x. ((same x).1, (same x).0)) s.action.items (subst (λ b. MatchBool b (IsBound bounds s) (Any Q s.action.items)) plain some)),
         );
       }
+
+-- what is left without that of which P holds, where Q holds of the same
+module _ (P Q : Statement → Type 0) (same : (s : Statement) → P s ↔ Q s) where
+  cut-same-by : (s : Statement) (left : Option Statement) (not : Bool) → MatchBool not (IsCutWhole P s left) (IsCutByActions P s left) → MatchBool not (IsCutWhole Q s left) (IsCutByActions Q s left)
+  cut-same-by s left true (inl (p, none)) = inl ((same s).0 p, none)
+  cut-same-by s left true (inr (against, is)) = inr (λ q. against ((same s).1 q), is)
+  cut-same-by s left false (actions, leaves, is) = (
+    actions,
+    leaves-same (λ x. P (with_actions s (x ∷ []))) (λ x. Q (with_actions s (x ∷ []))) (λ x. same (with_actions s (x ∷ []))) s.action.items actions leaves,
+    is,
+  )
+
+  pub cut-same : (s : Statement) (left : Option Statement) → IsCut P s left → IsCut Q s left
+  cut-same s left is = cut-same-by s left s.action.not is
+
+  has-same-by : (s : Statement) (not : Bool) → MatchBool not (P s) (Any (λ x. P (with_actions s (x ∷ []))) s.action.items) → MatchBool not (Q s) (Any (λ x. Q (with_actions s (x ∷ []))) s.action.items)
+  has-same-by s true p = (same s).0 p
+  has-same-by s false some = any-same (λ x. P (with_actions s (x ∷ []))) (λ x. Q (with_actions s (x ∷ []))) (λ x. same (with_actions s (x ∷ []))) s.action.items some
+
+  has-same : (s : Statement) → HasCut P s → HasCut Q s
+  has-same s some = has-same-by s s.action.not some
+
+-- what is left of an Allow statement of the first set
+pub left-allow : (first second : PolicySet) (bounds : Bounds) (s : Statement) (l : LeftStatement) → AreBounds first second bounds → s.allow ≡ true → IsCutRecord (IsBound bounds) s l → IsLeftRecord first second s l
+left-allow first second bounds s l are allows cut = record {
+  statement = of-true s.allow _ _ allows (cut-same (IsBound bounds) (IsShared first second) are s l.statement cut.statement);
+  shared = (
+    λ e. record { allow = allows; shared = has-same (IsBound bounds) (IsShared first second) are s (cut.shared.0 e) },
+    λ shared. cut.shared.1 (has-same (IsShared first second) (IsBound bounds) (λ t. ((are t).1, (are t).0)) s shared.shared),
+  );
+}
 
 -- ---- statements and documents
 
@@ -110,19 +139,36 @@ pub add-rest : (left rest new : List Statement) (one : Option Statement) → new
 add-rest left rest new None e = ap (λ ys. ys ++ rest) e ∙ append_assoc left [] rest
 add-rest left rest new (Some s) e = ap (λ ys. ys ++ rest) e ∙ append_assoc left (s ∷ []) rest
 
-pub statements-more : (first second : PolicySet) (ss : List Statement) (i : ℕ) (s : Statement) (one : Option Statement) (rest : List Statement) → i < length ss → s ≡ get_or ss i s → IsLeftOf first second s one → StatementsAreLeft first second (drop (i + 1) ss) rest → StatementsAreLeft first second (drop i ss) (before_rest one rest)
-statements-more first second ss i s one rest within is left are =
-    subst (λ xs. StatementsAreLeft first second xs (before_rest one rest)) (sym (drop_more ss i s within)) (one, rest, refl, subst (λ x. IsLeftOf first second x one) is left, are)
+module _ (Left : Statement → Option Statement → Type 0) where
+  pub statements-more : (ss : List Statement) (i : ℕ) (s : Statement) (one : Option Statement) (rest : List Statement) → i < length ss → s ≡ get_or ss i s → Left s one → StatementsAreLeft Left (drop (i + 1) ss) rest → StatementsAreLeft Left (drop i ss) (before_rest one rest)
+  statements-more ss i s one rest within is left are =
+      subst (λ xs. StatementsAreLeft Left xs (before_rest one rest)) (sym (drop_more ss i s within)) (one, rest, refl, subst (λ x. Left x one) is left, are)
 
-pub statements-none : (first second : PolicySet) (ss : List Statement) (i : ℕ) → length ss ≤ i → StatementsAreLeft first second (drop i ss) []
-statements-none first second ss i whole = subst (λ xs. StatementsAreLeft first second xs []) (sym (drop_all i ss whole)) refl
+  pub statements-none : (ss : List Statement) (i : ℕ) → length ss ≤ i → StatementsAreLeft Left (drop i ss) []
+  statements-none ss i whole = subst (λ xs. StatementsAreLeft Left xs []) (sym (drop_all i ss whole)) refl
 
-pub documents-more : (first second : PolicySet) (ds : List Document) (i : ℕ) (d e : Document) (rest : List Document) → i < length ds → d ≡ get_or ds i d → StatementsAreLeft first second d.statements e.statements → AreLeft first second (drop (i + 1) ds) rest → AreLeft first second (drop i ds) (e ∷ rest)
-documents-more first second ds i d e rest within is left are =
-    subst (λ xs. AreLeft first second xs (e ∷ rest)) (sym (drop_more ds i d within)) (e, rest, refl, subst (λ (x : Document). StatementsAreLeft first second x.statements e.statements) is left, are)
+  pub documents-more : (ds : List Document) (i : ℕ) (d e : Document) (rest : List Document) → i < length ds → d ≡ get_or ds i d → StatementsAreLeft Left d.statements e.statements → AreLeft Left (drop (i + 1) ds) rest → AreLeft Left (drop i ds) (e ∷ rest)
+  documents-more ds i d e rest within is left are =
+      subst (λ xs. AreLeft Left xs (e ∷ rest)) (sym (drop_more ds i d within)) (e, rest, refl, subst (λ (x : Document). StatementsAreLeft Left x.statements e.statements) is left, are)
 
-pub documents-none : (first second : PolicySet) (ds : List Document) (i : ℕ) → length ds ≤ i → AreLeft first second (drop i ds) []
-documents-none first second ds i whole = subst (λ xs. AreLeft first second xs []) (sym (drop_all i ds whole)) refl
+  pub documents-none : (ds : List Document) (i : ℕ) → length ds ≤ i → AreLeft Left (drop i ds) []
+  documents-none ds i whole = subst (λ xs. AreLeft Left xs []) (sym (drop_all i ds whole)) refl
+
+-- what is left by one relation is left by another that follows
+module _ (Left Other : Statement → Option Statement → Type 0) (gives : (s : Statement) (left : Option Statement) → Left s left → Other s left) where
+  statements-other : (statements left : List Statement) → StatementsAreLeft Left statements left → StatementsAreLeft Other statements left
+  statements-other [] left are = are
+  statements-other (s ∷ statements) left (one, rest, is, left-of, are) = (one, rest, is, gives s one left-of, statements-other statements rest are)
+
+  pub documents-other : (documents left : List Document) → AreLeft Left documents left → AreLeft Other documents left
+  documents-other [] left are = are
+  documents-other (d ∷ documents) left (e, rest, is, left-of, are) = (e, rest, is, statements-other d.statements e.statements left-of, documents-other documents rest are)
+
+pub zip-other : {T : Type 0} (R S : T → T → Type 0) → ((x y : T) → R x y → S x y) → (xs ys : List T) → AllZip R xs ys → AllZip S xs ys
+zip-other R S gives [] [] zip = zip
+zip-other R S gives [] (y ∷ ys) zip = absurd zip
+zip-other R S gives (x ∷ xs) [] zip = absurd zip
+zip-other R S gives (x ∷ xs) (y ∷ ys) zip = (gives x y zip.0, zip-other R S gives xs ys zip.1)
 
 -- one flag more
 pub or-next : (N O F P : Type 0) → (N ↔ (O ⊎ F)) → (F ↔ P) → N ↔ (O ⊎ P)

@@ -5,7 +5,7 @@ use Rattle.wildcard_lang.specs.declared.piece.Piece.{Piece}
 use Rattle.policy_model.specs.declared.set.Document.{Document}
 use Rattle.policy_model.specs.declared.set.PolicySet.{PolicySet}
 use Rattle.policy_model.specs.declared.set.Statement.{Statement}
-use Rattle.policy_difference.specs.Differences.{AsksNoMore, EachWith, HasWider, IsDifference, IsHarmless, IsLeftOf, IsLeftOfActions, IsLeftWhole, IsShared, Leaves, LetsPass, NoAllowIsLeft, OnlyWidens, SharesAction, StandsIn, some_with, with_actions}
+use Rattle.policy_difference.specs.Differences.{AsksNoMore, EachWith, HasWider, IsDifference, IsCut, IsCutByActions, IsCutWhole, IsHarmless, IsLeftOf, IsShared, Leaves, LetsPass, NoAllowIsLeft, OnlyWidens, StandsIn, some_with, with_actions}
 use Rattle.policy_difference.proofs.Itself.{among-itself, asks-itself, asks-of-one}
 use Rattle.policy_difference.proofs.Leaving.{any-any, apart}
 use Rattle.policy_difference.proofs.Remaining.{documents-keep, statements-keep}
@@ -52,19 +52,20 @@ module _ (first second : PolicySet) (widens : OnlyWidens first second) where
   none-some t e = absurd (cc)
 
   -- so nothing is left of it
-  left-none : (s t : Statement) (not : Bool) → s.action.not ≡ not → StandsIn s second.grants → MatchBool not (IsLeftWhole first second s (Some t)) (IsLeftOfActions first second s (Some t)) → ⊥
+  left-none : (s t : Statement) (not : Bool) → s.action.not ≡ not → StandsIn s second.grants → MatchBool not (IsCutWhole (IsShared first second) s (Some t)) (IsCutByActions (IsShared first second) s (Some t)) → ⊥
   left-none s t true lists stands (inl (shared, none)) = none-some t (sym none)
   left-none s t true lists stands (inr (against, is)) = against (shares s s stands (asks-itself s))
   left-none s t false lists stands (actions, leaves, is) =
-      let all : All (SharesAction first second s) s.action.items =
-      All-weaker (λ x. Any (λ y. y ≡ x) s.action.items) (SharesAction first second s) (λ x some. shares s (with_actions s (x ∷ [])) stands (asks-of-one s x lists some)) s.action.items (among-itself s.action.items) in
-      let none = leaves-none (SharesAction first second s) s.action.items actions all leaves in
+      let P = λ (x : List Piece). IsShared first second (with_actions s (x ∷ [])) in
+      let all : All P s.action.items =
+      All-weaker (λ x. Any (λ y. y ≡ x) s.action.items) P (λ x some. shares s (with_actions s (x ∷ [])) stands (asks-of-one s x lists some)) s.action.items (among-itself s.action.items) in
+      let none = leaves-none P s.action.items actions all leaves in
       none-some t (sym (subst (λ xs. Some t ≡ some_with s xs) none is))
 
   not-allow : (s t : Statement) → IsLeftOf first second s (Some t) → (s.allow ≡ true → StandsIn s second.grants) → t.allow ≡ true → ⊥
   not-allow s t is stands allow = by-effect s.allow refl is
     where
-      by-effect : (effect : Bool) → s.allow ≡ effect → MatchBool effect (MatchBool s.action.not (IsLeftWhole first second s (Some t)) (IsLeftOfActions first second s (Some t))) (Some t ≡ Some s) → ⊥
+      by-effect : (effect : Bool) → s.allow ≡ effect → MatchBool effect (IsCut (IsShared first second) s (Some t)) (Some t ≡ Some s) → ⊥
       by-effect true e left-of = left-none s t s.action.not refl (stands e) left-of
       by-effect false e left-of = (let same : t ≡ s = cc in apart (sym (subst (λ x. x.allow ≡ true) same allow) ∙ e))
 
@@ -72,7 +73,7 @@ module _ (first second : PolicySet) (widens : OnlyWidens first second) where
   none-left less is =
       let P = λ (s : Statement). s.allow ≡ true → StandsIn s second.grants in
       let Q = λ (s : Statement). s.allow ≡ true → ⊥ in
-      documents-keep first second (λ d. All P d.statements) (λ d. All Q d.statements) (λ d e left-of all. statements-keep first second P Q not-allow d.statements e.statements left-of all) first.grants less.grants is.grants widens.allows
+      documents-keep (IsLeftOf first second) (λ d. All P d.statements) (λ d. All Q d.statements) (λ d e left-of all. statements-keep (IsLeftOf first second) P Q not-allow d.statements e.statements left-of all) first.grants less.grants is.grants widens.allows
 
 pub no_allow_left : NoAllowIsLeft
 no_allow_left first second less widens is = none-left first second widens less is

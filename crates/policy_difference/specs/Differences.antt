@@ -88,10 +88,6 @@ pub record IsShared (first second : PolicySet) (s : Statement) : Type 0 where
 abbrev pub with_actions : Statement → List (List Piece) → Statement
 with_actions s actions = record s { action = record { not = s.action.not; items = actions } }
 
--- the item of the statement's `Action` is shared by itself
-abbrev pub SharesAction : PolicySet → PolicySet → Statement → List Piece → Type 0
-SharesAction first second s action = IsShared first second (with_actions s (action ∷ []))
-
 -- the list without the items of which P holds
 abbrev pub Leaves : {T : Type 0} → (T → Type 0) → List T → List T → Type 0
 Leaves P [] left = left ≡ []
@@ -103,46 +99,50 @@ abbrev pub some_with : Statement → List (List Piece) → Option Statement
 some_with s [] = None
 some_with s (action ∷ actions) = Some (with_actions s (action ∷ actions))
 
--- left of an `Action` are the items that aren't shared, and the statement goes where none is left
-abbrev pub IsLeftOfActions : PolicySet → PolicySet → Statement → Option Statement → Type 0
-IsLeftOfActions first second s left =
-    (actions : List (List Piece)) × Leaves (SharesAction first second s) s.action.items actions × (left ≡ some_with s actions)
+-- left of an `Action` are the items for which P doesn't hold of the statement with the item alone; the statement goes where none is left
+abbrev pub IsCutByActions : (Statement → Type 0) → Statement → Option Statement → Type 0
+IsCutByActions P s left =
+    (actions : List (List Piece)) × Leaves (λ x. P (with_actions s (x ∷ []))) s.action.items actions × (left ≡ some_with s actions)
 
--- a statement with `NotAction` goes where it is shared, and else is left whole
-abbrev pub IsLeftWhole : PolicySet → PolicySet → Statement → Option Statement → Type 0
-IsLeftWhole first second s left =
-    (IsShared first second s × (left ≡ None)) ⊎ ((¬ IsShared first second s) × (left ≡ Some s))
+-- a statement with `NotAction` goes where P holds of it, and else is left whole
+abbrev pub IsCutWhole : (Statement → Type 0) → Statement → Option Statement → Type 0
+IsCutWhole P s left = (P s × (left ≡ None)) ⊎ ((¬ P s) × (left ≡ Some s))
 
--- what is left of a statement of the first set's grants. A Deny is left whole
+-- what is left of the statement without that of which P holds
+abbrev pub IsCut : (Statement → Type 0) → Statement → Option Statement → Type 0
+IsCut P s left = MatchBool s.action.not (IsCutWhole P s left) (IsCutByActions P s left)
+
+-- P holds of some of the statement: with `Action` of it with an item alone, with `NotAction` of the whole
+abbrev pub HasCut : (Statement → Type 0) → Statement → Type 0
+HasCut P s = MatchBool s.action.not (P s) (Any (λ x. P (with_actions s (x ∷ []))) s.action.items)
+
+-- what is left of a statement of the first set's grants without that which is shared. A Deny is left whole
 abbrev pub IsLeftOf : PolicySet → PolicySet → Statement → Option Statement → Type 0
-IsLeftOf first second s left =
-    MatchBool s.allow
-    (MatchBool s.action.not (IsLeftWhole first second s left) (IsLeftOfActions first second s left))
-    (left ≡ Some s)
+IsLeftOf first second s left = MatchBool s.allow (IsCut (IsShared first second) s left) (left ≡ Some s)
 
 -- the statement before the others, where there is one
 abbrev pub before_rest : Option Statement → List Statement → List Statement
 before_rest None rest = rest
 before_rest (Some s) rest = s ∷ rest
 
--- statement by statement
-abbrev pub StatementsAreLeft : PolicySet → PolicySet → List Statement → List Statement → Type 0
-StatementsAreLeft first second [] left = left ≡ []
-StatementsAreLeft first second (s ∷ statements) left =
-    (one : Option Statement) × (rest : List Statement) × (left ≡ before_rest one rest) × IsLeftOf first second s one ×
-    StatementsAreLeft first second statements rest
+-- what is left of statements, where `Left` says what is left of each
+abbrev pub StatementsAreLeft : (Statement → Option Statement → Type 0) → List Statement → List Statement → Type 0
+StatementsAreLeft Left [] left = left ≡ []
+StatementsAreLeft Left (s ∷ statements) left =
+    (one : Option Statement) × (rest : List Statement) × (left ≡ before_rest one rest) × Left s one ×
+    StatementsAreLeft Left statements rest
 
 -- document by document
-abbrev pub AreLeft : PolicySet → PolicySet → List Document → List Document → Type 0
-AreLeft first second [] left = left ≡ []
-AreLeft first second (d ∷ documents) left =
-    (e : Document) × (rest : List Document) × (left ≡ e ∷ rest) × StatementsAreLeft first second d.statements e.statements ×
-    AreLeft first second documents rest
+abbrev pub AreLeft : (Statement → Option Statement → Type 0) → List Document → List Document → Type 0
+AreLeft Left [] left = left ≡ []
+AreLeft Left (d ∷ documents) left =
+    (e : Document) × (rest : List Document) × (left ≡ e ∷ rest) × StatementsAreLeft Left d.statements e.statements ×
+    AreLeft Left documents rest
 
--- some of the Allow statement can be left out: an item of its `Action`, or where it has `NotAction` the whole
+-- some of the Allow statement can be left out
 pub record HasShared (first second : PolicySet) (s : Statement) : Type 0 where
   pub allow : s.allow ≡ true
-  pub shared : MatchBool s.action.not (IsShared first second s) (Any (SharesAction first second s) s.action.items)
+  pub shared : HasCut (IsShared first second) s
 
 -- ---- how much is compared
 
@@ -176,6 +176,10 @@ count_pairs first second =
 abbrev pub HasFewPairs : PolicySet → PolicySet → Type 0
 HasFewPairs first second = count_pairs first second ≤ MOST_PAIRS
 
+-- the most pairs that are compared, as a number
+abbrev pub DifferenceLimits : Type 0
+DifferenceLimits = MOST_PAIRS ≡ 2000000000
+
 -- ---- sets
 
 -- something of the first set's grants can be left out, since the second set allows it too
@@ -185,7 +189,7 @@ pub record CanLeaveOut (first second : PolicySet) : Type 0 where
 
 -- the first set without what the second allows too of its grants, item by item of the Allow statements' actions
 pub record IsDifference (first second less : PolicySet) : Type 0 where
-  pub grants : AreLeft first second first.grants less.grants
+  pub grants : AreLeft (IsLeftOf first second) first.grants less.grants
   pub guards : less.guards ≡ first.guards
 
 -- that adds nothing to the query

@@ -13,7 +13,8 @@ use Rattle.policy_model.specs.declared.set.Statement.{Statement}
 use Rattle.policy_difference.specs.Entries.{CoversEntry, ClashEntry}
 use Rattle.policy_difference.specs.Elements.{CoversElement, CoversMatcher, ClashElement, ClashMatcher}
 use Rattle.policy_difference.specs.Implications.{Implies}
-use Rattle.policy_difference.specs.Differences.{AreLeft, ClashStatement, HasShared, HasWider, IsLeftOf, IsShared, Leaves, StatementsAreLeft, some_with}
+use Rattle.policy_difference.specs.Differences.{AreLeft, ClashStatement, HasCut, HasShared, HasWider, IsCut, IsLeftOf, IsShared, Leaves, StatementsAreLeft, some_with}
+use Rattle.policy_difference.specs.Apartness.{IsApartFromAllows}
 use Rattle.policy_difference.specs.declared.bounds.Bounds.{Bounds}
 use Rattle.policy_difference.specs.declared.rivals.Rivals.{Rivals}
 use Rattle.policy_difference.specs.declared.left.LeftStatement.{LeftStatement}
@@ -63,6 +64,10 @@ IsBound bounds s = AllowedByEach bounds.allowing.items s × ApartFromEach bounds
 abbrev pub AreBounds : PolicySet → PolicySet → Bounds → Type 0
 AreBounds first second bounds = (s : Statement) → IsBound bounds s ↔ IsShared first second s
 
+-- the statements that are as the bounds ask are those that are apart from the first set's Allow statements
+abbrev pub BoundTheApart : PolicySet → Bounds → Type 0
+BoundTheApart first bounds = (s : Statement) → IsBound bounds s ↔ IsApartFromAllows first s
+
 -- one of the statements covers the element
 abbrev pub SomeCoversAction : List (Bor Statement) → Matcher (List Piece) → Type 0
 SomeCoversAction statements a = Any (λ t. CoversAction a t.now) statements
@@ -99,15 +104,20 @@ pub record IsLeftByActions (P : List Piece → Type 0) (s : Statement) (left : L
   pub is : left.statement ≡ some_with s actions
   pub shared : IsTrue left.shared ↔ Any P s.action.items
 
+-- what is left of the statement without that of which P holds, and whether P holds of some of it
+pub record IsCutRecord (P : Statement → Type 0) (s : Statement) (left : LeftStatement) : Type 0 where
+  pub statement : IsCut P s left.statement
+  pub shared : IsTrue left.shared ↔ HasCut P s
+
 -- what is left of a statement, of statements and of documents, and whether some of it is shared
 pub record IsLeftRecord (first second : PolicySet) (s : Statement) (left : LeftStatement) : Type 0 where
   pub statement : IsLeftOf first second s left.statement
   pub shared : IsTrue left.shared ↔ HasShared first second s
 
 pub record AreLeftStatements (first second : PolicySet) (ss : List Statement) (left : LeftStatements) : Type 0 where
-  pub statements : StatementsAreLeft first second ss left.statements
+  pub statements : StatementsAreLeft (IsLeftOf first second) ss left.statements
   pub shared : IsTrue left.shared ↔ Any (HasShared first second) ss
 
 pub record AreLeftDocuments (first second : PolicySet) (ds : List Document) (left : LeftDocuments) : Type 0 where
-  pub documents : AreLeft first second ds left.documents
+  pub documents : AreLeft (IsLeftOf first second) ds left.documents
   pub shared : IsTrue left.shared ↔ Any (λ d. Any (HasShared first second) d.statements) ds

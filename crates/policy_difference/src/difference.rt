@@ -1,6 +1,6 @@
 //! A first set without what a second one allows too.
 ghost use Rattle.std.specs.Prelude.{◌↔◌, IfOk, IfSome, IsSome};
-ghost use Rattle.policy_difference.specs.Differences.{CanLeaveOut, IsDifference};
+ghost use Rattle.policy_difference.specs.Differences.{CanLeaveOut, DifferenceLimits, IsDifference};
 
 use crate::bounds::bounds_of;
 use crate::left::left_documents;
@@ -11,6 +11,11 @@ use std::alloc::Global;
 
 /// The most pairs of items of two sets that are compared.
 pub const MOST_PAIRS: usize = 2_000_000_000;
+
+/// At most 2,000,000,000 pairs of items are compared.
+pub fn difference_limits()
+    ensures { DifferenceLimits }
+{}
 
 /// The first set without what the second allows too of its grants: each Allow statement without the items of
 /// its `Action` by which the second allows what the first allows, as single statements of the two sets tell,

@@ -3,12 +3,16 @@ ghost use Rattle.std.specs.Prelude.{◌≡◌, ◌↔◌, All, Any, IsTrue, is_s
 ghost use Rattle.policy_difference.specs.Elements.{ClashAll, ClashElement, ClashMatcher, CoverEach, CoversElement, CoversMatcher, element_of};
 
 use crate::items::Item;
+use crate::marks::{MARKS, places_by_marks};
 use crate::places::next_place;
 use policy_model::Matcher;
 use std::marker::Model;
 
 // How many items a list has at least that is gone through side by side with another.
 const MANY_ITEMS: usize = 4;
+
+// How many items two lists have at least in which equal items are looked for by their marks.
+const MANY_MARKED: usize = 16;
 
 /// An element of a statement, or its Not element. Contracts see it as the matcher of its items.
 #[derive(Drop)]
@@ -114,9 +118,8 @@ fn place_of<T: Item>(items: &[T], near: usize, other: &T) -> Option<usize>
     None
 }
 
-// Whether each of the others is covered by one of the items. Lists that are nearly the same are gone through
-// side by side.
-fn cover_each<T: Item>(items: &[T], others: &[T]) -> bool
+// Whether each of the others is covered by one of the items, where the lists are likely to be in one order.
+fn cover_in_order<T: Item>(items: &[T], others: &[T]) -> bool
     ensures { IsTrue result ↔ CoverEach T.covering items.now others.now }
 {
     let mut near = 0;
@@ -128,6 +131,64 @@ fn cover_each<T: Item>(items: &[T], others: &[T]) -> bool
         near = next_place(near, place);
     }
     true
+}
+
+// The number of an item that is likely to be equal to the other and covers it.
+fn marked<T: Item>(items: &[T], places: &[usize; MARKS], other: &T) -> Option<usize>
+    ensures { is_some result ≡ true → Any (λ y. T.covering y other.now) items.now }
+{
+    let place = places[other.mark() % MARKS];
+    if covers_at(items, place, other) {
+        return Some(place);
+    }
+    None
+}
+
+// Whether one of the items covers the other, which is looked for by its mark first.
+fn covers_by_mark<T: Item>(items: &[T], places: &[usize; MARKS], other: &T) -> bool
+    ensures { IsTrue result ↔ Any (λ y. T.covering y other.now) items.now }
+{
+    if marked(items, places, other).is_some() {
+        return true;
+    }
+    some_covers(items, other)
+}
+
+// Whether each of the others is covered by one of the items, where they are likely to be in another order.
+fn cover_by_marks<T: Item>(items: &[T], others: &[T]) -> bool
+    ensures { IsTrue result ↔ CoverEach T.covering items.now others.now }
+{
+    let places = places_by_marks(items);
+    'others: for other in others {
+        if !covers_by_mark(items, &places, other) {
+            return false;
+        }
+    }
+    true
+}
+
+// Whether two long lists are likely to have the same items in another order: the first of the one is covered,
+// and not by one of the first of the other.
+fn are_shuffled<T: Item>(items: &[T], others: &[T]) -> bool {
+    if items.len() < MANY_MARKED || others.len() < MANY_MARKED {
+        return false;
+    }
+    match others.first() {
+        None => false,
+        Some(other) => nearest(items, 0, other).is_none() && some_covers(items, other),
+    }
+}
+
+// Whether each of the others is covered by one of the items. Lists that are nearly the same are gone through
+// side by side, and in long lists that are in another order equal items are looked for by their marks.
+fn cover_each<T: Item>(items: &[T], others: &[T]) -> bool
+    ensures { IsTrue result ↔ CoverEach T.covering items.now others.now }
+{
+    if are_shuffled(items, others) {
+        cover_by_marks(items, others)
+    } else {
+        cover_in_order(items, others)
+    }
 }
 
 // Whether each of the items clashes with the other.

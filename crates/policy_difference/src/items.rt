@@ -5,6 +5,7 @@ ghost use Rattle.wildcard_lang.specs.declared.piece.Piece.TheVariants.{Many};
 ghost use Rattle.policy_model.specs.declared.principal.Entry.TheVariants as an;
 ghost use Rattle.policy_difference.specs.Entries.{ClashEntry, CoversEntry, HaveOtherKinds, IsUnnamed, entry_kind};
 
+use crate::marks::{characters_mark, pieces_mark};
 use policy_model::{Entry, PrincipalKind, entry_names};
 use wildcard_lang::{Pattern, Piece, Text, clashes, covers};
 
@@ -30,6 +31,9 @@ pub(crate) trait Item {
     /// Whether this item takes all there is.
     fn is_whole(&self) -> bool
         ensures { IsTrue result ↔ (self.now ≡ whole) };
+
+    /// A number that equal items share, and others seldom do.
+    fn mark(&self) -> usize;
 }
 
 impl Item for Pattern {
@@ -49,6 +53,10 @@ impl Item for Pattern {
 
     fn is_whole(&self) -> bool {
         is_star(self.as_slice())
+    }
+
+    fn mark(&self) -> usize {
+        pieces_mark(self.as_slice())
     }
 }
 
@@ -84,6 +92,14 @@ impl Item for Entry {
 
     fn is_whole(&self) -> bool {
         is_all(self)
+    }
+
+    fn mark(&self) -> usize {
+        match self {
+            Entry::All | Entry::Kind(_) => 0,
+            Entry::Account(account) => characters_mark(account.as_slice()),
+            Entry::Exact(_, id) => characters_mark(id.as_slice()),
+        }
     }
 }
 

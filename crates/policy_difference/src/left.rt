@@ -3,7 +3,7 @@ ghost use Rattle.std.specs.Prelude.{◌≡◌, ◌<◌, ◌⊎◌, ◌↔◌, �
 ghost use Rattle.policy_model.specs.declared.set.PolicySet.{PolicySet};
 ghost use Rattle.policy_difference.specs.Differences.{Leaves, before_rest, some_with};
 ghost use Rattle.policy_difference.specs.Places.{AreWider, GoesWhole};
-ghost use Rattle.policy_difference.specs.Rivals.{AreBounds, AreLeftDocuments, AreLeftStatements, IsAddedUnless, StaysWhole, IsLeftRecord, IsLeftAtOnce, IsLeftByActions, IsLetThrough, item_alone};
+ghost use Rattle.policy_difference.specs.Rivals.{AreBounds, AreLeftDocuments, AreLeftStatements, IsAddedUnless, IsBound, IsCutRecord, StaysWhole, IsLeftRecord, IsLeftAtOnce, IsLeftByActions, IsLetThrough, item_alone};
 
 use crate::bounds::Bounds;
 use crate::elements::{Element, own_element};
@@ -138,7 +138,24 @@ fn left_by_actions(
     Ok(LeftStatement { statement, shared })
 }
 
-// What is left of the statement.
+/// What is left of the statement without that which is as the bounds ask.
+pub(crate) fn cut(
+    alloc: Global,
+    bounds: &Bounds<'_>,
+    statement: &Statement,
+) -> Result<LeftStatement, NoMemory>
+    ensures { IfOk result (IsCutRecord (IsBound bounds.now) statement.now) }
+{
+    let rivals = rivals_of(alloc, bounds, statement)?;
+    if statement.action.not {
+        let left = left_whole(&rivals, statement)?;
+        return Ok(left);
+    }
+    let left = left_by_actions(alloc, &rivals, statement)?;
+    Ok(left)
+}
+
+// What is left of a statement of the first set: of a Deny the whole.
 fn left_of(
     alloc: Global,
     bounds: &Bounds<'_>,
@@ -151,12 +168,7 @@ fn left_of(
         let left = kept(statement)?;
         return Ok(left);
     }
-    let rivals = rivals_of(alloc, bounds, statement)?;
-    if statement.action.not {
-        let left = left_whole(&rivals, statement)?;
-        return Ok(left);
-    }
-    let left = left_by_actions(alloc, &rivals, statement)?;
+    let left = cut(alloc, bounds, statement)?;
     Ok(left)
 }
 
@@ -182,8 +194,11 @@ fn left_beside(
     Ok(left)
 }
 
-// Adds the statement, where there is one.
-fn add_some(statements: &mut StatementList, one: Option<Statement>) -> Result<(), NoMemory>
+/// Adds the statement, where there is one.
+pub(crate) fn add_some(
+    statements: &mut StatementList,
+    one: Option<Statement>,
+) -> Result<(), NoMemory>
     ensures { OnOk result (statements.new ≡ statements.old ++ before_rest one []) }
 {
     match one {

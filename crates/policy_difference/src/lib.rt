@@ -1,12 +1,14 @@
 //! What of a first set matters where it is compared with a second.
 #![tactic(auto)]
 
+mod apartness;
 mod bounds;
 mod difference;
 mod elements;
 mod implications;
 mod items;
 mod left;
+mod marks;
 mod meaning;
 mod operands;
 mod pairs;
@@ -14,5 +16,9 @@ mod places;
 mod rivals;
 mod statements;
 
-pub use difference::{MOST_PAIRS, without_shared};
-pub use meaning::{no_allow_is_left, shared_statements_add_nothing};
+pub use apartness::without_apart;
+pub use difference::{MOST_PAIRS, difference_limits, without_shared};
+pub use meaning::{
+    apart_statements_say_nothing, no_allow_is_left, shared_statements_add_nothing,
+    without_apart_says_no_less,
+};

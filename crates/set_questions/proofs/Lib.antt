@@ -7,4 +7,5 @@ mod Using
 mod Taking
 mod Twins
 mod Listing
+mod NarrowedPairs
 pub mod Laws

@@ -119,9 +119,9 @@ statement-there set name x is found none =
     none-some p.0 (sym none ∙ subst (λ (d : Document). slice_get d.statements (name.statement - 1) ≡ Some p.0) same (statement-at set name p.0 p.1))
 
 -- the statement that is found there is the named one
-pub effect-at : (set : PolicySet) (name : StatementName) (x : Document) (t : Statement) → slice_get (set_documents set) (name.document - 1) ≡ Some x → slice_get x.statements (name.statement - 1) ≡ Some t → OfNamed set name (λ s. t.allow ≡ s.allow)
-effect-at set name x t found here s at =
+pub statement-is : (set : PolicySet) (name : StatementName) (x : Document) (t : Statement) → slice_get (set_documents set) (name.document - 1) ≡ Some x → slice_get x.statements (name.statement - 1) ≡ Some t → OfNamed set name (λ s. t ≡ s)
+statement-is set name x t found here s at =
     let p = place-of set name s at in
     let same : p.document ≡ x = same_Some _ _ (sym (document-at set name s p) ∙ found) in
     let there : slice_get x.statements (name.statement - 1) ≡ Some s = subst (λ (d : Document). slice_get d.statements (name.statement - 1) ≡ Some s) same (statement-at set name s p) in
-    ap (λ (u : Statement). u.allow) (same_Some _ _ (sym here ∙ there))
+    same_Some _ _ (sym here ∙ there)

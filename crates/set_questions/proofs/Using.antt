@@ -1,5 +1,5 @@
 -- What is settled of the change query of a statement tells whether the statement is used.
-use Rattle.std.proofs.Common.{◌≡◌, ◌↔◌, ◌≤◌, ℕ, [], length, Bool, true, false, All, if◌then◌else◌, Result, Ok, Err, inl, inr, refl, ap, sym, ◌∙◌, subst, arith}
+use Rattle.std.proofs.Common.{◌≡◌, ◌↔◌, ◌≤◌, ℕ, [], length, Bool, true, false, All, if◌then◌else◌, MatchBool, Result, Ok, Err, inl, inr, refl, ap, sym, ◌∙◌, subst, arith}
 use Rattle.std.specs.Prelude.{Contains}
 use Rattle.std.proofs.lemmas.Bool.{cases_Bool}
 use Rattle.std.proofs.lemmas.List.Elements.{All-nil}
@@ -24,15 +24,16 @@ use Rattle.policy_compile.specs.Plans.{Plan, tests_in}
 use Rattle.policy_compile.specs.Queries.{IsQuery, IsQueryOf, asked_tree}
 use Rattle.policy_compile.specs.Sets.{query_plan, set_plan}
 use Rattle.policy_compile.proofs.Laws.{All-collects, below-numbered, holds-numbered, part-asks, query-covers, query-holds, query-within, same-limits, suit-query}
-use Rattle.policy_difference.specs.Differences.{AskTheSame}
+use Rattle.policy_difference.specs.Apartness.{AskTheSamePair}
 use Rattle.refute_check.specs.Laws.{IsMetBy, MakesYes}
 use Rattle.refute_check.specs.Proofs.{Proof, proof_of}
 use Rattle.refute_check.proofs.Laws.{queries_are_no}
 use Rattle.refute_check.proofs.RunLaws.{makes-yes}
 use Rattle.findings.specs.Answers.{QueryIsAskable}
+use Rattle.set_questions.specs.declared.narrowing.AskedPair.{AskedPair}
 use Rattle.set_questions.specs.declared.settling.Settled.{Settled}
 use Rattle.set_questions.specs.declared.settling.Settled.TheVariants as settled
-use Rattle.set_questions.specs.Idle.{Differ, IsNameIn, IsUsedBy, OfNamed, without}
+use Rattle.set_questions.specs.Idle.{Differ, IsNameIn, OfNamed, without}
 use Rattle.set_questions.specs.Laws.{AsksAsTheSet, IsSmallerQuestion, TellsUse}
 use Rattle.set_questions.specs.Settling.{IsClosedBy, SettlesQuery}
 use Rattle.set_questions.specs.Uses.{AreLimitsMet, IsUseOf, change_plan, limits_told, use_told}
@@ -150,24 +151,31 @@ limits-met plan (Err query_fault.NoMemory) is = tt
 
 -- ---- smaller questions
 
-pub left-used : (schema : Schema) (set : PolicySet) (name : StatementName) (left : PolicySet) (r : Request) → AskTheSame set left (without set name) → IsValid schema r → Allows schema left r → ¬ Allows schema (without set name) r → IsUsedBy schema set name r
-left-used schema set name left r same valid allowed refused = record { valid = valid; differ = inl (same.within schema r allowed, refused) }
+-- a request that only `less` allows is one on which the sets differ, and a refutation shows them the same
+module _ (schema : Schema) (set : PolicySet) (named : Named) (asked : AskedPair) (q : Query) (question : IsSmallerQuestion schema set named asked q) where
+  abbrev part : PolicySet
+  part = without set named.0
 
-left-idle : (schema : Schema) (s : Statement) (set left part : PolicySet) → SetLoses s set part → s.allow ≡ true → AskTheSame set left part → ((r : Request) → IsValid schema r → Allows schema left r → Allows schema part r) → (r : Request) → IsValid schema r → (Allows schema set r ↔ Allows schema part r)
-left-idle schema s set left part lose effect same covers r valid = (
-  λ h. elim (same.split schema r h) [ inl there ↦ there | inr few ↦ covers r valid few ],
-  λ h. allow-adds schema s set part lose r effect h,
-)
+  lose : SetLoses named.1 set part
+  lose = set-loses set named.0 named.1 question.named_there
 
-pub smaller-tells : (schema : Schema) (set : PolicySet) (named : Named) (left : PolicySet) (query : Query) → IsSmallerQuestion schema set named left query → TellsUse schema set named.0 query
-smaller-tells schema set named left query asked =
-    let part = without set named.0 in
-    let part_fits = stays-fit schema set named.0 asked.fits in
-    record {
-      askable = query-askable schema left part asked.left_fits part_fits query asked.is;
-      used = λ r met.
-          let only = met-only schema left part asked.left_fits part_fits query asked.is r met in
-          left-used schema set named.0 left r asked.same met.valid only.0 only.1;
-      idle = λ p closes.
-          left-idle schema named.1 set left part (set-loses set named.0 named.1 asked.named_there) asked.allow asked.same (closed-covers schema left part asked.left_fits part_fits query asked.is p closes);
-    }
+  pair-tells : (first second : PolicySet) → AskTheSamePair first second asked.less asked.rest →
+      ((r : Request) → Allows schema first r × ¬ Allows schema second r → Differ schema set part r) →
+      ((r : Request) → (Allows schema first r → Allows schema second r) → (Allows schema set r ↔ Allows schema part r)) → TellsUse schema set named.0 q
+  pair-tells first second asks differ alike = record {
+    askable = query-askable schema asked.less asked.rest question.pair.less_fits question.pair.rest_fits q question.is;
+    used = λ r met.
+        (let only = met-only schema asked.less asked.rest question.pair.less_fits question.pair.rest_fits q question.is r met in
+        record { valid = met.valid; differ = differ r (asks.only schema r only.0 only.1) });
+    idle = λ p closes r valid.
+        alike r (λ allows. asks.covers schema r allows (λ few. closed-covers schema asked.less asked.rest question.pair.less_fits question.pair.rest_fits q question.is p closes r valid few));
+  }
+
+  tells-by : (allow : Bool) → named.1.allow ≡ allow → MatchBool allow (AskTheSamePair set part asked.less asked.rest) (AskTheSamePair part set asked.less asked.rest) → TellsUse schema set named.0 q
+  tells-by true effect asks =
+      pair-tells set part asks (λ r only. inl only) (λ r covers. (covers, λ h. allow-adds schema named.1 set part lose r effect h))
+  tells-by false effect asks =
+      pair-tells part set asks (λ r only. inr only) (λ r covers. (λ h. deny-takes schema named.1 set part lose r effect h, covers))
+
+pub smaller-tells : (schema : Schema) (set : PolicySet) (named : Named) (asked : AskedPair) (query : Query) → IsSmallerQuestion schema set named asked query → TellsUse schema set named.0 query
+smaller-tells schema set named asked query question = tells-by schema set named asked query question named.1.allow refl question.pair.asks

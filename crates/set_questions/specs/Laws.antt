@@ -1,5 +1,5 @@
 -- What follows from the definitions: sets without a statement, change queries, and what a smaller question tells.
-use Rattle.std.specs.Prelude.{◌≡◌, ◌≢◌, ◌↔◌, List, [], ◌∷◌, ◌++◌, length, map, true, false, All, Any, Contains}
+use Rattle.std.specs.Prelude.{◌≡◌, ◌≢◌, ◌↔◌, List, [], ◌∷◌, ◌++◌, length, map, true, false, All, Any, Contains, MatchBool}
 use Rattle.policy_model.specs.declared.request.Request.{Request}
 use Rattle.policy_model.specs.declared.schema.Schema.{Schema}
 use Rattle.policy_model.specs.declared.set.PolicySet.{PolicySet}
@@ -13,10 +13,11 @@ use Rattle.policy_compile.specs.declared.outcome.Query.{Query}
 use Rattle.policy_compile.specs.Limits.{AskTheSameTests, MeetLimitsAlike}
 use Rattle.policy_compile.specs.Queries.{IsQuery, asked_tree}
 use Rattle.policy_compile.specs.Sets.{query_plan, set_plan}
-use Rattle.policy_difference.specs.Differences.{AskTheSame}
+use Rattle.policy_difference.specs.Apartness.{AskTheSamePair}
 use Rattle.refute_check.specs.Laws.{IsMetBy}
 use Rattle.refute_check.specs.Proofs.{Proof}
 use Rattle.findings.specs.Answers.{QueryIsAskable}
+use Rattle.set_questions.specs.declared.narrowing.AskedPair.{AskedPair}
 use Rattle.set_questions.specs.Idle.{IsIdle, IsUsedBy, without}
 use Rattle.set_questions.specs.Settling.{IsClosedBy}
 use Rattle.set_questions.specs.Uses.{change_plan}
@@ -59,15 +60,19 @@ ChangesAskAsTheSet =
 
 -- ---- smaller questions
 
--- Of an Allow statement: `left` and the set without the statement differ as the set and the set without it do, and the query asks
--- whether `left` allows a request that the set doesn't allow without the statement.
-pub record IsSmallerQuestion (schema : Schema) (set : PolicySet) (named : Named) (left : PolicySet) (query : Query) : Type 0 where
+-- of two sets the same is asked as of the set and the set without the statement, these in the order of the change query
+pub record AsksTheChange (schema : Schema) (set : PolicySet) (name : StatementName) (s : Statement) (asked : AskedPair) : Type 0 where
+  pub asks : MatchBool s.allow (AskTheSamePair set (without set name) asked.less asked.rest)
+      (AskTheSamePair (without set name) set asked.less asked.rest)
+  pub less_fits : SchemaFits schema asked.less
+  pub rest_fits : SchemaFits schema asked.rest
+
+-- the query whether the first of such two sets allows a request that the second doesn't
+pub record IsSmallerQuestion (schema : Schema) (set : PolicySet) (named : Named) (asked : AskedPair) (query : Query) : Type 0 where
   pub fits : SchemaFits schema set
   pub named_there : Contains (named_set set) named
-  pub allow : named.1.allow ≡ true
-  pub same : AskTheSame set left (without set named.0)
-  pub left_fits : SchemaFits schema left
-  pub is : IsQuery (query_plan schema left (without set named.0)) query
+  pub pair : AsksTheChange schema set named.0 named.1 asked
+  pub is : IsQuery (query_plan schema asked.less asked.rest) query
 
 -- a request that meets it shows the statement used, and a refutation that closes it shows the statement idle
 pub record TellsUse (schema : Schema) (set : PolicySet) (name : StatementName) (query : Query) : Type 0 where
@@ -77,15 +82,8 @@ pub record TellsUse (schema : Schema) (set : PolicySet) (name : StatementName) (
 
 abbrev pub SmallerQuestionsTell : Type 0
 SmallerQuestionsTell =
-    (schema : Schema) (set : PolicySet) (named : Named) (left : PolicySet) (query : Query) →
-    IsSmallerQuestion schema set named left query → TellsUse schema set named.0 query
-
--- the same of requests: one that `left` allows and the set doesn't allow without the statement
-abbrev pub LeftTellsUse : Type 0
-LeftTellsUse =
-    (schema : Schema) (set : PolicySet) (name : StatementName) (left : PolicySet) (r : Request) →
-    AskTheSame set left (without set name) → IsValid schema r → Allows schema left r → ¬ Allows schema (without set name) r →
-    IsUsedBy schema set name r
+    (schema : Schema) (set : PolicySet) (named : Named) (asked : AskedPair) (query : Query) →
+    IsSmallerQuestion schema set named asked query → TellsUse schema set named.0 query
 
 -- ---- single cases
 

@@ -3,3 +3,4 @@ pub mod Idle
 pub mod Settling
 pub mod Uses
 pub mod Laws
+pub mod Narrowing

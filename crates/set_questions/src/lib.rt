@@ -4,16 +4,18 @@
 mod asking;
 mod meaning;
 mod names;
+mod narrowing;
 mod outcome;
 mod removal;
 mod settling;
 
 pub use asking::{meet_limits, use_of, uses};
 pub use meaning::{
-    changes_ask_as_the_set, last_allows_of_guards, left_tells_use, smaller_questions_tell,
-    twins_are_idle, without_stays_sound, without_takes_one,
+    changes_ask_as_the_set, last_allows_of_guards, narrowed_pairs_ask_the_same,
+    smaller_questions_tell, twins_are_idle, without_stays_sound, without_takes_one,
 };
-pub use names::{NameList, is_allow, names_of};
+pub use names::{NameList, is_allow, named_statement, names_of};
+pub use narrowing::{AskedPair, narrowed};
 pub use outcome::{Use, UseFault, UseList};
 pub use removal::without;
 pub use settling::{Settle, Settled};

@@ -1,5 +1,8 @@
 //! What the answers rest on. Each law is a function that does nothing, and whose contract states it.
-ghost use Rattle.set_questions.specs.Laws.{ChangesAskAsTheSet, LastAllowsOfGuards, LeftTellsUse, SmallerQuestionsTell, TwinsAreIdle, WithoutStaysSound, WithoutTakesOne};
+ghost use Rattle.set_questions.specs.Laws.{ChangesAskAsTheSet, LastAllowsOfGuards, SmallerQuestionsTell, TwinsAreIdle, WithoutStaysSound, WithoutTakesOne};
+ghost use Rattle.set_questions.specs.Narrowing.{NarrowedPairsAskTheSame};
+
+use policy_difference::without_apart_says_no_less;
 
 /// `without` takes just the statement of its name away; documents and guards stay.
 pub fn without_takes_one()
@@ -16,18 +19,18 @@ pub fn changes_ask_as_the_set()
     ensures { ChangesAskAsTheSet }
 {}
 
-/// Where `left` asks the same as the set does beside the set without an Allow statement, a request that
-/// meets the query of `left` shows the statement used, and a refutation that closes it shows the statement
-/// idle.
+/// Where two sets ask the same as the set and the set without a statement, a request that meets their query
+/// shows the statement used, and a refutation that closes it shows the statement idle.
 pub fn smaller_questions_tell()
     ensures { SmallerQuestionsTell }
 {}
 
-/// A valid request that such a `left` allows and the set doesn't allow without the statement shows the
-/// statement used.
-pub fn left_tells_use()
-    ensures { LeftTellsUse }
-{}
+/// Two sets that are narrowed to a statement of a set are asked the same as the set and the set without it.
+pub fn narrowed_pairs_ask_the_same()
+    ensures { NarrowedPairsAskTheSame }
+{
+    without_apart_says_no_less();
+}
 
 /// Of two equal statements of the grants each is idle by itself, since the other stays.
 pub fn twins_are_idle()

@@ -95,16 +95,24 @@ fn document_at(set: &PolicySet, index: usize) -> Option<&Document>
     guard_document(set.guards.as_slice(), index - set.grants.len())
 }
 
-/// Whether the statement of this name is an Allow, and not a Deny.
-pub fn is_allow(set: &PolicySet, name: StatementName) -> bool
+/// The statement of this name.
+pub fn named_statement(set: &PolicySet, name: StatementName) -> &Statement
     requires { IsNameIn set.now name }
-    ensures { OfNamed set.now name (λ s. result ≡ s.allow) }
+    ensures { OfNamed set.now name (λ s. result.now ≡ s) }
 {
     let Some(document) = document_at(set, name.document as usize - 1) else {
         unreachable!()
     };
     match document.statements.get(name.statement as usize - 1) {
-        Some(statement) => statement.allow,
+        Some(statement) => statement,
         None => unreachable!(),
     }
+}
+
+/// Whether the statement of this name is an Allow, and not a Deny.
+pub fn is_allow(set: &PolicySet, name: StatementName) -> bool
+    requires { IsNameIn set.now name }
+    ensures { OfNamed set.now name (λ s. result ≡ s.allow) }
+{
+    named_statement(set, name).allow
 }

@@ -1,4 +1,4 @@
-use Rattle.policy_difference.proofs.Remaining.{shared_add_nothing}
+use Rattle.policy_difference.proofs.Differing.{shared_add_nothing}
 use Rattle.policy_difference.proofs.meaning.shared_statements_add_nothing.Goals as goal
 
 pub returns : goal.returns

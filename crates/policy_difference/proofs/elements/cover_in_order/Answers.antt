@@ -2,7 +2,7 @@ use Rattle.std.proofs.Common.{Any, refl, sym, ◌∙◌}
 use Rattle.std.proofs.lemmas.List.Elements.{All-nil}
 use Rattle.policy_difference.proofs.Covered.{covered-at, covered-next, covered-whole}
 use Rattle.policy_difference.proofs.Leaving.{apart}
-use Rattle.policy_difference.proofs.elements.cover_each.Goals as goal
+use Rattle.policy_difference.proofs.elements.cover_in_order.Goals as goal
 
 pub others-init : goal.others-init
 others-init g c = All-nil (λ x. Any (λ y. g.T.Item.covering y x) c.args.items.now)

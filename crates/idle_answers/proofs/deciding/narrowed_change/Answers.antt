@@ -1,0 +1,18 @@
+use Rattle.std.proofs.Common.{◌≡◌, false, rules, true}
+use Rattle.std.proofs.lemmas.Result.{IfOk-weaker}
+use Rattle.idle_answers.proofs.Verdicts.{narrowed_allow, narrowed_deny}
+use Rattle.idle_answers.proofs.deciding.narrowed_change.Goals as goal
+
+pub returns-then-statement : goal.returns-then-statement
+returns-then-statement c =
+    let allow : c.named_statement-statement.result.now.allow ≡ true = search rules in
+    IfOk-weaker c.narrowed.result _ _
+    (λ o n. narrowed_allow c.args.set.now c.args.name c.named_statement-statement.result.now c.in_ok-part.part c.named_statement-statement.ensures c.in_ok-part.ensures allow o n)
+    c.narrowed.ensures.asked
+
+pub returns : goal.returns
+returns c =
+    let deny : c.named_statement-statement.result.now.allow ≡ false = search rules in
+    IfOk-weaker c.narrowed-else-statement.result _ _
+    (λ o n. narrowed_deny c.args.set.now c.args.name c.named_statement-statement.result.now c.in_ok-part.part c.named_statement-statement.ensures c.in_ok-part.ensures deny o n)
+    c.narrowed-else-statement.ensures.asked

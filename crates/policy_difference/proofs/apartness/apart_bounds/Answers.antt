@@ -1,0 +1,15 @@
+use Rattle.std.proofs.Common.{true, subst, sym}
+use Rattle.std.proofs.lemmas.List.Elements.{All-nil}
+use Rattle.policy_difference.specs.Differences.{ClashStatement, EachWith, HasWider}
+use Rattle.policy_difference.specs.Rivals.{AllowedByEach}
+use Rattle.policy_difference.proofs.apartness.apart_bounds.Goals as goal
+
+pub returns : goal.returns
+returns c s =
+    let each = c.in_ok-denying.ensures s in (
+      λ bound. subst (EachWith true (λ a. ClashStatement a s)) c.as_slice.ensures (each.0 bound.1),
+      λ apart. (
+        subst (λ gs. AllowedByEach gs s) (sym c.new.ensures.items) (All-nil (λ g. HasWider g.now s)),
+        each.1 (subst (EachWith true (λ a. ClashStatement a s)) (sym c.as_slice.ensures) apart),
+      ),
+    )

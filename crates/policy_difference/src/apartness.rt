@@ -1,0 +1,135 @@
+//! A set without what never applies where another set allows.
+ghost use Rattle.std.specs.Prelude.{◌≡◌, ◌↔◌, All, IfOk, IfSome, IsSome, OnOk, true};
+ghost use Rattle.std.specs.List.{AllZip};
+ghost use Rattle.policy_model.specs.declared.set.Statement.{Statement as StatementValue};
+ghost use Rattle.policy_difference.specs.Apartness.{IsWithoutApart};
+ghost use Rattle.policy_difference.specs.Differences.{AreLeft, ClashStatement, EachWith, HasFewPairs, IsCut, StatementsAreLeft};
+ghost use Rattle.policy_difference.specs.Rivals.{ApartFromEach, BoundTheApart, IsBound};
+
+use crate::bounds::Bounds;
+use crate::left::{add_some, cut};
+use crate::pairs::have_few_pairs;
+use plain_lists::{List, NoMemory};
+use policy_model::{Document, DocumentList, GuardList, PolicySet, Statement, StatementList};
+use std::alloc::Global;
+
+// Adds the statement where it allows.
+fn add_allow<'a>(statement: &'a Statement, allows: &mut Vec<&'a Statement>) -> Result<(), NoMemory>
+    ensures { OnOk result ((s : StatementValue) → ApartFromEach allows.new.items s ↔
+        (ApartFromEach allows.old.items s ×
+        (statement.now.allow ≡ true → ClashStatement statement.now s))) }
+{
+    if !statement.allow {
+        return Ok(());
+    }
+    allows.push(statement)?;
+    Ok(())
+}
+
+// Adds those of the statements.
+fn add_allows<'a>(
+    statements: &'a [Statement],
+    allows: &mut Vec<&'a Statement>,
+) -> Result<(), NoMemory>
+    ensures { OnOk result ((s : StatementValue) → ApartFromEach allows.new.items s ↔
+        (ApartFromEach allows.old.items s ×
+        All (λ a. a.allow ≡ true → ClashStatement a s) statements.now)) }
+{
+    'statements: for statement in statements {
+        add_allow(statement, allows)?;
+    }
+    Ok(())
+}
+
+// The Allow statements of the documents.
+fn allows_of<'a>(alloc: Global, documents: &'a [Document]) -> Result<Vec<&'a Statement>, NoMemory>
+    ensures { IfOk result (λ allows. (s : StatementValue) →
+        ApartFromEach allows.items s ↔ EachWith true (λ a. ClashStatement a s) documents.now) }
+{
+    let mut allows = Vec::new(alloc);
+    'documents: for document in documents {
+        add_allows(document.statements.as_slice(), &mut allows)?;
+    }
+    Ok(allows)
+}
+
+// What a statement has to meet so that it is apart from each Allow statement of the set's grants.
+fn apart_bounds<'a>(alloc: Global, first: &'a PolicySet) -> Result<Bounds<'a>, NoMemory>
+    ensures { IfOk result (BoundTheApart first.now) }
+{
+    let denying = allows_of(alloc, first.grants.as_slice())?;
+    Ok(Bounds {
+        allowing: Vec::new(alloc),
+        denying,
+    })
+}
+
+// What is left of the statements without that which is as the bounds ask.
+fn cut_statements(
+    alloc: Global,
+    bounds: &Bounds<'_>,
+    statements: &[Statement],
+) -> Result<StatementList, NoMemory>
+    ensures { IfOk result (StatementsAreLeft (IsCut (IsBound bounds.now)) statements.now) }
+{
+    let mut left = List::new(alloc);
+    'statements: for statement in statements {
+        let own = cut(alloc, bounds, statement)?;
+        add_some(&mut left, own.statement)?;
+    }
+    Ok(left)
+}
+
+// The same of documents.
+fn cut_documents(
+    alloc: Global,
+    bounds: &Bounds<'_>,
+    documents: &[Document],
+) -> Result<DocumentList, NoMemory>
+    ensures { IfOk result (AreLeft (IsCut (IsBound bounds.now)) documents.now) }
+{
+    let mut left = List::new(alloc);
+    'documents: for document in documents {
+        let statements = cut_statements(alloc, bounds, document.statements.as_slice())?;
+        left.push(Document { statements })?;
+    }
+    Ok(left)
+}
+
+// The same of guards.
+fn cut_guards(
+    alloc: Global,
+    bounds: &Bounds<'_>,
+    guards: &[DocumentList],
+) -> Result<GuardList, NoMemory>
+    ensures { IfOk result (AllZip (AreLeft (IsCut (IsBound bounds.now))) guards.now) }
+{
+    let mut left = List::new(alloc);
+    'guards: for guard in guards {
+        left.push(cut_documents(alloc, bounds, guard.as_slice())?)?;
+    }
+    Ok(left)
+}
+
+/// The set without what never applies where the first set allows: of its statements, of grants and of guards,
+/// Allow and Deny, the items of the `Action` with which they clash with each Allow statement of the first set's
+/// grants, and with `NotAction` the whole statements. Documents and guards stay, also where they are empty. None
+/// exactly where there are more than `MOST_PAIRS` pairs of items to compare.
+///
+/// The only error is want of memory.
+pub fn without_apart(
+    alloc: Global,
+    first: &PolicySet,
+    set: &PolicySet,
+) -> Result<Option<PolicySet>, NoMemory>
+    ensures less { IfOk result (λ less. IfSome less (IsWithoutApart first.now set.now)) }
+    ensures some { IfOk result (λ less. IsSome less ↔ HasFewPairs first.now set.now) }
+{
+    if !have_few_pairs(first, set) {
+        return Ok(None);
+    }
+    let bounds = apart_bounds(alloc, first)?;
+    let grants = cut_documents(alloc, &bounds, set.grants.as_slice())?;
+    let guards = cut_guards(alloc, &bounds, set.guards.as_slice())?;
+    Ok(Some(PolicySet { grants, guards }))
+}
