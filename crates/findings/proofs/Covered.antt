@@ -74,7 +74,7 @@ lies-suit : (schema : Schema) (ds : List Stratum) → AllSuit schema ds → (f :
 lies-suit schema ds suit f =
     subst (λ (ps : List Plan). All (TestSuits schema) (tests_in_each (of_plans ps))) (append-nil (own_plans ds f)) (own-suit schema ds suit f [] (All-nil (TestSuits schema)))
 
-each-lies-suit : (schema : Schema) (ds : List Stratum) → AllSuit schema ds → (fs : List (List ℕ)) → All (TestSuits schema) (tests_in_each (of_plans (map (lies_plan ds) fs)))
+pub each-lies-suit : (schema : Schema) (ds : List Stratum) → AllSuit schema ds → (fs : List (List ℕ)) → All (TestSuits schema) (tests_in_each (of_plans (map (lies_plan ds) fs)))
 each-lies-suit schema ds suit [] = All-nil (TestSuits schema)
 each-lies-suit schema ds suit (f ∷ fs) =
     All-append (TestSuits schema) (tests_in (lies_plan ds f)) (tests_in_each (of_plans (map (lies_plan ds) fs))) (lies-suit schema ds suit f) (each-lies-suit schema ds suit fs)

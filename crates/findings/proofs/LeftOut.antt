@@ -29,7 +29,7 @@ use Rattle.findings.proofs.Made.{made-suits}
 use Rattle.findings.proofs.Owning.{AllSuit, own-holds}
 
 -- one of the findings' plans holds where the request lies in one of them
-some-lie-holds : (schema : Schema) (r : Request) (ds : List Stratum) → AllSuit schema ds → (fs : List (List ℕ)) → All (IsFinding ds) fs → (SomeHolds r (of_plans (map (lies_plan ds) fs)) ↔ Any (LiesInFinding r ds) fs)
+pub some-lie-holds : (schema : Schema) (r : Request) (ds : List Stratum) → AllSuit schema ds → (fs : List (List ℕ)) → All (IsFinding ds) fs → (SomeHolds r (of_plans (map (lies_plan ds) fs)) ↔ Any (LiesInFinding r ds) fs)
 some-lie-holds schema r ds suit [] are = (λ h. absurd h, λ h. absurd (Any-nil (LiesInFinding r ds) h))
 some-lie-holds schema r ds suit (f ∷ fs) are =
     let first = own-holds schema r ds suit f (All-head (IsFinding ds) f fs are) in

@@ -7,6 +7,7 @@ mod Entered
 mod Equal
 mod Evaluated
 mod Heights
+mod Inside
 mod Judged
 mod LeftOut
 mod Looking
@@ -18,6 +19,7 @@ mod Orders
 mod Owning
 mod Parts
 mod Passing
+mod Plainly
 mod Plans
 mod Whole
 mod Sets

@@ -1,8 +1,8 @@
 -- What the steps of a walk leave, for the set that the strata are made for.
-use Rattle.std.proofs.Common.{◌≡◌, ◌≢◌, ◌⊎◌, ◌↔◌, ℕ, zero, suc, ◌+◌, Bool, true, false, List, [], ◌∷◌, ◌++◌, length, map, refl, sym, ap, subst, inl, inr}
+use Rattle.std.proofs.Common.{◌≡◌, ◌≢◌, ◌⊎◌, ◌↔◌, ℕ, zero, suc, ◌+◌, Bool, true, false, List, [], ◌∷◌, ◌++◌, length, map, refl, sym, ap, subst, inl, inr, arith}
 use Rattle.std.specs.Prelude.{All, Contains, IsTrue, get_or}
 use Rattle.std.proofs.lemmas.List.{append-nil, append_assoc, length-append}
-use Rattle.std.proofs.lemmas.List.Elements.{All-head, All-push, All-tail, All-weaker, Contains-append_left, Contains-get_or, Contains-push}
+use Rattle.std.proofs.lemmas.List.Elements.{All-head, All-push, All-tail, All-weaker, Contains-append_cases, Contains-append_left, Contains-append_right, Contains-get_or, Contains-push}
 use Rattle.std.proofs.lemmas.List.Quantifiers.{all_pairs_push}
 use Rattle.std.specs.Cmp.Lexicographic.{slice_cmp}
 use Rattle.std.specs.List.Sorted.{IsStrictlySortedBy}
@@ -23,7 +23,7 @@ use Rattle.findings.specs.Asked.{HoldsForOwn}
 use Rattle.findings.specs.Findings.{IsIrreducible, IsOwn}
 use Rattle.findings.specs.Queries.{AreMadeFor}
 use Rattle.findings.specs.Summaries.{IsSummary, MustBeVisited, VisitsAtLeast, findings_of}
-use Rattle.findings.specs.Walked.{AddsFound, AddsReducible, IsDue, IsTakenFor, PassesTo, SameBesides, StartsAt, found_by}
+use Rattle.findings.specs.Walked.{AddsFound, GoesBelowFor, IsDue, IsTakenFor, PassesTo, SameBesides, StartsAt, found_by}
 use Rattle.findings.specs.Walks.{AreAboveIn, IsFoundFinding, IsWalk, first_finding}
 use Rattle.findings.proofs.Entered.{all-entered, entered-kept, entered-there}
 use Rattle.findings.proofs.Orders.{AllHaveSteps, under-finding}
@@ -116,21 +116,24 @@ module _ (schema : Schema) (set : PolicySet) (ds : List Stratum) (steps : AllHav
       (subst (λ (xs : List (List ℕ)). IsWalk schema set ds old.coming.items (old.looked.keys ++ f ∷ []) xs (found_by new)) (sym adds.reducible) walk))
 
   -- it has no request of its own
-  pub stands-reducible : (old new : Walk) (f : List ℕ) → IsTakenFor schema set ds old f → ¬ IsIrreducible schema set ds f → AddsReducible ds old f new → IsWalk schema set ds new.coming.items new.looked.keys new.reducible.keys (found_by new)
-  stands-reducible old new f taken none adds =
+  pub stands-reducible : (old new : Walk) (f : List ℕ) → IsTakenFor schema set ds old f → ¬ IsIrreducible schema set ds f → GoesBelowFor schema set ds old f new → IsWalk schema set ds new.coming.items new.looked.keys new.reducible.keys (found_by new)
+  stands-reducible old new f taken none goes =
+      let adds = goes.adds in
       let looked_is = adds.looked taken.due.new in
       let is_f = taken.walk.next f (Contains-push old.coming.items f) in
       let reducible_is = adds.reducible (λ h. taken.due.new (taken.walk.unmet f h).0) in
       let found_same : found_by new ≡ found_by old = ap (map (λ e. (e.0.items, e.1))) adds.found in
-      let walk = walk-reducible schema set ds steps old.coming.items old.looked.keys old.reducible.keys (found_by old) f taken.walk taken.due.new taken.due.above new.coming.items none
-      (λ g h. elim (adds.coming.only g h) [
+      let walk = walk-reducible schema set ds steps old.coming.items old.looked.keys old.reducible.keys (found_by old) f taken.walk taken.due.new taken.due.above (old.coming.items ++ goes.kept) none
+      (λ g h. elim (Contains-append_cases old.coming.items goes.kept g h) [
         | inl before ↦ taken.walk.next g (Contains-append_left old.coming.items (f ∷ []) g before)
-        | inr under ↦ under-finding schema ds steps g f under is_f
+        | inr kept ↦ elim (goes.are.only g (goes.inhabited.only g kept)) [ inl no_one ↦ absurd (omega (arith, no_one.1)) | inr under ↦ under-finding schema ds steps g f under is_f ]
       ])
-      adds.coming.kept adds.coming.under in
-      subst (λ (xs : List (List ℕ)). IsWalk schema set ds new.coming.items xs new.reducible.keys (found_by new)) (sym looked_is)
-      (subst (λ (xs : List (List ℕ)). IsWalk schema set ds new.coming.items (old.looked.keys ++ f ∷ []) xs (found_by new)) (sym reducible_is)
-      (subst (IsWalk schema set ds new.coming.items (old.looked.keys ++ f ∷ []) (old.reducible.keys ++ f ∷ [])) (sym found_same) walk))
+      (λ g h. Contains-append_left old.coming.items goes.kept g h)
+      (λ g right. elim (goes.inhabited.others g (goes.are.under g right)) [ inl kept ↦ inl (Contains-append_right old.coming.items goes.kept g kept) | inr nobody ↦ inr nobody ]) in
+      subst (λ (xs : List (List ℕ)). IsWalk schema set ds xs new.looked.keys new.reducible.keys (found_by new)) (sym adds.coming)
+      (subst (λ (xs : List (List ℕ)). IsWalk schema set ds (old.coming.items ++ goes.kept) xs new.reducible.keys (found_by new)) (sym looked_is)
+      (subst (λ (xs : List (List ℕ)). IsWalk schema set ds (old.coming.items ++ goes.kept) (old.looked.keys ++ f ∷ []) xs (found_by new)) (sym reducible_is)
+      (subst (IsWalk schema set ds (old.coming.items ++ goes.kept) (old.looked.keys ++ f ∷ []) (old.reducible.keys ++ f ∷ [])) (sym found_same) walk)))
 
   -- one that is taken must be looked at
   pub taken-must : (w : Walk) (f : List ℕ) → IsTakenFor schema set ds w f → MustBeVisited schema set ds f

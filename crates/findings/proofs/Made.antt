@@ -118,7 +118,7 @@ numbers-suit schema d suit [] rest more = more
 numbers-suit schema d suit (n ∷ ns) rest more =
     All-append (TestSuits schema) (tests_in (number_plan d n)) (tests_in_each (of_plans (map (number_plan d) ns ++ rest))) (predicate-suits schema d.slot (predicate_at d.predicates n) (suit n)) (numbers-suit schema d suit ns rest more)
 
-finer-suit : (schema : Schema) (ds : List Stratum) → AllSuit schema ds → (f : List ℕ) → All (TestSuits schema) (tests_in_each (of_plans (finer_plans ds f)))
+pub finer-suit : (schema : Schema) (ds : List Stratum) → AllSuit schema ds → (f : List ℕ) → All (TestSuits schema) (tests_in_each (of_plans (finer_plans ds f)))
 finer-suit schema [] suit f = All-nil (TestSuits schema)
 finer-suit schema (d ∷ ds) suit [] = All-nil (TestSuits schema)
 finer-suit schema (d ∷ ds) suit (n ∷ f) = numbers-suit schema d suit.0 (numbers_below d n) (finer_plans ds f) (finer-suit schema ds suit.1 f)

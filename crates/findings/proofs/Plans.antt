@@ -240,11 +240,18 @@ test-asked o t n a b f is had same =
       numbered = subst (IsNumbered b (ask t)) (sym (ap tree_of same ∙ tree-Test n)) (numbered_ask had.at);
     })
 
-pub none-of-asked : (a b : List Test) (ps : List Plan) (before : List Tree) (branches : Branches) (some : Rc Formula Global) (f : Formula) → before ≡ [] → AreAsked a b ps before (trees_of branches) → some.value ≡ OneOf branches → f ≡ Not some → IsAsked a b (not (one_of (of_plans ps))) (tree_of f)
-none-of-asked a b ps before branches some f empty asked is same =
+pub some-of-asked : (a b : List Test) (ps : List Plan) (before : List Tree) (branches : Branches) (f : Formula) → before ≡ [] → AreAsked a b ps before (trees_of branches) → f ≡ OneOf branches → IsAsked a b (one_of (of_plans ps)) (tree_of f)
+some-of-asked a b ps before branches f empty asked is =
     let more_is : trees_of branches ≡ asked.more = asked.is ∙ ap (λ (xs : List Tree). xs ++ asked.more) empty in
-    let tree_is : tree_of f ≡ tree.not (tree.one_of (of_list asked.more)) = ap tree_of same ∙ tree-Not some ∙ ap (λ (x : Formula). tree.not (tree_of x)) is ∙ ap tree.not (tree-OneOf branches) ∙ ap (λ (xs : List Tree). tree.not (tree.one_of (of_list xs))) more_is in
-    record { collects = asked.collects; numbered = subst (IsNumbered b (not (one_of (of_plans ps)))) (sym tree_is) (numbered_not (numbered_one_of asked.numbered)) }
+    let tree_is : tree_of f ≡ tree.one_of (of_list asked.more) = ap tree_of is ∙ tree-OneOf branches ∙ ap (λ (xs : List Tree). tree.one_of (of_list xs)) more_is in
+    record { collects = asked.collects; numbered = subst (IsNumbered b (one_of (of_plans ps))) (sym tree_is) (numbered_one_of asked.numbered) }
+
+pub not-asked : (a b : List Test) (p : Plan) (inner : Rc Formula Global) (f : Formula) → IsAsked a b p (tree_of inner.value) → f ≡ Not inner → IsAsked a b (not p) (tree_of f)
+not-asked a b p inner f asked is =
+    record { collects = asked.collects; numbered = subst (IsNumbered b (not p)) (sym (ap tree_of is ∙ tree-Not inner)) (numbered_not asked.numbered) }
+
+pub none-of-asked : (a b : List Test) (ps : List Plan) (before : List Tree) (branches : Branches) (some : Rc Formula Global) (f : Formula) → before ≡ [] → AreAsked a b ps before (trees_of branches) → some.value ≡ OneOf branches → f ≡ Not some → IsAsked a b (not (one_of (of_plans ps))) (tree_of f)
+none-of-asked a b ps before branches some f empty asked is same = not-asked a b (one_of (of_plans ps)) some f (some-of-asked a b ps before branches some.value empty asked is) same
 
 -- ---- the numbers
 

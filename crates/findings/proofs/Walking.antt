@@ -9,11 +9,11 @@ use Rattle.policy_model.specs.declared.request.Request.{Request}
 use Rattle.policy_model.specs.declared.set.PolicySet.{PolicySet}
 use Rattle.strata.specs.declared.stratum.Stratum.{Stratum}
 use Rattle.findings.specs.Queries.{numbers_below}
-use Rattle.findings.specs.Findings.{IsFinding, IsIrreducible, IsStrictlyFiner}
+use Rattle.findings.specs.Findings.{HasNobody, IsFinding, IsIrreducible, IsStrictlyFiner}
 use Rattle.findings.specs.Steps.{IsRightUnder}
 use Rattle.findings.specs.Summaries.{IsMaximal, MustBeVisited, findings_of}
 use Rattle.findings.specs.Walks.{AreAboveIn, IsCared, IsFoundFinding, IsWalk, first_finding}
-use Rattle.findings.proofs.Orders.{AllHaveSteps, above-finding, rank_of, ranks-fall, same-or-not, step-above, strictly-finer, under-finer, zeros-above, zeros-finding}
+use Rattle.findings.proofs.Orders.{AllHaveSteps, above-finding, lies-above, rank_of, ranks-fall, same-or-not, step-above, strictly-finer, under-finer, zeros-above, zeros-finding}
 
 both-or-not : {P Q : Type 0} → P ⊎ ¬ P → Q ⊎ ¬ Q → (P × Q) ⊎ ¬ (P × Q)
 both-or-not (inl p) (inl q) = inl (p, q)
@@ -90,21 +90,26 @@ module _ (schema : Schema) (set : PolicySet) (ds : List Stratum) (steps : AllHav
       | inr there ↦ absurd (v.none_above g is_g strict (All-contains (IsIrreducible schema set ds) (findings_of found) g (found-irreducible looked found walk.own) there))
     ]
 
-    -- at the end of the walk all that must be looked at has been: those that stand no lower than so deep
-    pub all-looked : (deep : ℕ) (f : List ℕ) → rank_of schema ds steps f < deep → MustBeVisited schema set ds f → Contains looked f
-    all-looked zero f few v = absurd (omega (arith, few))
-    all-looked (suc deep) f few v = elim (same-or-not f (first_finding ds)) [
+    -- where somebody is allowed something in a finding, somebody is in each one above
+    somebody-above : (f g : List ℕ) → IsFinding ds f → IsStrictlyFiner schema ds f g → ¬ HasNobody schema set ds f → ¬ HasNobody schema set ds g
+    somebody-above f g is strict some none = some (λ r valid allowed lies. none r valid allowed (lies-above schema r valid ds f g is strict.0 lies))
+
+    -- at the end of the walk all that must be looked at, and in which somebody is allowed something, has been: those that stand no
+    -- lower than so deep
+    pub all-looked : (deep : ℕ) (f : List ℕ) → rank_of schema ds steps f < deep → MustBeVisited schema set ds f → ¬ HasNobody schema set ds f → Contains looked f
+    all-looked zero f few v some = absurd (omega (arith, few))
+    all-looked (suc deep) f few v some = elim (same-or-not f (first_finding ds)) [
       | inl same ↦ elim walk.start [ inl seen ↦ subst (Contains looked) (sym same) seen | inr coming ↦ absurd (none-coming (first_finding ds) coming) ]
       | inr differ ↦ (
           let above : AreAboveIn ds reducible f = λ g at. (
           let is_g = above-finding schema ds steps f g at v.finding in
           let strict = under-finer schema ds steps f g at in
           let lower = ranks-fall schema ds steps f g v.finding is_g strict in
-          is-reducible f g v is_g strict (all-looked deep g (omega (arith, few, lower)) (visited-above f g v is_g strict))) in
+          is-reducible f g v is_g strict (all-looked deep g (omega (arith, few, lower)) (visited-above f g v is_g strict) (somebody-above f g v.finding strict some))) in
           let first = step-above schema ds steps f (first_finding ds) v.finding (zeros-finding schema ds steps) (zeros-above schema ds steps f, differ) in
           elim (walk.cared f first.above (above first.above first.under) first.under) [
             | inl seen ↦ seen
-            | inr later ↦ elim later [ inl coming ↦ absurd (none-coming f coming) | inr missing ↦ absurd (missing above) ]
+            | inr later ↦ elim later [ inl coming ↦ absurd (none-coming f coming) | inr more ↦ elim more [ inl missing ↦ absurd (missing above) | inr none ↦ absurd (some none) ] ]
           ]
           )
     ]
@@ -112,7 +117,7 @@ module _ (schema : Schema) (set : PolicySet) (ds : List Stratum) (steps : AllHav
     -- so each maximal irreducible finding was found
     pub all-found : (f : List ℕ) → IsMaximal schema set ds f → Contains (findings_of found) f
     all-found f m =
-        let seen = all-looked (suc (rank_of schema ds steps f)) f (omega arith) (record { finding = m.finding; none_above = m.none_above }) in
+        let seen = all-looked (suc (rank_of schema ds steps f)) f (omega arith) (record { finding = m.finding; none_above = m.none_above }) (λ none. none m.irreducible.0 m.irreducible.1.valid m.irreducible.1.allowed m.irreducible.1.lies) in
         elim (walk.either f seen) [ inl reducible ↦ absurd ((walk.unmet f reducible).1 m.irreducible) | inr there ↦ there ]
 
     -- and nothing else
@@ -159,9 +164,9 @@ module _ (schema : Schema) (set : PolicySet) (ds : List Stratum) (steps : AllHav
         | inr later ↦ elim later [
           | inl coming ↦ elim (Contains-push_cases rest f h coming) [
             | inl before ↦ inr (inl before)
-            | inr same ↦ subst (IsCared ds rest looked reducible) same (elim why [ inl seen ↦ inl seen | inr missing ↦ inr (inr missing) ])
+            | inr same ↦ subst (IsCared schema set ds rest looked reducible) same (elim why [ inl seen ↦ inl seen | inr missing ↦ inr (inr (inl missing)) ])
           ]
-          | inr missing ↦ inr (inr missing)
+          | inr more ↦ inr (inr more)
         ]
       ];
       start = elim walk.start [
@@ -189,7 +194,7 @@ module _ (schema : Schema) (set : PolicySet) (ds : List Stratum) (steps : AllHav
       looked-different = all_pairs_push (λ g h. g ≢ h) looked f walk.different (λ k d within same. new (subst (Contains looked) same (Contains-get_or looked k d within)))
 
       -- it was one that may come next, or is cared for as before
-      still-cared : (coming more : List (List ℕ)) → ((g : List ℕ) → Contains rest g → Contains coming g) → (h : List ℕ) → IsCared ds (rest ++ f ∷ []) looked reducible h → (¬ AreAboveIn ds reducible h → IsCared ds coming (looked ++ f ∷ []) more h) → IsCared ds coming (looked ++ f ∷ []) more h
+      still-cared : (coming more : List (List ℕ)) → ((g : List ℕ) → Contains rest g → Contains coming g) → (h : List ℕ) → IsCared schema set ds (rest ++ f ∷ []) looked reducible h → (¬ AreAboveIn ds reducible h → IsCared schema set ds coming (looked ++ f ∷ []) more h) → IsCared schema set ds coming (looked ++ f ∷ []) more h
       still-cared coming more grows h care other = elim care [
         | inl seen ↦ inl (Contains-append_left looked (f ∷ []) h seen)
         | inr later ↦ elim later [
@@ -197,7 +202,7 @@ module _ (schema : Schema) (set : PolicySet) (ds : List Stratum) (steps : AllHav
             | inl before ↦ inr (inl (grows h before))
             | inr same ↦ inl (subst (Contains (looked ++ f ∷ [])) same (Contains-push looked f))
           ]
-          | inr missing ↦ other missing
+          | inr further ↦ elim further [ inl missing ↦ other missing | inr none ↦ inr (inr (inr none)) ]
         ]
       ]
 
@@ -213,8 +218,12 @@ module _ (schema : Schema) (set : PolicySet) (ds : List Stratum) (steps : AllHav
       own-longer : All (IsFoundFinding schema set ds (looked ++ f ∷ [])) found
       own-longer = All-weaker (IsFoundFinding schema set ds looked) (IsFoundFinding schema set ds (looked ++ f ∷ [])) (λ p h. (Contains-append_left looked (f ∷ []) p.0 h.0, h.1)) found walk.own
 
-      -- it has no request of its own: those right under it may come next
-      pub walk-reducible : (coming : List (List ℕ)) → ¬ IsIrreducible schema set ds f → ((g : List ℕ) → Contains coming g → IsFinding ds g) → ((g : List ℕ) → Contains rest g → Contains coming g) → ((g : List ℕ) → IsRightUnder ds g f → Contains coming g) →
+      below-cared : (coming : List (List ℕ)) (h : List ℕ) → Contains coming h ⊎ HasNobody schema set ds h → IsCared schema set ds coming (looked ++ f ∷ []) (reducible ++ f ∷ []) h
+      below-cared coming h (inl there) = inr (inl there)
+      below-cared coming h (inr none) = inr (inr (inr none))
+
+      -- it has no request of its own: those right under it in which somebody may be allowed something may come next
+      pub walk-reducible : (coming : List (List ℕ)) → ¬ IsIrreducible schema set ds f → ((g : List ℕ) → Contains coming g → IsFinding ds g) → ((g : List ℕ) → Contains rest g → Contains coming g) → ((g : List ℕ) → IsRightUnder ds g f → Contains coming g ⊎ HasNobody schema set ds g) →
           IsWalk schema set ds coming (looked ++ f ∷ []) (reducible ++ f ∷ []) found
       walk-reducible coming unmet are grows under = record {
         next = are;
@@ -231,13 +240,13 @@ module _ (schema : Schema) (set : PolicySet) (ds : List Stratum) (steps : AllHav
         ];
         cared = λ h g there at. elim (Contains-push_cases reducible f g there) [
           | inl before ↦ still-cared coming (reducible ++ f ∷ []) grows h (walk.cared h g before at) (λ missing. elim (under-or-not ds h f) [
-            | inl right ↦ inr (inl (under h right))
-            | inr apart ↦ inr (inr (λ all. missing (λ x right. elim (Contains-push_cases reducible f x (all x right)) [
+            | inl right ↦ below-cared coming h (under h right)
+            | inr apart ↦ inr (inr (inl (λ all. missing (λ x right. elim (Contains-push_cases reducible f x (all x right)) [
               | inl old ↦ old
               | inr same ↦ absurd (apart (subst (IsRightUnder ds h) (sym same) right))
-            ])))
+            ]))))
           ])
-          | inr same ↦ inr (inl (under h (subst (IsRightUnder ds h) (sym same) at)))
+          | inr same ↦ below-cared coming h (under h (subst (IsRightUnder ds h) (sym same) at))
         ];
         start = still-start coming grows;
       }
@@ -254,6 +263,6 @@ module _ (schema : Schema) (set : PolicySet) (ds : List Stratum) (steps : AllHav
           | inl before ↦ elim (walk.either g before) [ inl red ↦ inl red | inr old ↦ inr (grows g old) ]
           | inr same ↦ inr (subst (Contains (findings_of more)) same there)
         ];
-        cared = λ h g red at. still-cared rest reducible (λ x before. before) h (walk.cared h g red at) (λ missing. inr (inr missing));
+        cared = λ h g red at. still-cared rest reducible (λ x before. before) h (walk.cared h g red at) (λ missing. inr (inr (inl missing)));
         start = still-start rest (λ x before. before);
       }

@@ -67,3 +67,7 @@ HoldsForOwn base strata f q =
 abbrev pub IsAskableFor : Query → Strata → Query → Type 0
 IsAskableFor base strata q =
     (schema : Schema) (set : PolicySet) → AreMadeFor schema set base strata → QueryIsAskable schema q
+
+-- whichever set the strata are of
+abbrev pub IsAskableOver : Strata → Query → Type 0
+IsAskableOver strata q = (base : Query) → IsAskableFor base strata q

@@ -26,9 +26,13 @@ use Rattle.findings.specs.Queries.{AreMadeFor, own_plans}
 abbrev pub lies_plan : List Stratum → List ℕ → Plan
 lies_plan ds f = all (of_plans (own_plans ds f))
 
--- that it lies in none of the findings
+-- that it lies in one of the findings
+abbrev pub inside_plan : List Stratum → List (List ℕ) → Plan
+inside_plan ds fs = one_of (of_plans (map (lies_plan ds) fs))
+
+-- that it lies in none of them
 abbrev pub outside_plan : List Stratum → List (List ℕ) → Plan
-outside_plan ds fs = not (one_of (of_plans (map (lies_plan ds) fs)))
+outside_plan ds fs = not (inside_plan ds fs)
 
 -- the set allows the request, and it lies in none of the findings
 abbrev pub cover_plan : Plan → List Stratum → List (List ℕ) → Plan

@@ -48,3 +48,7 @@ IsIrreducible schema set ds f = (r : Request) × IsOwn schema set ds f r
 abbrev pub HasNoneAbove : Schema → PolicySet → List Stratum → List ℕ → Type 0
 HasNoneAbove schema set ds f =
     (g : List ℕ) → IsFinding ds g → IsStrictlyFiner schema ds f g → ¬ IsIrreducible schema set ds g
+
+-- nobody is allowed anything in the finding: no valid request that lies in it is allowed by the set
+abbrev pub HasNobody : Schema → PolicySet → List Stratum → List ℕ → Type 0
+HasNobody schema set ds f = (r : Request) → IsValid schema r → Allows schema set r → ¬ LiesInFinding r ds f

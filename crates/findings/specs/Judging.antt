@@ -47,6 +47,10 @@ abbrev pub TellsOwn : Schema → Query → Strata → List ℕ → Request → B
 TellsOwn schema base strata f r b =
     (set : PolicySet) → AreMadeFor schema set base strata → (IsTrue b ↔ IsOwn schema set strata.dimensions f r)
 
+-- under whichever schema the request is valid
+abbrev pub TellsOwnIfValid : Query → Strata → List ℕ → Request → Bool → Type 0
+TellsOwnIfValid base strata f r b = (schema : Schema) → IsValid schema r → TellsOwn schema base strata f r b
+
 -- a fact on the order of the strata, under whichever schema and of whichever tests they are
 abbrev pub OfOrder : Strata → (Schema → Type 0) → Type 0
 OfOrder strata P = (schema : Schema) (tests : List Test) → All (IsStratum schema tests) strata.dimensions → P schema

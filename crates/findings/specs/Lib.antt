@@ -15,3 +15,4 @@ pub mod CoverQueries
 pub mod StandingSummaries
 pub mod CoverLaws
 pub mod Judging
+pub mod Nobody

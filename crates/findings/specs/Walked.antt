@@ -14,6 +14,7 @@ use Rattle.findings.specs.declared.outcome.SummaryFault.TheVariants as fault
 use Rattle.findings.specs.declared.walk.Walk.{Walk}
 use Rattle.findings.specs.Answers.{FailsAtFinding, SplitsFail, StatesFail}
 use Rattle.findings.specs.Findings.{IsFinding}
+use Rattle.findings.specs.Nobody.{KeepsInhabited}
 use Rattle.findings.specs.Queries.{AreMadeFor}
 use Rattle.findings.specs.Steps.{AddUnder}
 use Rattle.findings.specs.Walks.{AreAboveIn, IsWalk, first_finding}
@@ -76,12 +77,25 @@ pub record AddsFound (old : Walk) (f : List ℕ) (r : Request) (new : Walk) : Ty
   pub reducible : new.reducible.keys ≡ old.reducible.keys
   pub found : found_by new ≡ with_found (found_by old) f r
 
--- the finding was looked at, and those right under it are to come
-pub record AddsReducible (ds : List Stratum) (old : Walk) (f : List ℕ) (new : Walk) : Type 0 where
-  pub coming : AddUnder ds f old.coming.items new.coming.items
+-- the finding was looked at, and these are to come
+pub record AddsReducible (old : Walk) (f : List ℕ) (more : List (List ℕ)) (new : Walk) : Type 0 where
+  pub coming : new.coming.items ≡ old.coming.items ++ more
   pub looked : ¬ Contains old.looked.keys f → new.looked.keys ≡ old.looked.keys ++ f ∷ []
   pub reducible : ¬ Contains old.reducible.keys f → new.reducible.keys ≡ old.reducible.keys ++ f ∷ []
   pub found : new.found.entries ≡ old.found.entries
+
+-- the finding was looked at, and of those right under it are to come in which somebody may be allowed something
+pub record GoesBelowFor (schema : Schema) (set : PolicySet) (ds : List Stratum) (old : Walk) (f : List ℕ) (new : Walk) : Type 0 where
+  pub under : List (List ℕ)
+  pub are : AddUnder ds f [] under
+  pub kept : List (List ℕ)
+  pub inhabited : KeepsInhabited schema set ds under kept
+  pub adds : AddsReducible old f kept new
+
+-- of whichever set the strata are
+abbrev pub GoesBelow : Schema → Query → Strata → Walk → List ℕ → Walk → Type 0
+GoesBelow schema base strata old f new =
+    (set : PolicySet) → AreMadeFor schema set base strata → GoesBelowFor schema set strata.dimensions old f new
 
 -- the walk stands so for the set, and the finding, which was taken from those to come, is due
 pub record IsTakenFor (schema : Schema) (set : PolicySet) (ds : List Stratum) (w : Walk) (f : List ℕ) : Type 0 where

@@ -4,7 +4,7 @@ use Rattle.policy_model.specs.declared.schema.Schema.{Schema}
 use Rattle.policy_model.specs.declared.request.Request.{Request}
 use Rattle.policy_model.specs.declared.set.PolicySet.{PolicySet}
 use Rattle.strata.specs.declared.stratum.Stratum.{Stratum}
-use Rattle.findings.specs.Findings.{IsFinding, IsIrreducible, IsOwn}
+use Rattle.findings.specs.Findings.{HasNobody, IsFinding, IsIrreducible, IsOwn}
 use Rattle.findings.specs.Steps.{IsRightUnder}
 use Rattle.findings.specs.Summaries.{MustBeVisited, findings_of}
 
@@ -17,9 +17,11 @@ first_finding (d ∷ ds) = 0 ∷ first_finding ds
 abbrev pub AreAboveIn : List Stratum → List (List ℕ) → List ℕ → Type 0
 AreAboveIn ds list f = (g : List ℕ) → IsRightUnder ds f g → Contains list g
 
--- the finding has been looked at, or may come next, or some finding that it is right under isn't in the list
-abbrev pub IsCared : List Stratum → (coming looked reducible : List (List ℕ)) → List ℕ → Type 0
-IsCared ds coming looked reducible f = Contains looked f ⊎ (Contains coming f ⊎ ¬ AreAboveIn ds reducible f)
+-- the finding has been looked at, or may come next, or some finding that it is right under isn't in the list, or nobody is allowed
+-- anything in it
+abbrev pub IsCared : Schema → PolicySet → List Stratum → (coming looked reducible : List (List ℕ)) → List ℕ → Type 0
+IsCared schema set ds coming looked reducible f =
+    Contains looked f ⊎ (Contains coming f ⊎ (¬ AreAboveIn ds reducible f ⊎ HasNobody schema set ds f))
 
 -- the finding was looked at, and the request is its own
 abbrev pub IsFoundFinding : Schema → PolicySet → List Stratum → List (List ℕ) → List ℕ × Request → Type 0
@@ -35,5 +37,5 @@ pub record IsWalk (schema : Schema) (set : PolicySet) (ds : List Stratum) (comin
   pub unmet : (f : List ℕ) → Contains reducible f → Contains looked f × ¬ IsIrreducible schema set ds f
   pub own : All (IsFoundFinding schema set ds looked) found
   pub either : (f : List ℕ) → Contains looked f → Contains reducible f ⊎ Contains (findings_of found) f
-  pub cared : (f g : List ℕ) → Contains reducible g → IsRightUnder ds f g → IsCared ds coming looked reducible f
+  pub cared : (f g : List ℕ) → Contains reducible g → IsRightUnder ds f g → IsCared schema set ds coming looked reducible f
   pub start : Contains looked (first_finding ds) ⊎ Contains coming (first_finding ds)

@@ -2,7 +2,7 @@
 ghost use Rattle.std.specs.Prelude.{◌≡◌, [], All, IfOk, OnOk, map};
 ghost use Rattle.formula_tree.specs.Trees.{tree_of, trees_of};
 ghost use Rattle.findings.specs.Asked.{AreAsked, IsAsked};
-ghost use Rattle.findings.specs.CoverQueries.{IsCoverAnswer, IsCoverAsked, lies_plan, outside_plan};
+ghost use Rattle.findings.specs.CoverQueries.{IsCoverAnswer, IsCoverAsked, inside_plan, lies_plan, outside_plan};
 ghost use Rattle.findings.specs.Findings.{IsFinding};
 ghost use Rattle.findings.specs.Queries.{AreMade};
 
@@ -74,6 +74,23 @@ fn add_each(
     Ok(())
 }
 
+/// The formula that it lies in one of them.
+pub(crate) fn lies_in_some(
+    alloc: Global,
+    numbering: &mut Numbering,
+    strata: &Strata,
+    findings: &FindingList,
+) -> Result<Rc<Formula>, NoMemory>
+    requires { All (IsFinding strata.now.dimensions) findings.now }
+    ensures { IfOk result (λ f. IsAsked numbering.old.tests.keys numbering.new.tests.keys
+        (inside_plan strata.now.dimensions findings.now) (tree_of f.value)) }
+{
+    let mut branches = Branches::new(alloc);
+    add_each(alloc, numbering, &mut branches, strata, findings)?;
+    let formula = Rc::new(alloc, Formula::OneOf(branches))?;
+    Ok(formula)
+}
+
 // The formula that it lies in none of them.
 fn lies_in_none(
     alloc: Global,
@@ -85,9 +102,7 @@ fn lies_in_none(
     ensures { IfOk result (λ f. IsAsked numbering.old.tests.keys numbering.new.tests.keys
         (outside_plan strata.now.dimensions findings.now) (tree_of f.value)) }
 {
-    let mut branches = Branches::new(alloc);
-    add_each(alloc, numbering, &mut branches, strata, findings)?;
-    let some = Rc::new(alloc, Formula::OneOf(branches))?;
+    let some = lies_in_some(alloc, numbering, strata, findings)?;
     let formula = Rc::new(alloc, Formula::Not(some))?;
     Ok(formula)
 }

@@ -4,8 +4,8 @@ ghost use Rattle.policy_model.specs.Conds.{CondMeets};
 ghost use Rattle.strata.specs.Covers.{predicate_at};
 ghost use Rattle.strata.specs.Predicates.{MeetsPredicate};
 ghost use Rattle.findings.specs.Findings.{IsFinding, LiesInFinding};
-ghost use Rattle.findings.specs.Judging.{TellsOwn};
-ghost use Rattle.findings.specs.Queries.{AreMadeUnder, numbers_below};
+ghost use Rattle.findings.specs.Judging.{TellsOwn, TellsOwnIfValid};
+ghost use Rattle.findings.specs.Queries.{AreMade, AreMadeUnder, numbers_below};
 ghost use Rattle.findings.specs.Steps.{AreNumberedBelow, IsNumberedBelow, MeetsFiner, MeetsOneOf};
 
 use crate::evaluation::is_allowed;
@@ -52,8 +52,8 @@ fn meets_number(stratum: &Stratum, number: usize, request: &Request) -> bool
     )
 }
 
-// Whether it meets the predicate of the finding in each dimension.
-fn lies_in(strata: &Strata, finding: &Finding, request: &Request) -> bool
+/// Whether it meets the predicate of the finding in each dimension.
+pub(crate) fn lies_in(strata: &Strata, finding: &Finding, request: &Request) -> bool
     requires { IsFinding strata.now.dimensions finding.now }
     ensures { IsTrue result ↔ LiesInFinding request.now strata.now.dimensions finding.now }
 {
@@ -97,6 +97,28 @@ fn meets_finer(strata: &Strata, finding: &Finding, request: &Request) -> bool
     false
 }
 
+/// Whether the request, if it is valid, is the finding's own.
+pub(crate) fn is_own_if_valid(
+    alloc: Global,
+    strata: &Strata,
+    base: &Query,
+    finding: &Finding,
+    request: &Request,
+) -> Result<bool, NoMemory>
+    requires made { AreMade base.now strata.now }
+    requires finding { IsFinding strata.now.dimensions finding.now }
+    ensures { IfOk result (TellsOwnIfValid base.now strata.now finding.now request.now) }
+{
+    if !lies_in(strata, finding, request) {
+        return Ok(false);
+    }
+    if meets_finer(strata, finding, request) {
+        return Ok(false);
+    }
+    let allowed = is_allowed(alloc, base, request)?;
+    Ok(allowed)
+}
+
 /// Whether the request is the finding's own: it is valid under the schema, the set whose query is `base`
 /// allows it, and it lies in the finding and in no strictly finer one.
 pub(crate) fn is_own(
@@ -115,12 +137,6 @@ pub(crate) fn is_own(
     if !valid(schema, request) {
         return Ok(false);
     }
-    if !lies_in(strata, finding, request) {
-        return Ok(false);
-    }
-    if meets_finer(strata, finding, request) {
-        return Ok(false);
-    }
-    let allowed = is_allowed(alloc, base, request)?;
-    Ok(allowed)
+    let own = is_own_if_valid(alloc, strata, base, finding, request)?;
+    Ok(own)
 }

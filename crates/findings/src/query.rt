@@ -7,6 +7,7 @@ ghost use Rattle.findings.specs.Findings.{IsFinding};
 ghost use Rattle.findings.specs.Queries.{AreMade, AreMadeUnder};
 
 use crate::decide::{Asked, Decide};
+use crate::granted::granted_request;
 use crate::numbering::Numbering;
 use crate::outcome::Finding;
 use formula_tree::{Branches, Formula};
@@ -83,7 +84,7 @@ pub fn finding_query(
     Ok(Query { formula, tests })
 }
 
-/// What is answered on the query of the finding.
+/// A request of the finding's own, that it has none, or what its query needs more of.
 pub(crate) fn answer_on<D: Decide>(
     alloc: Global,
     strata: &Strata,
@@ -99,6 +100,9 @@ pub(crate) fn answer_on<D: Decide>(
     ensures splits { D.splits asks.new ≡ D.splits asks.old }
     ensures states { D.states asks.new ≡ D.states asks.old }
 {
+    if let Some(request) = granted_request(alloc, strata, base, asks, finding)? {
+        return Ok(Asked::Met(request));
+    }
     let query = finding_query(alloc, strata, base, finding)?;
     asks.ask(alloc, &query)
 }

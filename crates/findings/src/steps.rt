@@ -1,10 +1,10 @@
 //! The steps from a finding to those right under it and right above it.
-ghost use Rattle.std.specs.Prelude.{◌≡◌, ◌<◌, ◌^◌, ◌↔◌, IfOk, IsTrue, OnOk, length, slice_set};
+ghost use Rattle.std.specs.Prelude.{◌≡◌, ◌++◌, ◌<◌, ◌^◌, ◌↔◌, IfOk, IsTrue, OnOk, length, slice_set};
 ghost use Rattle.findings.specs.Findings.{IsFinding};
 ghost use Rattle.findings.specs.Steps.{AddUnder, AreAboveAt, AreNumberedBelow, IsAboveBy, IsAddedAt, predicate_number_at};
 ghost use Rattle.findings.specs.Walks.{AreAboveIn};
 
-use crate::outcome::Finding;
+use crate::outcome::{Finding, FindingList};
 use crate::reading::{dimension_at, is_among, is_right_below, predicate_number_at};
 use indexmap::IndexSet;
 use plain_lists::{List, NoMemory};
@@ -124,6 +124,20 @@ pub(crate) fn add_under(
 {
     'dimensions: for i in 0..finding.len() {
         add_under_at(alloc, coming, dimension_at(strata, i), finding, i)?;
+    }
+    Ok(())
+}
+
+/// Adds findings equal to these.
+pub(crate) fn add_copies(
+    alloc: Global,
+    coming: &mut Vec<Finding>,
+    more: &FindingList,
+) -> Result<(), NoMemory>
+    ensures { OnOk result (coming.new.items ≡ coming.old.items ++ more.now) }
+{
+    'more: for finding in more.as_slice() {
+        coming.push(copy_of(alloc, finding)?)?;
     }
     Ok(())
 }

@@ -8,10 +8,11 @@ ghost use Rattle.findings.specs.Steps.{AreNumberedBelow};
 ghost use Rattle.findings.specs.Walks.{first_finding};
 
 use crate::decide::{Asked, Decide};
-use crate::outcome::{Finding, SummaryFault};
+use crate::inhabited::Samples;
+use crate::outcome::{Finding, FindingList, SummaryFault};
 use crate::query::answer_on;
 use crate::reading::is_among;
-use crate::steps::{add_under, are_above_in, copy_of};
+use crate::steps::{add_copies, add_under, are_above_in, copy_of};
 use indexmap::IndexSet;
 use plain_lists::{List, NoMemory};
 use policy_compile::Query;
@@ -32,6 +33,8 @@ pub(crate) struct Walk {
     pub(crate) reducible: IndexSet<Finding>,
     /// The others by their numbers, each with a request of its own.
     pub(crate) found: BTreeMap<Vec<u32>, Request>,
+    /// What is known of where somebody is allowed something.
+    samples: Samples,
 }
 
 // The finding of every request.
@@ -46,7 +49,7 @@ fn first_finding(alloc: Global, strata: &Strata) -> Result<Finding, NoMemory>
 }
 
 impl Walk {
-    ghost use Rattle.findings.specs.Walked.{AddsFound, AddsReducible, AreFindings, IsDue, IsNextFinding, IsPassedFinding, IsTaken, LookFails, SameBesides, StandsAt, StartsAt};
+    ghost use Rattle.findings.specs.Walked.{AddsFound, AddsReducible, AreFindings, GoesBelow, IsDue, IsNextFinding, IsPassedFinding, IsTaken, LookFails, SameBesides, StandsAt, StartsAt};
 
     /// The walk before anything is looked at.
     pub(crate) fn start(alloc: Global, strata: &Strata) -> Result<Walk, NoMemory>
@@ -60,6 +63,7 @@ impl Walk {
             looked: IndexSet::new(alloc),
             reducible: IndexSet::new(alloc),
             found: BTreeMap::new(alloc),
+            samples: Samples::new(alloc),
         })
     }
 
@@ -122,7 +126,7 @@ impl Walk {
                 Ok(())
             }
             Asked::Nobody => {
-                self.add_reducible(strata, finding)?;
+                self.go_below(strata, base, asks, finding)?;
                 Ok(())
             }
             Asked::OutOfSplits => Err(SummaryFault::OutOfSplits(finding)),
@@ -139,14 +143,37 @@ impl Walk {
         Ok(())
     }
 
-    // The finding was looked at and has no request of its own: those right under it may come next.
-    fn add_reducible(&mut self, strata: &Strata, finding: Finding) -> Result<(), NoMemory>
+    // The finding was looked at and has no request of its own: those right under it may come next in which
+    // somebody may be allowed something.
+    fn go_below<D: Decide>(
+        &mut self,
+        strata: &Strata,
+        base: &Query,
+        asks: &mut D,
+        finding: Finding,
+    ) -> Result<(), NoMemory>
+        requires made { AreMadeUnder (D.schema asks.old) base.now strata.now }
         requires finding { IsFinding strata.now.dimensions finding }
         requires numbered { AreNumberedBelow strata.now.dimensions }
-        ensures { OnOk result (AddsReducible strata.now.dimensions self.old finding self.new) }
+        ensures below { OnOk result
+            (GoesBelow (D.schema asks.old) base.now strata.now self.old finding self.new) }
+        ensures schema { D.schema asks.new ≡ D.schema asks.old }
+        ensures splits { D.splits asks.new ≡ D.splits asks.old }
+        ensures states { D.states asks.new ≡ D.states asks.old }
+    {
+        let mut under = Vec::new(self.alloc);
+        add_under(self.alloc, &mut under, strata, &finding)?;
+        let under = List::from_vec(under);
+        let inhabited = self.samples.inhabited(strata, base, asks, &finding, under)?;
+        self.add_reducible(finding, &inhabited)
+    }
+
+    // The finding was looked at and has no request of its own, and these may come next.
+    fn add_reducible(&mut self, finding: Finding, more: &FindingList) -> Result<(), NoMemory>
+        ensures { OnOk result (AddsReducible self.old finding more.now self.new) }
     {
         self.looked.insert(copy_of(self.alloc, &finding)?)?;
-        add_under(self.alloc, &mut self.coming, strata, &finding)?;
+        add_copies(self.alloc, &mut self.coming, more)?;
         self.reducible.insert(finding)?;
         Ok(())
     }

@@ -1,10 +1,7 @@
-use Rattle.std.proofs.Common.{map}
-use Rattle.formula_tree.specs.Trees.{trees_of}
-use Rattle.findings.specs.CoverQueries.{lies_plan}
-use Rattle.findings.proofs.Plans.{none-of-asked}
+use Rattle.findings.specs.CoverQueries.{inside_plan}
+use Rattle.findings.proofs.Plans.{not-asked}
 use Rattle.findings.proofs.cover.lies_in_none.Goals as goal
 
 pub returns : goal.returns
 returns c =
-    none-of-asked c.args.numbering.now.tests.keys c.add_each.new.numbering.tests.keys (map (lies_plan c.args.strata.now.dimensions) c.args.findings.now) (trees_of c.new-branches.result) c.add_each.new.branches c.in_ok-some.some c.in_ok-formula.formula.value
-    c.new-branches.ensures c.in_ok-add_each.ensures c.in_ok-some.ensures.ok c.in_ok-formula.ensures.ok
+    not-asked c.args.numbering.now.tests.keys c.lies_in_some.new.numbering.tests.keys (inside_plan c.args.strata.now.dimensions c.args.findings.now) c.in_ok-some.some c.in_ok-formula.formula.value c.in_ok-some.ensures c.in_ok-formula.ensures.ok

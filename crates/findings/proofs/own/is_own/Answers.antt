@@ -1,31 +1,12 @@
-use Rattle.policy_compile.specs.Sets.{set_plan}
-use Rattle.policy_compile.proofs.Laws.{below-numbered}
-use Rattle.findings.proofs.Lying.{own-allowed, own-finer, own-invalid, own-outside}
-use Rattle.findings.proofs.Made.{made-numbered}
+use Rattle.findings.proofs.Lying.{own-invalid}
 use Rattle.findings.proofs.own.is_own.Goals as goal
 
-pub meets_finer-requires-clause-numbers : goal.meets_finer-requires-clause-numbers
-meets_finer-requires-clause-numbers c =
-    let made = c.requires.made in
-    made-numbered c.args.schema.now made.0 c.args.base.now c.args.strata.now made.1
-
-pub is_allowed-requires : goal.is_allowed-requires
-is_allowed-requires c =
-    let made = c.requires.made in
-    below-numbered c.args.base.now.tests (set_plan c.args.schema.now made.0) _ made.1.query.tree
+pub is_own_if_valid-requires-clause-made : goal.is_own_if_valid-requires-clause-made
+is_own_if_valid-requires-clause-made c = (c.args.schema.now, c.requires.made)
 
 pub returns-then-not-valid : goal.returns-then-not-valid
 returns-then-not-valid c =
     own-invalid c.args.schema.now c.args.base.now c.args.strata.now c.args.finding.now c.requires.finding c.args.request.now (λ h. let yes_ = c.valid.ensures.1 h in absurd (cc))
 
-pub returns-then-not-lies_in : goal.returns-then-not-lies_in
-returns-then-not-lies_in c =
-    own-outside c.args.schema.now c.args.base.now c.args.strata.now c.args.finding.now c.requires.finding c.args.request.now (λ h. let yes_ = c.lies_in.ensures.1 h in absurd (cc))
-
-pub returns-then-meets_finer : goal.returns-then-meets_finer
-returns-then-meets_finer c =
-    own-finer c.args.schema.now c.args.base.now c.args.strata.now c.args.finding.now c.requires.finding c.args.request.now (c.lies_in.ensures.0 (cc)) (c.meets_finer.ensures.0 (cc))
-
 pub returns : goal.returns
-returns c =
-    own-allowed c.args.schema.now c.args.base.now c.args.strata.now c.args.finding.now c.requires.finding c.args.request.now c.in_ok-allowed.allowed (c.valid.ensures.0 (cc)) (c.lies_in.ensures.0 (cc)) (λ h. let yes_ = c.meets_finer.ensures.1 h in absurd (cc)) c.in_ok-allowed.ensures
+returns c = c.in_ok-own.ensures c.args.schema.now (c.valid.ensures.0 (cc))

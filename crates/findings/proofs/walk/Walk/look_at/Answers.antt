@@ -1,8 +1,10 @@
-use Rattle.std.proofs.Common.{subst}
+use Rattle.std.proofs.Common.{subst, sym}
 use Rattle.std.proofs.lemmas.List.Elements.{Contains-push}
-use Rattle.policy_compile.specs.Sets.{set_plan}
-use Rattle.findings.specs.Asking.{IsOwnAnswered}
-use Rattle.findings.proofs.Looking.{met-own, none-own, stands-found, stands-reducible, taken-must}
+use Rattle.policy_model.specs.declared.schema.Schema.{Schema}
+use Rattle.findings.specs.Asking.{TellsWhose}
+use Rattle.findings.specs.Queries.{AreMadeUnder}
+use Rattle.findings.specs.Walked.{GoesBelow}
+use Rattle.findings.proofs.Looking.{stands-found, stands-reducible, taken-must}
 use Rattle.findings.proofs.Made.{made-numbered, made-steps}
 use Rattle.findings.proofs.walk.Walk.look_at.Goals as goal
 
@@ -11,36 +13,39 @@ answer_on-requires-clause-finding g c =
     let taken = c.requires.due c.requires.made.0 c.requires.made.1 in
     taken.walk.next c.args.finding (Contains-push c.args.self.now.coming.items c.args.finding)
 
-pub add_reducible-requires-clause-finding : goal.add_reducible-requires-clause-finding
-add_reducible-requires-clause-finding g c =
+pub go_below-requires-clause-made : goal.go_below-requires-clause-made
+go_below-requires-clause-made g c = subst (λ (s : Schema). AreMadeUnder s c.args.base.now c.args.strata.now) (sym c.answer_on.ensures.schema) c.requires.made
+
+pub go_below-requires-clause-finding : goal.go_below-requires-clause-finding
+go_below-requires-clause-finding g c =
     let taken = c.requires.due c.requires.made.0 c.requires.made.1 in
     taken.walk.next c.args.finding (Contains-push c.args.self.now.coming.items c.args.finding)
 
-pub add_reducible-requires-clause-numbered : goal.add_reducible-requires-clause-numbered
-add_reducible-requires-clause-numbered g c = made-numbered (g.D.Decide.schema c.args.asks.now) c.requires.made.0 c.args.base.now c.args.strata.now c.requires.made.1
+pub go_below-requires-clause-numbered : goal.go_below-requires-clause-numbered
+go_below-requires-clause-numbered g c = made-numbered (g.D.Decide.schema c.args.asks.now) c.requires.made.0 c.args.base.now c.args.strata.now c.requires.made.1
 
 pub returns-in-OutOfSplits-clause-fault : goal.returns-in-OutOfSplits-clause-fault
 returns-in-OutOfSplits-clause-fault g c = λ set made.
     let schema = g.D.Decide.schema c.args.asks.now in
     let steps = made-steps schema set c.args.base.now c.args.strata.now made in
-    let answered = subst (IsOwnAnswered schema (g.D.Decide.splits c.args.asks.now) (g.D.Decide.states c.args.asks.now) c.args.base.now c.args.strata.now c.args.finding) c.in-OutOfSplits.is c.in_ok-answer.ensures.answer in
+    let told = subst (TellsWhose schema set c.args.strata.now.dimensions (g.D.Decide.splits c.args.asks.now) (g.D.Decide.states c.args.asks.now) c.args.finding) c.in-OutOfSplits.is (c.in_ok-answer.ensures.answer set made) in
     record {
       visited = taken-must schema set c.args.strata.now.dimensions steps c.args.self.now c.args.finding (c.requires.due set made);
-      query = answered.query;
-      is = answered.plan (set_plan schema set) made.query;
-      fails = answered.says;
+      query = told.query;
+      is = told.is;
+      fails = told.holds;
     }
 
 pub returns-in-OutOfStates-clause-fault : goal.returns-in-OutOfStates-clause-fault
 returns-in-OutOfStates-clause-fault g c = λ set made.
     let schema = g.D.Decide.schema c.args.asks.now in
     let steps = made-steps schema set c.args.base.now c.args.strata.now made in
-    let answered = subst (IsOwnAnswered schema (g.D.Decide.splits c.args.asks.now) (g.D.Decide.states c.args.asks.now) c.args.base.now c.args.strata.now c.args.finding) c.in-OutOfStates.is c.in_ok-answer.ensures.answer in
+    let told = subst (TellsWhose schema set c.args.strata.now.dimensions (g.D.Decide.splits c.args.asks.now) (g.D.Decide.states c.args.asks.now) c.args.finding) c.in-OutOfStates.is (c.in_ok-answer.ensures.answer set made) in
     record {
       visited = taken-must schema set c.args.strata.now.dimensions steps c.args.self.now c.args.finding (c.requires.due set made);
-      query = answered.query;
-      is = answered.plan (set_plan schema set) made.query;
-      fails = answered.says;
+      query = told.query;
+      is = told.is;
+      fails = told.holds;
     }
 
 pub returns-in_ok-add_found-in-Met-clause-looked : goal.returns-in_ok-add_found-in-Met-clause-looked
@@ -52,19 +57,19 @@ pub returns-in_ok-add_found-in-Met-clause-stands : goal.returns-in_ok-add_found-
 returns-in_ok-add_found-in-Met-clause-stands g c = λ set made.
     let schema = g.D.Decide.schema c.args.asks.now in
     let steps = made-steps schema set c.args.base.now c.args.strata.now made in
-    let answered = subst (IsOwnAnswered schema (g.D.Decide.splits c.args.asks.now) (g.D.Decide.states c.args.asks.now) c.args.base.now c.args.strata.now c.args.finding) c.in-Met.is c.in_ok-answer.ensures.answer in
-    let own = met-own schema set c.args.base.now c.args.strata.now c.args.finding answered.query c.in-Met.request made answered.own answered.says in
-    stands-found schema set c.args.strata.now.dimensions steps c.args.self.now c.add_found.new.self c.args.finding c.in-Met.request (c.requires.due set made) own c.in_ok-add_found-in-Met.ensures
+    let told = subst (TellsWhose schema set c.args.strata.now.dimensions (g.D.Decide.splits c.args.asks.now) (g.D.Decide.states c.args.asks.now) c.args.finding) c.in-Met.is (c.in_ok-answer.ensures.answer set made) in
+    stands-found schema set c.args.strata.now.dimensions steps c.args.self.now c.add_found.new.self c.args.finding c.in-Met.request (c.requires.due set made) told c.in_ok-add_found-in-Met.ensures
 
-pub returns-in_ok-add_reducible-in-Nobody-clause-looked : goal.returns-in_ok-add_reducible-in-Nobody-clause-looked
-returns-in_ok-add_reducible-in-Nobody-clause-looked g c =
+pub returns-in_ok-go_below-in-Nobody-clause-looked : goal.returns-in_ok-go_below-in-Nobody-clause-looked
+returns-in_ok-go_below-in-Nobody-clause-looked g c =
     let taken = c.requires.due c.requires.made.0 c.requires.made.1 in
-    c.in_ok-add_reducible-in-Nobody.ensures.looked taken.due.new
+    let below = subst (λ (s : Schema). GoesBelow s c.args.base.now c.args.strata.now c.args.self.now c.args.finding c.go_below.new.self) c.answer_on.ensures.schema c.in_ok-go_below-in-Nobody.ensures.below in
+    (below c.requires.made.0 c.requires.made.1).adds.looked taken.due.new
 
-pub returns-in_ok-add_reducible-in-Nobody-clause-stands : goal.returns-in_ok-add_reducible-in-Nobody-clause-stands
-returns-in_ok-add_reducible-in-Nobody-clause-stands g c = λ set made.
+pub returns-in_ok-go_below-in-Nobody-clause-stands : goal.returns-in_ok-go_below-in-Nobody-clause-stands
+returns-in_ok-go_below-in-Nobody-clause-stands g c = λ set made.
     let schema = g.D.Decide.schema c.args.asks.now in
     let steps = made-steps schema set c.args.base.now c.args.strata.now made in
-    let answered = subst (IsOwnAnswered schema (g.D.Decide.splits c.args.asks.now) (g.D.Decide.states c.args.asks.now) c.args.base.now c.args.strata.now c.args.finding) c.in-Nobody.is c.in_ok-answer.ensures.answer in
-    let unmet = none-own schema set c.args.base.now c.args.strata.now c.args.finding answered.query made answered.own answered.says in
-    stands-reducible schema set c.args.strata.now.dimensions steps c.args.self.now c.add_reducible.new.self c.args.finding (c.requires.due set made) unmet c.in_ok-add_reducible-in-Nobody.ensures
+    let told = subst (TellsWhose schema set c.args.strata.now.dimensions (g.D.Decide.splits c.args.asks.now) (g.D.Decide.states c.args.asks.now) c.args.finding) c.in-Nobody.is (c.in_ok-answer.ensures.answer set made) in
+    let below = subst (λ (s : Schema). GoesBelow s c.args.base.now c.args.strata.now c.args.self.now c.args.finding c.go_below.new.self) c.answer_on.ensures.schema c.in_ok-go_below-in-Nobody.ensures.below in
+    stands-reducible schema set c.args.strata.now.dimensions steps c.args.self.now c.go_below.new.self c.args.finding (c.requires.due set made) told (below set made)

@@ -1,0 +1,16 @@
+use Rattle.formula_tree.specs.Trees.{tree_of, trees_of}
+use Rattle.policy_compile.specs.Sets.{set_plan}
+use Rattle.policy_compile.proofs.Laws.{below-numbered}
+use Rattle.findings.proofs.Inside.{inside-asked}
+use Rattle.findings.proofs.nobody.inside_formula.Goals as goal
+
+pub renumbered-requires : goal.renumbered-requires
+renumbered-requires c =
+    let made = c.requires.made in
+    below-numbered c.args.base.now.tests (set_plan made.0 made.1.0) (tree_of c.args.base.now.formula.value) made.1.1.query.tree
+
+pub returns : goal.returns
+returns c =
+    inside-asked c.args.base.now c.args.strata.now.dimensions c.args.findings.now c.args.numbering.now.tests.keys c.lies_in_some.new.numbering.tests.keys c.renumbered.new.self.tests.keys
+    (trees_of c.new-branches.result) (trees_of c.push.new.self) (tree_of c.in_ok-lies_in_some.field-0.value) c.in_ok-renumbered.field-0 c.push-2.new.self c.in_ok-formula.formula.value
+    c.requires.tests c.new-branches.ensures c.in_ok-lies_in_some.ensures c.in_ok-push.ensures.ok c.in_ok-renumbered.ensures c.in_ok-push-2.ensures.ok c.in_ok-formula.ensures.ok

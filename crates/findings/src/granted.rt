@@ -1,0 +1,146 @@
+//! Own requests of findings of which the set plainly allows each request that lies in no finer one. They are
+//! asked for by the finding's predicates and those below alone, and the tree of the set is left out.
+ghost use Rattle.std.specs.Prelude.{◌≡◌, [], IfOk, IfSome};
+ghost use Rattle.formula_tree.specs.Trees.{tree_of};
+ghost use Rattle.findings.specs.Asked.{IsAskableOver, IsAsked};
+ghost use Rattle.findings.specs.Asking.{IsOwnOf, lying_plan};
+ghost use Rattle.findings.specs.Findings.{IsFinding};
+ghost use Rattle.findings.specs.Queries.{AreMadeUnder};
+ghost use Rattle.findings.specs.Steps.{AreNumberedBelow};
+
+use crate::decide::{Asked, Decide};
+use crate::numbering::Numbering;
+use crate::outcome::Finding;
+use crate::own::is_own_if_valid;
+use formula_tree::{Branches, Formula, Path, Three, value3};
+use plain_lists::NoMemory;
+use policy_compile::{Query, tests_of_set_queries_suit};
+use policy_model::{Request, Test};
+use std::alloc::Global;
+use std::rc::Rc;
+use strata::Strata;
+
+/// The most tests of such a finding's predicates and those below. With more of them the set's own are few
+/// beside them.
+const MOST_TESTS: usize = 16;
+
+// The formula that a request lies in the finding and in no finer one, where there are no tests yet.
+fn lying_formula(
+    alloc: Global,
+    numbering: &mut Numbering,
+    strata: &Strata,
+    finding: &Finding,
+) -> Result<Rc<Formula>, NoMemory>
+    requires finding { IsFinding strata.now.dimensions finding.now }
+    requires numbers { AreNumberedBelow strata.now.dimensions }
+    requires tests { numbering.old.tests.keys ≡ [] }
+    ensures { IfOk result (λ f. IsAsked [] numbering.new.tests.keys
+        (lying_plan strata.now.dimensions finding.now) (tree_of f.value)) }
+{
+    let mut branches = Branches::new(alloc);
+    numbering.add_own(&mut branches, strata, finding)?;
+    branches.push(numbering.no_finer(strata, finding)?)?;
+    let formula = Rc::new(alloc, Formula::All(branches))?;
+    Ok(formula)
+}
+
+// The query that asks so. It may be asked where the strata are those of a set.
+fn lying_query(alloc: Global, strata: &Strata, finding: &Finding) -> Result<Query, NoMemory>
+    requires finding { IsFinding strata.now.dimensions finding.now }
+    requires numbers { AreNumberedBelow strata.now.dimensions }
+    ensures { IfOk result (IsAskableOver strata.now) }
+{
+    tests_of_set_queries_suit();
+    let mut numbering = Numbering::new(alloc);
+    let formula = lying_formula(alloc, &mut numbering, strata, finding)?;
+    let tests = numbering.into_tests()?;
+    Ok(Query { formula, tests })
+}
+
+// How many predicates of the finding are tests: those other than that of every request.
+fn test_count(finding: &Finding) -> usize {
+    let mut count = 0;
+    'numbers: for number in finding.as_slice() {
+        if *number != 0 && count < usize::MAX {
+            count += 1;
+        }
+    }
+    count
+}
+
+// The number of the test in the query, where it has one.
+fn number_of(query: &Query, test: &Test) -> Option<u32> {
+    'tests: for i in 0..query.tests.len() {
+        if query.tests.as_slice()[i] == *test {
+            return u32::try_from(i).ok();
+        }
+    }
+    None
+}
+
+// The answers to the base's tests that the other query wants: yes to the first of its own, no to the others.
+fn wanted_answers(
+    alloc: Global,
+    base: &Query,
+    query: &Query,
+    first: usize,
+) -> Result<Path, NoMemory> {
+    let mut path = Path::new(alloc);
+    'tests: for i in 0..query.tests.len() {
+        let Some(test) = number_of(base, &query.tests.as_slice()[i]) else {
+            continue;
+        };
+        match path.answer(test) {
+            None => path.push(test, i < first)?,
+            Some(_) => {}
+        }
+    }
+    Ok(path)
+}
+
+// Whether the set plainly allows each request that makes the finding's query of predicates yes. Nothing rests
+// on it but whether that query is asked.
+fn is_granted(
+    alloc: Global,
+    base: &Query,
+    finding: &Finding,
+    query: &Query,
+) -> Result<bool, NoMemory> {
+    if query.tests.len() > MOST_TESTS {
+        return Ok(false);
+    }
+    let path = wanted_answers(alloc, base, query, test_count(finding))?;
+    Ok(matches!(value3(&base.formula, &path), Three::Yes))
+}
+
+/// A request of the finding's own, where the set plainly allows each one that lies in the finding and in no
+/// finer one. It is the one that the search for the finding's whole query comes to.
+pub(crate) fn granted_request<D: Decide>(
+    alloc: Global,
+    strata: &Strata,
+    base: &Query,
+    asks: &mut D,
+    finding: &Finding,
+) -> Result<Option<Request>, NoMemory>
+    requires made { AreMadeUnder (D.schema asks.old) base.now strata.now }
+    requires finding { IsFinding strata.now.dimensions finding.now }
+    ensures own { IfOk result (λ request. IfSome request
+        (IsOwnOf (D.schema asks.old) base.now strata.now finding.now)) }
+    ensures schema { D.schema asks.new ≡ D.schema asks.old }
+    ensures splits { D.splits asks.new ≡ D.splits asks.old }
+    ensures states { D.states asks.new ≡ D.states asks.old }
+{
+    let query = lying_query(alloc, strata, finding)?;
+    if !is_granted(alloc, base, finding, &query)? {
+        return Ok(None);
+    }
+    let asked = asks.ask(alloc, &query)?;
+    let Asked::Met(request) = asked else {
+        return Ok(None);
+    };
+    let own = is_own_if_valid(alloc, strata, base, finding, &request)?;
+    if own {
+        return Ok(Some(request));
+    }
+    Ok(None)
+}
