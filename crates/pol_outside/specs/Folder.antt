@@ -1,6 +1,7 @@
 -- What one `take` from a folder says.
 use Rattle.std.specs.Prelude.{◌≡◌, ℕ, ◌+◌, ◌<◌, ◌≤◌, List, [], ◌++◌, length, take, Option, Some, None, option_map, String, string_bytes, Result, Ok, Err, ⊤, if◌then◌else◌}
 use Rattle.std.specs.Str.{bytes_eq}
+use Rattle.pol_outside.specs.declared.folder.TheConstants.{MOST_TAKEN}
 use Rattle.pol_outside.specs.declared.folder.TakeFault.{TakeFault}
 use Rattle.pol_outside.specs.declared.folder.TakeFault.TheVariants.{Failed, TooLong, NoMemory}
 use Rattle.pol_outside.specs.Faults.{Rose, one_more}
@@ -70,3 +71,7 @@ Replaces old name bytes new = (other : List ℕ) → new other ≡ (if bytes_eq 
 -- each name has what it had
 abbrev pub SameFiles : Files → Files → Type 0
 SameFiles old new = (name : List ℕ) → new name ≡ old name
+
+-- a folder is asked for at most 67,108,864 bytes at a call
+abbrev pub FolderLimits : Type 0
+FolderLimits = MOST_TAKEN ≡ 67108864

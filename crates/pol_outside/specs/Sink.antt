@@ -1,7 +1,7 @@
 -- What a sink says of a write.
 use Rattle.std.specs.Prelude.{◌≡◌, ℕ, ◌<◌, ◌≤◌, List, ◌++◌, length, take, Option, Some, None, Result, Ok, Err, ⊤}
 use Rattle.std.specs.Io.KnownBytes.{Keeps}
-use Rattle.pol_outside.specs.Faults.{Rose, one_more}
+use Rattle.pol_outside.specs.Faults.{Rose}
 use Rattle.pol_outside.specs.declared.sink.SinkFault.{SinkFault}
 
 -- where the sink tells what was written, these bytes were added
@@ -23,8 +23,3 @@ PutsAll (Err e) bytes old new = (n : ℕ) × (n < length bytes) × Appends old (
 abbrev pub RisesAtFault : {T : Type 0} → Result T SinkFault → ℕ → ℕ → Type 0
 RisesAtFault (Err e) before now = Rose before now
 RisesAtFault (Ok v) before now = ⊤
-
--- the count is one higher where a fault is answered, and else as it was
-abbrev pub CountsSinkFault : {T : Type 0} → Result T SinkFault → ℕ → ℕ → Type 0
-CountsSinkFault (Err e) before now = now ≡ one_more before
-CountsSinkFault (Ok v) before now = now ≡ before

@@ -1,60 +1,54 @@
-// Real files. What they hold is not told.
+// The files of a disk, as a folder.
 ghost use Rattle.std.specs.Prelude.{◌≡◌, ◌≤◌, [], Some, None};
 ghost use Rattle.pol_outside.specs.declared.folder.TheConstants.{MOST_TAKEN};
-ghost use Rattle.pol_outside.specs.Faults.{one_more};
 ghost use Rattle.pol_outside.specs.Folder.{Takes, NamesFault, CountsFault, one_file, name_bytes};
 
-use crate::{Folder, TakeFault};
+use crate::{Disk, Folder, SystemDisk, TakeFault};
 use std::alloc::Global;
-use std::fs;
-use std::io::Read;
 use std::rt::Files;
 
-/// The real files: a name is a path, from the folder that the program runs in. It counts its faults
-/// and keeps the name of the last, and doesn't tell what the files hold.
+/// The files of a disk, under their names. It holds what the disk holds, counts the disk's faults, and
+/// keeps the name of the last.
 #[derive(Drop)]
-pub struct DiskFolder<'a, R: Files> {
-    files: &'a R,
-    faults: u64,
+pub struct DiskFolder<D: Disk> {
+    disk: D,
     last_fault: Option<String>,
 }
 
-impl<'a, R: Files> DiskFolder<'a, R> {
-    /// The folder over the files of a runtime, with no fault yet. It takes no memory.
-    pub fn new(files: &'a R) -> DiskFolder<'a, R>
-        ensures told { ⟦<DiskFolder<'a, R> as Folder>⟧.held result ≡ None }
-        ensures faults { ⟦<DiskFolder<'a, R> as Folder>⟧.faults result ≡ 0 }
-        ensures last_fault { ⟦<DiskFolder<'a, R> as Folder>⟧.last_fault result ≡ None }
+impl<D: Disk> DiskFolder<D> {
+    /// The folder over a disk, with no name of a fault yet. It takes no memory.
+    pub fn over(disk: D) -> DiskFolder<D>
+        ensures held { ⟦<DiskFolder<D> as Folder>⟧.held result ≡ D.held disk }
+        ensures faults { ⟦<DiskFolder<D> as Folder>⟧.faults result ≡ D.faults disk }
+        ensures last_fault { ⟦<DiskFolder<D> as Folder>⟧.last_fault result ≡ None }
     {
         DiskFolder {
-            files,
-            faults: 0,
+            disk,
             last_fault: None,
         }
     }
+}
 
-    // One fault more, at that name.
-    fn fail(&mut self, asked: String) -> TakeFault
-        ensures fault { result ≡ TakeFault.Failed }
-        ensures faults { self.new.faults ≡ one_more self.old.faults }
-        ensures name { self.new.last_fault ≡ Some asked }
-        ensures later { self.old.faults ≤ self.new.faults }
+impl<'a, R: Files> DiskFolder<SystemDisk<'a, R>> {
+    /// The folder over the files of a runtime, with no fault yet. It takes no memory.
+    pub fn new(files: &'a R) -> DiskFolder<SystemDisk<'a, R>>
+        ensures told { ⟦<DiskFolder<SystemDisk<'a, R>> as Folder>⟧.held result ≡ None }
+        ensures faults { ⟦<DiskFolder<SystemDisk<'a, R>> as Folder>⟧.faults result ≡ 0 }
+        ensures last_fault { ⟦<DiskFolder<SystemDisk<'a, R>> as Folder>⟧.last_fault result ≡ None }
     {
-        self.faults = self.faults.saturating_add(1);
-        self.last_fault = Some(asked);
-        TakeFault::Failed
+        DiskFolder::over(SystemDisk::new(files))
     }
 }
 
-impl<'a, R: Files> Folder for DiskFolder<'a, R> {
-    ghost held = { λ _. None };
+impl<D: Disk> Folder for DiskFolder<D> {
+    ghost held = { λ f. D.held f.disk };
 
-    ghost faults = { λ f. f.faults };
+    ghost faults = { λ f. D.faults f.disk };
 
     ghost last_fault = { λ f. name_bytes f.last_fault };
 
-    /// Opens the file and reads it in pieces, never more than `limit + 1` bytes. An error of the
-    /// system is a fault, and a name that isn't there is one.
+    /// As the trait says. It opens the file and reads it in pieces, never more than `limit + 1` bytes.
+    /// A name that isn't there is a fault.
     fn take(
         &mut self,
         alloc: Global,
@@ -63,40 +57,69 @@ impl<'a, R: Files> Folder for DiskFolder<'a, R> {
         into: &mut Vec<u8>,
     ) -> Result<(), TakeFault>
         requires { limit ≤ MOST_TAKEN }
-        ensures given { Takes None name.now limit result into.old.items into.new.items }
-        ensures later { self.old.faults ≤ self.new.faults }
-        ensures cause { NamesFault result name.now self.old.faults self.new.faults
+        ensures given { Takes (D.held self.old.disk) name.now limit result into.old.items
+            into.new.items }
+        ensures held { D.held self.new.disk ≡ D.held self.old.disk }
+        ensures later { D.faults self.old.disk ≤ D.faults self.new.disk }
+        ensures cause { NamesFault result name.now
+            (D.faults self.old.disk) (D.faults self.new.disk)
             (name_bytes self.old.last_fault) (name_bytes self.new.last_fault) }
-        ensures counts { CountsFault result self.old.faults self.new.faults }
+        ensures counts { CountsFault result (D.faults self.old.disk) (D.faults self.new.disk) }
     {
         let Ok(asked) = String::from_str(alloc, name) else {
             return Err(TakeFault::NoMemory);
         };
-        match fs::open(self.files, name) {
-            Ok(mut file) => match read_up_to(&mut file, limit, into) {
-                Err(TakeFault::Failed) => Err(self.fail(asked)),
-                taken => taken,
-            },
-            Err(_) => Err(self.fail(asked)),
+        let taken = take_from(&mut self.disk, name, limit, into);
+        if matches!(taken, Err(TakeFault::Failed)) {
+            self.last_fault = Some(asked);
         }
+        taken
+    }
+}
+
+// Opens the file of that name, and reads it up to the limit.
+fn take_from<D: Disk>(
+    disk: &mut D,
+    name: &str,
+    limit: u64,
+    into: &mut Vec<u8>,
+) -> Result<(), TakeFault>
+    requires { limit ≤ MOST_TAKEN }
+    ensures given { Takes (D.held disk.old) name.now limit result into.old.items
+        into.new.items }
+    ensures held { D.held disk.new ≡ D.held disk.old }
+    ensures counts { CountsFault result (D.faults disk.old) (D.faults disk.new) }
+    ensures later { D.faults disk.old ≤ D.faults disk.new }
+{
+    match disk.open(name) {
+        Ok(mut file) => read_up_to(disk, &mut file, limit, into),
+        Err(_) => Err(TakeFault::Failed),
     }
 }
 
 // How many bytes are read at once. They stand on the stack.
 const CHUNK: usize = 4096;
 
-// Reads to the end, or one byte more than the limit. A read that gives no byte is the end; an error is
-// `Failed`, and the first bytes stay in `into`.
-fn read_up_to<F: Read>(file: &mut F, limit: u64, into: &mut Vec<u8>) -> Result<(), TakeFault>
+// Reads to the end, or one byte more than the limit. An error is `Failed`, and the first bytes stay in
+// `into`.
+fn read_up_to<D: Disk>(
+    disk: &mut D,
+    file: &mut D::File,
+    limit: u64,
+    into: &mut Vec<u8>,
+) -> Result<(), TakeFault>
     requires { limit ≤ MOST_TAKEN }
-    ensures { Takes (one_file (F.remaining file.old)) [] limit result into.old.items
+    ensures given { Takes (one_file (D.left file.old)) [] limit result into.old.items
         into.new.items }
+    ensures held { D.held disk.new ≡ D.held disk.old }
+    ensures counts { CountsFault result (D.faults disk.old) (D.faults disk.new) }
+    ensures later { D.faults disk.old ≤ D.faults disk.new }
 {
     let mut chunk = [0u8; CHUNK];
     let mut left = limit as usize + 1;
     while left > 0 {
         let most = left.min(CHUNK);
-        let Ok(n) = file.read(&mut chunk[..most]) else {
+        let Ok(n) = disk.read(file, &mut chunk[..most]) else {
             return Err(TakeFault::Failed);
         };
         if n == 0 {

@@ -1,12 +1,17 @@
 // A folder of files, by their names.
 ghost use Rattle.std.specs.Prelude.{◌≡◌, ◌≤◌, List, ℕ, Option};
 ghost use Rattle.pol_outside.specs.declared.folder.TheConstants.{MOST_TAKEN};
-ghost use Rattle.pol_outside.specs.Folder.{Files, Takes, NamesFault};
+ghost use Rattle.pol_outside.specs.Folder.{Files, FolderLimits, Takes, NamesFault};
 
 use std::alloc::Global;
 
 /// The most bytes that a call may ask a folder for.
 pub const MOST_TAKEN: u64 = 67_108_864;
+
+/// The most bytes of a call, as a number.
+pub fn folder_limits()
+    ensures { FolderLimits }
+{}
 
 /// Why a file was not given.
 #[derive(Clone, Copy)]

@@ -1,7 +1,7 @@
 // A sink in memory, whose calls fail where they are told to.
 ghost use Rattle.std.specs.Prelude.{◌≡◌, ◌<◌, ◌≤◌, [], Some, IfOk, OnOk, OnErr, length, vec_capacity};
-ghost use Rattle.pol_outside.specs.Faults.{one_more};
-ghost use Rattle.pol_outside.specs.Sink.{Puts, CountsSinkFault};
+ghost use Rattle.pol_outside.specs.Faults.{CountsError, one_more};
+ghost use Rattle.pol_outside.specs.Sink.{Puts};
 
 use crate::{NoMemory, Sink, SinkFault};
 use std::alloc::Global;
@@ -89,7 +89,7 @@ impl Sink for MemorySink {
         ensures failing { (sink_calls self.new).failing ≡ (sink_calls self.old).failing }
         ensures takes { PutsWhatFits (next_put_is_fault self.old) (fits_next self.old piece.now)
             result }
-        ensures counts { CountsSinkFault result (sink_calls self.old).faults
+        ensures counts { CountsError result (sink_calls self.old).faults
             (sink_calls self.new).faults }
     {
         self.calls = self.calls.saturating_add(1);

@@ -1,6 +1,7 @@
 // Standard output, or any other writer.
 ghost use Rattle.std.specs.Prelude.{◌≡◌, ◌<◌, ◌≤◌, length};
-ghost use Rattle.pol_outside.specs.Sink.{Puts, CountsSinkFault};
+ghost use Rattle.pol_outside.specs.Faults.{CountsError};
+ghost use Rattle.pol_outside.specs.Sink.{Puts};
 
 use crate::{Sink, SinkFault};
 use std::io::Write;
@@ -34,7 +35,7 @@ impl<W: Write + Drop> Sink for StdSink<W> {
         ensures puts { Puts result piece.now (W.contents self.old.inner)
             (W.contents self.new.inner) }
         ensures later { self.old.faults ≤ self.new.faults }
-        ensures counts { CountsSinkFault result self.old.faults self.new.faults }
+        ensures counts { CountsError result self.old.faults self.new.faults }
     {
         match self.inner.write(piece) {
             Ok(n) if n > 0 => Ok(n),
