@@ -14,16 +14,15 @@ use Rattle.run_sets.specs.Pairs.{Contents, contents}
 use Rattle.pair_answers.proofs.Laws.{check_of_text, checks_decide, comparison_of_text, comparisons_decide}
 use Rattle.statement_answers.specs.Evaluated.{EvaluationContents, evaluation_contents}
 use Rattle.statement_answers.proofs.Laws.{evaluation_of_text, evaluations_decide}
-use Rattle.finding_answers.specs.Printed.{SummaryContents, summary_contents}
+use Rattle.run_sets.specs.OneSets.{SetContents, set_contents}
 use Rattle.finding_answers.proofs.Laws.{summaries_decide, summary_of_text}
-use Rattle.idle_answers.specs.UsesPrinted.{UseContents, use_contents}
 use Rattle.idle_answers.proofs.Laws.{idle_of_text, uses_decide}
 use Rattle.reach_answers.specs.ReachPrinted.{ReachContents, reach_contents}
 use Rattle.reach_answers.proofs.Laws.{reach_of_text, reaches_decide}
 use Rattle.emit_answers.proofs.Laws.{emit_of_text, emits_decide}
 use Rattle.cover_answers.proofs.Laws.{certified_summaries_decide, certified_summary_of_text, summary_check_of_text, summary_checks_decide}
 use Rattle.compare_cli.specs.Commands.{CheckContents, IsSummaryTold, MayPrint, IsPrinted, checked_bytes, compared_bytes, evaluated_bytes}
-use Rattle.compare_cli.specs.Commands.{SummaryCheckContents, use_bytes, named_files, reached_bytes, summarised_bytes, summary_checked_bytes}
+use Rattle.compare_cli.specs.Commands.{SummaryCheckContents, one_set_bytes, named_files, reached_bytes, summary_checked_bytes}
 use Rattle.compare_cli.specs.Complete.{IsAccepted, IsAcceptedBy, IsDecided, IsSummaryFor}
 
 -- ---- statuses
@@ -31,7 +30,7 @@ use Rattle.compare_cli.specs.Complete.{IsAccepted, IsAcceptedBy, IsDecided, IsSu
 with_status : (p : Printed) (s : Status) → IsOfText s → p.status ≡ s → IsOfText p.status
 with_status p s of is = subst IsOfText (sym is) of
 
-summarised_of_text : (s : Summarising) (certified : Bool) (c : SummaryContents) (p : Printed) → IsSummaryTold s certified c p → IsOfText p.status
+summarised_of_text : (s : Summarising) (certified : Bool) (c : SetContents) (p : Printed) → IsSummaryTold s certified c p → IsOfText p.status
 summarised_of_text s true c p v = certified_summary_of_text s c p v
 summarised_of_text s false c p v = summary_of_text s c p v
 
@@ -86,19 +85,12 @@ checked_once c d e =
     ∙ (ap (λ (bs : Option (List ℕ)). checked_contents (contents d.sets.first d.sets.second bs) c.proof) schema
     ∙ ap (λ (bs : List ℕ). checked_contents d.sets bs) proof))
 
-summarised_once : (c d : SummaryContents) → summarised_bytes c ≡ summarised_bytes d → c ≡ d
-summarised_once c d e =
+one_set_once : (c d : SetContents) → one_set_bytes c ≡ one_set_bytes d → c ≡ d
+one_set_once c d e =
     let set : c.set ≡ d.set = cc in
     let rest : if_given c.schema ≡ if_given d.schema = cc in
     let schema = given_once c.schema d.schema rest in
-    ap (λ (bs : List ℕ). summary_contents bs c.schema) set ∙ ap (λ (bs : Option (List ℕ)). summary_contents d.set bs) schema
-
-uses_once : (c d : UseContents) → use_bytes c ≡ use_bytes d → c ≡ d
-uses_once c d e =
-    let set : c.set ≡ d.set = cc in
-    let rest : if_given c.schema ≡ if_given d.schema = cc in
-    let schema = given_once c.schema d.schema rest in
-    ap (λ (bs : List ℕ). use_contents bs c.schema) set ∙ ap (λ (bs : Option (List ℕ)). use_contents d.set bs) schema
+    ap (λ (bs : List ℕ). set_contents bs c.schema) set ∙ ap (λ (bs : Option (List ℕ)). set_contents d.set bs) schema
 
 evaluated_once : (c d : EvaluationContents) → evaluated_bytes c ≡ evaluated_bytes d → c ≡ d
 evaluated_once c d e =
@@ -119,7 +111,7 @@ reached_once c d e =
     ∙ (ap (λ (bs : List ℕ). reach_contents d.set bs c.schema) zone ∙ ap (λ (bs : Option (List ℕ)). reach_contents d.set d.zone bs) schema)
 
 abbrev summary_checked_contents : List ℕ → Option (List ℕ) → List ℕ → SummaryCheckContents
-summary_checked_contents set schema proof = record { set = summary_contents set schema; proof = proof }
+summary_checked_contents set schema proof = record { set = set_contents set schema; proof = proof }
 
 summary_checked_once : (c d : SummaryCheckContents) → summary_checked_bytes c ≡ summary_checked_bytes d → c ≡ d
 summary_checked_once c d e =
@@ -151,7 +143,7 @@ one_of_two : (P : Status → Type 0) (a b : Status) → P a → P b → (s : Sta
 one_of_two P a b at_a at_b s (inl is) = subst P (sym is) at_a
 one_of_two P a b at_a at_b s (inr is) = subst P (sym is) at_b
 
-summarised_decides : (s : Summarising) (certified : Bool) (c : SummaryContents) (p : Printed) → IsSummaryFor s certified c
+summarised_decides : (s : Summarising) (certified : Bool) (c : SetContents) (p : Printed) → IsSummaryFor s certified c
     → IsSummaryTold s certified c p → p.status ≡ status.Holds
 summarised_decides s true c p accepted v = certified_summaries_decide s c p accepted v
 summarised_decides s false c p accepted v = summaries_decide s c p accepted v
@@ -165,20 +157,20 @@ module _ (files : Files) (p : Printed) where
       let both = both_of files (named_files (a_check c)) checked_bytes checked_once _ _ r.held held d v in
       one_of_two (IsDecided (Some (a_check c))) status.Holds status.BadProof tt tt p.status (checks_decide both.contents.proof both.contents.sets p both.one both.other)
   may_decide (a_summary s certified) r held d v =
-      let both = both_of files (named_files (a_summary s certified)) summarised_bytes summarised_once _ _ r.held held d v in
+      let both = both_of files (named_files (a_summary s certified)) one_set_bytes one_set_once _ _ r.held held d v in
       subst (IsDecided (Some (a_summary s certified))) (sym (summarised_decides s certified both.contents p both.one both.other)) tt
   may_decide (an_evaluation e) r held d v =
       let both = both_of files (named_files (an_evaluation e)) evaluated_bytes evaluated_once _ _ r.held held d v in
       one_of_two (IsDecided (Some (an_evaluation e))) status.Holds status.Fails tt tt p.status (evaluations_decide both.contents p both.one both.other)
   may_decide (a_load keys) r held d v = subst (IsDecided (Some (a_load keys))) (sym v.told.1) tt
   may_decide (a_use_question u) r held d v =
-      let both = both_of files (named_files (a_use_question u)) use_bytes uses_once _ _ r.held held d v in
+      let both = both_of files (named_files (a_use_question u)) one_set_bytes one_set_once _ _ r.held held d v in
       one_of_two (IsDecided (Some (a_use_question u))) status.Holds status.Fails tt tt p.status (uses_decide u both.contents p both.one both.other)
   may_decide (a_reach s zone) r held d v =
       let both = both_of files (named_files (a_reach s zone)) reached_bytes reached_once _ _ r.held held d v in
       one_of_two (IsDecided (Some (a_reach s zone))) status.Holds status.Fails tt tt p.status (reaches_decide s both.contents p both.one both.other)
   may_decide (an_emission s) r held d v =
-      let both = both_of files (named_files (an_emission s)) summarised_bytes summarised_once _ _ r.held held d v in
+      let both = both_of files (named_files (an_emission s)) one_set_bytes one_set_once _ _ r.held held d v in
       subst (IsDecided (Some (an_emission s))) (sym (emits_decide s both.contents p both.one both.other)) tt
   may_decide (a_summary_check k) r held d v =
       let both = both_of files (named_files (a_summary_check k)) summary_checked_bytes summary_checked_once _ _ r.held held d v in
@@ -187,12 +179,12 @@ module _ (files : Files) (p : Printed) where
   fails_not : (asked : Asked) (r : Reading) → r.held ≡ Some files → IsAcceptedBy (Some files) asked → ¬ Rose r.faults_before r.faults → FilesFail (named_files asked) r p → ⊥
   fails_not (a_comparison c) r held d calm failing = none_fails r files (named_files (a_comparison c)) (compared_bytes d.contents) p held d.read calm failing
   fails_not (a_check c) r held d calm failing = none_fails r files (named_files (a_check c)) (checked_bytes d.contents) p held d.read calm failing
-  fails_not (a_summary s certified) r held d calm failing = none_fails r files (named_files (a_summary s certified)) (summarised_bytes d.contents) p held d.read calm failing
+  fails_not (a_summary s certified) r held d calm failing = none_fails r files (named_files (a_summary s certified)) (one_set_bytes d.contents) p held d.read calm failing
   fails_not (an_evaluation e) r held d calm failing = none_fails r files (named_files (an_evaluation e)) (evaluated_bytes d.contents) p held d.read calm failing
   fails_not (a_load keys) r held d calm failing = none_fails r files [] [] p held tt calm failing
-  fails_not (a_use_question u) r held d calm failing = none_fails r files (named_files (a_use_question u)) (use_bytes d.contents) p held d.read calm failing
+  fails_not (a_use_question u) r held d calm failing = none_fails r files (named_files (a_use_question u)) (one_set_bytes d.contents) p held d.read calm failing
   fails_not (a_reach s zone) r held d calm failing = none_fails r files (named_files (a_reach s zone)) (reached_bytes d.contents) p held d.read calm failing
-  fails_not (an_emission s) r held d calm failing = none_fails r files (named_files (an_emission s)) (summarised_bytes d.contents) p held d.read calm failing
+  fails_not (an_emission s) r held d calm failing = none_fails r files (named_files (an_emission s)) (one_set_bytes d.contents) p held d.read calm failing
   fails_not (a_summary_check k) r held d calm failing = none_fails r files (named_files (a_summary_check k)) (summary_checked_bytes d.contents) p held d.read calm failing
 
 held_decides : (held : Option Files) (asked : Asked) (r : Reading) (p : Printed) → r.held ≡ held → IsPrinted (Some asked) r p → IsAccepted held (Some asked) → ¬ Rose r.faults_before r.faults → IsDecided (Some asked) p.status

@@ -11,10 +11,11 @@ use Rattle.run_files.specs.Readings.{FileName, FilesFail, IsCalm, OfReadFiles, R
 use Rattle.run_sets.specs.Pairs.{Contents}
 use Rattle.pair_answers.specs.Printed.{IsCheckPrinted, IsComparisonPrinted}
 use Rattle.statement_answers.specs.Evaluated.{EvaluationContents, IsEvaluationPrinted}
-use Rattle.finding_answers.specs.Printed.{IsSummaryPrinted, SummaryContents}
+use Rattle.finding_answers.specs.Printed.{IsSummaryPrinted}
+use Rattle.run_sets.specs.OneSets.{SetContents}
 use Rattle.reach_answers.specs.ReachPrinted.{IsReachPrinted, ReachContents}
 use Rattle.emit_answers.specs.EmitPrinted.{IsEmitPrinted}
-use Rattle.idle_answers.specs.UsesPrinted.{IsIdlePrinted, UseContents}
+use Rattle.idle_answers.specs.UsesPrinted.{IsIdlePrinted}
 use Rattle.cover_answers.specs.Certified.{IsCertifiedSummaryPrinted}
 use Rattle.cover_answers.specs.Judged.{IsSummaryCheckPrinted}
 use Rattle.compare_cli.specs.Loaded.{IsLoadPrinted}
@@ -41,7 +42,7 @@ pub record CheckContents : Type 0 where
 
 -- and of a check of a summary: of the set and the schema, and of the file that is checked
 pub record SummaryCheckContents : Type 0 where
-  pub set : SummaryContents
+  pub set : SetContents
   pub proof : List ℕ
 
 -- the bytes of each command's files in this order
@@ -51,14 +52,11 @@ compared_bytes c = c.first ∷ c.second ∷ if_given c.schema
 abbrev pub checked_bytes : CheckContents → List (List ℕ)
 checked_bytes c = c.sets.first ∷ c.sets.second ∷ c.proof ∷ if_given c.sets.schema
 
-abbrev pub summarised_bytes : SummaryContents → List (List ℕ)
-summarised_bytes c = c.set ∷ if_given c.schema
+abbrev pub one_set_bytes : SetContents → List (List ℕ)
+one_set_bytes c = c.set ∷ if_given c.schema
 
 abbrev pub evaluated_bytes : EvaluationContents → List (List ℕ)
 evaluated_bytes c = c.set ∷ c.request ∷ if_given c.schema
-
-abbrev pub use_bytes : UseContents → List (List ℕ)
-use_bytes c = c.set ∷ if_given c.schema
 
 abbrev pub reached_bytes : ReachContents → List (List ℕ)
 reached_bytes c = c.set ∷ c.zone ∷ if_given c.schema
@@ -69,7 +67,7 @@ summary_checked_bytes c = c.set.set ∷ c.proof ∷ if_given c.set.schema
 -- ---- what may be printed
 
 -- to a summary: with a certificate behind it, where one is asked for
-abbrev pub IsSummaryTold : Summarising → Bool → SummaryContents → Printed → Type 0
+abbrev pub IsSummaryTold : Summarising → Bool → SetContents → Printed → Type 0
 IsSummaryTold s true c p = IsCertifiedSummaryPrinted s c p
 IsSummaryTold s false c p = IsSummaryPrinted s c p
 
@@ -78,12 +76,12 @@ abbrev pub MayPrint : Asked → Reading → Printed → Type 0
 MayPrint (a_comparison c) r p = OfReadFiles r.held (named_files (a_comparison c)) compared_bytes (λ f. IsComparisonPrinted c f p)
 MayPrint (a_check c) r p = OfReadFiles r.held (named_files (a_check c)) checked_bytes (λ f. IsCheckPrinted f.proof f.sets p)
 MayPrint (a_summary s certified) r p =
-    OfReadFiles r.held (named_files (a_summary s certified)) summarised_bytes (λ f. IsSummaryTold s certified f p)
+    OfReadFiles r.held (named_files (a_summary s certified)) one_set_bytes (λ f. IsSummaryTold s certified f p)
 MayPrint (an_evaluation e) r p = OfReadFiles r.held (named_files (an_evaluation e)) evaluated_bytes (λ f. IsEvaluationPrinted f p)
 MayPrint (a_load keys) r p = IsLoadPrinted keys p
-MayPrint (a_use_question u) r p = OfReadFiles r.held (named_files (a_use_question u)) use_bytes (λ f. IsIdlePrinted u f p)
+MayPrint (a_use_question u) r p = OfReadFiles r.held (named_files (a_use_question u)) one_set_bytes (λ f. IsIdlePrinted u f p)
 MayPrint (a_reach s zone) r p = OfReadFiles r.held (named_files (a_reach s zone)) reached_bytes (λ f. IsReachPrinted s f p)
-MayPrint (an_emission s) r p = OfReadFiles r.held (named_files (an_emission s)) summarised_bytes (λ f. IsEmitPrinted s f p)
+MayPrint (an_emission s) r p = OfReadFiles r.held (named_files (an_emission s)) one_set_bytes (λ f. IsEmitPrinted s f p)
 MayPrint (a_summary_check k) r p =
     OfReadFiles r.held (named_files (a_summary_check k)) summary_checked_bytes (λ f. IsSummaryCheckPrinted k f.proof f.set p)
 

@@ -76,13 +76,13 @@ fn write<S: Sink>(printed: &Printed, out: &mut S) -> Status
 ///   - `eval`: the set allows the request; `load`: each line is the first of an answer that the command would give
 ///     to the two sets.
 ///
-///   With `Fails` a valid request was written that the first set allows and the second doesn't, or requests from
-///   outside of the zone, one for each finding, or some statement is idle, with `--proof` a certificate of it, or
-///   `eval`'s set doesn't allow the request. With `BadProof` the line is that of the certificate's or the
-///   summary's first fault, or of the first node or finding that fails. A refusal, a budget, a fault of reading
-///   and the usage line come only by their cause, with their line. With `ReadFault` the folder's count of faults
-///   rose in this call, with `WriteFault` the sink's, and with every other answer the name of the folder's last
-///   fault is as it was.
+///   With `Fails` a valid request was written that the first set allows and the second doesn't, whose line is read
+///   again as that request; or requests from outside of the zone, one for each finding; or some statement is idle,
+///   with `--proof` a certificate of it; or `eval`'s set doesn't allow the request. With `BadProof` the line is that
+///   of the certificate's or the summary's first fault, or of the first node or finding that fails. A refusal, a
+///   budget, a fault of reading and the usage line come only by their cause, with their line. With `ReadFault` the
+///   folder's count of faults rose in this call, with `WriteFault` the sink's, and with every other answer the name
+///   of the folder's last fault is as it was.
 /// - `usage`: where the arguments ask for nothing, nothing else than `Usage` comes but for want of memory
 ///   or of room.
 /// - `untouched`: where they ask for nothing, or for a load, the folder is as before.

@@ -46,7 +46,7 @@ use Rattle.run_files.specs.declared.status.Status.TheVariants as status
 use Rattle.run_files.specs.Printing.{Tells}
 use Rattle.run_sets.specs.declared.one_set.OneSet.{OneSet}
 use Rattle.run_sets.specs.declared.refusal.Refusal.{Refusal}
-use Rattle.run_sets.specs.OneSets.{OfOneSet, OfSetRun, one_of}
+use Rattle.run_sets.specs.OneSets.{OfOneSet, OfSetRun, one_of, SetContents}
 use Rattle.run_sets.specs.Refusals.{IsRefusedBy}
 use Rattle.run_sets.proofs.Laws.{no_one_fails, of_same_set}
 use Rattle.finding_answers.specs.declared.answer.Found.{Found}
@@ -54,11 +54,12 @@ use Rattle.finding_answers.specs.Dimensions.{NameSlots, dimension_slots}
 use Rattle.finding_answers.specs.FindingTexts.{found_text}
 use Rattle.finding_answers.specs.Found.{IsFoundOf, IsNotFound, IsNotSummarised, TellsUnfound}
 use Rattle.finding_answers.specs.Laws.{PrintedRequestsAreReadAgain}
-use Rattle.finding_answers.specs.Printed.{SummaryContents, limits_in}
+use Rattle.finding_answers.specs.Printed.{limits_in}
+use Rattle.run_sets.specs.ClosedQueries.{FailsAll}
+use Rattle.run_sets.specs.CertificateLines.{accepted_line}
 use Rattle.finding_answers.proofs.Laws.{found_have_findings}
 use Rattle.cover_answers.specs.Certified.{IsCertifiedSummaryPrinted, IsCoverSaid, IsSetCertified, large_query, short_of_splits, short_of_states, with_certificate}
-use Rattle.cover_answers.specs.CoverProofs.{CertifiesCover, CoverIsTooLarge, FailsBehindAt, FailsCover, OfCover, fault_of_cover}
-use Rattle.cover_answers.specs.CoverTexts.{accepted_line}
+use Rattle.cover_answers.specs.CoverProofs.{CertifiesCover, CoverIsTooLarge, FailsBehindAt, OfCover, fault_of_cover}
 use Rattle.cover_answers.specs.Decides.{AreNarrow, NameFew, PrintedSummariesAreAccepted}
 use Rattle.cover_answers.specs.Heads.{IsHead, head_lines}
 use Rattle.cover_answers.specs.Judged.{IsJudged, IsListJudged, IsSetChecked, IsSummaryCheckPrinted, all_holds, bad_certificate, failing_node, failing_pair, large_cover}
@@ -110,7 +111,7 @@ module _ (schema : Schema) (set : PolicySet) (ds : List Stratum) (fs : List (Lis
   cover-tree : asked_tree q ≡ asked_tree r
   cover-tree = same-tree (cover_plan (set_plan schema set) ds fs) q.tests r.tests (asked_tree q) (asked_tree r) is.tests other.tests is.tree other.tree
 
-  fails-too : (p : Proof) (node : ℕ) → FailsCover schema r p node → FailsCover schema q p node
+  fails-too : (p : Proof) (node : ℕ) → FailsAll schema r p node → FailsAll schema q p node
   fails-too p node fails =
       subst (λ (t : tree.Tree). FailsAt schema q.tests t at_first p [] node) (sym cover-tree)
       (subst (λ (ts : List Test). FailsAt schema ts (asked_tree r) at_first p [] node) (sym cover-tests) fails)
@@ -196,8 +197,8 @@ module _ (none : ClosingProofsHaveNoFaultBehind) (sizes : ClosingProofsAreSmall)
       let c = by.of.holds in
       let spelled : spell one.schema.version at.proof ≡ spell one.schema.version c.proof = sym at.spelled ∙ read-again.spelled in
       let same : at.proof ≡ c.proof = law one.schema.version (spell one.schema.version c.proof) at.proof c.proof at.small closing-small (inl (sym spelled)) (inl refl) in
-      let there : FailsCover one.schema by.of.query at.proof at.node = fails-too one.schema one.set found.strata.dimensions Of by.of.query of.query by.of.is of.is at.proof at.node at.fails in
-      let moved : FailsCover one.schema by.of.query c.proof at.node = subst (λ (x : Proof). FailsCover one.schema by.of.query x at.node) same there in
+      let there : FailsAll one.schema by.of.query at.proof at.node = fails-too one.schema one.set found.strata.dimensions Of by.of.query of.query by.of.is of.is at.proof at.node at.fails in
+      let moved : FailsAll one.schema by.of.query c.proof at.node = subst (λ (x : Proof). FailsAll one.schema by.of.query x at.node) same there in
       fails-not-closes one.schema by.of.query.tests (asked_tree by.of.query) at_first c.proof [] at.node moved c.closes
 
   list-accepted : (q : Printed) → IsListJudged one found.strata.dimensions (string_bytes p.text) found.summary q → Tells accepted_line status.Holds q

@@ -35,8 +35,10 @@ use Rattle.run_files.specs.declared.printed.Printed.{Printed}
 use Rattle.run_files.specs.declared.status.Status.TheVariants.{Holds, Refused, BadProof}
 use Rattle.run_files.specs.Printing.{Tells}
 use Rattle.run_sets.specs.declared.one_set.OneSet.{OneSet}
-use Rattle.cover_answers.specs.CoverProofs.{ClosesBehind, FailsBehindAt, IsCoverClosed, IsLargePrinted, LeaveNobodyOut, OfCover, fault_of_cover}
-use Rattle.cover_answers.specs.CoverTexts.{accepted_line, not_closing_line, not_summary_line}
+use Rattle.cover_answers.specs.CoverProofs.{ClosesBehind, FailsBehindAt, IsLargePrinted, LeaveNobodyOut, OfCover, fault_of_cover}
+use Rattle.run_sets.specs.ClosedQueries.{ClosesAll}
+use Rattle.run_sets.specs.CertificateLines.{accepted_line, not_closing_line}
+use Rattle.cover_answers.specs.CoverTexts.{not_summary_line}
 use Rattle.cover_answers.specs.Heads.{ArePairLines, IsHead, head_lines}
 use Rattle.cover_answers.specs.Judged.{HasHeadLines, IsBadCertificatePrinted, IsCertificateRead, IsClosingPrinted, IsListJudged, IsReadJudged, all_holds, bad_certificate, failing_node, failing_pair, large_cover}
 use Rattle.cover_answers.proofs.Heading.{lines-count}
@@ -90,7 +92,7 @@ cover-of one base strata fs q P made cover holds = record { query = q; is = cove
 
 -- where it is closed, the findings leave out nobody
 pub nobody-out : ClosedCoversLeaveNobodyOut → (one : OneSet) (base : Query) (strata : Strata) (fs : List (List ℕ)) (q : Query) (read : ReadProof) → AreMadeFor one.schema one.set base strata → All (IsFinding strata.dimensions) fs → IsCoverOf base strata fs q →
-    IsCoverClosed one.schema q (proof_of read.refutation.value) → LeaveNobodyOut one.schema one.set strata.dimensions fs
+    ClosesAll one.schema q (proof_of read.refutation.value) → LeaveNobodyOut one.schema one.set strata.dimensions fs
 nobody-out law one base strata fs q read made findings cover closes =
     law one.schema one.set strata fs (record {
       base = base;

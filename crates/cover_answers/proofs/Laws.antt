@@ -24,13 +24,14 @@ use Rattle.run_files.specs.Printing.{IsOfText}
 use Rattle.run_sets.specs.declared.one_set.OneSet.{OneSet}
 use Rattle.run_sets.specs.declared.refusal.Refusal.{Refusal}
 use Rattle.run_sets.specs.declared.refusal.Refusal.TheVariants as refusal
-use Rattle.run_sets.specs.OneSets.{one_of}
+use Rattle.run_sets.specs.OneSets.{one_of, SetContents}
 use Rattle.run_sets.specs.Refusals.{IsRefusedBy}
 use Rattle.run_sets.proofs.Laws.{no_one_fails, of_same_set}
 use Rattle.finding_answers.specs.declared.answer.Found.{Found}
 use Rattle.finding_answers.specs.Dimensions.{IsFirstUnknown, NameSlots, NamesSlot, dimension_slots}
-use Rattle.finding_answers.specs.Found.{IsFoundOf, IsNotFound, IsSetPastLimit}
-use Rattle.finding_answers.specs.Printed.{SummaryContents, limits_in}
+use Rattle.finding_answers.specs.Found.{IsFoundOf, IsNotFound}
+use Rattle.run_sets.specs.PastLimits.{IsSetPastLimit}
+use Rattle.finding_answers.specs.Printed.{limits_in}
 use Rattle.finding_answers.proofs.Laws.{not_found_of_text, summarisable_sets_are_found}
 use Rattle.cover_answers.specs.Certified.{IsCertifiedSummaryPrinted, IsCoverSaid, IsSetCertified, large_query, short_of_splits, short_of_states, with_certificate}
 use Rattle.cover_answers.specs.CoverProofs.{CoverIsTooLarge}
@@ -57,7 +58,7 @@ set_with names limits one p (inl none) = not_found_of_text names limits one p no
 set_with names limits one p (inr is) = cover_with limits one is.found p is.printed
 
 -- what is printed to a summary with a certificate has the status of a text
-pub certified_summary_of_text : (s : Summarising) (c : SummaryContents) (p : Printed) → IsCertifiedSummaryPrinted s c p → IsOfText p.status
+pub certified_summary_of_text : (s : Summarising) (c : SetContents) (p : Printed) → IsCertifiedSummaryPrinted s c p → IsOfText p.status
 certified_summary_of_text s c p (inl none) = refusal_with _ p none
 certified_summary_of_text s c p (inr of) = set_with s.dimensions (limits_in s) _ p of.holds.holds
 
@@ -87,7 +88,7 @@ checked_with names states bytes one p (inl none) = not_made_with names states on
 checked_with names states bytes one p (inr of) = judged_with one of.strata.dimensions bytes p of.holds
 
 -- and so has what is printed to a check of one
-pub summary_check_of_text : (asked : SummaryCheck) (bytes : List ℕ) (c : SummaryContents) (p : Printed) → IsSummaryCheckPrinted asked bytes c p → IsOfText p.status
+pub summary_check_of_text : (asked : SummaryCheck) (bytes : List ℕ) (c : SetContents) (p : Printed) → IsSummaryCheckPrinted asked bytes c p → IsOfText p.status
 summary_check_of_text asked bytes c p (inl none) = refusal_with _ p none
 summary_check_of_text asked bytes c p (inr of) = checked_with asked.dimensions asked.states bytes _ p of.holds.holds
 

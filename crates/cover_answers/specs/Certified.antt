@@ -15,12 +15,12 @@ use Rattle.run_files.specs.declared.printed.Printed.{Printed}
 use Rattle.run_files.specs.declared.status.Status.TheVariants.{Holds, Refused, Undecided}
 use Rattle.run_files.specs.Printing.{Tells}
 use Rattle.run_sets.specs.declared.one_set.OneSet.{OneSet}
-use Rattle.run_sets.specs.OneSets.{IsNoOneSet, OfOneSet}
+use Rattle.run_sets.specs.OneSets.{IsNoOneSet, OfOneSet, SetContents}
 use Rattle.run_sets.specs.Refusals.{IsRefusedBy}
 use Rattle.finding_answers.specs.declared.answer.Found.{Found}
 use Rattle.finding_answers.specs.FindingTexts.{found_text}
 use Rattle.finding_answers.specs.Found.{IsFoundOf, IsNotFound}
-use Rattle.finding_answers.specs.Printed.{SummaryContents, limits_in}
+use Rattle.finding_answers.specs.Printed.{limits_in}
 use Rattle.cover_answers.specs.CoverProofs.{CertifiesCover, CoverIsTooLarge, OfCover}
 use Rattle.cover_answers.specs.CoverTexts.{cover_splits_line, cover_states_line, cover_tests_line}
 
@@ -53,7 +53,7 @@ abbrev pub IsSetCertified : List (List ℕ) → Limits → OneSet → Printed �
 IsSetCertified names limits one p = IsNotFound names limits one p ⊎ IsCoverPrinted names limits one p
 
 -- of files: why they stand for no set, or what is printed of the set that they stand for
-abbrev pub IsCertifiedSummaryPrinted : Summarising → SummaryContents → Printed → Type 0
+abbrev pub IsCertifiedSummaryPrinted : Summarising → SetContents → Printed → Type 0
 IsCertifiedSummaryPrinted s c p =
     IsRefusedBy (IsNoOneSet c.set c.schema) p
     ⊎ OfOneSet c.set c.schema (λ one. IsSetCertified s.dimensions (limits_in s) one p)

@@ -26,6 +26,7 @@ use Rattle.proof_text.specs.declared.limits.TheConstants.{MOST_NESTING, MOST_NUM
 use Rattle.run_files.specs.declared.printed.Printed.{Printed}
 use Rattle.run_files.specs.declared.status.Status.TheVariants.{Refused}
 use Rattle.run_files.specs.Printing.{Tells}
+use Rattle.run_sets.specs.ClosedQueries.{ClosesAll, FailsAll}
 use Rattle.cover_answers.specs.CoverTexts.{cover_tests_line}
 
 -- ---- the query
@@ -39,13 +40,6 @@ pub record OfCover (schema : Schema) (set : PolicySet) (ds : List Stratum) (fs :
 -- it has more than 1,000 tests
 abbrev pub CoverIsTooLarge : Schema → PolicySet → List Stratum → List (List ℕ) → Type 0
 CoverIsTooLarge schema set ds fs = HasTooMany [] (tests_in (cover_plan (set_plan schema set) ds fs))
-
--- the refutation closes the query, and this node of it is the first that fails
-abbrev pub IsCoverClosed : Schema → Query → Proof → Type 0
-IsCoverClosed schema q proof = Closes schema q.tests (asked_tree q) at_first proof []
-
-abbrev pub FailsCover : Schema → Query → Proof → ℕ → Type 0
-FailsCover schema q proof node = FailsAt schema q.tests (asked_tree q) at_first proof [] node
 
 -- each valid request that the set allows lies in one of the findings
 abbrev pub LeaveNobodyOut : Schema → PolicySet → List Stratum → List (List ℕ) → Type 0
@@ -64,7 +58,7 @@ pub record ClosesBehind (schema : Schema) (q : Query) (front : ℕ) (bytes : Lis
   pub proof : Proof
   pub spelled : bytes_behind front bytes ≡ spell schema.version proof
   pub small : IsSmall schema.version proof
-  pub closes : IsCoverClosed schema q proof
+  pub closes : ClosesAll schema q proof
 
 -- behind so many lines the file has no fault, and this is the line, counted from the file's first, of the first node that fails
 pub record FailsBehindAt (schema : Schema) (q : Query) (front : ℕ) (bytes : List ℕ) (line : ℕ) : Type 0 where
@@ -73,7 +67,7 @@ pub record FailsBehindAt (schema : Schema) (q : Query) (front : ℕ) (bytes : Li
   pub spelled : bytes_behind front bytes ≡ spell schema.version proof
   pub small : IsSmall schema.version proof
   pub node : ℕ
-  pub fails : FailsCover schema q proof node
+  pub fails : FailsAll schema q proof node
   pub line_is : slice_get (starts (front + 2) proof) node ≡ Some line
 
 -- ---- a certificate that is printed
@@ -82,7 +76,7 @@ pub record FailsBehindAt (schema : Schema) (q : Query) (front : ℕ) (bytes : Li
 pub record CertifiesCover (schema : Schema) (q : Query) (text : List ℕ) : Type 0 where
   pub proof : Proof
   pub spelled : text ≡ spell schema.version proof
-  pub closes : IsCoverClosed schema q proof
+  pub closes : ClosesAll schema q proof
   pub trimmed : IsTrimmed schema q.tests (asked_tree q) proof
   pub nests : depth proof ≤ MOST_NESTING
   pub small : HoldsSmallNumbers proof

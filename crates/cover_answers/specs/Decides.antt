@@ -21,15 +21,15 @@ use Rattle.run_files.specs.declared.printed.Printed.{Printed}
 use Rattle.run_files.specs.declared.status.Status.TheVariants.{Holds, BadProof}
 use Rattle.run_files.specs.Printing.{Tells}
 use Rattle.run_sets.specs.declared.one_set.OneSet.{OneSet}
-use Rattle.run_sets.specs.OneSets.{OfOneSet}
+use Rattle.run_sets.specs.OneSets.{OfOneSet, SetContents}
 use Rattle.finding_answers.specs.declared.answer.Found.{Found}
 use Rattle.finding_answers.specs.Complete.{IsSummarisable}
 use Rattle.finding_answers.specs.Dimensions.{NameSlots, dimension_slots}
 use Rattle.finding_answers.specs.Found.{IsFoundOf}
-use Rattle.finding_answers.specs.Printed.{SummaryContents, limits_in}
+use Rattle.finding_answers.specs.Printed.{limits_in}
+use Rattle.run_sets.specs.CertificateLines.{accepted_line}
 use Rattle.cover_answers.specs.Certified.{IsCertifiedSummaryPrinted}
 use Rattle.cover_answers.specs.CoverProofs.{CoverIsTooLarge, OfCover}
-use Rattle.cover_answers.specs.CoverTexts.{accepted_line}
 use Rattle.cover_answers.specs.Heads.{IsHead}
 use Rattle.cover_answers.specs.Judged.{IsSummaryCheckPrinted}
 use Rattle.cover_answers.specs.Made.{IsMadeOf}
@@ -51,7 +51,7 @@ pub record IsCertifiable (names : List (List ℕ)) (limits : Limits) (one : OneS
 
 -- files of such a set are summarised, with a certificate
 abbrev pub CertifiedSummariesDecide : Type 0
-CertifiedSummariesDecide = (s : Summarising) (c : SummaryContents) (p : Printed) →
+CertifiedSummariesDecide = (s : Summarising) (c : SetContents) (p : Printed) →
     OfOneSet c.set c.schema (IsCertifiable s.dimensions (limits_in s)) → IsCertifiedSummaryPrinted s c p → p.status ≡ Holds
 
 -- ---- checks of them
@@ -79,7 +79,7 @@ pub record IsJudgeable (names : List (List ℕ)) (states : ℕ) (bytes : List �
 
 -- a file for files of such a set is accepted, or it is bad
 abbrev pub SummaryChecksDecide : Type 0
-SummaryChecksDecide = (asked : SummaryCheck) (bytes : List ℕ) (c : SummaryContents) (p : Printed) →
+SummaryChecksDecide = (asked : SummaryCheck) (bytes : List ℕ) (c : SetContents) (p : Printed) →
     OfOneSet c.set c.schema (IsJudgeable asked.dimensions asked.states bytes) → IsSummaryCheckPrinted asked bytes c p →
     (p.status ≡ Holds) ⊎ (p.status ≡ BadProof)
 
@@ -90,7 +90,7 @@ SummaryChecksDecide = (asked : SummaryCheck) (bytes : List ℕ) (c : SummaryCont
 -- strata
 abbrev pub PrintedSummariesAreAccepted : Type 0
 PrintedSummariesAreAccepted =
-    (s : Summarising) (asked : SummaryCheck) (c : SummaryContents) (printed checked : Printed) →
+    (s : Summarising) (asked : SummaryCheck) (c : SetContents) (printed checked : Printed) →
     s.findings ≤ MOST_FINDINGS → asked.dimensions ≡ s.dimensions → OfOneSet c.set c.schema (AreNarrow asked.dimensions asked.states) →
     IsCertifiedSummaryPrinted s c printed → printed.status ≡ Holds → length (string_bytes printed.text) ≤ MOST_PROOF_BYTES →
     IsSummaryCheckPrinted asked (string_bytes printed.text) c checked → Tells accepted_line Holds checked

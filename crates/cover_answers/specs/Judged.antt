@@ -18,11 +18,12 @@ use Rattle.run_files.specs.declared.printed.Printed.{Printed}
 use Rattle.run_files.specs.declared.status.Status.TheVariants.{Holds, Refused, BadProof}
 use Rattle.run_files.specs.Printing.{Tells}
 use Rattle.run_sets.specs.declared.one_set.OneSet.{OneSet}
-use Rattle.run_sets.specs.OneSets.{IsNoOneSet, OfOneSet}
+use Rattle.run_sets.specs.OneSets.{IsNoOneSet, OfOneSet, SetContents}
 use Rattle.run_sets.specs.Refusals.{IsRefusedBy}
-use Rattle.finding_answers.specs.Printed.{SummaryContents}
-use Rattle.cover_answers.specs.CoverProofs.{ClosesBehind, CoverIsTooLarge, FailsBehindAt, FailsCover, IsCoverClosed, LeaveNobodyOut, OfCover, fault_of_cover}
-use Rattle.cover_answers.specs.CoverTexts.{accepted_line, certificate_fault_text, cover_tests_line, head_fault_text, not_closing_line, not_summary_line}
+use Rattle.run_sets.specs.ClosedQueries.{ClosesAll, FailsAll}
+use Rattle.run_sets.specs.CertificateLines.{accepted_line, not_closing_line, proof_fault_text}
+use Rattle.cover_answers.specs.CoverProofs.{ClosesBehind, CoverIsTooLarge, FailsBehindAt, LeaveNobodyOut, OfCover, fault_of_cover}
+use Rattle.cover_answers.specs.CoverTexts.{cover_tests_line, head_fault_text, not_summary_line}
 use Rattle.cover_answers.specs.Heads.{IsHead, IsHeadFault, head_lines}
 use Rattle.cover_answers.specs.Made.{IsNotMade, OfMade}
 use Rattle.cover_answers.specs.declared.fault.HeadFault.{HeadFault}
@@ -40,7 +41,7 @@ pub data IsListJudged (one : OneSet) (ds : List Stratum) (bytes : List ℕ) (pai
       IsListJudged one ds bytes pairs p
   bad_certificate : {fault : ProofFault} →
       OfCover one.schema one.set ds (findings_of pairs) (λ q. fault_of_cover one.schema q (head_lines pairs) bytes ≡ Some fault) →
-      Tells (certificate_fault_text fault) BadProof p → IsListJudged one ds bytes pairs p
+      Tells (proof_fault_text fault) BadProof p → IsListJudged one ds bytes pairs p
   failing_pair : {place : ℕ} →
       OfCover one.schema one.set ds (findings_of pairs) (λ q. fault_of_cover one.schema q (head_lines pairs) bytes ≡ None) →
       IsFirstFailing one.schema one.set ds pairs place → Tells (not_summary_line (2 * place + 2)) BadProof p →
@@ -72,7 +73,7 @@ abbrev pub IsSetChecked : List (List ℕ) → ℕ → List ℕ → OneSet → Pr
 IsSetChecked names states bytes one p = IsNotMade names states one p ⊎ OfMade names one (λ ds. IsJudged one ds bytes p)
 
 -- of files: why they stand for no set, or what is printed of the set that they stand for
-abbrev pub IsSummaryCheckPrinted : SummaryCheck → List ℕ → SummaryContents → Printed → Type 0
+abbrev pub IsSummaryCheckPrinted : SummaryCheck → List ℕ → SetContents → Printed → Type 0
 IsSummaryCheckPrinted asked bytes c p =
     IsRefusedBy (IsNoOneSet c.set c.schema) p
     ⊎ OfOneSet c.set c.schema (λ one. IsSetChecked asked.dimensions asked.states bytes one p)
@@ -82,8 +83,8 @@ IsSummaryCheckPrinted asked bytes c p =
 -- the refutation that was read closes the query, and that is printed, or the line of its first node that fails
 abbrev pub IsClosingPrinted : Schema → Query → ReadProof → Printed → Type 0
 IsClosingPrinted schema q read p =
-    (IsCoverClosed schema q (proof_of read.refutation.value) × Tells accepted_line Holds p)
-    ⊎ ((node : ℕ) × (line : ℕ) × FailsCover schema q (proof_of read.refutation.value) node × (slice_get read.lines node ≡ Some line)
+    (ClosesAll schema q (proof_of read.refutation.value) × Tells accepted_line Holds p)
+    ⊎ ((node : ℕ) × (line : ℕ) × FailsAll schema q (proof_of read.refutation.value) node × (slice_get read.lines node ≡ Some line)
     × Tells (not_closing_line line) BadProof p)
 
 -- the first fault of the certificate behind the lines of pairs is printed
@@ -91,7 +92,7 @@ pub record IsBadCertificatePrinted (schema : Schema) (q : Query) (pairs : List (
     : Type 0 where
   pub fault : ProofFault
   pub is : fault_of_cover schema q (head_lines pairs) bytes ≡ Some fault
-  pub told : Tells (certificate_fault_text fault) BadProof p
+  pub told : Tells (proof_fault_text fault) BadProof p
 
 -- the certificate behind the lines of pairs was read
 pub record IsCertificateRead (schema : Schema) (q : Query) (pairs : List (List ℕ × Request)) (bytes : List ℕ) (read : ReadProof)

@@ -19,7 +19,7 @@ use Rattle.run_sets.specs.Parts.{shortage_text}
 use Rattle.run_sets.specs.Refusals.{IsRefusedBy}
 use Rattle.finding_answers.specs.Dimensions.{IsUnknownPrinted, NameSlots, dimension_slots}
 use Rattle.finding_answers.specs.FindingTexts.{too_many_line}
-use Rattle.finding_answers.specs.Found.{IsSetPastLimit}
+use Rattle.run_sets.specs.PastLimits.{IsSetPastLimit}
 use Rattle.findings.specs.Queries.{AreMadeFor}
 use Rattle.cover_answers.specs.declared.made.Made.{Made}
 

@@ -19,9 +19,7 @@ use crate::cover::cover_of;
 use crate::fault::HeadAnswer;
 use crate::head::read_head;
 use crate::made::Made;
-use crate::text::{
-    accepted_line, certificate_fault_text, head_fault_text, not_closing_line, not_summary_line,
-};
+use crate::text::{head_fault_text, not_summary_line};
 use finding_answers::ended;
 use findings::{Summary, SummaryVerdict, check_summary, closed_covers_leave_nobody_out};
 use policy_compile::Query;
@@ -29,7 +27,7 @@ use policy_model::Schema;
 use proof_text::{ProofAnswer, ReadProof, read_proof_from};
 use refute_check::{Verdict, check};
 use run_files::{EarlyEnd, Printed, Status};
-use run_sets::OneSet;
+use run_sets::{OneSet, accepted_line, not_closing_line, proof_fault_text};
 use std::alloc::Global;
 use strata::Strata;
 
@@ -66,7 +64,7 @@ fn certificate_of(
     match read_proof_from(alloc, query.tests.len() as u32, schema.version, line, bytes) {
         Ok(read) => Ok(read),
         Err(ProofAnswer::Refused(fault)) => {
-            Err(ended(certificate_fault_text(alloc, fault), Status::BadProof))
+            Err(ended(proof_fault_text(alloc, fault), Status::BadProof))
         }
         Err(ProofAnswer::NoMemory) => Err(EarlyEnd::NoMemory),
     }

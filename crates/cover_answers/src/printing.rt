@@ -3,9 +3,9 @@ ghost use Rattle.std.specs.Prelude.{◌≡◌, ◌≤◌, true, length, option_m
 ghost use Rattle.command_words.specs.Asked.{HasBudgetsInRange, are_dimensions, summarising_in, summary_check_in, texts_in};
 ghost use Rattle.proof_text.specs.declared.limits.TheConstants.{MOST_PROOF_BYTES};
 ghost use Rattle.run_files.specs.Printing.{IfPrinted};
-ghost use Rattle.run_sets.specs.OneSets.{FitsItsSchema};
+ghost use Rattle.run_sets.specs.OneSets.{FitsItsSchema, set_contents};
 ghost use Rattle.summary_search.specs.Outcomes.{AreInRange};
-ghost use Rattle.finding_answers.specs.Printed.{limits_in, summary_contents};
+ghost use Rattle.finding_answers.specs.Printed.{limits_in};
 ghost use Rattle.cover_answers.specs.Certified.{IsCertifiedSummaryPrinted, IsSetCertified};
 ghost use Rattle.cover_answers.specs.Judged.{IsSetChecked, IsSummaryCheckPrinted};
 
@@ -48,7 +48,7 @@ pub fn print_certified_summary(
     requires budgets { HasBudgetsInRange arguments.now }
     requires dimensions { are_dimensions (texts_in arguments.now.dimensions.items) ≡ true }
     ensures { IfPrinted result (IsCertifiedSummaryPrinted (summarising_in arguments.now)
-        (summary_contents set.now (option_map (λ f. f.now) schema.entry))) }
+        (set_contents set.now (option_map (λ f. f.now) schema.entry))) }
 {
     let one = read_one(alloc, set, schema)?;
     print_set_certified(
@@ -91,7 +91,7 @@ pub fn print_summary_check(
     requires dimensions { are_dimensions (texts_in arguments.now.dimensions.items) ≡ true }
     requires short { length proof.now ≤ MOST_PROOF_BYTES }
     ensures { IfPrinted result (IsSummaryCheckPrinted (summary_check_in arguments.now) proof.now
-        (summary_contents set.now (option_map (λ f. f.now) schema.entry))) }
+        (set_contents set.now (option_map (λ f. f.now) schema.entry))) }
 {
     let one = read_one(alloc, set, schema)?;
     print_set_checked(

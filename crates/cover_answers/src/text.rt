@@ -1,11 +1,10 @@
 //! The lines that only summaries with certificates, and checks of them, print.
 ghost use Rattle.std.specs.Prelude.{◌≡◌, IfOk, string_bytes};
-ghost use Rattle.cover_answers.specs.CoverTexts.{accepted_line, bad_end, bad_line, certificate_fault_text, certificate_word, cover_splits_line, cover_states_end, cover_states_line, cover_tests_line, head_fault_text, head_word, not_closing_line, not_summary_line};
+ghost use Rattle.cover_answers.specs.CoverTexts.{cover_splits_line, cover_states_end, cover_states_line, cover_tests_line, head_fault_text, head_word, not_summary_line};
 
 use crate::fault::{HeadCode, HeadFault};
 use policy_model::Slot;
-use proof_text::{ProofCode, ProofFault};
-use run_sets::{number_text, slot_word};
+use run_sets::{bad_line, number_text, slot_word};
 use std::alloc::{AllocError, Global};
 
 fn head_word(code: HeadCode) -> &'static str
@@ -18,47 +17,11 @@ fn head_word(code: HeadCode) -> &'static str
     }
 }
 
-fn certificate_word(code: ProofCode) -> &'static str
-    ensures { result.now ≡ certificate_word code }
-{
-    match code {
-        ProofCode::C1Syntax => "C1",
-        ProofCode::C2Version => "C2",
-        ProofCode::C3TestNumber => "C3",
-        ProofCode::C4Limit => "C4",
-    }
-}
-
-// The end of the line on a fault of a file, by its line.
-#[tactic(auto, unfolding(crate::specs::CoverTexts::bad_end))]
-fn bad_end(alloc: Global, line: u32) -> Result<String, AllocError>
-    ensures { IfOk result (λ s. string_bytes s ≡ bad_end line) }
-{
-    format!(in alloc; " line {line}\n")
-}
-
-// The line on a fault of a file, by its code and its line.
-#[tactic(auto, unfolding(crate::specs::CoverTexts::bad_line))]
-fn bad_line(alloc: Global, code: &str, line: u32) -> Result<String, AllocError>
-    ensures { IfOk result (λ s. string_bytes s ≡ bad_line code.now line) }
-{
-    let end = bad_end(alloc, line)?;
-    let end = end.as_str();
-    format!(in alloc; "bad proof: {code}{end}")
-}
-
 /// The line on the first line before a certificate that fails.
 pub(crate) fn head_fault_text(alloc: Global, fault: HeadFault) -> Result<String, AllocError>
     ensures { IfOk result (λ s. string_bytes s ≡ head_fault_text fault) }
 {
     bad_line(alloc, head_word(fault.code), fault.line)
-}
-
-/// The line on the first fault of a certificate.
-pub(crate) fn certificate_fault_text(alloc: Global, fault: ProofFault) -> Result<String, AllocError>
-    ensures { IfOk result (λ s. string_bytes s ≡ certificate_fault_text fault) }
-{
-    bad_line(alloc, certificate_word(fault.code), fault.line)
 }
 
 /// The line on the first pair that keeps a list from standing for a set, by the line of its finding.
@@ -67,21 +30,6 @@ pub(crate) fn not_summary_line(alloc: Global, line: u32) -> Result<String, Alloc
     ensures { IfOk result (λ s. string_bytes s ≡ not_summary_line line) }
 {
     format!(in alloc; "not a summary: line {line}\n")
-}
-
-/// The line on the first node that fails.
-#[tactic(auto, unfolding(crate::specs::CoverTexts::not_closing_line))]
-pub(crate) fn not_closing_line(alloc: Global, line: u32) -> Result<String, AllocError>
-    ensures { IfOk result (λ s. string_bytes s ≡ not_closing_line line) }
-{
-    format!(in alloc; "not closing: line {line}\n")
-}
-
-/// The line on a file that is accepted.
-pub(crate) fn accepted_line(alloc: Global) -> Result<String, AllocError>
-    ensures { IfOk result (λ s. string_bytes s ≡ accepted_line) }
-{
-    String::from_str(alloc, "accepted\n")
 }
 
 /// The line on a cover whose query has more than 1,000 tests.

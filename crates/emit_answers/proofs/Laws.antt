@@ -10,11 +10,11 @@ use Rattle.run_files.specs.declared.status.Status.TheVariants as status
 use Rattle.run_files.specs.Printing.{IsOfText}
 use Rattle.run_sets.specs.declared.one_set.OneSet.{OneSet}
 use Rattle.run_sets.specs.declared.refusal.Refusal.{Refusal}
-use Rattle.run_sets.specs.OneSets.{one_of}
+use Rattle.run_sets.specs.OneSets.{one_of, SetContents}
 use Rattle.run_sets.specs.Refusals.{IsRefusedBy}
 use Rattle.run_sets.proofs.Laws.{no_one_fails, of_same_set}
 use Rattle.finding_answers.specs.declared.answer.Found.{Found}
-use Rattle.finding_answers.specs.Printed.{SummaryContents, limits_in}
+use Rattle.finding_answers.specs.Printed.{limits_in}
 use Rattle.finding_answers.proofs.Laws.{not_found_of_text, summarisable_sets_are_found}
 use Rattle.emit_answers.specs.EmitComplete.{EmitsDecide, IsEmittable}
 use Rattle.emit_answers.specs.EmitPrinted.{HasNoPolicy, HasPolicy, IsEmitPrinted, IsSetEmitted}
@@ -35,7 +35,7 @@ set_with : (names : List (List ℕ)) (limits : Limits) (named : Schema) (one : O
 set_with names limits named one p (inl none) = not_found_of_text names limits one p none
 set_with names limits named one p (inr found) = emits_with named one found.found p found.emits
 
-pub emit_of_text : (e : Summarising) (c : SummaryContents) (p : Printed) → IsEmitPrinted e c p → IsOfText p.status
+pub emit_of_text : (e : Summarising) (c : SetContents) (p : Printed) → IsEmitPrinted e c p → IsOfText p.status
 emit_of_text e c p (inl none) = refusal_with _ p none
 emit_of_text e c p (inr of) = set_with e.dimensions (limits_in e) of.named _ p of.holds.holds
 

@@ -6,11 +6,11 @@ use Rattle.summary_search.specs.declared.outcome.Limits.{Limits}
 use Rattle.run_files.specs.declared.printed.Printed.{Printed}
 use Rattle.run_files.specs.declared.status.Status.TheVariants.{Holds}
 use Rattle.run_sets.specs.declared.one_set.OneSet.{OneSet}
-use Rattle.run_sets.specs.OneSets.{OfOneSet}
+use Rattle.run_sets.specs.OneSets.{OfOneSet, SetContents}
 use Rattle.finding_answers.specs.declared.answer.Found.{Found}
 use Rattle.finding_answers.specs.Complete.{IsSummarisable}
 use Rattle.finding_answers.specs.Found.{IsFoundOf}
-use Rattle.finding_answers.specs.Printed.{SummaryContents, limits_in}
+use Rattle.finding_answers.specs.Printed.{limits_in}
 use Rattle.emit_answers.specs.EmitPrinted.{IsEmitPrinted}
 
 -- the set is summarised, and its findings are no more than statements may stand in a set
@@ -19,10 +19,10 @@ pub record IsEmittable (names : List (List ℕ)) (limits : Limits) (one : OneSet
   pub few : (found : Found) → IsFoundOf names limits one found → length found.summary ≤ MOST_STATEMENTS
 
 -- the files stand for such a set
-abbrev pub IsEmitAccepted : Summarising → SummaryContents → Type 0
+abbrev pub IsEmitAccepted : Summarising → SetContents → Type 0
 IsEmitAccepted e c = OfOneSet c.set c.schema (IsEmittable e.dimensions (limits_in e))
 
 -- of such files the policy is printed
 abbrev pub EmitsDecide : Type 0
-EmitsDecide = (e : Summarising) (c : SummaryContents) (p : Printed) →
+EmitsDecide = (e : Summarising) (c : SetContents) (p : Printed) →
     IsEmitAccepted e c → IsEmitPrinted e c p → p.status ≡ Holds

@@ -19,12 +19,12 @@ use Rattle.run_files.specs.declared.printed.Printed.{Printed}
 use Rattle.run_files.specs.declared.status.Status.TheVariants.{Holds, Refused}
 use Rattle.run_files.specs.Printing.{IfPrinted, Tells}
 use Rattle.run_sets.specs.declared.one_set.OneSet.{OneSet}
-use Rattle.run_sets.specs.OneSets.{IsNoOneSet, OfSet, OfSetRun}
+use Rattle.run_sets.specs.OneSets.{IsNoOneSet, OfSet, OfSetRun, SetContents}
 use Rattle.run_sets.specs.Refusals.{IsRefusedBy}
 use Rattle.run_sets.specs.Standing.{StandsFor}
 use Rattle.finding_answers.specs.declared.answer.Found.{Found}
 use Rattle.finding_answers.specs.Found.{IsFoundOf, IsNotFound}
-use Rattle.finding_answers.specs.Printed.{SummaryContents, limits_in}
+use Rattle.finding_answers.specs.Printed.{limits_in}
 
 -- ---- what a policy says
 
@@ -74,7 +74,7 @@ abbrev pub IsSetEmitted : List (List ℕ) → Limits → Schema → OneSet → P
 IsSetEmitted names limits named one p = IsNotFound names limits one p ⊎ IsFoundEmitted names limits named one p
 
 -- of files: why they stand for no set, or what is printed of the set that they stand for
-abbrev pub IsEmitPrinted : Summarising → SummaryContents → Printed → Type 0
+abbrev pub IsEmitPrinted : Summarising → SetContents → Printed → Type 0
 IsEmitPrinted e c p =
     IsRefusedBy (IsNoOneSet c.set c.schema) p
     ⊎ OfSet c.set c.schema (λ named set. OfSetRun named set (λ one. IsSetEmitted e.dimensions (limits_in e) named one p))

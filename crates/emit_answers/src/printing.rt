@@ -2,9 +2,8 @@
 ghost use Rattle.std.specs.Prelude.{◌≡◌, true, option_map};
 ghost use Rattle.command_words.specs.Asked.{AreFindingsInRange, are_dimensions, summarising_in, texts_in};
 ghost use Rattle.run_files.specs.Printing.{IfPrinted};
-ghost use Rattle.run_sets.specs.OneSets.{FitsItsSchema};
+ghost use Rattle.run_sets.specs.OneSets.{FitsItsSchema, set_contents};
 ghost use Rattle.summary_search.specs.Outcomes.{AreInRange};
-ghost use Rattle.finding_answers.specs.Printed.{summary_contents};
 ghost use Rattle.emit_answers.specs.EmitPrinted.{EmitsOf, IsEmitPrinted};
 
 use crate::writing::print_policy;
@@ -47,7 +46,7 @@ pub fn print_emit(
 ) -> Result<Printed, EarlyEnd>
     requires { AreFindingsInRange arguments.now }
     ensures { IfPrinted result (IsEmitPrinted (summarising_in arguments.now)
-        (summary_contents set.now (option_map (λ f. f.now) schema.entry))) }
+        (set_contents set.now (option_map (λ f. f.now) schema.entry))) }
 {
     let one = read_one(alloc, set, schema)?;
     print_set_policy(

@@ -25,14 +25,15 @@ use Rattle.run_files.specs.Printing.{IsOfText}
 use Rattle.run_sets.specs.declared.one_set.OneSet.{OneSet}
 use Rattle.run_sets.specs.declared.refusal.Refusal.{Refusal}
 use Rattle.run_sets.specs.declared.refusal.Refusal.TheVariants as refusal
-use Rattle.run_sets.specs.OneSets.{one_of}
+use Rattle.run_sets.specs.OneSets.{one_of, SetContents}
 use Rattle.run_sets.specs.Refusals.{IsRefusedBy}
 use Rattle.run_sets.proofs.Laws.{no_one_fails, of_same_set}
 use Rattle.finding_answers.specs.declared.answer.Found.{Found}
 use Rattle.finding_answers.specs.Complete.{FitsLimits, IsSummarisable, SummariesDecide, SummarisableSetsAreFound}
 use Rattle.finding_answers.specs.Dimensions.{IsFirstUnknown, NameSlots, NamesSlot, dimension_slots}
-use Rattle.finding_answers.specs.Found.{HaveFindings, IsFoundOf, IsNotFound, IsNotSummarised, IsSetPastLimit, TellsUnfound}
-use Rattle.finding_answers.specs.Printed.{IsSetPrinted, IsSummaryPrinted, SummaryContents, limits_in}
+use Rattle.finding_answers.specs.Found.{HaveFindings, IsFoundOf, IsNotFound, IsNotSummarised, TellsUnfound}
+use Rattle.run_sets.specs.PastLimits.{IsSetPastLimit}
+use Rattle.finding_answers.specs.Printed.{IsSetPrinted, IsSummaryPrinted, limits_in}
 use Rattle.finding_answers.proofs.Naming.{names-askable}
 use Rattle.finding_answers.proofs.Summarising.{summary-findings}
 
@@ -77,7 +78,7 @@ set_with : (names : List (List ℕ)) (limits : Limits) (one : OneSet) (p : Print
 set_with names limits one p (inl none) = not_found_of_text names limits one p none
 set_with names limits one p (inr found) = with_status p status.Holds tt found.told.1
 
-pub summary_of_text : (s : Summarising) (c : SummaryContents) (p : Printed) → IsSummaryPrinted s c p → IsOfText p.status
+pub summary_of_text : (s : Summarising) (c : SetContents) (p : Printed) → IsSummaryPrinted s c p → IsOfText p.status
 summary_of_text s c p (inl none) = refusal_with _ p none
 summary_of_text s c p (inr of) = set_with s.dimensions (limits_in s) _ p of.holds.holds
 

@@ -20,10 +20,10 @@ use Rattle.summary_search.specs.declared.outcome.Limits.{Limits}
 use Rattle.run_files.specs.declared.printed.Printed.{Printed}
 use Rattle.run_files.specs.declared.status.Status.TheVariants.{Holds}
 use Rattle.run_sets.specs.declared.one_set.OneSet.{OneSet}
-use Rattle.run_sets.specs.OneSets.{OfOneSet}
+use Rattle.run_sets.specs.OneSets.{OfOneSet, SetContents}
 use Rattle.finding_answers.specs.Dimensions.{NameSlots, dimension_slots}
 use Rattle.finding_answers.specs.Found.{IsNotFound}
-use Rattle.finding_answers.specs.Printed.{IsSummaryPrinted, SummaryContents, limits_in}
+use Rattle.finding_answers.specs.Printed.{IsSummaryPrinted, limits_in}
 
 -- of no finding that must be looked at the query needs more splits or more product states, and no more findings must be
 pub record FitsFindings (limits : Limits) (schema : Schema) (set : PolicySet) (ds : List Stratum) : Type 0 where
@@ -54,10 +54,10 @@ SummarisableSetsAreFound =
     IsSummarisable names limits one → ¬ IsNotFound names limits one p
 
 -- the files of a summary stand for a set with a schema that has each dimension, and no limit is below the need
-abbrev pub IsSummaryAccepted : Summarising → SummaryContents → Type 0
+abbrev pub IsSummaryAccepted : Summarising → SetContents → Type 0
 IsSummaryAccepted s c = OfOneSet c.set c.schema (IsSummarisable s.dimensions (limits_in s))
 
 -- such files are summarised
 abbrev pub SummariesDecide : Type 0
-SummariesDecide = (s : Summarising) (c : SummaryContents) (p : Printed) →
+SummariesDecide = (s : Summarising) (c : SetContents) (p : Printed) →
     IsSummaryAccepted s c → IsSummaryPrinted s c p → p.status ≡ Holds

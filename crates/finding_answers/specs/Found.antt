@@ -28,6 +28,7 @@ use Rattle.run_sets.specs.declared.refusal.Refusal.{Refusal}
 use Rattle.run_sets.specs.declared.refusal.Refusal.TheVariants.{TooManyTests, TooManyPieces}
 use Rattle.run_sets.specs.declared.shortage.Shortage.TheVariants.{States}
 use Rattle.run_sets.specs.Parts.{shortage_text}
+use Rattle.run_sets.specs.PastLimits.{IsSetPastLimit}
 use Rattle.run_sets.specs.Refusals.{IsRefusedBy}
 use Rattle.finding_answers.specs.declared.answer.Found.{Found}
 use Rattle.finding_answers.specs.Dimensions.{IsUnknownPrinted, NameSlots, dimension_slots}
@@ -55,12 +56,6 @@ pub record IsFoundOf (names : List (List ℕ)) (limits : Limits) (one : OneSet) 
   pub kept : AreWellKept found.summary
 
 -- ---- what is printed instead
-
--- a limit that the query of the set is past
-abbrev pub IsSetPastLimit : Schema → PolicySet → Refusal → Type 0
-IsSetPastLimit schema set TooManyTests = HasTooMany [] (tests_in (set_plan schema set))
-IsSetPastLimit schema set TooManyPieces = HasTooManyPieces (set_plan schema set)
-IsSetPastLimit schema set _ = ⊥
 
 -- what the summary of the set by the slots comes to
 pub record IsSetOutcome (slots : List Slot) (limits : Limits) (one : OneSet) (came : Outcome) : Type 0 where

@@ -6,7 +6,7 @@ use Rattle.run_files.specs.declared.printed.Printed.{Printed}
 use Rattle.run_files.specs.declared.status.Status.TheVariants.{Holds}
 use Rattle.run_files.specs.Printing.{Tells}
 use Rattle.run_sets.specs.declared.one_set.OneSet.{OneSet}
-use Rattle.run_sets.specs.OneSets.{IsNoOneSet, OfOneSet}
+use Rattle.run_sets.specs.OneSets.{IsNoOneSet, OfOneSet, SetContents}
 use Rattle.run_sets.specs.Refusals.{IsRefusedBy}
 use Rattle.finding_answers.specs.declared.answer.Found.{Found}
 use Rattle.finding_answers.specs.FindingTexts.{found_text}
@@ -22,20 +22,12 @@ pub record IsFoundPrinted (names : List (List ℕ)) (limits : Limits) (one : One
 abbrev pub IsSetPrinted : List (List ℕ) → Limits → OneSet → Printed → Type 0
 IsSetPrinted names limits one p = IsNotFound names limits one p ⊎ IsFoundPrinted names limits one p
 
--- the bytes of the files: of the set, and of the schema where one is named
-pub record SummaryContents : Type 0 where
-  pub set : List ℕ
-  pub schema : Option (List ℕ)
-
-abbrev pub summary_contents : List ℕ → Option (List ℕ) → SummaryContents
-summary_contents set schema = record { set = set; schema = schema }
-
 -- the limits of a summary
 abbrev pub limits_in : Summarising → Limits
 limits_in s = record { splits = s.splits; states = s.states; findings = s.findings }
 
 -- of files: why they stand for no set, or what is printed of the set that they stand for
-abbrev pub IsSummaryPrinted : Summarising → SummaryContents → Printed → Type 0
+abbrev pub IsSummaryPrinted : Summarising → SetContents → Printed → Type 0
 IsSummaryPrinted s c p =
     IsRefusedBy (IsNoOneSet c.set c.schema) p
     ⊎ OfOneSet c.set c.schema (λ one. IsSetPrinted s.dimensions (limits_in s) one p)

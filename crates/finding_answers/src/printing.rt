@@ -2,9 +2,9 @@
 ghost use Rattle.std.specs.Prelude.{◌≡◌, true, option_map};
 ghost use Rattle.command_words.specs.Asked.{HasBudgetsInRange, are_dimensions, summarising_in, texts_in};
 ghost use Rattle.run_files.specs.Printing.{IfPrinted};
-ghost use Rattle.run_sets.specs.OneSets.{FitsItsSchema};
+ghost use Rattle.run_sets.specs.OneSets.{FitsItsSchema, set_contents};
 ghost use Rattle.summary_search.specs.Outcomes.{AreInRange};
-ghost use Rattle.finding_answers.specs.Printed.{IsSetPrinted, IsSummaryPrinted, limits_in, summary_contents};
+ghost use Rattle.finding_answers.specs.Printed.{IsSetPrinted, IsSummaryPrinted, limits_in};
 
 use crate::summary::found;
 use crate::text::found_text;
@@ -56,7 +56,7 @@ pub fn print_summary(
     requires budgets { HasBudgetsInRange arguments.now }
     requires dimensions { are_dimensions (texts_in arguments.now.dimensions.items) ≡ true }
     ensures { IfPrinted result (IsSummaryPrinted (summarising_in arguments.now)
-        (summary_contents set.now (option_map (λ f. f.now) schema.entry))) }
+        (set_contents set.now (option_map (λ f. f.now) schema.entry))) }
 {
     let one = read_one(alloc, set, schema)?;
     print_set_summary(

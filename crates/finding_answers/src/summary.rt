@@ -7,7 +7,8 @@ ghost use Rattle.summary_search.specs.Outcomes.{AreAskable, AreInRange};
 ghost use Rattle.run_files.specs.Printing.{OrAnswered};
 ghost use Rattle.run_sets.specs.OneSets.{FitsItsSchema};
 ghost use Rattle.run_sets.specs.Refusals.{IsRefusedBy};
-ghost use Rattle.finding_answers.specs.Found.{AreWellKept, HasTexts, IsFoundIn, IsFoundOf, IsNotFound, IsSetOutcome, IsSetPastLimit, TellsUnfound};
+ghost use Rattle.finding_answers.specs.Found.{AreWellKept, HasTexts, IsFoundIn, IsFoundOf, IsNotFound, IsSetOutcome, TellsUnfound};
+ghost use Rattle.run_sets.specs.PastLimits.{IsSetPastLimit};
 
 use crate::answer::Found;
 use crate::dimensions::slots_of;

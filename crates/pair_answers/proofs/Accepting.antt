@@ -38,7 +38,8 @@ use Rattle.pair_answers.specs.declared.answer.CheckAnswer.{CheckAnswer}
 use Rattle.pair_answers.specs.declared.answer.CheckAnswer.TheVariants as answer
 use Rattle.pair_answers.specs.declared.answer.ComparisonAnswer.{ComparisonAnswer}
 use Rattle.pair_answers.specs.declared.answer.ComparisonAnswer.TheVariants as compared
-use Rattle.pair_answers.specs.Certified.{ClosesBy, FailsAll, FailsAtLine, HasProofFault, fault_for}
+use Rattle.run_sets.specs.ClosedQueries.{FailsAll}
+use Rattle.pair_answers.specs.Certified.{ClosesBy, FailsAtLine, HasProofFault, fault_for}
 use Rattle.pair_answers.specs.Checks.{ChecksAgree, PrintedProofsAreAccepted, SaysTheSame}
 use Rattle.pair_answers.specs.Comparison.{OfQuery, TooManyPieces, TooManyTests, plan_of}
 use Rattle.pair_answers.specs.Decided.{IsChecked, IsComparison, IsPastLimit}
@@ -288,7 +289,6 @@ unfolding comparison_text
 proved_text text = refl
 
 accepted_text : check_text answer.Accepted ≡ codes "accepted\n"
-unfolding check_text
 accepted_text = refl
 
 -- a comparison of the pair may be answered by the certificate

@@ -7,7 +7,7 @@ use Rattle.std.proofs.lemmas.List.Elements.{All-nil}
 use Rattle.formula_tree.specs.Laws.{FewTestsFit}
 use Rattle.formula_tree.specs.Values.{AreBelow, holds}
 use Rattle.policy_model.specs.declared.request.Request.{Request}
-use Rattle.policy_difference.specs.Differences.{AskTheSame}
+use Rattle.policy_difference.specs.Apartness.{AskTheSamePair, IsSmallerPair}
 use Rattle.policy_model.specs.declared.schema.Schema.{Schema}
 use Rattle.policy_model.specs.declared.set.PolicySet.{PolicySet}
 use Rattle.policy_model.specs.declared.test.Test.{Test}
@@ -39,6 +39,7 @@ use Rattle.tree_search.specs.declared.outcome.Decided.TheVariants as decided
 use Rattle.tree_search.specs.Decisions.{IsDecision, IsRefutation}
 use Rattle.tree_search.proofs.Laws.{makes-yes}
 use Rattle.formula_tree.specs.Trees as tree
+use Rattle.request_json.specs.Laws.{WrittenRequestsAreReadAgain}
 use Rattle.command_words.specs.declared.limits.TheConstants.{MOST_SPLITS}
 use Rattle.run_sets.specs.declared.pair.Pair.{Pair}
 use Rattle.run_sets.specs.Pairs.{IsFitting, paired}
@@ -47,7 +48,8 @@ use Rattle.pair_answers.specs.declared.answer.CheckAnswer.{CheckAnswer}
 use Rattle.pair_answers.specs.declared.answer.CheckAnswer.TheVariants as check
 use Rattle.pair_answers.specs.declared.answer.ComparisonAnswer.{ComparisonAnswer}
 use Rattle.pair_answers.specs.declared.answer.ComparisonAnswer.TheVariants as answer
-use Rattle.pair_answers.specs.Certified.{Certifies, ClosesAll, ClosesBy, FailsAtLine}
+use Rattle.run_sets.specs.ClosedQueries.{ClosesAll}
+use Rattle.pair_answers.specs.Certified.{Certifies, ClosesBy, FailsAtLine}
 use Rattle.pair_answers.specs.Comparison.{Covers, FewTestsAreDecided, IsWitness, plan_of}
 use Rattle.pair_answers.specs.Decided.{IsChecked, IsComparison, IsDecisionAnswer, IsRefutedAnswer, IsVerdictOn, IsVerdictAnswer, IsVerdictIn}
 
@@ -72,11 +74,11 @@ covers_if_closed law pair q p fitting is closes r valid allowed =
     ]
 
 -- a request that makes the query yes is one that only the first set allows
-pub witness_if_met : (pair : Pair) (q : Query) (r : Request) → IsFitting pair → IsQuery (plan_of pair) q → IsValid pair.schema r → MakesYes q.tests (asked_tree q) r → IsWellKept r → IsWitness pair r
-witness_if_met pair q r fitting is valid (total, answers, met) kept =
+pub witness_if_met : WrittenRequestsAreReadAgain → (pair : Pair) (q : Query) (r : Request) → IsFitting pair → IsQuery (plan_of pair) q → IsValid pair.schema r → MakesYes q.tests (asked_tree q) r → IsWellKept r → IsWitness pair r
+witness_if_met written pair q r fitting is valid (total, answers, met) kept =
     let whole_says = holds-numbered total r q.tests answers (plan_of pair) (asked_tree q) is.tree in
     let both = (query-holds pair.schema r pair.first pair.second fitting.first fitting.second valid).0 (whole_says.0 met) in
-    record { kept = kept; valid = valid; allowed = both.0; refused = both.1 }
+    record { kept = kept; again = written pair.schema r kept valid; valid = valid; allowed = both.0; refused = both.1 }
 
 -- the certificate of a refutation that closes the query is read again
 certifies : ClosingProofsAreSmall → ClosingProofsHaveNoFault → (pair : Pair) (q : Query) (budgets : Budgets) (p : Proof) (text : List ℕ) → IsQuery (plan_of pair) q → pair.schema.version ≤ MOST_NUMBER → IsRefutation pair.schema q budgets.splits p → text ≡ spell pair.schema.version p → HoldsSmallNumbers p → Certifies pair.schema q text
@@ -104,24 +106,37 @@ refuted_if_closed law sizes read pair some q certified budgets p fitting is h (a
     (asked, record { query = q; is = is; holds = certifies sizes read pair q budgets p (string_bytes text) is version h spelled small }, (covers_if_closed law pair q p fitting is h.closes, some))
 refuted_if_closed law sizes read pair some q certified budgets p fitting is h _ v = absurd v
 
-pub comparison_if_decided : ClosedQueriesAreNo → ClosingProofsAreSmall → ClosingProofsHaveNoFault → (pair : Pair) → HasValidRequest pair.schema → (q : Query) (certified : Bool) (budgets : Budgets) (d : Decided) → IsFitting pair → IsQuery (plan_of pair) q → IsDecision pair.schema q budgets d → (a : ComparisonAnswer) → IsDecisionAnswer certified pair.schema.version budgets d a → IsComparison certified budgets pair a
-comparison_if_decided law sizes read pair some q certified budgets (decided.Refuted r) fitting is h a v = refuted_if_closed law sizes read pair some q certified budgets (proof_of r.value) fitting is h a v
-comparison_if_decided law sizes read pair some q certified budgets (decided.Met r) fitting is h a v = subst (λ (x : ComparisonAnswer). IsComparison certified budgets pair x) (sym v.0) ((q, is), witness_if_met pair q r fitting is h.valid h.meets v.1)
-comparison_if_decided law sizes read pair some q certified budgets decided.OutOfSplits fitting is h a v = subst (λ (x : ComparisonAnswer). IsComparison certified budgets pair x) (sym v) (refl, record { query = q; is = is; plain = h.plain; propagated = h.propagated })
-comparison_if_decided law sizes read pair some q certified budgets (decided.OutOfStates w) fitting is h a v = subst (λ (x : ComparisonAnswer). IsComparison certified budgets pair x) (sym v) (refl, record { query = q; is = is; path = w.path; node = h.node; not_no = h.not_no; asked = h.asked; wider = (w.texts, h.texts) })
+pub comparison_if_decided : ClosedQueriesAreNo → ClosingProofsAreSmall → ClosingProofsHaveNoFault → WrittenRequestsAreReadAgain → (pair : Pair) → HasValidRequest pair.schema → (q : Query) (certified : Bool) (budgets : Budgets) (d : Decided) → IsFitting pair → IsQuery (plan_of pair) q → IsDecision pair.schema q budgets d → (a : ComparisonAnswer) → IsDecisionAnswer certified pair.schema.version budgets d a → IsComparison certified budgets pair a
+comparison_if_decided law sizes read written pair some q certified budgets (decided.Refuted r) fitting is h a v = refuted_if_closed law sizes read pair some q certified budgets (proof_of r.value) fitting is h a v
+comparison_if_decided law sizes read written pair some q certified budgets (decided.Met r) fitting is h a v = subst (λ (x : ComparisonAnswer). IsComparison certified budgets pair x) (sym v.0) ((q, is), witness_if_met written pair q r fitting is h.valid h.meets v.1)
+comparison_if_decided law sizes read written pair some q certified budgets decided.OutOfSplits fitting is h a v = subst (λ (x : ComparisonAnswer). IsComparison certified budgets pair x) (sym v) (refl, record { query = q; is = is; holds = h })
+comparison_if_decided law sizes read written pair some q certified budgets (decided.OutOfStates w) fitting is h a v = subst (λ (x : ComparisonAnswer). IsComparison certified budgets pair x) (sym v) (refl, record { query = q; is = is; path = w.path; node = h.node; not_no = h.not_no; asked = h.asked; wider = (w.texts, h.texts) })
 
--- a first set that asks the same is covered, so the pair's first set is
-covers-too : (pair : Pair) (first : PolicySet) → AskTheSame pair.first first pair.second → Covers (paired pair.schema first pair.second) → Covers pair
-covers-too pair first same covers r valid allowed = elim (same.split pair.schema r allowed) [ inl second ↦ second | inr left ↦ covers r valid left ]
+-- a smaller pair fits the schema of the pair
+pub smaller-fits : (pair : Pair) (first second : PolicySet) → IsSmallerPair pair.first pair.second first second → IsFitting pair → IsFitting (paired pair.schema first second)
+smaller-fits pair first second smaller fitting = record {
+  sound = fitting.sound;
+  first = smaller.first_fits pair.schema fitting.first;
+  second = smaller.second_fits pair.schema fitting.second;
+}
 
-pub verdict_if_decided : ClosedQueriesAreNo → (pair : Pair) (first : PolicySet) (q : Query) (budgets : Budgets) (d : Decided) → IsFitting (paired pair.schema first pair.second) → AskTheSame pair.first first pair.second → IsQuery (plan_of (paired pair.schema first pair.second)) q → IsDecision pair.schema q budgets d → (o : Option ComparisonAnswer) → IsVerdictIn d o → IfSome o (IsVerdictOn pair)
-verdict_if_decided law pair first q budgets (decided.Refuted r) fitting same is h o v =
-    subst (λ (x : Option ComparisonAnswer). IfSome x (IsVerdictOn pair)) (sym v) (covers-too pair first same (covers_if_closed law (paired pair.schema first pair.second) q (proof_of r.value) fitting is h.closes))
-verdict_if_decided law pair first q budgets (decided.Met r) fitting same is h o v =
-    let found = witness_if_met (paired pair.schema first pair.second) q r fitting is h.valid h.meets v.1 in
-    subst (λ (x : Option ComparisonAnswer). IfSome x (IsVerdictOn pair)) (sym v.0) (record { kept = found.kept; valid = found.valid; allowed = same.within pair.schema r found.allowed; refused = found.refused })
-verdict_if_decided law pair first q budgets decided.OutOfSplits fitting same is h o v = subst (λ (x : Option ComparisonAnswer). IfSome x (IsVerdictOn pair)) (sym v) tt
-verdict_if_decided law pair first q budgets (decided.OutOfStates w) fitting same is h o v = subst (λ (x : Option ComparisonAnswer). IfSome x (IsVerdictOn pair)) (sym v) tt
+-- what a smaller pair covers the pair covers
+covers-too : (pair : Pair) (first second : PolicySet) → AskTheSamePair pair.first pair.second first second → Covers (paired pair.schema first second) → Covers pair
+covers-too pair first second same covers r valid allowed = same.covers pair.schema r allowed (covers r valid)
+
+-- a witness of a smaller pair is one of the pair
+witness-too : (pair : Pair) (first second : PolicySet) (r : Request) → AskTheSamePair pair.first pair.second first second → IsWitness (paired pair.schema first second) r → IsWitness pair r
+witness-too pair first second r same found =
+    let only = same.only pair.schema r found.allowed found.refused in
+    record { kept = found.kept; again = found.again; valid = found.valid; allowed = only.0; refused = only.1 }
+
+pub verdict_if_decided : ClosedQueriesAreNo → WrittenRequestsAreReadAgain → (pair : Pair) (first second : PolicySet) (q : Query) (budgets : Budgets) (d : Decided) → IsFitting (paired pair.schema first second) → AskTheSamePair pair.first pair.second first second → IsQuery (plan_of (paired pair.schema first second)) q → IsDecision pair.schema q budgets d → (o : Option ComparisonAnswer) → IsVerdictIn d o → IfSome o (IsVerdictOn pair)
+verdict_if_decided law written pair first second q budgets (decided.Refuted r) fitting same is h o v =
+    subst (λ (x : Option ComparisonAnswer). IfSome x (IsVerdictOn pair)) (sym v) (covers-too pair first second same (covers_if_closed law (paired pair.schema first second) q (proof_of r.value) fitting is h.closes))
+verdict_if_decided law written pair first second q budgets (decided.Met r) fitting same is h o v =
+    subst (λ (x : Option ComparisonAnswer). IfSome x (IsVerdictOn pair)) (sym v.0) (witness-too pair first second r same (witness_if_met written (paired pair.schema first second) q r fitting is h.valid h.meets v.1))
+verdict_if_decided law written pair first second q budgets decided.OutOfSplits fitting same is h o v = subst (λ (x : Option ComparisonAnswer). IfSome x (IsVerdictOn pair)) (sym v) tt
+verdict_if_decided law written pair first second q budgets (decided.OutOfStates w) fitting same is h o v = subst (λ (x : Option ComparisonAnswer). IfSome x (IsVerdictOn pair)) (sym v) tt
 
 -- a verdict is a comparison, where the pair has a query
 pub comparison_if_verdict : (pair : Pair) → HasValidRequest pair.schema → (q : Query) (budgets : Budgets) → IsQuery (plan_of pair) q → (a : ComparisonAnswer) → IsVerdictOn pair a → IsComparison false budgets pair a
@@ -164,7 +179,7 @@ few_tests_fit schema q fit pair under is few needs =
     let below = below-numbered needs.query.tests (plan_of pair) (asked_tree needs.query) needs.is.tree in
     let few_too : length needs.query.tests ≤ 19 = subst (λ (ts : List Test). length ts ≤ 19) (sym same) few in
     let answers : 2 ^ length needs.query.tests ≤ 2 ^ 19 = pow_mono few_too in
-    fit_too (asked_tree needs.query) (length needs.query.tests) MOST_SPLITS below (omega arith) needs.plain
+    fit_too (asked_tree needs.query) (length needs.query.tests) MOST_SPLITS below (omega arith) needs.holds
 
 -- the first fault of a certificate that isn't read is what is answered
 pub bad-proof : (pair : Pair) (q : Query) (bytes : List ℕ) (tests : ℕ) (unread : ProofAnswer) (fault : ProofFault) → IsQuery (plan_of pair) q → IsProofRead (record { tests = tests; version = pair.schema.version }) bytes (Err unread) → unread ≡ proof_answer.Refused fault → tests ≡ length q.tests → IsChecked bytes pair (check.BadProof fault)

@@ -1,9 +1,8 @@
 -- What a certificate shows of the query of a run.
-use Rattle.std.specs.Prelude.{◌≡◌, ◌≤◌, ◌+◌, ℕ, List, [], ◌++◌, length, slice_get, Some, None, Option}
-use Rattle.formula_tree.specs.Trees.{tree_of}
+use Rattle.std.specs.Prelude.{◌≡◌, ◌≤◌, ◌+◌, ℕ, List, ◌++◌, length, slice_get, Some, None, Option}
 use Rattle.policy_compile.specs.declared.outcome.Query.{Query}
+use Rattle.policy_compile.specs.Queries.{asked_tree}
 use Rattle.policy_model.specs.declared.schema.Schema.{Schema}
-use Rattle.refute_check.specs.Closing.{Closes, FailsAt, at_first}
 use Rattle.refute_check.specs.Proofs.{Proof}
 use Rattle.proof_text.specs.Faults.{proof_fault, skipped}
 use Rattle.proof_text.specs.Laws.{IsSmall, limits_of}
@@ -13,18 +12,11 @@ use Rattle.proof_text.specs.Spelling.{IsCertificateOf, spell, starts}
 use Rattle.proof_text.specs.declared.fault.ProofFault.{ProofFault}
 use Rattle.proof_text.specs.declared.limits.TheConstants.{MOST_PROOF_BYTES}
 use Rattle.search_parts.specs.Trimmed.{IsTrimmed}
+use Rattle.run_sets.specs.ClosedQueries.{ClosesAll, FailsAll}
 
 -- the first fault of a certificate for the query: it is read for the number of its tests, in the format of the schema's version
 abbrev pub fault_for : Schema → Query → List ℕ → Option ProofFault
 fault_for schema q bytes = proof_fault (limits_of q.tests schema.version) bytes
-
--- the refutation closes the query under no answers
-abbrev pub ClosesAll : Schema → Query → Proof → Type 0
-ClosesAll schema q proof = Closes schema q.tests (tree_of q.formula.value) at_first proof []
-
--- this node of it is the first that fails
-abbrev pub FailsAll : Schema → Query → Proof → ℕ → Type 0
-FailsAll schema q proof node = FailsAt schema q.tests (tree_of q.formula.value) at_first proof [] node
 
 -- the file has no fault, and the refutation that it is the certificate of closes the query. It is the certificate of no other, since
 -- its numbers are small
@@ -61,5 +53,5 @@ pub record Certifies (schema : Schema) (q : Query) (text : List ℕ) : Type 0 wh
   pub proof : Proof
   pub spelled : text ≡ spell schema.version proof
   pub closes : ClosesAll schema q proof
-  pub trimmed : IsTrimmed schema q.tests (tree_of q.formula.value) proof
+  pub trimmed : IsTrimmed schema q.tests (asked_tree q) proof
   pub readable : IsReadable schema q text

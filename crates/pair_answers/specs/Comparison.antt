@@ -17,17 +17,19 @@ use Rattle.policy_compile.specs.Plans.{Plan, tests_in}
 use Rattle.policy_compile.specs.Queries.{HasTooManyPieces, IsQuery, asked_tree}
 use Rattle.policy_compile.specs.Sets.{query_plan}
 use Rattle.slot_theory.specs.Possible.{IsPossible}
-use Rattle.refute_check.specs.Propagated.{PropagatedNeedsMore}
 use Rattle.slot_theory.specs.Cores.{HasTest}
 use Rattle.slot_theory.specs.Slots.{patterns_at}
+use Rattle.tree_search.specs.Decisions.{NeedMore}
+use Rattle.request_json.specs.Laws.{RequestIsReadAgain}
 use Rattle.command_words.specs.declared.limits.TheConstants.{MOST_SPLITS}
 use Rattle.run_sets.specs.declared.pair.Pair.{Pair}
 use Rattle.policy_model.specs.Requests.{IsWellKept}
 
--- a valid request that the first set allows and the second doesn't, each of whose keys stands there once, with values, and is a text:
--- so its printed line is read again as the request
+-- a valid request that the first set allows and the second doesn't, each of whose keys stands there once, with values, and is a text;
+-- and the line that is printed of it is read again, under the schema of the run, as this request
 pub record IsWitness (pair : Pair) (r : Request) : Type 0 where
   pub kept : IsWellKept r
+  pub again : RequestIsReadAgain pair.schema r
   pub valid : IsValid pair.schema r
   pub allowed : Allows pair.schema pair.first r
   pub refused : ¬ Allows pair.schema pair.second r
@@ -62,18 +64,20 @@ TooManyTests pair = HasTooMany [] (tests_in (plan_of pair))
 abbrev pub TooManyPieces : Pair → Type 0
 TooManyPieces pair = HasTooManyPieces (plan_of pair)
 
--- the plain run of the query needs more splits
-pub record NeedsPlainSplits (pair : Pair) (splits : ℕ) : Type 0 where
+-- of the query of the pair this holds
+pub record OfQuery (pair : Pair) (P : Query → Type 0) : Type 0 where
   pub query : Query
   pub is : IsQuery (plan_of pair) query
-  pub plain : NeedsMore (IsPossible pair.schema query.tests) (asked_tree query) [] splits
+  pub holds : P query
+
+-- the plain run of the query needs more splits
+abbrev pub NeedsPlainSplits : Pair → ℕ → Type 0
+NeedsPlainSplits pair splits =
+    OfQuery pair (λ q. NeedsMore (IsPossible pair.schema q.tests) (asked_tree q) [] splits)
 
 -- and so does the run that a conflict of unit propagation ends too
-pub record NeedsSplits (pair : Pair) (splits : ℕ) : Type 0 where
-  pub query : Query
-  pub is : IsQuery (plan_of pair) query
-  pub plain : NeedsMore (IsPossible pair.schema query.tests) (asked_tree query) [] splits
-  pub propagated : PropagatedNeedsMore pair.schema query.tests (asked_tree query) [] splits
+abbrev pub NeedsSplits : Pair → ℕ → Type 0
+NeedsSplits pair splits = OfQuery pair (λ q. NeedMore pair.schema q [] splits)
 
 -- at a node of the plain run where the query isn't no, and whose path answers a test of the slot, the slot's patterns have more
 -- product states
@@ -95,9 +99,3 @@ FewTestsAreDecided schema query =
 -- at no node of the plain run where the query isn't no has a slot that the path asks about more product states
 abbrev pub FitsStates : Pair → ℕ → Type 0
 FitsStates pair states = (s : Slot) → ¬ NeedsStates pair states s
-
--- of the query of the pair this holds
-pub record OfQuery (pair : Pair) (P : Query → Type 0) : Type 0 where
-  pub query : Query
-  pub is : IsQuery (plan_of pair) query
-  pub holds : P query

@@ -12,22 +12,20 @@ use Rattle.tree_search.specs.declared.outcome.Decided.{Decided}
 use Rattle.tree_search.specs.declared.outcome.Decided.TheVariants as decided
 use Rattle.run_sets.specs.declared.pair.Pair.{Pair}
 use Rattle.run_sets.specs.declared.refusal.Refusal.{Refusal}
-use Rattle.run_sets.specs.declared.refusal.Refusal.TheVariants.{TooManyTests as too_many_tests, TooManyPieces as too_many_pieces}
 use Rattle.run_sets.specs.declared.shortage.Shortage.TheVariants.{Splits, States}
 use Rattle.policy_model.specs.Requests.{IsWellKept}
 use Rattle.pair_answers.specs.declared.answer.CheckAnswer.{CheckAnswer}
 use Rattle.pair_answers.specs.declared.answer.CheckAnswer.TheVariants.{Accepted, NotClosing, BadProof}
 use Rattle.pair_answers.specs.declared.answer.ComparisonAnswer.{ComparisonAnswer}
 use Rattle.pair_answers.specs.declared.answer.ComparisonAnswer.TheVariants.{NotMore, Proved, More, Undecided}
-use Rattle.pair_answers.specs.Certified.{Certifies, ClosesAll, ClosesBy, FailsAll, FailsAtLine, HasProofFault}
-use Rattle.pair_answers.specs.Comparison.{Covers, CoversAll, HasQuery, IsWitness, NeedsSplits, NeedsStates, OfQuery, TooManyPieces}
-use Rattle.pair_answers.specs.Comparison.{TooManyTests}
+use Rattle.run_sets.specs.ClosedQueries.{ClosesAll, FailsAll}
+use Rattle.run_sets.specs.PastLimits.{IsPlanPastLimit}
+use Rattle.pair_answers.specs.Certified.{Certifies, ClosesBy, FailsAtLine, HasProofFault}
+use Rattle.pair_answers.specs.Comparison.{Covers, CoversAll, HasQuery, IsWitness, NeedsSplits, NeedsStates, OfQuery, plan_of}
 
 -- a limit that the query is past
 abbrev pub IsPastLimit : Pair → Refusal → Type 0
-IsPastLimit pair too_many_tests = TooManyTests pair
-IsPastLimit pair too_many_pieces = TooManyPieces pair
-IsPastLimit pair _ = ⊥
+IsPastLimit pair = IsPlanPastLimit (plan_of pair)
 
 -- a budget that is too small, or a comparison, which comes only where the query is within its limits, with a certificate where one is
 -- asked for

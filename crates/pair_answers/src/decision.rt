@@ -1,28 +1,28 @@
 //! Compares two sets by the search, and checks certificates of it.
-ghost use Rattle.std.specs.Prelude.{◌≡◌, ◌<◌, ◌≤◌, ◌^◌, All, IfOk, IfSome, length};
+ghost use Rattle.std.specs.Prelude.{◌≡◌, ◌<◌, ◌≤◌, ◌^◌, All, IfOk, length};
 ghost use Rattle.formula_tree.specs.Trees.{tree_of};
 ghost use Rattle.policy_model.specs.Soundness.{SchemaIsSound, TestSuits};
 ghost use Rattle.proof_text.specs.declared.limits.TheConstants.{MOST_PROOF_BYTES};
 ghost use Rattle.refute_check.specs.Laws.{TreeInRange};
 ghost use Rattle.refute_check.specs.Proofs.{proof_of, size};
 ghost use Rattle.policy_compile.specs.Queries.{IsQuery};
-ghost use Rattle.policy_difference.specs.Differences.{AskTheSame};
 ghost use Rattle.run_files.specs.Printing.{OrAnswered};
-ghost use Rattle.run_sets.specs.Pairs.{IsFitting, paired};
+ghost use Rattle.run_sets.specs.Pairs.{IsFitting};
 ghost use Rattle.run_sets.specs.Refusals.{IsRefusedBy};
 ghost use Rattle.pair_answers.specs.Comparison.{FewTestsAreDecided, plan_of};
-ghost use Rattle.pair_answers.specs.Decided.{IsChecked, IsComparison, IsDecisionAnswer, IsPastLimit, IsRefutedAnswer, IsVerdictOn, IsVerdictAnswer, IsVerdictIn};
+ghost use Rattle.pair_answers.specs.Decided.{IsChecked, IsComparison, IsDecisionAnswer, IsPastLimit, IsRefutedAnswer, IsVerdictAnswer};
 
 use crate::answer::{CheckAnswer, ComparisonAnswer};
+use crate::smaller::difference_answer;
 use policy_compile::{Query, QueryFault, query};
-use policy_difference::{shared_statements_add_nothing, without_shared};
-use policy_model::{PolicySet, Schema};
+use policy_model::Schema;
 use proof_text::{
     ProofAnswer, ReadProof, closing_proofs_are_small, closing_proofs_have_no_fault, read_proof,
     write_proof,
 };
 use refute_check::{Refutation, Verdict, check, closed_queries_are_no};
 use request_build::sound_schemas_have_requests;
+use request_json::written_requests_are_read_again;
 use run_files::EarlyEnd;
 use run_sets::{Pair, Refusal, Shortage, refused};
 use std::alloc::{AllocError, Global};
@@ -103,70 +103,11 @@ pub fn compare(
         }
     }
     let decided = decide(alloc, &pair.schema, &query, budgets)?;
+    written_requests_are_read_again();
     closed_queries_are_no();
     closing_proofs_are_small();
     closing_proofs_have_no_fault();
     Ok(decision_answer(alloc, decided, pair.schema.version, budgets, certified)?)
-}
-
-// The answer, where the first set's statements that the second doesn't have are enough to tell: most often what
-// a change adds is asked, and such a query is as small as the change.
-fn difference_answer(
-    alloc: Global,
-    pair: &Pair,
-    budgets: Budgets,
-) -> Result<Option<ComparisonAnswer>, AllocError>
-    requires fitting { IsFitting pair.now }
-    requires splits { 1 ≤ budgets.splits }
-    requires states { 1 ≤ budgets.states }
-    ensures { IfOk result (λ answer. IfSome answer (IsVerdictOn pair.now)) }
-{
-    let Some(first) = without_shared(alloc, &pair.first, &pair.second)? else {
-        return Ok(None);
-    };
-    shared_statements_add_nothing();
-    match query(alloc, &pair.schema, &first, &pair.second) {
-        Ok(query) => verdict_on(alloc, pair, &first, &query, budgets),
-        Err(QueryFault::TooManyTests) => Ok(None),
-        Err(QueryFault::TooManyPieces) => Ok(None),
-        Err(QueryFault::NoMemory) => Err(AllocError),
-    }
-}
-
-// What the search decides of the query of a first set that asks the same, where it decides it.
-fn verdict_on(
-    alloc: Global,
-    pair: &Pair,
-    first: &PolicySet,
-    query: &Query,
-    budgets: Budgets,
-) -> Result<Option<ComparisonAnswer>, AllocError>
-    requires fitting { IsFitting (paired pair.now.schema first.now pair.now.second) }
-    requires same { AskTheSame pair.now.first first.now pair.now.second }
-    requires query { IsQuery (plan_of (paired pair.now.schema first.now pair.now.second))
-        query.now }
-    requires splits { 1 ≤ budgets.splits }
-    requires states { 1 ≤ budgets.states }
-    ensures { IfOk result (λ answer. IfSome answer (IsVerdictOn pair.now)) }
-{
-    let decided = decide(alloc, &pair.schema, query, budgets)?;
-    closed_queries_are_no();
-    Ok(verdict_in(decided))
-}
-
-// The verdict in what a search decided, where there is one.
-fn verdict_in(decided: Decided) -> Option<ComparisonAnswer>
-    ensures { IsVerdictIn decided result }
-{
-    match decided {
-        Decided::Refuted(_) => Some(ComparisonAnswer::NotMore),
-        Decided::Met(request) => {
-            request.keys_are_well_kept();
-            Some(ComparisonAnswer::More(request))
-        }
-        Decided::OutOfSplits => None,
-        Decided::OutOfStates(_) => None,
-    }
 }
 
 // The answer to a certificate that was read: whether it closes the query, or the line of its first node

@@ -6,6 +6,7 @@ mod answer;
 mod certificates;
 mod decision;
 mod printing;
+mod smaller;
 mod text;
 
 pub use answer::{CheckAnswer, ComparisonAnswer};

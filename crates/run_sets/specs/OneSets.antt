@@ -38,6 +38,14 @@ IsNoOneRun named set _ = ⊥
 
 -- ---- files
 
+-- the bytes of the files: of the set, and of the schema where one is named
+pub record SetContents : Type 0 where
+  pub set : List ℕ
+  pub schema : Option (List ℕ)
+
+abbrev pub set_contents : List ℕ → Option (List ℕ) → SetContents
+set_contents set schema = record { set = set; schema = schema }
+
 -- the files, of a set and of a schema where one is named, stand for a schema and for a set, of which this holds
 pub record OfSet (set_bytes : List ℕ) (schema_bytes : Option (List ℕ)) (P : Schema → PolicySet → Type 0) : Type 0 where
   pub named : Schema

@@ -6,7 +6,7 @@ use Rattle.run_files.specs.declared.printed.Printed.{Printed}
 use Rattle.run_files.specs.declared.role.Role.TheVariants as role
 use Rattle.run_files.specs.Readings.{AreRead, FileName, Reading, if_given, reading_of}
 use Rattle.run_files.proofs.Laws.{or_answered_weaker}
-use Rattle.finding_answers.specs.Printed.{summary_contents}
+use Rattle.run_sets.specs.OneSets.{set_contents}
 use Rattle.emit_answers.specs.EmitPrinted.{IsEmitPrinted}
 use Rattle.compare_cli.specs.Commands.{IsPrinted}
 use Rattle.compare_cli.specs.LastFiles.{last_names}
@@ -33,6 +33,6 @@ returns-clause-prints g c =
     let schema : Option (List ℕ) = option_map (λ b. b.now) c.bytes_of.result in
     let given : AreRead (g.F.Folder.held before) last (c.as_slice.result.now ∷ if_given schema) =
     last_read (g.F.Folder.held before) last c.as_slice.result.now schema c.in_ok-files.files c.as_slice.ensures.value c.bytes_of.ensures c.in_ok-files.ensures.reads.0 in
-    let says : (p : Printed) → IsEmitPrinted (summarising_in arguments) (summary_contents c.as_slice.result.now schema) p → IsPrinted (Some asked) r p =
-    λ p v. may_print asked r c.in_ok-files.ensures.reads.1 p (record { contents = summary_contents c.as_slice.result.now schema; read = given; holds = v }) in
+    let says : (p : Printed) → IsEmitPrinted (summarising_in arguments) (set_contents c.as_slice.result.now schema) p → IsPrinted (Some asked) r p =
+    λ p v. may_print asked r c.in_ok-files.ensures.reads.1 p (record { contents = set_contents c.as_slice.result.now schema; read = given; holds = v }) in
     or_answered_weaker c.print_emit.result _ (IsPrinted (Some asked) r) _ (IsPrinted (Some asked) r) says says c.print_emit.ensures

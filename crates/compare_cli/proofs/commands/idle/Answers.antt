@@ -6,7 +6,8 @@ use Rattle.run_files.specs.declared.printed.Printed.{Printed}
 use Rattle.run_files.specs.declared.role.Role.TheVariants as role
 use Rattle.run_files.specs.Readings.{AreRead, FileName, Reading, if_given, reading_of}
 use Rattle.run_files.proofs.Laws.{or_answered_weaker}
-use Rattle.idle_answers.specs.UsesPrinted.{IsIdlePrinted, use_contents}
+use Rattle.idle_answers.specs.UsesPrinted.{IsIdlePrinted}
+use Rattle.run_sets.specs.OneSets.{set_contents}
 use Rattle.compare_cli.specs.Commands.{IsPrinted}
 use Rattle.compare_cli.specs.LastFiles.{last_names}
 use Rattle.compare_cli.proofs.Reading.{fails_printed, last_read, may_print}
@@ -32,6 +33,6 @@ returns-clause-prints g c =
     let schema : Option (List ℕ) = option_map (λ b. b.now) c.bytes_of.result in
     let given : AreRead (g.F.Folder.held before) last (c.as_slice.result.now ∷ if_given schema) =
     last_read (g.F.Folder.held before) last c.as_slice.result.now schema c.in_ok-files.files c.as_slice.ensures.value c.bytes_of.ensures c.in_ok-files.ensures.reads.0 in
-    let says : (p : Printed) → IsIdlePrinted (use_question_in arguments) (use_contents c.as_slice.result.now schema) p → IsPrinted (Some asked) r p =
-    λ p v. may_print asked r c.in_ok-files.ensures.reads.1 p (record { contents = use_contents c.as_slice.result.now schema; read = given; holds = v }) in
+    let says : (p : Printed) → IsIdlePrinted (use_question_in arguments) (set_contents c.as_slice.result.now schema) p → IsPrinted (Some asked) r p =
+    λ p v. may_print asked r c.in_ok-files.ensures.reads.1 p (record { contents = set_contents c.as_slice.result.now schema; read = given; holds = v }) in
     or_answered_weaker c.print_idle.result _ (IsPrinted (Some asked) r) _ (IsPrinted (Some asked) r) says says c.print_idle.ensures

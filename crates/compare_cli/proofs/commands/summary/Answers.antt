@@ -6,7 +6,7 @@ use Rattle.run_files.specs.declared.printed.Printed.{Printed}
 use Rattle.run_files.specs.declared.role.Role.TheVariants as role
 use Rattle.run_files.specs.Readings.{AreRead, FileName, Reading, if_given, reading_of}
 use Rattle.run_files.proofs.Laws.{or_answered_weaker}
-use Rattle.finding_answers.specs.Printed.{summary_contents}
+use Rattle.run_sets.specs.OneSets.{set_contents}
 use Rattle.finding_answers.specs.Printed.{IsSummaryPrinted}
 use Rattle.cover_answers.specs.Certified.{IsCertifiedSummaryPrinted}
 use Rattle.compare_cli.specs.Commands.{IsPrinted, IsSummaryTold}
@@ -34,8 +34,8 @@ returns-then-arguments-clause-prints g c =
     let schema : Option (List ℕ) = option_map (λ b. b.now) c.bytes_of.result in
     let given : AreRead (g.F.Folder.held before) last (c.as_slice-set.result.now ∷ if_given schema) =
     last_read (g.F.Folder.held before) last c.as_slice-set.result.now schema c.in_ok-files.files c.as_slice-set.ensures.value c.bytes_of.ensures c.in_ok-files.ensures.reads.0 in
-    let says : (p : Printed) → IsCertifiedSummaryPrinted (summarising_in arguments.summary) (summary_contents c.as_slice-set.result.now schema) p → IsPrinted (Some asked) r p =
-    λ p v. may_print asked r c.in_ok-files.ensures.reads.1 p (record { contents = summary_contents c.as_slice-set.result.now schema; read = given; holds = subst (λ (b : Bool). IsSummaryTold (summarising_in arguments.summary) b (summary_contents c.as_slice-set.result.now schema) p) (sym c.if-arguments.true) v }) in
+    let says : (p : Printed) → IsCertifiedSummaryPrinted (summarising_in arguments.summary) (set_contents c.as_slice-set.result.now schema) p → IsPrinted (Some asked) r p =
+    λ p v. may_print asked r c.in_ok-files.ensures.reads.1 p (record { contents = set_contents c.as_slice-set.result.now schema; read = given; holds = subst (λ (b : Bool). IsSummaryTold (summarising_in arguments.summary) b (set_contents c.as_slice-set.result.now schema) p) (sym c.if-arguments.true) v }) in
     or_answered_weaker c.print_certified_summary.result _ (IsPrinted (Some asked) r) _ (IsPrinted (Some asked) r) says says c.print_certified_summary.ensures
 
 pub returns-clause-prints : goal.returns-clause-prints
@@ -48,6 +48,6 @@ returns-clause-prints g c =
     let schema : Option (List ℕ) = option_map (λ b. b.now) c.bytes_of-else-arguments.result in
     let given : AreRead (g.F.Folder.held before) last (c.as_slice-set.result.now ∷ if_given schema) =
     last_read (g.F.Folder.held before) last c.as_slice-set.result.now schema c.in_ok-files.files c.as_slice-set.ensures.value c.bytes_of-else-arguments.ensures c.in_ok-files.ensures.reads.0 in
-    let says : (p : Printed) → IsSummaryPrinted (summarising_in arguments.summary) (summary_contents c.as_slice-set.result.now schema) p → IsPrinted (Some asked) r p =
-    λ p v. may_print asked r c.in_ok-files.ensures.reads.1 p (record { contents = summary_contents c.as_slice-set.result.now schema; read = given; holds = subst (λ (b : Bool). IsSummaryTold (summarising_in arguments.summary) b (summary_contents c.as_slice-set.result.now schema) p) (sym c.if-arguments.false) v }) in
+    let says : (p : Printed) → IsSummaryPrinted (summarising_in arguments.summary) (set_contents c.as_slice-set.result.now schema) p → IsPrinted (Some asked) r p =
+    λ p v. may_print asked r c.in_ok-files.ensures.reads.1 p (record { contents = set_contents c.as_slice-set.result.now schema; read = given; holds = subst (λ (b : Bool). IsSummaryTold (summarising_in arguments.summary) b (set_contents c.as_slice-set.result.now schema) p) (sym c.if-arguments.false) v }) in
     or_answered_weaker c.print_summary.result _ (IsPrinted (Some asked) r) _ (IsPrinted (Some asked) r) says says c.print_summary.ensures

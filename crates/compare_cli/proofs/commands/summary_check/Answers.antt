@@ -8,7 +8,7 @@ use Rattle.run_files.specs.Files.{IsShort}
 use Rattle.run_files.specs.Readings.{AreRead, FileFails, FileName, FilesFail, Reading, file, if_given, reading_of}
 use Rattle.run_files.proofs.Laws.{if_answered_weaker, or_answered_weaker}
 use Rattle.cover_answers.specs.Judged.{IsSummaryCheckPrinted}
-use Rattle.finding_answers.specs.Printed.{summary_contents}
+use Rattle.run_sets.specs.OneSets.{set_contents}
 use Rattle.compare_cli.specs.Commands.{IsPrinted}
 use Rattle.compare_cli.specs.LastFiles.{last_names}
 use Rattle.compare_cli.proofs.Reading.{fails_printed, first_fails, last_read, may_print, rest_fails, rest_read}
@@ -55,6 +55,6 @@ returns-clause-prints g c =
     let given : AreRead (g.F.Folder.held before) last (c.as_slice-2.result.now ∷ if_given schema) =
     rest_read g.F.Folder.held g.F.Folder.faults g.F.Folder.last_fault before c.read_named.new.folder c.in_ok-set.ensures.held last (c.as_slice-2.result.now ∷ if_given schema)
     (last_read (g.F.Folder.held c.read_named.new.folder) last c.as_slice-2.result.now schema c.in_ok-rest.rest c.as_slice-2.ensures.value c.bytes_of.ensures c.in_ok-rest.ensures.reads.0) in
-    let says : (p : Printed) → IsSummaryCheckPrinted (summary_check_in arguments) c.as_slice-2.result.now (summary_contents c.as_slice.result.now schema) p → IsPrinted (Some asked) r p =
-    λ p v. may_print asked r (c.in_ok-rest.ensures.reads.1 ∙ c.in_ok-set.ensures.reads.1) p (record { contents = record { set = summary_contents c.as_slice.result.now schema; proof = c.as_slice-2.result.now }; read = (short, given); holds = v }) in
+    let says : (p : Printed) → IsSummaryCheckPrinted (summary_check_in arguments) c.as_slice-2.result.now (set_contents c.as_slice.result.now schema) p → IsPrinted (Some asked) r p =
+    λ p v. may_print asked r (c.in_ok-rest.ensures.reads.1 ∙ c.in_ok-set.ensures.reads.1) p (record { contents = record { set = set_contents c.as_slice.result.now schema; proof = c.as_slice-2.result.now }; read = (short, given); holds = v }) in
     or_answered_weaker c.print_summary_check.result _ (IsPrinted (Some asked) r) _ (IsPrinted (Some asked) r) says says c.print_summary_check.ensures

@@ -8,7 +8,7 @@ use Rattle.refute_check.specs.Verdicts.{IsVerdict}
 use Rattle.refute_check.specs.declared.refutation.Refutation.{Refutation}
 use Rattle.refute_check.specs.declared.verdict.Verdict.{Verdict}
 use Rattle.refute_check.specs.declared.verdict.Verdict.TheVariants.{Fails}
-use Rattle.cover_answers.specs.CoverProofs.{FailsCover}
+use Rattle.run_sets.specs.ClosedQueries.{FailsAll}
 use Rattle.cover_answers.proofs.check.print_closing.Goals as goal
 
 pub bounds-as_slice-node : goal.bounds-as_slice-node
@@ -17,7 +17,7 @@ bounds-as_slice-node c =
     let query = c.args.query.now in
     let proof = proof_of c.args.read.now.refutation.value in
     let there : IsVerdict schema query c.deref.result.now (Fails c.in-Fails.node) = subst (λ (v : Verdict). IsVerdict schema query c.deref.result.now v) c.in-Fails.is c.in_ok-check.ensures in
-    let fails : FailsCover schema query proof c.in-Fails.node = subst (λ (r : Refutation). IsVerdict schema query r (Fails c.in-Fails.node)) c.deref.ensures there in
+    let fails : FailsAll schema query proof c.in-Fails.node = subst (λ (r : Refutation). IsVerdict schema query r (Fails c.in-Fails.node)) c.deref.ensures there in
     let within : c.in-Fails.node < size proof = fails-within schema query.tests (tree_of query.formula.value) at_first proof [] c.in-Fails.node fails in
     omega (arith, within, c.requires.lines, ap length c.as_slice.ensures)
 
@@ -29,7 +29,7 @@ returns-in_ok-not_closing_line-in-Fails c =
     let lines = c.args.read.now.lines in
     let proof = proof_of c.args.read.now.refutation.value in
     let there : IsVerdict schema query c.deref.result.now (Fails node) = subst (λ (v : Verdict). IsVerdict schema query c.deref.result.now v) c.in-Fails.is c.in_ok-check.ensures in
-    let fails : FailsCover schema query proof node = subst (λ (r : Refutation). IsVerdict schema query r (Fails node)) c.deref.ensures there in
+    let fails : FailsAll schema query proof node = subst (λ (r : Refutation). IsVerdict schema query r (Fails node)) c.deref.ensures there in
     let within : node < size proof = fails-within schema query.tests (tree_of query.formula.value) at_first proof [] node fails in
     let here : node < length lines = omega (arith, within, c.requires.lines) in
     inr (node, _, fails, slice_get-get_or lines node 0 here ∙ ap (λ (ls : List ℕ). Some (get_or ls node 0)) (sym c.as_slice.ensures), (c.in_ok-not_closing_line-in-Fails.ensures, refl))

@@ -8,7 +8,7 @@ use Rattle.run_files.proofs.Laws.{if_answered_weaker}
 use Rattle.run_sets.specs.Refusals.{IsRefusedBy}
 use Rattle.summary_search.specs.Outcomes.{AreAskable}
 use Rattle.finding_answers.specs.Dimensions.{IsUnknownPrinted}
-use Rattle.finding_answers.specs.Found.{IsSetPastLimit}
+use Rattle.run_sets.specs.PastLimits.{IsSetPastLimit}
 use Rattle.finding_answers.proofs.Laws.{names_are_askable}
 use Rattle.cover_answers.specs.Made.{IsNotMade, TellsUnmade}
 use Rattle.cover_answers.proofs.Making.{has-dimension, made-of}

@@ -4,7 +4,8 @@ use Rattle.command_words.specs.Asked.{texts_in}
 use Rattle.run_files.specs.declared.printed.Printed.{Printed}
 use Rattle.run_files.proofs.Laws.{if_answered_weaker, or_answered_weaker}
 use Rattle.run_sets.specs.Refusals.{IsRefusedBy}
-use Rattle.finding_answers.specs.Found.{IsNotFound, IsSetPastLimit}
+use Rattle.finding_answers.specs.Found.{IsNotFound}
+use Rattle.run_sets.specs.PastLimits.{IsSetPastLimit}
 use Rattle.finding_answers.proofs.Laws.{found_have_findings}
 use Rattle.cover_answers.specs.Certified.{IsCoverSaid, IsSetCertified}
 use Rattle.cover_answers.proofs.Certifying.{made-too}

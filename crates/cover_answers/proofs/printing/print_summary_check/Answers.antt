@@ -4,9 +4,8 @@ use Rattle.command_words.specs.Asked.{SummaryCheck, summary_check_in, texts_in}
 use Rattle.run_files.specs.declared.printed.Printed.{Printed}
 use Rattle.run_files.proofs.Laws.{if_answered_weaker, or_answered_weaker}
 use Rattle.run_sets.proofs.Laws.{of_one}
-use Rattle.run_sets.specs.OneSets.{IsNoOneSet}
+use Rattle.run_sets.specs.OneSets.{IsNoOneSet, SetContents, set_contents}
 use Rattle.run_sets.specs.Refusals.{IsRefusedBy}
-use Rattle.finding_answers.specs.Printed.{SummaryContents, summary_contents}
 use Rattle.cover_answers.specs.Judged.{IsSetChecked, IsSummaryCheckPrinted}
 use Rattle.cover_answers.proofs.printing.print_summary_check.Goals as goal
 
@@ -14,7 +13,7 @@ pub returns-in_err-one : goal.returns-in_err-one
 returns-in_err-one c =
     let asked : SummaryCheck = summary_check_in c.args.arguments.now in
     let file : Option (List ℕ) = option_map (λ f. f.now) c.args.schema in
-    let files : SummaryContents = summary_contents c.args.set.now file in
+    let files : SetContents = set_contents c.args.set.now file in
     let p = err_from_is_err_and c.from_residual.result c.from_residual.ensures.1 in
     rw (p.1, p.2) (if_answered_weaker _ (IsRefusedBy (IsNoOneSet c.args.set.now file)) (IsSummaryCheckPrinted asked c.args.proof.now files) (λ p v. inl v) c.in_err-one.ensures.read)
 
@@ -22,7 +21,7 @@ pub returns : goal.returns
 returns c =
     let asked : SummaryCheck = summary_check_in c.args.arguments.now in
     let file : Option (List ℕ) = option_map (λ f. f.now) c.args.schema in
-    let files : SummaryContents = summary_contents c.args.set.now file in
+    let files : SetContents = set_contents c.args.set.now file in
     let one = c.in_ok-one.one in
     let names = texts_in c.as_slice.result.now in
     let same : names ≡ asked.dimensions = search rules in

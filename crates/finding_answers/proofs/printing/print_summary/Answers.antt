@@ -5,16 +5,16 @@ use Rattle.summary_search.specs.declared.outcome.Limits.{Limits}
 use Rattle.run_files.specs.declared.printed.Printed.{Printed}
 use Rattle.run_files.proofs.Laws.{if_answered_weaker, or_answered_weaker}
 use Rattle.run_sets.proofs.Laws.{of_one}
-use Rattle.run_sets.specs.OneSets.{IsNoOneSet}
+use Rattle.run_sets.specs.OneSets.{IsNoOneSet, SetContents, set_contents}
 use Rattle.run_sets.specs.Refusals.{IsRefusedBy}
-use Rattle.finding_answers.specs.Printed.{IsSetPrinted, IsSummaryPrinted, SummaryContents, limits_in, summary_contents}
+use Rattle.finding_answers.specs.Printed.{IsSetPrinted, IsSummaryPrinted, limits_in}
 use Rattle.finding_answers.proofs.printing.print_summary.Goals as goal
 
 pub returns-in_err-one : goal.returns-in_err-one
 returns-in_err-one c =
     let s : Summarising = summarising_in c.args.arguments.now in
     let file : Option (List ℕ) = option_map (λ f. f.now) c.args.schema in
-    let files : SummaryContents = summary_contents c.args.set.now file in
+    let files : SetContents = set_contents c.args.set.now file in
     let p = err_from_is_err_and c.from_residual.result c.from_residual.ensures.1 in
     rw (p.1, p.2) (if_answered_weaker _ (IsRefusedBy (IsNoOneSet c.args.set.now file)) (IsSummaryPrinted s files) (λ p v. inl v) c.in_err-one.ensures.read)
 
@@ -22,7 +22,7 @@ pub returns : goal.returns
 returns c =
     let s : Summarising = summarising_in c.args.arguments.now in
     let file : Option (List ℕ) = option_map (λ f. f.now) c.args.schema in
-    let files : SummaryContents = summary_contents c.args.set.now file in
+    let files : SetContents = set_contents c.args.set.now file in
     let one = c.in_ok-one.one in
     let names = texts_in c.as_slice.result.now in
     let same : names ≡ s.dimensions = search rules in

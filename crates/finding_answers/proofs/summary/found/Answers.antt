@@ -8,7 +8,8 @@ use Rattle.run_sets.specs.Refusals.{IsRefusedBy}
 use Rattle.summary_search.specs.Outcomes.{AreAskable}
 use Rattle.finding_answers.specs.declared.answer.Found.{Found}
 use Rattle.finding_answers.specs.Dimensions.{IsUnknownPrinted, dimension_slots}
-use Rattle.finding_answers.specs.Found.{IsFoundIn, IsFoundOf, IsNotFound, IsSetOutcome, IsSetPastLimit, TellsUnfound}
+use Rattle.finding_answers.specs.Found.{IsFoundIn, IsFoundOf, IsNotFound, IsSetOutcome, TellsUnfound}
+use Rattle.run_sets.specs.PastLimits.{IsSetPastLimit}
 use Rattle.finding_answers.proofs.Naming.{names-askable}
 use Rattle.finding_answers.proofs.Summarising.{found-of, texts-of}
 use Rattle.finding_answers.proofs.summary.found.Goals as goal

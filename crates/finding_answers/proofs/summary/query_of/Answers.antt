@@ -1,7 +1,7 @@
 -- The search finds this unasked; said here, a wrong body is refused without a longer search.
 use Rattle.run_sets.specs.declared.refusal.Refusal.TheVariants as refusal
 use Rattle.run_sets.proofs.Laws.{refused_by}
-use Rattle.finding_answers.specs.Found.{IsSetPastLimit}
+use Rattle.run_sets.specs.PastLimits.{IsSetPastLimit}
 use Rattle.finding_answers.proofs.summary.query_of.Goals as goal
 
 pub returns-in-Err-TooManyTests : goal.returns-in-Err-TooManyTests

@@ -18,7 +18,7 @@ returns-in-Some c =
 
 pub returns : goal.returns
 returns c =
-    comparison_if_decided c.closed_queries_are_no.ensures c.closing_proofs_are_small.ensures c.closing_proofs_have_no_fault.ensures c.args.pair.now (c.sound_schemas_have_requests.ensures c.args.pair.now.schema c.requires.fitting.sound) c.in_ok-query.query
+    comparison_if_decided c.closed_queries_are_no.ensures c.closing_proofs_are_small.ensures c.closing_proofs_have_no_fault.ensures c.written_requests_are_read_again.ensures c.args.pair.now (c.sound_schemas_have_requests.ensures c.args.pair.now.schema c.requires.fitting.sound) c.in_ok-query.query
     c.args.certified c.args.budgets c.in_ok-decided.decided c.requires.fitting c.in_ok-query.ensures c.in_ok-decided.ensures.decision c.in_ok-decision_answer.field-0 c.in_ok-decision_answer.ensures
 
 pub returns-in_err-query : goal.returns-in_err-query

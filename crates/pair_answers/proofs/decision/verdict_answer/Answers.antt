@@ -8,7 +8,7 @@ use Rattle.refute_check.specs.Verdicts.{IsVerdict}
 use Rattle.refute_check.specs.declared.refutation.Refutation.{Refutation}
 use Rattle.refute_check.specs.declared.verdict.Verdict.{Verdict}
 use Rattle.refute_check.specs.declared.verdict.Verdict.TheVariants.{Fails}
-use Rattle.pair_answers.specs.Certified.{FailsAll}
+use Rattle.run_sets.specs.ClosedQueries.{FailsAll}
 use Rattle.pair_answers.proofs.decision.verdict_answer.Goals as goal
 
 pub bounds-as_slice-node : goal.bounds-as_slice-node

@@ -1,0 +1,17 @@
+use Rattle.run_sets.specs.Pairs.{paired}
+use Rattle.pair_answers.proofs.Comparing.{query_below, query_tests, smaller-fits, verdict_if_decided}
+use Rattle.pair_answers.proofs.smaller.smaller_answer.Goals as goal
+
+pub decide-requires-clause-suit : goal.decide-requires-clause-suit
+decide-requires-clause-suit c =
+    query_tests (paired c.args.pair.now.schema c.args.first.now c.args.second.now) c.in-Ok.query
+    (smaller-fits c.args.pair.now c.args.first.now c.args.second.now c.requires.smaller c.requires.fitting) c.in-Ok.ensures
+
+pub decide-requires-clause-below : goal.decide-requires-clause-below
+decide-requires-clause-below c =
+    query_below (paired c.args.pair.now.schema c.args.first.now c.args.second.now) c.in-Ok.query c.in-Ok.ensures
+
+pub returns : goal.returns
+returns c =
+    verdict_if_decided c.closed_queries_are_no.ensures c.written_requests_are_read_again.ensures c.args.pair.now c.args.first.now c.args.second.now c.in-Ok.query c.args.budgets c.in_ok-decided.decided
+    (smaller-fits c.args.pair.now c.args.first.now c.args.second.now c.requires.smaller c.requires.fitting) c.requires.smaller.asks c.in-Ok.ensures c.in_ok-decided.ensures.decision c.verdict_in.result c.verdict_in.ensures
