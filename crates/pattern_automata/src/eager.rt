@@ -17,6 +17,10 @@ use plain_lists::NoMemory;
 use std::alloc::Global;
 use wildcard_lang::Text;
 
+/// How many product states are found for each that is looked at, on the whole: one may lead to a new one
+/// by each character that a pattern names.
+const FOUND_FOR_EACH: usize = 16;
+
 /// Whether the last product state meets the wants. If not it is to wait, unless no text from there on
 /// meets them.
 fn look(
@@ -95,6 +99,9 @@ fn reaches(
     ensures { IfOk result (λ met. HasTree wants.now search.new) }
 {
     for round in 0..most {
+        if search.found.len() / FOUND_FOR_EACH > most {
+            return Ok(false);
+        }
         let Some(i) = waiting.pop() else {
             return Ok(false);
         };

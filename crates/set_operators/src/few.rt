@@ -93,10 +93,20 @@ fn counts_without(
     Ok(others)
 }
 
-// Whether no candidate answers each of the chosen asks.
+// Whether the candidate answers each of the chosen asks.
+fn is_right(candidate: &Candidate, asks: &[(KeyAsk, bool)], choice: Choice) -> bool {
+    for (i, asked) in asks.iter().enumerate() {
+        if is_chosen(choice, i, asked.1) && is_wrong(candidate, asked) {
+            return false;
+        }
+    }
+    true
+}
+
+// Whether no candidate does.
 fn is_hopeless(candidates: &[Candidate], asks: &[(KeyAsk, bool)], choice: Choice) -> bool {
     for candidate in candidates {
-        if count_wrong(candidate, asks, choice) == 0 {
+        if is_right(candidate, asks, choice) {
             return false;
         }
     }
