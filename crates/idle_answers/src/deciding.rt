@@ -2,6 +2,7 @@
 ghost use Rattle.std.specs.Prelude.{◌≡◌, ◌≤◌, true, IfOk, IfSome, IsTrue};
 ghost use Rattle.policy_compile.specs.Limits.{IsWithinLimits};
 ghost use Rattle.policy_compile.specs.Sets.{set_plan};
+ghost use Rattle.policy_difference.specs.Apartness.{IsWithoutApart};
 ghost use Rattle.refute_check.specs.Proofs.{proof_of};
 ghost use Rattle.run_sets.specs.OneSets.{FitsItsSchema};
 ghost use Rattle.set_questions.specs.Idle.{IsNameIn, OfNamed};
@@ -11,6 +12,7 @@ ghost use Rattle.idle_answers.specs.UseAnswers.{IsUseAnswerAt};
 
 use crate::answer::UseAnswer;
 use crate::settling::ByRefutation;
+use crate::sizes::has_few_items;
 use plain_lists::NoMemory;
 use policy_compile::{Query, QueryFault, query};
 use policy_difference::{
@@ -124,6 +126,20 @@ fn pair_answer(
     }
 }
 
+// The set without what is apart from the first, unless that is much to compare.
+fn cut_apart(
+    alloc: Global,
+    first: &PolicySet,
+    set: &PolicySet,
+) -> Result<Option<PolicySet>, NoMemory>
+    ensures { IfOk result (λ less. IfSome less (IsWithoutApart first.now set.now)) }
+{
+    if !has_few_items(set) {
+        return Ok(None);
+    }
+    without_apart(alloc, first, set)
+}
+
 // What is left of a first set and the second set, without what is apart from the Allow statements that are left,
 // where that isn't too much to compare.
 fn pair_without_apart(
@@ -133,8 +149,8 @@ fn pair_without_apart(
 ) -> Result<AskedPair, NoMemory>
     ensures { IfOk result (IsPairWithoutApart left second) }
 {
-    let less = without_apart(alloc, &left, &left)?;
-    let rest = without_apart(alloc, &left, &second)?;
+    let less = cut_apart(alloc, &left, &left)?;
+    let rest = cut_apart(alloc, &left, &second)?;
     Ok(AskedPair {
         less: less.unwrap_or(left),
         rest: rest.unwrap_or(second),
@@ -200,6 +216,9 @@ fn narrowed_answer(
     requires states { 1 ≤ budgets.states }
     ensures { IfOk result (λ answer. IfSome answer (IsUseVerdict one.now name)) }
 {
+    if !has_few_items(&one.set) {
+        return Ok(None);
+    }
     let Some(asked) = narrowed_change(alloc, &one.set, name)? else {
         return Ok(None);
     };

@@ -7,6 +7,7 @@ mod certificates;
 mod deciding;
 mod printing;
 mod settling;
+mod sizes;
 mod text;
 
 pub use answer::UseAnswer;
