@@ -82,7 +82,8 @@ pub record IsStoppedAfter (schema : Schema) (query : Query) (before : Before) (m
   pub next : IsToBeSplit schema query node
 
 -- A decision comes within so many splits: no more are in a refutation, nor lead to where a request is met or a slot is wide; and the
--- search stops for want of splits where one more would be one too many.
+-- search stops for want of splits where one more would be one too many. The splits of a side that was passed count by some number
+-- between those of a refutation that closes it and those of both runs, since a search needn't keep every split that it made.
 abbrev pub IsWithinSplits : Schema → Query → ℕ → Decided → Type 0
 IsWithinSplits schema query most (Refuted r) = splits (proof_of r.value) ≤ most
 IsWithinSplits schema query most (Met q) = IsMetNear schema query at_first most [] q

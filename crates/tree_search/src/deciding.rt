@@ -25,7 +25,9 @@ use std::alloc::Global;
 /// value, by unit propagation over the query's clauses, by what it has learned or by a slot. Splits that have closed
 /// are learned under the answers that they need, up to a most; and where the yes side of a split closes without the
 /// split's answer, the no side isn't looked at. It stops for want of splits only where both the plain run and the
-/// propagated run need more, and where one more split would be one more than the budget: each decision comes within it.
+/// propagated run need more, and where one more split would be one more than the budget. A decision comes within the
+/// budget: what leads to it is no more splits, where those that closed a side that was passed count as between the
+/// splits of its refutation and those of both runs.
 ///
 /// The schema is sound and every test suits it, the formula's test numbers are below the number of
 /// tests, and both budgets are at least 1. The only error is want of memory.
