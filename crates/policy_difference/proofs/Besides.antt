@@ -1,10 +1,11 @@
 -- Statements compared besides their actions.
-use Rattle.std.proofs.Common.{List, ◌⊎◌, inl, inr}
+use Rattle.std.proofs.Common.{◌≡◌, List, Any, false, ◌⊎◌, inl, inr, subst}
+use Rattle.std.specs.Bool.{MatchBool}
 use Rattle.wildcard_lang.specs.declared.piece.Piece.{Piece}
 use Rattle.policy_model.specs.declared.matcher.Matcher.{Matcher}
 use Rattle.policy_model.specs.declared.set.Statement.{Statement}
 use Rattle.policy_difference.specs.Differences.{AsksNoMore, ClashStatement}
-use Rattle.policy_difference.specs.Rivals.{AsksNoMoreElse, ClashElse, ClashesWithAction, CoversAction, with_action}
+use Rattle.policy_difference.specs.Rivals.{AsksNoMoreElse, ClashElse, ClashesWithAction, CoversAction, IsAskedOf, item_alone, with_action}
 
 pub asks-else : (t s : Statement) (a : Matcher (List Piece)) → AsksNoMore t (with_action s a) → AsksNoMoreElse t s
 asks-else t s a more = record { allow = more.allow; principal = more.principal; resource = more.resource; conditions = more.conditions }
@@ -29,3 +30,8 @@ clash-cases d s a clash = elim clash [
     | inr resource ↦ inl (inr resource)
   ]
 ]
+
+pub asked-covered : (t s : Statement) (a : Matcher (List Piece)) → s.action.not ≡ false → IsAskedOf s a → CoversAction a t → Any (λ x. CoversAction (item_alone x) t) s.action.items
+asked-covered t s a plain asked covers =
+    let some : Any (λ x. a ≡ item_alone x) s.action.items = subst (λ n. MatchBool n (a ≡ s.action) (Any (λ x. a ≡ item_alone x) s.action.items)) plain asked in
+    (some.0, some.1, some.2, some.3, subst (λ b. CoversAction b t) some.4 covers)

@@ -1,5 +1,5 @@
 -- What is left of a statement without that of which something holds, and what it decides.
-use Rattle.std.proofs.Common.{◌≡◌, List, [], ◌∷◌, Any, Bool, true, false, Option, Some, None, MatchBool, MatchOption, ◌⊎◌, inl, inr, refl, sym, ◌∙◌, subst}
+use Rattle.std.proofs.Common.{◌≡◌, List, [], ◌∷◌, Any, Bool, true, false, Option, Some, MatchBool, MatchOption, ◌⊎◌, inl, inr, refl, sym, ◌∙◌, subst}
 use Rattle.wildcard_lang.specs.Matching.{Matches}
 use Rattle.wildcard_lang.specs.declared.piece.Piece.{Piece}
 use Rattle.policy_model.specs.Sets.{Decides, MatcherHolds}

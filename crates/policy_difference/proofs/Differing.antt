@@ -1,5 +1,5 @@
 -- What is left of a set without that which a second shares says the same beside the second.
-use Rattle.std.proofs.Common.{◌≡◌, List, Any, All, Bool, true, false, Option, Some, MatchBool, MatchOption, ◌⊎◌, inl, inr, refl, sym, ◌∙◌, subst}
+use Rattle.std.proofs.Common.{◌≡◌, List, Any, All, Bool, true, false, Option, Some, MatchBool, MatchOption, ◌⊎◌, inl, inr, sym, subst}
 use Rattle.policy_model.specs.Sets.{Allows, Decides, SomeDecides}
 use Rattle.policy_model.specs.Soundness.{DocumentFits, DocumentIsSound}
 use Rattle.policy_model.specs.declared.request.Request.{Request}
@@ -10,7 +10,6 @@ use Rattle.policy_model.specs.declared.set.Statement.{Statement}
 use Rattle.policy_difference.specs.Differences.{FitsToo, IsCut, IsDifference, IsLeftOf, IsShared, SharedStatementsAddNothing}
 use Rattle.policy_difference.proofs.Allowing.{shared-allows}
 use Rattle.policy_difference.proofs.Cutting.{Found, IsPartOf, cut-left, cut-part, cut-whole, whole-part, whole-whole}
-use Rattle.policy_difference.proofs.Leaving.{apart}
 use Rattle.policy_difference.proofs.Remaining.{documents-fit, documents-left, documents-sound, documents-whole, same-count}
 
 module _ (first second : PolicySet) where

@@ -1,10 +1,10 @@
 -- What is left of a statement, of statements and of documents.
-use Rattle.std.proofs.Common.{◌≡◌, ◌↔◌, ◌⊎◌, ℕ, ◌+◌, ◌<◌, ◌≤◌, drop, get_or, List, [], ◌∷◌, ◌++◌, length, Any, Bool, true, false, Option, Some, None, inl, inr, refl, sym, ap, ◌∙◌, subst, arith}
+use Rattle.std.proofs.Common.{◌≡◌, ◌↔◌, ◌⊎◌, ℕ, ◌+◌, ◌<◌, ◌≤◌, drop, get_or, List, [], ◌∷◌, ◌++◌, length, All, Any, Bool, true, false, Option, Some, None, inl, inr, refl, sym, ap, ◌∙◌, subst, arith}
 use Rattle.std.specs.Bool.{MatchBool}
 use Rattle.std.specs.List.{AllZip}
 use Rattle.std.proofs.lemmas.List.{append_assoc, drop_all, drop_more}
+use Rattle.std.proofs.lemmas.List.Elements.{All-head, All-tail, All-weaker}
 use Rattle.wildcard_lang.specs.declared.piece.Piece.{Piece}
-use Rattle.policy_model.specs.declared.matcher.Matcher.{Matcher}
 use Rattle.policy_model.specs.declared.set.Document.{Document}
 use Rattle.policy_model.specs.declared.set.PolicySet.{PolicySet}
 use Rattle.policy_model.specs.declared.set.Statement.{Statement}
@@ -12,7 +12,8 @@ use Rattle.policy_difference.specs.declared.bounds.Bounds.{Bounds}
 use Rattle.policy_difference.specs.declared.rivals.Rivals.{Rivals}
 use Rattle.policy_difference.specs.declared.left.LeftStatement.{LeftStatement}
 use Rattle.policy_difference.specs.Differences.{AreLeft, HasCut, IsCut, IsCutByActions, IsCutWhole, IsShared, Leaves, StatementsAreLeft, before_rest, some_with, with_actions}
-use Rattle.policy_difference.specs.Rivals.{AreBounds, AreRivals, IsBound, IsCutRecord, StaysWhole, IsLeftRecord, IsLeftAtOnce, IsLeftByActions, IsLetThrough, item_alone, with_action}
+use Rattle.policy_difference.specs.Rivals.{AreBounds, AreRivals, IsAskedOf, IsBound, IsCutRecord, StaysWhole, IsLeftRecord, IsLeftAtOnce, IsLeftByActions, IsLetThrough, item_alone, with_action}
+use Rattle.policy_difference.proofs.Itself.{among-itself}
 use Rattle.policy_difference.proofs.Leaving.{apart, cases_some, here, none_of_none, there}
 
 -- ---- items
@@ -46,13 +47,18 @@ fewer-left P (x ∷ xs) left (inr (other, rest, e, leaves)) =
       ],
     )
 
-pub leaves-same : {T : Type 0} (P Q : T → Type 0) → ((x : T) → P x ↔ Q x) → (xs left : List T) → Leaves P xs left → Leaves Q xs left
-leaves-same P Q same [] left leaves = leaves
-leaves-same P Q same (x ∷ xs) left (inl (p, rest)) = inl ((same x).0 p, leaves-same P Q same xs left rest)
-leaves-same P Q same (x ∷ xs) left (inr (other, rest, e, leaves)) = inr (λ q. other ((same x).1 q), rest, e, leaves-same P Q same xs rest leaves)
+pub leaves-same : {T : Type 0} (P Q : T → Type 0) (xs left : List T) → All (λ x. P x ↔ Q x) xs → Leaves P xs left → Leaves Q xs left
+leaves-same P Q [] left same leaves = leaves
+leaves-same P Q (x ∷ xs) left same (inl (p, rest)) =
+    inl ((All-head (λ y. P y ↔ Q y) x xs same).0 p, leaves-same P Q xs left (All-tail (λ y. P y ↔ Q y) x xs same) rest)
+leaves-same P Q (x ∷ xs) left same (inr (other, rest, e, leaves)) =
+    inr (λ q. other ((All-head (λ y. P y ↔ Q y) x xs same).1 q), rest, e, leaves-same P Q xs rest (All-tail (λ y. P y ↔ Q y) x xs same) leaves)
 
-any-same : {T : Type 0} (P Q : T → Type 0) → ((x : T) → P x ↔ Q x) → (xs : List T) → Any P xs → Any Q xs
-any-same P Q same xs some = (some.0, some.1, some.2, some.3, (same some.1).0 some.4)
+any-same : {T : Type 0} (P Q : T → Type 0) (xs : List T) → All (λ x. P x ↔ Q x) xs → Any P xs → Any Q xs
+any-same P Q xs same some = (some.0, some.1, some.2, some.3, (subst (λ x. P x ↔ Q x) some.3 (same some.0 some.1 some.2)).0 some.4)
+
+each : {T : Type 0} (R : T → Type 0) → ((x : T) → R x) → (xs : List T) → All R xs
+each R holds xs k d within = holds (get_or xs k d)
 
 -- ---- a statement
 
@@ -73,43 +79,54 @@ left-deny first second s l denies kept = record {
 }
 
 module _ (bounds : Bounds) (s : Statement) (rivals : Rivals) (rival : AreRivals bounds s rivals) where
-  action-bound : s.action.not ≡ false → (x : List Piece) → IsLetThrough rivals (item_alone x) ↔ IsBound bounds (with_actions s (x ∷ []))
-  action-bound plain x =
-      subst (λ n. IsLetThrough rivals (item_alone x) ↔ IsBound bounds (with_action s (record { not = n; items = x ∷ [] }))) (sym plain) (rival (item_alone x))
+  asked-alone : s.action.not ≡ false → (x : List Piece) → Any (λ y. y ≡ x) s.action.items → IsAskedOf s (item_alone x)
+  asked-alone plain x (k, y, within, is, same) = of-false s.action.not _ _ plain (k, y, within, is, ap item_alone (sym same))
+
+  action-bound : s.action.not ≡ false → (x : List Piece) → Any (λ y. y ≡ x) s.action.items → IsLetThrough rivals (item_alone x) ↔ IsBound bounds (with_actions s (x ∷ []))
+  action-bound plain x among =
+      subst (λ n. IsLetThrough rivals (item_alone x) ↔ IsBound bounds (with_action s (record { not = n; items = x ∷ [] }))) (sym plain) (rival (item_alone x) (asked-alone plain x among))
+
+  whole-bound : s.action.not ≡ true → IsLetThrough rivals s.action ↔ IsBound bounds s
+  whole-bound not = rival s.action (of-true s.action.not _ _ not refl)
 
   pub cut-whole : (l : LeftStatement) → s.action.not ≡ true → IsLeftAtOnce (IsLetThrough rivals s.action) s l → IsCutRecord (IsBound bounds) s l
   cut-whole l not (inl (passed, none, yes')) = record {
-    statement = of-true s.action.not _ _ not (inl ((rival s.action).0 passed, none));
-    shared = (λ e. of-true s.action.not _ _ not ((rival s.action).0 passed), λ some. yes');
+    statement = of-true s.action.not _ _ not (inl ((whole-bound not).0 passed, none));
+    shared = (λ e. of-true s.action.not _ _ not ((whole-bound not).0 passed), λ some. yes');
   }
   cut-whole l not (inr (other, kept)) = record {
-    statement = of-true s.action.not _ _ not (inr (λ bound. other ((rival s.action).1 bound), kept.0));
+    statement = of-true s.action.not _ _ not (inr (λ bound. other ((whole-bound not).1 bound), kept.0));
     shared = (
       λ e. absurd (apart (sym e ∙ kept.1)),
-      λ some. absurd (other ((rival s.action).1 (subst (λ b. MatchBool b (IsBound bounds s) (Any (λ x. IsBound bounds (with_actions s (x ∷ []))) s.action.items)) not some))),
+      λ some. absurd (other ((whole-bound not).1 (subst (λ b. MatchBool b (IsBound bounds s) (Any (λ x. IsBound bounds (with_actions s (x ∷ []))) s.action.items)) not some))),
     );
   }
 
   pub cut-actions : (l : LeftStatement) → s.action.not ≡ false → IsLeftByActions (λ x. IsLetThrough rivals (item_alone x)) s l → IsCutRecord (IsBound bounds) s l
   cut-actions l plain left =
-      let same = action-bound plain in
       let P = λ (x : List Piece). IsLetThrough rivals (item_alone x) in
-      let Q = λ (x : List Piece). IsBound bounds (with_actions s (x ∷ [])) in record {
-        statement = of-false s.action.not _ _ plain (left.actions, leaves-same P Q same s.action.items left.actions left.leaves, left.is);
+      let Q = λ (x : List Piece). IsBound bounds (with_actions s (x ∷ [])) in
+      let xs = s.action.items in
+      let same : All (λ x. P x ↔ Q x) xs = All-weaker (λ x. Any (λ y. y ≡ x) xs) (λ x. P x ↔ Q x) (action-bound plain) xs (among-itself xs) in
+      let back : All (λ x. Q x ↔ P x) xs = All-weaker (λ x. P x ↔ Q x) (λ x. Q x ↔ P x) (λ x either. (either.1, either.0)) xs same in record {
+        statement = of-false s.action.not _ _ plain (left.actions, leaves-same P Q xs left.actions same left.leaves, left.is);
         shared = (
-          λ e. of-false s.action.not _ _ plain (any-same P Q same s.action.items (left.shared.0 e)),
-          λ some. left.shared.1 (any-same Q P (λ x. ((same x).1, (same x).0)) s.action.items (subst (λ b. MatchBool b (IsBound bounds s) (Any Q s.action.items)) plain some)),
+          λ e. of-false s.action.not _ _ plain (any-same P Q xs same (left.shared.0 e)),
+          λ some. left.shared.1 (any-same Q P xs back (subst (λ b. MatchBool b (IsBound bounds s) (Any Q s.action.items)) plain some)),
         );
       }
 
 -- what is left without that of which P holds, where Q holds of the same
 module _ (P Q : Statement → Type 0) (same : (s : Statement) → P s ↔ Q s) where
+  alike : (s : Statement) → All (λ x. P (with_actions s (x ∷ [])) ↔ Q (with_actions s (x ∷ []))) s.action.items
+  alike s = each (λ x. P (with_actions s (x ∷ [])) ↔ Q (with_actions s (x ∷ []))) (λ x. same (with_actions s (x ∷ []))) s.action.items
+
   cut-same-by : (s : Statement) (left : Option Statement) (not : Bool) → MatchBool not (IsCutWhole P s left) (IsCutByActions P s left) → MatchBool not (IsCutWhole Q s left) (IsCutByActions Q s left)
   cut-same-by s left true (inl (p, none)) = inl ((same s).0 p, none)
   cut-same-by s left true (inr (against, is)) = inr (λ q. against ((same s).1 q), is)
   cut-same-by s left false (actions, leaves, is) = (
     actions,
-    leaves-same (λ x. P (with_actions s (x ∷ []))) (λ x. Q (with_actions s (x ∷ []))) (λ x. same (with_actions s (x ∷ []))) s.action.items actions leaves,
+    leaves-same (λ x. P (with_actions s (x ∷ []))) (λ x. Q (with_actions s (x ∷ []))) s.action.items actions (alike s) leaves,
     is,
   )
 
@@ -118,7 +135,7 @@ module _ (P Q : Statement → Type 0) (same : (s : Statement) → P s ↔ Q s) w
 
   has-same-by : (s : Statement) (not : Bool) → MatchBool not (P s) (Any (λ x. P (with_actions s (x ∷ []))) s.action.items) → MatchBool not (Q s) (Any (λ x. Q (with_actions s (x ∷ []))) s.action.items)
   has-same-by s true p = (same s).0 p
-  has-same-by s false some = any-same (λ x. P (with_actions s (x ∷ []))) (λ x. Q (with_actions s (x ∷ []))) (λ x. same (with_actions s (x ∷ []))) s.action.items some
+  has-same-by s false some = any-same (λ x. P (with_actions s (x ∷ []))) (λ x. Q (with_actions s (x ∷ []))) s.action.items (alike s) some
 
   has-same : (s : Statement) → HasCut P s → HasCut Q s
   has-same s some = has-same-by s s.action.not some

@@ -1,6 +1,6 @@
 -- How statements are compared when one of them is asked about item by item of its action: what doesn't depend on the action is told
 -- apart from what does.
-use Rattle.std.specs.Prelude.{◌≡◌, ◌⊎◌, ◌↔◌, List, [], ◌∷◌, ◌++◌, All, Any, IsTrue, true, false, Some, None}
+use Rattle.std.specs.Prelude.{◌≡◌, ◌⊎◌, ◌↔◌, List, [], ◌∷◌, ◌++◌, All, Any, IsTrue, MatchBool, true, false, Some, None}
 use Rattle.std.specs.Borrow.{Bor}
 use Rattle.wildcard_lang.specs.declared.piece.Piece.{Piece}
 use Rattle.wildcard_lang.specs.declared.piece.Piece.TheVariants.{Many}
@@ -81,9 +81,14 @@ abbrev pub IsLetThrough : Rivals → Matcher (List Piece) → Type 0
 IsLetThrough rivals a =
     All (λ w. SomeCoversAction w.items a) rivals.allowing.items × EachClashesWithAction rivals.denying.items a
 
--- the rivals decide of each action whether the statement with it is as the bounds ask
+-- what is asked about of a statement: a `NotAction` whole, and each item of an `Action` alone
+abbrev pub IsAskedOf : Statement → Matcher (List Piece) → Type 0
+IsAskedOf s a = MatchBool s.action.not (a ≡ s.action) (Any (λ x. a ≡ item_alone x) s.action.items)
+
+-- the rivals decide of what is asked about whether the statement with it as its action is as the bounds ask
 abbrev pub AreRivals : Bounds → Statement → Rivals → Type 0
-AreRivals bounds s rivals = (a : Matcher (List Piece)) → IsLetThrough rivals a ↔ IsBound bounds (with_action s a)
+AreRivals bounds s rivals =
+    (a : Matcher (List Piece)) → IsAskedOf s a → IsLetThrough rivals a ↔ IsBound bounds (with_action s a)
 
 -- nothing is added where P holds, and else the item
 abbrev pub IsAddedUnless : Type 0 → List Piece → List (List Piece) → List (List Piece) → Type 0

@@ -123,7 +123,7 @@ pub fn without_apart(
     set: &PolicySet,
 ) -> Result<Option<PolicySet>, NoMemory>
     ensures less { IfOk result (λ less. IfSome less (IsWithoutApart first.now set.now)) }
-    ensures some { IfOk result (λ less. IsSome less ↔ HasFewPairs first.now set.now) }
+    ensures exactly { IfOk result (λ less. IsSome less ↔ HasFewPairs first.now set.now) }
 {
     if !have_few_pairs(first, set) {
         return Ok(None);

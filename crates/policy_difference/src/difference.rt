@@ -29,7 +29,7 @@ pub fn without_shared(
     second: &PolicySet,
 ) -> Result<Option<PolicySet>, NoMemory>
     ensures left { IfOk result (λ left. IfSome left (IsDifference first.now second.now)) }
-    ensures some { IfOk result (λ left. IsSome left ↔ CanLeaveOut first.now second.now) }
+    ensures exactly { IfOk result (λ left. IsSome left ↔ CanLeaveOut first.now second.now) }
 {
     if !have_few_pairs(first, second) {
         return Ok(None);

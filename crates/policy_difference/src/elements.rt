@@ -1,9 +1,9 @@
 //! Elements of statements, compared by what they take.
-ghost use Rattle.std.specs.Prelude.{◌≡◌, ◌↔◌, All, Any, IsTrue, is_some, true};
+ghost use Rattle.std.specs.Prelude.{◌≡◌, ◌↔◌, All, Any, IfNone, IfSome, IsTrue, is_some, true};
 ghost use Rattle.policy_difference.specs.Elements.{ClashAll, ClashElement, ClashMatcher, CoverEach, CoversElement, CoversMatcher, element_of};
 
 use crate::items::Item;
-use crate::marks::{MARKS, places_by_marks};
+use crate::marks::Marks;
 use crate::places::next_place;
 use policy_model::Matcher;
 use std::marker::Model;
@@ -11,8 +11,8 @@ use std::marker::Model;
 // How many items a list has at least that is gone through side by side with another.
 const MANY_ITEMS: usize = 4;
 
-// How many items two lists have at least in which equal items are looked for by their marks.
-const MANY_MARKED: usize = 16;
+/// How many items two lists have at least that are gone through by marks.
+pub(crate) const MANY_MARKED: usize = 32;
 
 /// An element of a statement, or its Not element. Contracts see it as the matcher of its items.
 #[derive(Drop)]
@@ -94,37 +94,82 @@ fn nearest<T: Item>(items: &[T], near: usize, other: &T) -> Option<usize>
     None
 }
 
-// The same where it pays: a short list is gone through at once.
-fn nearest_of_many<T: Item>(items: &[T], near: usize, other: &T) -> Option<usize>
-    ensures { is_some result ≡ true → Any (λ y. T.covering y other.now) items.now }
+// The first of the others that isn't covered where it is looked for, side by side with the items.
+fn first_elsewhere<'a, T: Item>(items: &[T], others: &'a [T]) -> Option<&'a T>
+    ensures some { IfSome result (λ x. CoverEach T.covering items.now others.now →
+        Any (λ y. T.covering y x.now) items.now) }
+    ensures none { IfNone result (CoverEach T.covering items.now others.now) }
 {
-    if items.len() < MANY_ITEMS {
-        return None;
+    let mut near = 0;
+    'others: for other in others {
+        let place = nearest(items, near, other);
+        if place.is_none() {
+            return Some(other);
+        }
+        near = next_place(near, place);
     }
-    nearest(items, near, other)
+    None
+}
+
+// Whether each of the others is covered by one of the items.
+fn cover_all<T: Item>(items: &[T], others: &[T]) -> bool
+    ensures { IsTrue result ↔ CoverEach T.covering items.now others.now }
+{
+    others.iter().all(|other| some_covers(items, other))
+}
+
+// Whether the item that is likely to be equal to the other covers it.
+fn equal_covers<T: Item>(items: &[T], marks: &Marks, other: &T) -> bool
+    ensures { IsTrue result → Any (λ y. T.covering y other.now) items.now }
+{
+    covers_at(items, marks.place_of(other), other)
+}
+
+// Whether one of the items covers the other that may do so by the marks.
+fn marked_covers<T: Item>(items: &[T], marks: &Marks, other: &T) -> bool
+    ensures { IsTrue result → Any (λ y. T.covering y other.now) items.now }
+{
+    let bits = other.neighbours();
+    'places: for place in 0..items.len() {
+        if marks.may_cover(place, bits) && covers_at(items, place, other) {
+            return true;
+        }
+    }
+    false
+}
+
+// Whether one of the items covers the other, which is looked for by the marks first.
+fn covers_by_marks<T: Item>(items: &[T], marks: &Marks, other: &T) -> bool
+    ensures { IsTrue result ↔ Any (λ y. T.covering y other.now) items.now }
+{
+    if equal_covers(items, marks, other) || marked_covers(items, marks, other) {
+        return true;
+    }
+    some_covers(items, other)
 }
 
 // Where an item that covers the other is, or else the number itself where there is one elsewhere.
-fn place_of<T: Item>(items: &[T], near: usize, other: &T) -> Option<usize>
+fn place_of<T: Item>(items: &[T], marks: &Marks, near: usize, other: &T) -> Option<usize>
     ensures { is_some result ≡ true ↔ Any (λ y. T.covering y other.now) items.now }
 {
-    let place = nearest_of_many(items, near, other);
+    let place = nearest(items, near, other);
     if place.is_some() {
         return place;
     }
-    if some_covers(items, other) {
+    if covers_by_marks(items, marks, other) {
         return Some(near);
     }
     None
 }
 
-// Whether each of the others is covered by one of the items, where the lists are likely to be in one order.
-fn cover_in_order<T: Item>(items: &[T], others: &[T]) -> bool
+// Whether each of the others is covered by one of the items, where some of them are in another order.
+fn cover_by_marks<T: Item>(items: &[T], others: &[T]) -> bool
     ensures { IsTrue result ↔ CoverEach T.covering items.now others.now }
 {
+    let marks = Marks::of(items);
     let mut near = 0;
     'others: for other in others {
-        let place = place_of(items, near, other);
+        let place = place_of(items, &marks, near, other);
         if place.is_none() {
             return false;
         }
@@ -133,62 +178,32 @@ fn cover_in_order<T: Item>(items: &[T], others: &[T]) -> bool
     true
 }
 
-// The number of an item that is likely to be equal to the other and covers it.
-fn marked<T: Item>(items: &[T], places: &[usize; MARKS], other: &T) -> Option<usize>
-    ensures { is_some result ≡ true → Any (λ y. T.covering y other.now) items.now }
-{
-    let place = places[other.mark() % MARKS];
-    if covers_at(items, place, other) {
-        return Some(place);
-    }
-    None
-}
-
-// Whether one of the items covers the other, which is looked for by its mark first.
-fn covers_by_mark<T: Item>(items: &[T], places: &[usize; MARKS], other: &T) -> bool
-    ensures { IsTrue result ↔ Any (λ y. T.covering y other.now) items.now }
-{
-    if marked(items, places, other).is_some() {
-        return true;
-    }
-    some_covers(items, other)
-}
-
-// Whether each of the others is covered by one of the items, where they are likely to be in another order.
-fn cover_by_marks<T: Item>(items: &[T], others: &[T]) -> bool
+// Whether each of the others is covered by one of the items, where they aren't in the same order.
+fn cover_elsewhere<T: Item>(items: &[T], others: &[T]) -> bool
     ensures { IsTrue result ↔ CoverEach T.covering items.now others.now }
 {
-    let places = places_by_marks(items);
-    'others: for other in others {
-        if !covers_by_mark(items, &places, other) {
-            return false;
-        }
-    }
-    true
-}
-
-// Whether two long lists are likely to have the same items in another order: the first of the one is covered,
-// and not by one of the first of the other.
-fn are_shuffled<T: Item>(items: &[T], others: &[T]) -> bool {
     if items.len() < MANY_MARKED || others.len() < MANY_MARKED {
-        return false;
+        return cover_all(items, others);
     }
-    match others.first() {
-        None => false,
-        Some(other) => nearest(items, 0, other).is_none() && some_covers(items, other),
-    }
+    cover_by_marks(items, others)
 }
 
-// Whether each of the others is covered by one of the items. Lists that are nearly the same are gone through
-// side by side, and in long lists that are in another order equal items are looked for by their marks.
+// Whether each of the others is covered by one of the items. Lists that are nearly the same are gone through side by
+// side. Only where one of the others is covered elsewhere is more done, since most often the first that isn't
+// covered near isn't covered at all.
 fn cover_each<T: Item>(items: &[T], others: &[T]) -> bool
     ensures { IsTrue result ↔ CoverEach T.covering items.now others.now }
 {
-    if are_shuffled(items, others) {
-        cover_by_marks(items, others)
-    } else {
-        cover_in_order(items, others)
+    if items.len() < MANY_ITEMS || others.len() < 2 {
+        return cover_all(items, others);
     }
+    let Some(other) = first_elsewhere(items, others) else {
+        return true;
+    };
+    if !some_covers(items, other) {
+        return false;
+    }
+    cover_elsewhere(items, others)
 }
 
 // Whether each of the items clashes with the other.

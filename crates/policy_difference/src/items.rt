@@ -5,7 +5,7 @@ ghost use Rattle.wildcard_lang.specs.declared.piece.Piece.TheVariants.{Many};
 ghost use Rattle.policy_model.specs.declared.principal.Entry.TheVariants as an;
 ghost use Rattle.policy_difference.specs.Entries.{ClashEntry, CoversEntry, HaveOtherKinds, IsUnnamed, entry_kind};
 
-use crate::marks::{characters_mark, pieces_mark};
+use crate::marks::{characters_mark, characters_neighbours, pieces_mark, pieces_neighbours};
 use policy_model::{Entry, PrincipalKind, entry_names};
 use wildcard_lang::{Pattern, Piece, Text, clashes, covers};
 
@@ -34,6 +34,9 @@ pub(crate) trait Item {
 
     /// A number that equal items share, and others seldom do.
     fn mark(&self) -> usize;
+
+    /// Bits that an item which covers this one has none beside.
+    fn neighbours(&self) -> u128;
 }
 
 impl Item for Pattern {
@@ -57,6 +60,10 @@ impl Item for Pattern {
 
     fn mark(&self) -> usize {
         pieces_mark(self.as_slice())
+    }
+
+    fn neighbours(&self) -> u128 {
+        pieces_neighbours(self.as_slice())
     }
 }
 
@@ -99,6 +106,14 @@ impl Item for Entry {
             Entry::All | Entry::Kind(_) => 0,
             Entry::Account(account) => characters_mark(account.as_slice()),
             Entry::Exact(_, id) => characters_mark(id.as_slice()),
+        }
+    }
+
+    fn neighbours(&self) -> u128 {
+        match self {
+            Entry::All | Entry::Kind(_) => 0,
+            Entry::Account(account) => characters_neighbours(account.as_slice()),
+            Entry::Exact(_, id) => characters_neighbours(id.as_slice()),
         }
     }
 }

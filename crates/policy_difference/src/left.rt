@@ -6,13 +6,12 @@ ghost use Rattle.policy_difference.specs.Places.{AreWider, GoesWhole};
 ghost use Rattle.policy_difference.specs.Rivals.{AreBounds, AreLeftDocuments, AreLeftStatements, IsAddedUnless, IsBound, IsCutRecord, StaysWhole, IsLeftRecord, IsLeftAtOnce, IsLeftByActions, IsLetThrough, item_alone};
 
 use crate::bounds::Bounds;
-use crate::elements::{Element, own_element};
+use crate::elements::own_element;
 use crate::places::{next_place, others_at, place_of};
-use crate::rivals::{Rivals, passes, rivals_of};
+use crate::rivals::{Rivals, item_alone, passes, rivals_of};
 use plain_lists::{EqualClone, List, NoMemory};
 use policy_model::{Document, DocumentList, Matcher, Statement, StatementList};
 use std::alloc::Global;
-use std::slice::from_ref;
 use wildcard_lang::{Pattern, PatternList};
 
 /// What is left of a statement, where something is, and whether some of it is shared.
@@ -40,11 +39,7 @@ pub(crate) struct LeftDocuments {
 fn passes_alone(rivals: &Rivals<'_>, action: &Pattern) -> bool
     ensures { IsTrue result ↔ IsLetThrough rivals.now (item_alone action.now) }
 {
-    let element = Element {
-        not: false,
-        items: from_ref(action),
-    };
-    passes(rivals, &element)
+    passes(rivals, &item_alone(action))
 }
 
 // Adds the action, where the statement with it alone doesn't meet what bounds it.

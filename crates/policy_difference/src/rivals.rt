@@ -3,15 +3,19 @@ ghost use Rattle.std.specs.Prelude.{◌≡◌, ◌⊎◌, ◌↔◌, All, Any, I
 ghost use Rattle.policy_model.specs.declared.matcher.Matcher.{Matcher as MatcherValue};
 ghost use Rattle.wildcard_lang.specs.declared.piece.Piece.{Piece};
 ghost use Rattle.policy_difference.specs.Differences.{AsksNoMore, ClashStatement, HasWider};
-ghost use Rattle.policy_difference.specs.Rivals.{AllowedByEach, ApartFromEach, AreRivals, CoversAction, EachClashesWithAction, IsLetThrough, SomeCoversAction, with_action};
+ghost use Rattle.policy_difference.specs.Rivals.{AllowedByEach, ApartFromEach, AreRivals, CoversAction, EachClashesWithAction, IsAskedOf, IsLetThrough, SomeCoversAction, item_alone, with_action};
 
 use crate::bounds::Bounds;
-use crate::elements::Element;
+use crate::elements::{Element, MANY_MARKED, element_of};
 use crate::statements::{asks_no_more_else, clash_else, clashes_with_action, covers_action};
 use plain_lists::NoMemory;
-use policy_model::{Document, Statement};
+use policy_model::{Condition, Document, Statement};
 use std::alloc::Global;
+use std::slice::from_ref;
 use wildcard_lang::Pattern;
+
+// How many pairs of actions are compared at most before the other lists are.
+const FEW_PAIRS: usize = 16;
 
 /// The statements with which one is compared whose action alone is still to be looked at.
 #[derive(Drop)]
@@ -22,16 +26,80 @@ pub(crate) struct Rivals<'a> {
     pub(crate) denying: Vec<&'a Statement>,
 }
 
+/// The element of an item of an `Action` alone.
+pub(crate) fn item_alone(item: &Pattern) -> Element<'_, Pattern>
+    ensures { result ≡ item_alone item.now }
+{
+    Element {
+        not: false,
+        items: from_ref(item),
+    }
+}
+
+// Whether the other statement's action covers the item.
+fn covers_alone(other: &Statement, item: &Pattern) -> bool
+    ensures { IsTrue result ↔ CoversAction (item_alone item.now) other.now }
+{
+    covers_action(other, &item_alone(item))
+}
+
+// Whether the other statement's action covers one of the items.
+fn covers_some_alone(other: &Statement, items: &[Pattern]) -> bool
+    ensures { IsTrue result ↔ Any (λ x. CoversAction (item_alone x) other.now) items.now }
+{
+    items.iter().any(|item| covers_alone(other, item))
+}
+
+fn is_long(condition: &Condition) -> bool {
+    condition.values.len() >= MANY_MARKED
+}
+
+// Whether a list of the statement besides its actions is long.
+fn has_long_list(statement: &Statement) -> bool {
+    element_of(&statement.principal).items.len() >= MANY_MARKED
+        || element_of(&statement.resource).items.len() >= MANY_MARKED
+        || statement
+            .conditions
+            .as_slice()
+            .iter()
+            .any(|condition| is_long(condition))
+}
+
+// Whether to compare actions costs less than to compare the other lists: these are long, and effects don't differ.
+fn are_actions_cheaper(other: &Statement, statement: &Statement) -> bool {
+    let others = other.action.items.as_slice().len();
+    let pairs = others.saturating_mul(statement.action.items.as_slice().len());
+    pairs <= FEW_PAIRS && other.allow == statement.allow && has_long_list(statement)
+}
+
+// Whether the other statement's action may cover what is asked about of this one. It is told before the other lists
+// are compared only where that costs less.
+fn may_cover_asked(other: &Statement, statement: &Statement) -> bool
+    ensures { (a : MatcherValue (List Piece)) → IsAskedOf statement.now a →
+        CoversAction a other.now → IsTrue result }
+{
+    if statement.action.not {
+        return true;
+    }
+    if !are_actions_cheaper(other, statement) {
+        return true;
+    }
+    covers_some_alone(other, statement.action.items.as_slice())
+}
+
 // Adds the other statement where it asks no more than this one, whatever their actions are.
 fn add_if_wider<'a>(
     other: &'a Statement,
     statement: &Statement,
     wider: &mut Vec<&'a Statement>,
 ) -> Result<(), NoMemory>
-    ensures { OnOk result ((a : MatcherValue (List Piece)) →
+    ensures { OnOk result ((a : MatcherValue (List Piece)) → IsAskedOf statement.now a →
         SomeCoversAction wider.new.items a ↔ (SomeCoversAction wider.old.items a ⊎
         AsksNoMore other.now (with_action statement.now a))) }
 {
+    if !may_cover_asked(other, statement) {
+        return Ok(());
+    }
     if !asks_no_more_else(other, statement) {
         return Ok(());
     }
@@ -45,7 +113,7 @@ fn add_wider<'a>(
     statement: &Statement,
     wider: &mut Vec<&'a Statement>,
 ) -> Result<(), NoMemory>
-    ensures { OnOk result ((a : MatcherValue (List Piece)) →
+    ensures { OnOk result ((a : MatcherValue (List Piece)) → IsAskedOf statement.now a →
         SomeCoversAction wider.new.items a ↔ (SomeCoversAction wider.old.items a ⊎
         Any (λ t. AsksNoMore t (with_action statement.now a)) statements.now)) }
 {
@@ -61,7 +129,7 @@ fn wider_of<'a>(
     documents: &'a [Document],
     statement: &Statement,
 ) -> Result<Vec<&'a Statement>, NoMemory>
-    ensures { IfOk result (λ wider. (a : MatcherValue (List Piece)) →
+    ensures { IfOk result (λ wider. (a : MatcherValue (List Piece)) → IsAskedOf statement.now a →
         SomeCoversAction wider.items a ↔ HasWider documents.now (with_action statement.now a)) }
 {
     let mut wider = Vec::new(alloc);
@@ -78,7 +146,7 @@ fn wider_of_each<'a>(
     statement: &Statement,
 ) -> Result<Vec<Vec<&'a Statement>>, NoMemory>
     ensures { IfOk result (λ allowing. (a : MatcherValue (List Piece)) →
-        All (λ w. SomeCoversAction w.items a) allowing.items ↔
+        IsAskedOf statement.now a → All (λ w. SomeCoversAction w.items a) allowing.items ↔
         AllowedByEach lists.now (with_action statement.now a)) }
 {
     let mut allowing = Vec::new(alloc);

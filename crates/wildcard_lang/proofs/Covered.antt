@@ -3,14 +3,17 @@ use Rattle.std.proofs.Common.{◌≡◌, ◌+◌, ◌-◌, ◌<◌, Bool, true, 
 use Rattle.std.proofs.lemmas.List.{take_more, take_all}
 use Rattle.std.proofs.lemmas.Bool.{cases_Bool, or_cases, and_parts}
 use Rattle.std.proofs.lemmas.Bool.Decides.{Decides-at}
+use Rattle.std.proofs.lemmas.Grind.{common_steps}
 use Rattle.std.specs.Bool.{Decides}
+use Rattle.std.specs.Cmp.Lexicographic.{pointwise, pointwise_decides}
+use Rattle.wildcard_lang.specs.contracts.piece.PiecePartialEq.TheImpl.{eq-value}
 use Rattle.wildcard_lang.specs.declared.piece.Piece.{Piece}
 use Rattle.wildcard_lang.specs.Matching.{is_many}
 use Rattle.wildcard_lang.specs.Accepts.{accepts_by, accepts_many, accepts_one}
 use Rattle.wildcard_lang.specs.Covering.{CoversPattern, no_pieces, takes_one, is_done, takes_more, covers, takes_piece, takes_next}
 use Rattle.wildcard_lang.proofs.Accept.{accepts-snoc}
 use Rattle.wildcard_lang.proofs.Sharing.{Decides-takes_piece}
-use Rattle.wildcard_lang.proofs.Including.{not_true}
+use Rattle.wildcard_lang.proofs.Including.{covers-itself, not_true}
 
 -- a piece for any number takes the next piece exactly where it takes all that this takes
 many_next : (a x : Piece) → is_many a ≡ true → takes_next a x ≡ takes_piece a x
@@ -63,3 +66,12 @@ pub answer_covers : (b : Bool) (q p pieces others : List Piece) → pieces ≡ q
 answer_covers b q p pieces others same own e =
     let same_test : covers pieces others ≡ covers q p = rw (same, own) refl in
     Decides-at _ _ (e ∙ same_test) (Decides-covers q p)
+
+pieces-Decides : (a b : Piece) → Decides (eq-value.it a b) (a ≡ b)
+pieces-Decides a b = grind (arith, common_steps)
+
+-- equal pieces cover each other
+pub same_pieces_cover : (q p : List Piece) (same : Bool) → same ≡ pointwise eq-value.it q p → same ≡ true → true ≡ covers q p
+same_pieces_cover q p same is h =
+    let equal : q ≡ p = (pointwise_decides pieces-Decides q p).0 (sym is ∙ h) in
+    rw equal (sym (covers-from p p (covers-itself p)))

@@ -14,8 +14,8 @@ use Rattle.wildcard_lang.specs.declared.piece.Piece.TheVariants.{Lit, LitFold, O
 use Rattle.wildcard_lang.specs.declared.symbol.Symbol.{Symbol}
 use Rattle.wildcard_lang.specs.declared.symbol.Symbol.TheVariants.{Written, Escaped}
 use Rattle.wildcard_lang.specs.Text.{IsText}
-use Rattle.wildcard_lang.specs.Patterns.{own, is_lower, is_wide, is_not_narrow, narrow_first, IsPattern}
-use Rattle.wildcard_lang.specs.Symbols.{character, escaped, is_mark, opens, prepend, behind, unescaped, symbols}
+use Rattle.wildcard_lang.specs.Patterns.{own_character, is_lower, is_wide, is_not_narrow, narrow_first, IsPattern}
+use Rattle.wildcard_lang.specs.Symbols.{character, escaped_character, is_mark, opens_brace, prepend, prepend_escaped, symbols_after, symbols}
 use Rattle.wildcard_lang.specs.Reading.{literal, literals, wildcard, literal_of, wildcard_of}
 use Rattle.wildcard_lang.proofs.Texts.{scalar-lowercase}
 
@@ -29,24 +29,24 @@ IsText-prepend : (s : Symbol) (read : Option (List Symbol)) → scalar (characte
 IsText-prepend s None h t = refl
 IsText-prepend s (Some ss) h t = and_from _ _ h t
 
-IsText-behind : (cs : List ℕ) (read : Option (List Symbol)) → IsText cs → IsText (characters read) → IsText (characters (behind (escaped cs) read))
+IsText-behind : (cs : List ℕ) (read : Option (List Symbol)) → IsText cs → IsText (characters read) → IsText (characters (prepend_escaped (escaped_character cs) read))
 IsText-behind [] read h t = refl
 IsText-behind (a ∷ []) read h t = refl
 IsText-behind (a ∷ x ∷ []) read h t = refl
 IsText-behind (a ∷ x ∷ b ∷ cs) read h t =
     let first : (scalar a ≡ true) × IsText (x ∷ b ∷ cs) = and_parts _ _ h in
     let second : (scalar x ≡ true) × IsText (b ∷ cs) = and_parts _ _ first.1 in
-    cond_both ((a == 123) && ((b == 125) && is_mark x)) (Some x) None (λ o. IsText (characters (behind o read)))
+    cond_both ((a == 123) && ((b == 125) && is_mark x)) (Some x) None (λ o. IsText (characters (prepend_escaped o read)))
     (λ e. IsText-prepend (Escaped x) read second.0 t) (λ e. refl)
 
-IsText-unescaped : (k : ℕ) (cs : List ℕ) → IsText cs → IsText (characters (unescaped k cs))
+IsText-unescaped : (k : ℕ) (cs : List ℕ) → IsText cs → IsText (characters (symbols_after k cs))
 IsText-unescaped k [] h = refl
 IsText-unescaped (suc k) (c ∷ cs) h = IsText-unescaped k cs ((and_parts _ _ h).1)
 IsText-unescaped zero (c ∷ cs) h =
     let parts : (scalar c ≡ true) × IsText cs = and_parts _ _ h in
-    cond_both ((c == 36) && opens cs) (behind (escaped cs) (unescaped 3 cs)) (prepend (Written c) (unescaped zero cs)) (λ o. IsText (characters o))
-    (λ e. IsText-behind cs (unescaped 3 cs) parts.1 (IsText-unescaped 3 cs parts.1))
-    (λ e. IsText-prepend (Written c) (unescaped zero cs) parts.0 (IsText-unescaped zero cs parts.1))
+    cond_both ((c == 36) && opens_brace cs) (prepend_escaped (escaped_character cs) (symbols_after 3 cs)) (prepend (Written c) (symbols_after zero cs)) (λ o. IsText (characters o))
+    (λ e. IsText-behind cs (symbols_after 3 cs) parts.1 (IsText-unescaped 3 cs parts.1))
+    (λ e. IsText-prepend (Written c) (symbols_after zero cs) parts.0 (IsText-unescaped zero cs parts.1))
 
 character-written : (cs : List ℕ) → map character (map Written cs) ≡ cs
 character-written [] = refl
@@ -60,7 +60,7 @@ IsText-symbols true cs h = IsText-unescaped zero cs h
 
 -- each symbol's piece is as patterns ask, and no wildcard that takes no colon
 pub record Keeps (piece : Symbol → Piece) : Type 0 where
-  pub scalars : (s : Symbol) → scalar (character s) ≡ true → IsText (own (piece s))
+  pub scalars : (s : Symbol) → scalar (character s) ≡ true → IsText (own_character (piece s))
   pub lower : (s : Symbol) → is_lower (piece s) ≡ true
   pub wide : (s : Symbol) → is_not_narrow (piece s) ≡ true
 
@@ -69,11 +69,11 @@ IsText-append [] u h k = k
 IsText-append (c ∷ t) u h k =
     let parts : (scalar c ≡ true) × IsText t = and_parts _ _ h in and_from _ _ parts.0 (IsText-append t u parts.1 k)
 
-pub IsText-pieces : (piece : Symbol → Piece) → Keeps piece → (ss : List Symbol) → IsText (map character ss) → IsText (flat_map own (map piece ss))
+pub IsText-pieces : (piece : Symbol → Piece) → Keeps piece → (ss : List Symbol) → IsText (map character ss) → IsText (flat_map own_character (map piece ss))
 IsText-pieces piece keeps [] h = refl
 IsText-pieces piece keeps (s ∷ ss) h =
     let parts : (scalar (character s) ≡ true) × IsText (map character ss) = and_parts _ _ h in
-    IsText-append (own (piece s)) (flat_map own (map piece ss)) (keeps.scalars s parts.0) (IsText-pieces piece keeps ss parts.1)
+    IsText-append (own_character (piece s)) (flat_map own_character (map piece ss)) (keeps.scalars s parts.0) (IsText-pieces piece keeps ss parts.1)
 
 pub list_all-pieces : (piece : Symbol → Piece) (test : Piece → Bool) → ((s : Symbol) → test (piece s) ≡ true) → (ss : List Symbol) → list_all test (map piece ss) ≡ true
 list_all-pieces piece test each [] = refl
@@ -96,9 +96,9 @@ IsPattern-pieces piece keeps ss text fits = record {
 
 -- ---- literals and wildcards
 
-scalars-literal : (fold : Bool) (c : ℕ) → scalar c ≡ true → IsText (own (literal fold c))
+scalars-literal : (fold : Bool) (c : ℕ) → scalar c ≡ true → IsText (own_character (literal fold c))
 scalars-literal fold c h =
-    cond_both (fold && is_ascii_alphabetic c) (LitFold (to_ascii_lowercase c)) (Lit c) (λ p. IsText (own p))
+    cond_both (fold && is_ascii_alphabetic c) (LitFold (to_ascii_lowercase c)) (Lit c) (λ p. IsText (own_character p))
     (λ e. and_from _ _ (scalar-lowercase c h) refl) (λ e. and_from _ _ h refl)
 
 lower_letter : (c : ℕ) → is_ascii_alphabetic c ≡ true → is_ascii_lowercase (to_ascii_lowercase c) ≡ true
@@ -118,7 +118,7 @@ either_wildcard P fold c many one plain =
     cond_both (c == 42) Many (if c == 63 then One else literal fold c) P (λ e. many)
     (λ e. cond_both (c == 63) One (literal fold c) P (λ e. one) (λ e. plain))
 
-literal-scalars : (fold : Bool) (s : Symbol) → scalar (character s) ≡ true → IsText (own (literal_of fold s))
+literal-scalars : (fold : Bool) (s : Symbol) → scalar (character s) ≡ true → IsText (own_character (literal_of fold s))
 literal-scalars fold (Written c) h = scalars-literal fold c h
 literal-scalars fold (Escaped c) h = scalars-literal fold c h
 
@@ -133,8 +133,8 @@ literal-wide fold (Escaped c) = wide-literal fold c
 pub Keeps-literal : (fold : Bool) → Keeps (literal_of fold)
 Keeps-literal fold = record { scalars = literal-scalars fold; lower = literal-lower fold; wide = literal-wide fold }
 
-wildcard-scalars : (fold : Bool) (s : Symbol) → scalar (character s) ≡ true → IsText (own (wildcard_of fold s))
-wildcard-scalars fold (Written c) h = either_wildcard (λ p. IsText (own p)) fold c refl refl (scalars-literal fold c h)
+wildcard-scalars : (fold : Bool) (s : Symbol) → scalar (character s) ≡ true → IsText (own_character (wildcard_of fold s))
+wildcard-scalars fold (Written c) h = either_wildcard (λ p. IsText (own_character p)) fold c refl refl (scalars-literal fold c h)
 wildcard-scalars fold (Escaped c) h = scalars-literal fold c h
 
 wildcard-lower : (fold : Bool) (s : Symbol) → is_lower (wildcard_of fold s) ≡ true
@@ -185,9 +185,9 @@ plain_read piece plain same false cs ss ps read made fits =
 
 -- ---- patterns one behind the other
 
-flat_map-append : (ps qs : List Piece) → flat_map own (ps ++ qs) ≡ flat_map own ps ++ flat_map own qs
+flat_map-append : (ps qs : List Piece) → flat_map own_character (ps ++ qs) ≡ flat_map own_character ps ++ flat_map own_character qs
 flat_map-append [] qs = refl
-flat_map-append (p ∷ ps) qs = ap (λ (t : List ℕ). own p ++ t) (flat_map-append ps qs) ∙ sym (append_assoc (own p) (flat_map own ps) (flat_map own qs))
+flat_map-append (p ∷ ps) qs = ap (λ (t : List ℕ). own_character p ++ t) (flat_map-append ps qs) ∙ sym (append_assoc (own_character p) (flat_map own_character ps) (flat_map own_character qs))
 
 list_all-append : (test : Piece → Bool) (ps qs : List Piece) → list_all test ps ≡ true → list_all test qs ≡ true → list_all test (ps ++ qs) ≡ true
 list_all-append test [] qs h k = k
@@ -200,11 +200,11 @@ narrow_first-append (p ∷ ps) qs h k =
     cond-false (is_wide p) _ _ (not-true (is_wide p) parts.0) ∙ narrow_first-append ps qs parts.1 k
 
 pub IsPattern-append : (ps qs : List Piece) → list_all (λ p. not (is_wide p)) ps ≡ true → IsPattern ps → IsPattern qs → length (ps ++ qs) ≤ MOST_PIECES → IsPattern (ps ++ qs)
-IsPattern-append ps qs narrow front behind fits = record {
+IsPattern-append ps qs narrow front prepend_escaped fits = record {
   fits = fits;
-  scalars = rw (flat_map-append ps qs) (IsText-append (flat_map own ps) (flat_map own qs) front.scalars behind.scalars);
-  lower = list_all-append is_lower ps qs front.lower behind.lower;
-  narrow = narrow_first-append ps qs narrow behind.narrow;
+  scalars = rw (flat_map-append ps qs) (IsText-append (flat_map own_character ps) (flat_map own_character qs) front.scalars prepend_escaped.scalars);
+  lower = list_all-append is_lower ps qs front.lower prepend_escaped.lower;
+  narrow = narrow_first-append ps qs narrow prepend_escaped.narrow;
 }
 
 pub narrow-literals : (cs : List ℕ) → list_all (λ p. not (is_wide p)) (literals false cs) ≡ true

@@ -9,10 +9,10 @@ use Rattle.wildcard_lang.specs.declared.piece.Piece.TheVariants.{Lit, LitFold, O
 use Rattle.wildcard_lang.specs.declared.symbol.Symbol.{Symbol}
 use Rattle.wildcard_lang.specs.declared.symbol.Symbol.TheVariants.{Written, Escaped}
 use Rattle.wildcard_lang.specs.Patterns.{is_lower, is_not_narrow}
-use Rattle.wildcard_lang.specs.Symbols.{is_mark, opens, symbols}
-use Rattle.wildcard_lang.specs.Escapes.{Reads, no_text, an_escape, a_character}
+use Rattle.wildcard_lang.specs.Symbols.{is_mark, opens_brace, symbols}
+use Rattle.wildcard_lang.specs.Escapes.{Reads, no_text, reads_escape, reads_character}
 use Rattle.wildcard_lang.specs.Reading.{literal, wildcard, literal_of, wildcard_of, literal_pieces, glob_pieces}
-use Rattle.wildcard_lang.specs.Arns.{narrow_before, left_behind, narrowed, arn_pieces}
+use Rattle.wildcard_lang.specs.Arns.{narrow_before, colons_left, narrowed_pieces, arn_pieces}
 use Rattle.wildcard_lang.specs.Writing.{piece_form, written_form, piece_character, action_form}
 use Rattle.wildcard_lang.specs.WrittenAgain.{IsGlobOf, is_glob_piece, GlobsAreOfTheirPieces, LiteralsAreGlobs, WideArnsAreGlobs, GlobsAreReadAgain, LiteralsAreReadAgain, ArnsAreReadAgain, ActionsAreReadAgain, GlobsAreFoundWithEscapes, LiteralsAreFoundWithEscapes, ArnsAreFoundWithEscapes, GlobsAreWrittenApart, LiteralsAreWrittenApart, ArnsAreWrittenApart, ActionsAreWrittenApart}
 use Rattle.wildcard_lang.proofs.Escapes.{symbols_are_read}
@@ -38,16 +38,16 @@ no_letter c b e = grind (arith, nat_tests)
 
 reads_plain : (c : ℕ) (cs : List ℕ) (ss : List Symbol) (mark : Bool) → is_mark c ≡ mark → Reads cs ss →
     Reads ((if mark then 36 ∷ 123 ∷ c ∷ 125 ∷ [] else c ∷ []) ++ cs) ((if mark then Escaped c else Written c) ∷ ss)
-reads_plain c cs ss true e r = an_escape refl refl e refl r
-reads_plain c cs ss false e r = a_character (no_dollar c (opens cs) e) r
+reads_plain c cs ss true e r = reads_escape refl refl e refl r
+reads_plain c cs ss false e r = reads_character (no_dollar c (opens_brace cs) e) r
 
 reads_piece : (p : Piece) (cs : List ℕ) (ss : List Symbol) → is_lower p ≡ true → Reads cs ss → Reads (piece_form p ++ cs) (piece_symbol p ∷ ss)
 reads_piece (Lit c) cs ss lower r = reads_plain c cs ss (is_mark c) refl r
-reads_piece (LitFold c) cs ss lower r = a_character (no_letter c (opens cs) lower) r
-reads_piece One cs ss lower r = a_character refl r
-reads_piece Many cs ss lower r = a_character refl r
-reads_piece OneNoColon cs ss lower r = a_character refl r
-reads_piece ManyNoColon cs ss lower r = a_character refl r
+reads_piece (LitFold c) cs ss lower r = reads_character (no_letter c (opens_brace cs) lower) r
+reads_piece One cs ss lower r = reads_character refl r
+reads_piece Many cs ss lower r = reads_character refl r
+reads_piece OneNoColon cs ss lower r = reads_character refl r
+reads_piece ManyNoColon cs ss lower r = reads_character refl r
 
 reads_form : (ps : List Piece) → list_all is_lower ps ≡ true → Reads (written_form ps) (map piece_symbol ps)
 reads_form [] h = no_text
@@ -227,15 +227,15 @@ literals-globs escapes ps of = pieces-glob ps (made-all (literal_of false) glob-
 record ArnMade (escapes : Bool) (cs : List ℕ) (ps : List Piece) : Type 0 where
   pub wide : List Piece
   pub read : glob_pieces false escapes cs ≡ Some wide
-  pub is : ps ≡ narrowed 5 wide
+  pub is : ps ≡ narrowed_pieces 5 wide
 
-arn_read : (read : Option (List Piece)) (ps : List Piece) → option_map (narrowed 5) read ≡ Some ps → (wide : List Piece) × (read ≡ Some wide) × (ps ≡ narrowed 5 wide)
+arn_read : (read : Option (List Piece)) (ps : List Piece) → option_map (narrowed_pieces 5) read ≡ Some ps → (wide : List Piece) × (read ≡ Some wide) × (ps ≡ narrowed_pieces 5 wide)
 arn_read None ps e = absurd (cc)
-arn_read (Some wide) ps e = let same : narrowed 5 wide ≡ ps = cc in (wide, refl, sym same)
+arn_read (Some wide) ps e = let same : narrowed_pieces 5 wide ≡ ps = cc in (wide, refl, sym same)
 
 arn_made : (escapes : Bool) (cs : List ℕ) (ps : List Piece) → arn_pieces escapes cs ≡ Some ps → ArnMade escapes cs ps
 arn_made escapes cs ps e =
-    let r : (wide : List Piece) × (glob_pieces false escapes cs ≡ Some wide) × (ps ≡ narrowed 5 wide) = arn_read (glob_pieces false escapes cs) ps e in
+    let r : (wide : List Piece) × (glob_pieces false escapes cs ≡ Some wide) × (ps ≡ narrowed_pieces 5 wide) = arn_read (glob_pieces false escapes cs) ps e in
     record { wide = r.0; read = r.1; is = r.2 }
 
 form-before : (k : ℕ) (p : Piece) → piece_form (narrow_before k p) ≡ piece_form p
@@ -247,16 +247,16 @@ form-before (suc k) Many = refl
 form-before (suc k) OneNoColon = refl
 form-before (suc k) ManyNoColon = refl
 
-form-narrowed : (k : ℕ) (ps : List Piece) → written_form (narrowed k ps) ≡ written_form ps
+form-narrowed : (k : ℕ) (ps : List Piece) → written_form (narrowed_pieces k ps) ≡ written_form ps
 form-narrowed k [] = refl
-form-narrowed k (p ∷ ps) = rw (form-before k p, form-narrowed (left_behind k p) ps) refl
+form-narrowed k (p ∷ ps) = rw (form-before k p, form-narrowed (colons_left k p) ps) refl
 
 pub arns-again : ArnsAreReadAgain
 arns-again escapes ps of =
     let m : ArnMade escapes of.0 ps = arn_made escapes of.0 ps of.1 in
     let form : written_form ps ≡ written_form m.wide = ap written_form m.is ∙ form-narrowed 5 m.wide in
     let wide : glob_pieces false true (written_form m.wide) ≡ Some m.wide = globs-again false escapes m.wide (of.0, m.read) in
-    ap (arn_pieces true) form ∙ ap (option_map (narrowed 5)) wide ∙ ap Some (sym m.is)
+    ap (arn_pieces true) form ∙ ap (option_map (narrowed_pieces 5)) wide ∙ ap Some (sym m.is)
 
 pub arns-with_escapes : ArnsAreFoundWithEscapes
 arns-with_escapes escapes ps of = (written_form ps, arns-again escapes ps of, of.2)
@@ -270,11 +270,11 @@ wide-before (suc k) Many h = absurd (cc)
 wide-before (suc k) OneNoColon h = refl
 wide-before (suc k) ManyNoColon h = refl
 
-wide-narrowed : (k : ℕ) (ps : List Piece) → list_all is_not_narrow (narrowed k ps) ≡ true → narrowed k ps ≡ ps
+wide-narrowed : (k : ℕ) (ps : List Piece) → list_all is_not_narrow (narrowed_pieces k ps) ≡ true → narrowed_pieces k ps ≡ ps
 wide-narrowed k [] h = refl
 wide-narrowed k (p ∷ ps) h =
-    let parts : (is_not_narrow (narrow_before k p) ≡ true) × (list_all is_not_narrow (narrowed (left_behind k p) ps) ≡ true) = and_parts _ _ h in
-    rw (wide-before k p parts.0, wide-narrowed (left_behind k p) ps parts.1) refl
+    let parts : (is_not_narrow (narrow_before k p) ≡ true) × (list_all is_not_narrow (narrowed_pieces (colons_left k p) ps) ≡ true) = and_parts _ _ h in
+    rw (wide-before k p parts.0, wide-narrowed (colons_left k p) ps parts.1) refl
 
 pub arns-globs : WideArnsAreGlobs
 arns-globs escapes ps of h =

@@ -9,13 +9,13 @@ use Rattle.wildcard_lang.specs.Reading.{glob_pieces}
 use Rattle.wildcard_lang.specs.declared.pattern.TheConstants.{MOST_PIECES}
 
 -- the wildcard that takes no colon in place of one that takes any character
-abbrev pub narrow : Piece → Piece
-narrow (Lit c) = Lit c
-narrow (LitFold c) = LitFold c
-narrow One = OneNoColon
-narrow Many = ManyNoColon
-narrow OneNoColon = OneNoColon
-narrow ManyNoColon = ManyNoColon
+abbrev pub narrow_piece : Piece → Piece
+narrow_piece (Lit c) = Lit c
+narrow_piece (LitFold c) = LitFold c
+narrow_piece One = OneNoColon
+narrow_piece Many = ManyNoColon
+narrow_piece OneNoColon = OneNoColon
+narrow_piece ManyNoColon = ManyNoColon
 
 -- whether the piece is a plain colon
 abbrev pub is_colon : Piece → Bool
@@ -29,17 +29,17 @@ is_colon ManyNoColon = false
 -- the piece where so many plain colons are still to come: a wildcard before the last of them is narrowed
 abbrev pub narrow_before : ℕ → Piece → Piece
 narrow_before zero p = p
-narrow_before (suc k) p = narrow p
+narrow_before (suc k) p = narrow_piece p
 
 -- how many of them are still to come behind the piece
-abbrev pub left_behind : ℕ → Piece → ℕ
-left_behind zero p = zero
-left_behind (suc k) p = (if is_colon p then k else suc k)
+abbrev pub colons_left : ℕ → Piece → ℕ
+colons_left zero p = zero
+colons_left (suc k) p = (if is_colon p then k else suc k)
 
 -- the pieces, of which those before so many plain colons are narrowed
-abbrev pub narrowed : ℕ → List Piece → List Piece
-narrowed k [] = []
-narrowed k (p ∷ ps) = narrow_before k p ∷ narrowed (left_behind k p) ps
+abbrev pub narrowed_pieces : ℕ → List Piece → List Piece
+narrowed_pieces k [] = []
+narrowed_pieces k (p ∷ ps) = narrow_before k p ∷ narrowed_pieces (colons_left k p) ps
 
 -- how many plain colons there are
 abbrev pub colons : List Piece → ℕ
@@ -48,7 +48,7 @@ colons (p ∷ ps) = (if is_colon p then suc (colons ps) else colons ps)
 
 -- the pieces of a text as the pattern of an ARN, or none where a policy variable stands in it
 abbrev pub arn_pieces : Bool → List ℕ → Option (List Piece)
-arn_pieces escapes cs = option_map (narrowed 5) (glob_pieces false escapes cs)
+arn_pieces escapes cs = option_map (narrowed_pieces 5) (glob_pieces false escapes cs)
 
 -- what the reader answers by the pieces that the text stands for: these pieces where there are five plain colons and at most
 -- 2,048 pieces, and otherwise the fault, besides want of memory

@@ -8,13 +8,13 @@ use Rattle.wildcard_lang.specs.declared.piece.Piece.TheVariants.{Lit, LitFold, O
 use Rattle.wildcard_lang.specs.declared.pattern.TheConstants.{MOST_PIECES}
 
 -- the character of a literal piece
-abbrev pub own : Piece → List ℕ
-own (Lit c) = c ∷ []
-own (LitFold c) = c ∷ []
-own One = []
-own Many = []
-own OneNoColon = []
-own ManyNoColon = []
+abbrev pub own_character : Piece → List ℕ
+own_character (Lit c) = c ∷ []
+own_character (LitFold c) = c ∷ []
+own_character One = []
+own_character Many = []
+own_character OneNoColon = []
+own_character ManyNoColon = []
 
 -- a folded piece holds a lower-case ASCII letter
 abbrev pub is_lower : Piece → Bool
@@ -51,6 +51,6 @@ narrow_first (p ∷ ps) = (if is_wide p then list_all is_not_narrow ps else narr
 -- wildcards that take no colon stand before those that do
 pub record IsPattern (ps : List Piece) : Type 0 where
   pub fits : length ps ≤ MOST_PIECES
-  pub scalars : IsText (flat_map own ps)
+  pub scalars : IsText (flat_map own_character ps)
   pub lower : list_all is_lower ps ≡ true
   pub narrow : narrow_first ps ≡ true

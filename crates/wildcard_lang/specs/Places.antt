@@ -23,21 +23,21 @@ pub data Leads : List Piece → List ℕ → ℕ → ℕ → Type 0 where
       Leads ps places c j → Leads ps places c (suc j)
 
 -- whether j is in the list
-abbrev pub has : List ℕ → ℕ → Bool
-has is j = list_any (λ i. i == j) is
+abbrev pub contains_place : List ℕ → ℕ → Bool
+contains_place is j = list_any (λ i. i == j) is
 
 -- the numbers from i on, k of them, that pass the test, in rising order
-abbrev pub rising : (ℕ → Bool) → ℕ → ℕ → List ℕ
-rising test i zero = []
-rising test i (suc k) = cond (test i) (i ∷ rising test (i + 1) k) (rising test (i + 1) k)
+abbrev pub passing_numbers : (ℕ → Bool) → ℕ → ℕ → List ℕ
+passing_numbers test i zero = []
+passing_numbers test i (suc k) = cond (test i) (i ∷ passing_numbers test (i + 1) k) (passing_numbers test (i + 1) k)
 
 -- the places of the pattern after the text, in rising order
 abbrev pub places_of : List Piece → List ℕ → List ℕ
-places_of ps t = rising (λ i. accepts (take i ps) t) 0 (length ps + 1)
+places_of ps t = passing_numbers (λ i. accepts (take i ps) t) 0 (length ps + 1)
 
 -- the places that c leads to, in rising order
 abbrev pub step : List Piece → List ℕ → ℕ → List ℕ
-step ps places c = rising (reaches ps (has places) c) 0 (length ps + 1)
+step ps places c = passing_numbers (reaches ps (contains_place places) c) 0 (length ps + 1)
 
 -- the product state of patterns after a text: the places of each
 abbrev pub lists_of : List (List Piece) → List ℕ → List (List ℕ)
@@ -62,11 +62,11 @@ IsWider patterns n = (texts : List (List ℕ)) × ShowWider patterns n texts
 
 -- the computed places are the places
 abbrev pub PlacesAreMatched : Type 0
-PlacesAreMatched = (ps : List Piece) (t : List ℕ) (j : ℕ) → IsTrue (has (places_of ps t) j) ↔ IsPlace ps t j
+PlacesAreMatched = (ps : List Piece) (t : List ℕ) (j : ℕ) → IsTrue (contains_place (places_of ps t) j) ↔ IsPlace ps t j
 
 -- the computed step is the step
 abbrev pub StepsAreLed : Type 0
-StepsAreLed = (ps : List Piece) (places : List ℕ) (c j : ℕ) → IsTrue (has (step ps places c) j) ↔ Leads ps places c j
+StepsAreLed = (ps : List Piece) (places : List ℕ) (c j : ℕ) → IsTrue (contains_place (step ps places c) j) ↔ Leads ps places c j
 
 -- the step of the places of a text gives those of the text with one more character
 abbrev pub StepsFollowTexts : Type 0

@@ -1,6 +1,6 @@
 //! Reading the patterns of ARNs.
 ghost use Rattle.std.specs.Prelude.{◌≡◌, IfOk, chars};
-ghost use Rattle.wildcard_lang.specs.Arns.{narrow, is_colon, narrow_before, left_behind, narrowed, colons, arn_pieces, IsArnRead};
+ghost use Rattle.wildcard_lang.specs.Arns.{narrow_piece, is_colon, narrow_before, colons_left, narrowed_pieces, colons, arn_pieces, IsArnRead};
 
 use crate::fault::PatternFault;
 use crate::pattern::{MOST_PIECES, Pattern};
@@ -15,7 +15,7 @@ const COLONS: usize = 5;
 
 // The wildcard that takes no colon in place of one that takes any character.
 fn narrow(piece: Piece) -> Piece
-    ensures { result ≡ narrow piece }
+    ensures { result ≡ narrow_piece piece }
 {
     match piece {
         Piece::One => Piece::OneNoColon,
@@ -53,7 +53,7 @@ fn narrow_before(left: usize, piece: Piece) -> Piece
 
 // How many of them are still to come behind the piece.
 fn left_behind(left: usize, piece: Piece) -> usize
-    ensures { result ≡ left_behind left piece }
+    ensures { result ≡ colons_left left piece }
 {
     if left > 0 && is_colon(piece) {
         left - 1
@@ -64,7 +64,7 @@ fn left_behind(left: usize, piece: Piece) -> usize
 
 // The pieces, of which those before the fifth plain colon are narrowed.
 fn narrow_parts(alloc: Global, pieces: &[Piece]) -> Result<Vec<Piece>, AllocError>
-    ensures { IfOk result (λ v. v.items ≡ narrowed 5 pieces.now) }
+    ensures { IfOk result (λ v. v.items ≡ narrowed_pieces 5 pieces.now) }
 {
     let mut parts = Vec::new(alloc);
     let mut left = COLONS;

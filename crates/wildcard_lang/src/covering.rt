@@ -1,10 +1,10 @@
 //! Whether a pattern takes all that another takes, or nothing of it.
-ghost use Rattle.std.specs.Prelude.{◌≡◌, ◌↔◌, IsTrue};
-ghost use Rattle.wildcard_lang.specs.Covering.{CoversPattern, Clash, clashes, has_one, shares, takes_no_colon, takes_next, takes_piece, is_wildcard, CoveringIsInclusion, ClashingIsDisjoint, CoveringIsReflexive, StarsCoverAll, LiteralsAreCovered};
+ghost use Rattle.std.specs.Prelude.{◌≡◌, ◌≤◌, ◌↔◌, IsTrue, length};
+ghost use Rattle.wildcard_lang.specs.Covering.{CoversPattern, Clash, clashes, covers, has_one, shares, takes_no_colon, takes_next, takes_piece, is_wildcard, CoveringIsInclusion, ClashingIsDisjoint, CoveringIsReflexive, StarsCoverAll, LiteralsAreCovered};
 ghost use Rattle.wildcard_lang.specs.Patterns.{is_wide};
 
 use crate::matching::matches_pieces;
-use crate::pattern::Pattern;
+use crate::pattern::{MOST_PIECES, Pattern};
 use crate::piece::Piece;
 
 /// What a pattern matches is matched by each pattern that covers it.
@@ -98,7 +98,18 @@ fn has_one(pieces: &[Piece]) -> bool
 pub fn covers(pattern: &Pattern, other: &Pattern) -> bool
     ensures { IsTrue result ↔ CoversPattern pattern.now other.now }
 {
-    matches_pieces::<Piece, _>(pattern.as_slice(), other.as_slice())
+    covers_pieces(pattern.as_slice(), other.as_slice())
+}
+
+// Patterns are often equal, which is told with less work than where the places of one are kept.
+fn covers_pieces(pieces: &[Piece], others: &[Piece]) -> bool
+    requires { length pieces.now ≤ MOST_PIECES }
+    ensures { result ≡ covers pieces.now others.now }
+{
+    if pieces == others {
+        return true;
+    }
+    matches_pieces::<Piece, _>(pieces, others)
 }
 
 /// Whether the patterns clash, and so match no text both. It takes no memory. The answer may be no

@@ -83,7 +83,7 @@ fn matches_front<X: Taken, S: Source<X>>(pieces: &[Piece], text: S) -> bool
 
 // Keeps the places of the pieces, of which the first is for any number.
 fn matches_places<X: Taken, S: Source<X>>(pieces: &[Piece], text: S) -> bool
-    requires some { 1 ≤ length pieces.now }
+    requires nonempty { 1 ≤ length pieces.now }
     requires most { length pieces.now ≤ MOST_PIECES }
     ensures { result ≡ accepts_by X.taken pieces.now (S.left text) }
 {

@@ -8,11 +8,11 @@ pub(crate) trait Source<X>: Drop {
     ghost left: { Self → List X };
 
     fn next_item(&mut self) -> Option<X>
-        ensures some { IfSome result (λ x. left self.old ≡ x ∷ left self.new) }
+        ensures split { IfSome result (λ x. left self.old ≡ x ∷ left self.new) }
         ensures none { IfNone result (left self.old ≡ []) };
 
     fn last_item(&mut self) -> Option<X>
-        ensures some { IfSome result (λ x. left self.old ≡ left self.new ++ x ∷ []) }
+        ensures split { IfSome result (λ x. left self.old ≡ left self.new ++ x ∷ []) }
         ensures none { IfNone result (left self.old ≡ []) };
 }
 
@@ -49,7 +49,7 @@ impl<'a> Source<char> for &'a str {
 }
 
 fn split_first(text: &str) -> Option<(char, &str)>
-    ensures some { IfSome result (λ r. chars text.now ≡ r.0 ∷ chars r.1.now) }
+    ensures split { IfSome result (λ r. chars text.now ≡ r.0 ∷ chars r.1.now) }
     ensures none { IfNone result (chars text.now ≡ []) }
 {
     let mut rest = text.chars();
@@ -58,7 +58,7 @@ fn split_first(text: &str) -> Option<(char, &str)>
 }
 
 fn split_last(text: &str) -> Option<(char, &str)>
-    ensures some { IfSome result (λ r. chars text.now ≡ chars r.1.now ++ r.0 ∷ []) }
+    ensures split { IfSome result (λ r. chars text.now ≡ chars r.1.now ++ r.0 ∷ []) }
     ensures none { IfNone result (chars text.now ≡ []) }
 {
     let mut rest = text.chars();

@@ -1,6 +1,6 @@
 //! The symbols of a pattern's text: its characters, where an escape stands for one.
 ghost use Rattle.std.specs.Prelude.{◌≡◌, ◌<◌, ℕ, zero, None, Some, length, MatchOption, IfOk, map};
-ghost use Rattle.wildcard_lang.specs.Symbols.{IsNext, opens, is_mark, escaped, unescaped, symbols};
+ghost use Rattle.wildcard_lang.specs.Symbols.{IsNext, opens_brace, is_mark, escaped_character, symbols_after, symbols};
 ghost use Rattle.wildcard_lang.specs.SymbolFaults.{AreSymbols};
 
 use crate::fault::PatternFault;
@@ -26,14 +26,14 @@ pub(crate) fn is_mark(c: char) -> bool
 
 // Whether a `{` stands at the front.
 fn opens(rest: &[char]) -> bool
-    ensures { result ≡ opens rest.now }
+    ensures { result ≡ opens_brace rest.now }
 {
     matches!(rest, ['{', ..])
 }
 
 // The plain character for which a `$` and what is behind it stand.
 fn escaped(rest: &[char]) -> Option<char>
-    ensures { result ≡ escaped rest.now }
+    ensures { result ≡ escaped_character rest.now }
 {
     match rest {
         ['{', c, '}', ..] if is_mark(*c) => Some(*c),
@@ -44,7 +44,7 @@ fn escaped(rest: &[char]) -> Option<char>
 // The symbol at the front, and how many characters it takes, or none where a policy variable stands there.
 fn next_symbol(chars: &[char]) -> Option<(Symbol, usize)>
     requires { 0 < length chars.now }
-    ensures { MatchOption result (unescaped zero chars.now ≡ None) (IsNext chars.now) }
+    ensures { MatchOption result (symbols_after zero chars.now ≡ None) (IsNext chars.now) }
 {
     let c = chars[0];
     let rest = &chars[1..];
@@ -57,7 +57,7 @@ fn next_symbol(chars: &[char]) -> Option<(Symbol, usize)>
 
 // The symbols of a text with escapes.
 fn unescape(alloc: Global, chars: &[char]) -> Result<List<Symbol>, PatternFault>
-    ensures { AreSymbols (unescaped zero chars.now) result }
+    ensures { AreSymbols (symbols_after zero chars.now) result }
 {
     let mut symbols = List::new(alloc);
     let mut rest = chars;

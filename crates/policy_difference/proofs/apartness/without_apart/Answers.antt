@@ -18,5 +18,5 @@ returns-clause-less c =
       guards = zip-other (AreLeft (IsCut (IsBound bounds))) (AreLeft (IsCut (IsApartFromAllows first))) documents _ _ (subst (λ (gs : List (List Document)). AllZip (AreLeft (IsCut (IsBound bounds))) gs c.in_ok-guards.guards) c.as_slice-2.ensures c.in_ok-guards.ensures);
     }
 
-pub returns-clause-some : goal.returns-clause-some
-returns-clause-some c = (λ e. c.have_few_pairs.ensures.0 c.if-not-have_few_pairs.false, λ few. refl)
+pub returns-clause-exactly : goal.returns-clause-exactly
+returns-clause-exactly c = (λ e. c.have_few_pairs.ensures.0 c.if-not-have_few_pairs.false, λ few. refl)

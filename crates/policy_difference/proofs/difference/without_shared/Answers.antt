@@ -5,8 +5,8 @@ use Rattle.policy_difference.proofs.Leaving.{apart}
 use Rattle.policy_difference.proofs.Seen.{is-false, is-true}
 use Rattle.policy_difference.proofs.difference.without_shared.Goals as goal
 
-pub returns-then-not-left-clause-some : goal.returns-then-not-left-clause-some
-returns-then-not-left-clause-some c =
+pub returns-then-not-left-clause-exactly : goal.returns-then-not-left-clause-exactly
+returns-then-not-left-clause-exactly c =
     let first = c.args.first.now in
     let second = c.args.second.now in
     let left = c.in_ok-left.ensures first second c.in_ok-bounds.ensures in
@@ -18,8 +18,8 @@ returns-then-not-left-clause-some c =
 pub returns-clause-left : goal.returns-clause-left
 returns-clause-left c = search rules
 
-pub returns-clause-some : goal.returns-clause-some
-returns-clause-some c =
+pub returns-clause-exactly : goal.returns-clause-exactly
+returns-clause-exactly c =
     let first = c.args.first.now in
     let second = c.args.second.now in
     let left = c.in_ok-left.ensures first second c.in_ok-bounds.ensures in

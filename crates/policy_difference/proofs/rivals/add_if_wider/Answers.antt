@@ -6,8 +6,17 @@ use Rattle.policy_difference.proofs.Filtered.{pushed-any}
 use Rattle.policy_difference.proofs.Leaving.{apart}
 use Rattle.policy_difference.proofs.rivals.add_if_wider.Goals as goal
 
+pub returns-then-not-may_cover_asked : goal.returns-then-not-may_cover_asked
+returns-then-not-may_cover_asked c a asked = (
+  λ some. inl some,
+  λ either. elim either [
+    | inl some ↦ some
+    | inr more ↦ absurd (apart (sym (c.may_cover_asked.ensures a asked more.action) ∙ c.if-not-may_cover_asked.true))
+  ],
+)
+
 pub returns-then-not-asks_no_more_else : goal.returns-then-not-asks_no_more_else
-returns-then-not-asks_no_more_else c a = (
+returns-then-not-asks_no_more_else c a asked = (
   λ some. inl some,
   λ either. elim either [
     | inl some ↦ some
@@ -16,7 +25,7 @@ returns-then-not-asks_no_more_else c a = (
 )
 
 pub returns : goal.returns
-returns c a =
+returns c a asked =
     let other = c.args.other.now in
     let statement = c.args.statement.now in
     let else = c.asks_no_more_else.ensures.0 c.if-not-asks_no_more_else.false in

@@ -7,7 +7,7 @@ use Rattle.policy_difference.proofs.Leaving.{none_of_none}
 use Rattle.policy_difference.proofs.rivals.add_wider.Goals as goal
 
 pub statements-init : goal.statements-init
-statements-init c a = (
+statements-init c a asked = (
   λ some. inl some,
   λ either. elim either [
     | inl some ↦ some
@@ -16,8 +16,8 @@ statements-init c a = (
 )
 
 pub statements-preserved : goal.statements-preserved
-statements-preserved c a =
-    grown-any (λ (t : Statement). AsksNoMore t (with_action c.args.statement.now a)) c.args.statements.now c.statements.other-index c.other-item.result c.statements-test.true c.other-item.is _ _ _ (c.statements.invariant a) (c.in_ok-add_if_wider.ensures a)
+statements-preserved c a asked =
+    grown-any (λ (t : Statement). AsksNoMore t (with_action c.args.statement.now a)) c.args.statements.now c.statements.other-index c.other-item.result c.statements-test.true c.other-item.is _ _ _ (c.statements.invariant a asked) (c.in_ok-add_if_wider.ensures a asked)
 
 pub returns : goal.returns
-returns c a = whole-any (λ (t : Statement). AsksNoMore t (with_action c.args.statement.now a)) c.args.statements.now c.statements.other-index c.statements-test.false _ _ (c.statements.invariant a)
+returns c a asked = whole-any (λ (t : Statement). AsksNoMore t (with_action c.args.statement.now a)) c.args.statements.now c.statements.other-index c.statements-test.false _ _ (c.statements.invariant a asked)

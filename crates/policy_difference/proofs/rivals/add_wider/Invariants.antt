@@ -3,8 +3,8 @@ use Rattle.wildcard_lang.specs.declared.piece.Piece.{Piece}
 use Rattle.policy_model.specs.declared.matcher.Matcher.{Matcher}
 use Rattle.policy_model.specs.declared.set.Statement.{Statement}
 use Rattle.policy_difference.specs.Differences.{AsksNoMore}
-use Rattle.policy_difference.specs.Rivals.{SomeCoversAction, with_action}
+use Rattle.policy_difference.specs.Rivals.{IsAskedOf, SomeCoversAction, with_action}
 use Rattle.policy_difference.proofs.rivals.add_wider.Given as goal
 
 abbrev pub invariant-statements : goal.invariant-statements
-invariant-statements l = (a : Matcher (List Piece)) → SomeCoversAction l.wider.items a ↔ (SomeCoversAction l.fn.wider.items a ⊎ Any (λ (t : Statement). AsksNoMore t (with_action l.statement a)) (take l.other-index l.statements))
+invariant-statements l = (a : Matcher (List Piece)) → IsAskedOf l.statement a → SomeCoversAction l.wider.items a ↔ (SomeCoversAction l.fn.wider.items a ⊎ Any (λ (t : Statement). AsksNoMore t (with_action l.statement a)) (take l.other-index l.statements))

@@ -3,9 +3,9 @@ use Rattle.policy_difference.specs.Rivals.{AllowedByEach, ApartFromEach, with_ac
 use Rattle.policy_difference.proofs.rivals.rivals_of.Goals as goal
 
 pub returns : goal.returns
-returns c a =
+returns c a asked =
     let s = with_action c.args.statement.now a in
-    let allowed = c.in_ok-allowing.ensures a in
+    let allowed = c.in_ok-allowing.ensures a asked in
     let apart = c.in_ok-denying.ensures a in (
       λ passed. (
         subst (λ gs. AllowedByEach gs s) c.as_slice.ensures.value (allowed.0 passed.0),

@@ -4,8 +4,8 @@ use Rattle.policy_model.specs.declared.matcher.Matcher.{Matcher}
 use Rattle.policy_model.specs.declared.set.Statement.{Statement}
 use Rattle.policy_model.specs.declared.set.Document.{Document}
 use Rattle.policy_difference.specs.Differences.{AsksNoMore}
-use Rattle.policy_difference.specs.Rivals.{SomeCoversAction, with_action}
+use Rattle.policy_difference.specs.Rivals.{IsAskedOf, SomeCoversAction, with_action}
 use Rattle.policy_difference.proofs.rivals.wider_of.Given as goal
 
 abbrev pub invariant-documents : goal.invariant-documents
-invariant-documents l = (a : Matcher (List Piece)) → SomeCoversAction l.wider.items a ↔ Any (λ (d : Document). Any (λ (t : Statement). AsksNoMore t (with_action l.statement a)) d.statements) (take l.document-index l.documents)
+invariant-documents l = (a : Matcher (List Piece)) → IsAskedOf l.statement a → SomeCoversAction l.wider.items a ↔ Any (λ (d : Document). Any (λ (t : Statement). AsksNoMore t (with_action l.statement a)) d.statements) (take l.document-index l.documents)

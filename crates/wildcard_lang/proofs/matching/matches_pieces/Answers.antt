@@ -9,10 +9,10 @@ returns-in_default-last_item g c =
 
 pub returns-then-not-is_taken : goal.returns-then-not-is_taken
 returns-then-not-is_taken g c =
-    last_refused g.X.Taken.taken _ _ _ _ _ _ c.in-len1-up.len_at_least (sym c.is_many.ensures ∙ c.if-is_many.false) c.in-Some.ensures.some (sym c.is_taken.ensures ∙ c.if-not-is_taken.true) c.back.invariant.same
+    last_refused g.X.Taken.taken _ _ _ _ _ _ c.in-len1-up.len_at_least (sym c.is_many.ensures ∙ c.if-is_many.false) c.in-Some.ensures.split (sym c.is_taken.ensures ∙ c.if-not-is_taken.true) c.back.invariant.same
 
 pub back-preserved : goal.back-preserved
 back-preserved g c = record {
-  same = last_left g.X.Taken.taken _ _ _ _ _ _ c.in-len1-up.len_at_least (sym c.is_many.ensures ∙ c.if-is_many.false) c.in-Some.ensures.some (sym c.is_taken.ensures ∙ c.if-not-is_taken.false) c.back.invariant.same;
+  same = last_left g.X.Taken.taken _ _ _ _ _ _ c.in-len1-up.len_at_least (sym c.is_many.ensures ∙ c.if-is_many.false) c.in-Some.ensures.split (sym c.is_taken.ensures ∙ c.if-not-is_taken.false) c.back.invariant.same;
   fits = omega (arith, c.back.invariant.fits, length-take-le (length c.back.rest.now - 1) c.back.rest.now (omega arith));
 }

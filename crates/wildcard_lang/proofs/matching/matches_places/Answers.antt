@@ -13,15 +13,15 @@ text-init g c = ([], refl, whole_window g.X.Taken.taken _ _ c.start.ensures)
 pub returns-then-window-pieces : goal.returns-then-window-pieces
 returns-then-window-pieces g c =
     let done = c.text.invariant.0 in
-    star_reached g.X.Taken.taken _ (done ++ c.in-Some.x ∷ []) _ _ _ _ c.requires.some c.if-window-pieces.true
-    (c.text.invariant.1 ∙ ap (λ u. done ++ u) c.in-Some.ensures.some ∙ sym (append_assoc done (c.in-Some.x ∷ []) _))
+    star_reached g.X.Taken.taken _ (done ++ c.in-Some.x ∷ []) _ _ _ _ c.requires.nonempty c.if-window-pieces.true
+    (c.text.invariant.1 ∙ ap (λ u. done ++ u) c.in-Some.ensures.split ∙ sym (append_assoc done (c.in-Some.x ∷ []) _))
     (c.step_window-window.ensures done c.text.invariant.2)
 
 pub text-preserved : goal.text-preserved
 text-preserved g c =
     let done = c.text.invariant.0 in (
       done ++ c.in-Some.x ∷ [],
-      c.text.invariant.1 ∙ ap (λ u. done ++ u) c.in-Some.ensures.some ∙ sym (append_assoc done (c.in-Some.x ∷ []) _),
+      c.text.invariant.1 ∙ ap (λ u. done ++ u) c.in-Some.ensures.split ∙ sym (append_assoc done (c.in-Some.x ∷ []) _),
       c.step_window-window.ensures done c.text.invariant.2,
     )
 

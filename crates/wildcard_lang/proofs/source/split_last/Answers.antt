@@ -5,5 +5,5 @@ use Rattle.wildcard_lang.proofs.source.split_last.Goals as goal
 pub returns-in_err-c-clause-none : goal.returns-in_err-c-clause-none
 returns-in_err-c-clause-none c = search (rules, no_characters)
 
-pub returns-clause-some : goal.returns-clause-some
-returns-clause-some c = search (rules, last_character)
+pub returns-clause-split : goal.returns-clause-split
+returns-clause-split c = search (rules, last_character)
