@@ -13,9 +13,9 @@ use Rattle.pattern_automata.specs.declared.tree.Step.{Step}
 use Rattle.pattern_automata.specs.declared.tree.Step.TheVariants.{Left, Met, Full}
 use Rattle.pattern_automata.specs.declared.outcome.Product.{Product}
 use Rattle.pattern_automata.specs.declared.outcome.Product.TheVariants.{Found, Empty, TooMany}
-use Rattle.wildcard_lang.specs.Places.{ShowWider, has, rising, places_of, lists_of, step_lists}
+use Rattle.wildcard_lang.specs.Places.{ShowWider, contains_place, passing_numbers, places_of, lists_of, step_lists}
 use Rattle.pattern_automata.specs.Closed.{InRange, Meets, lists_meet, IsRepresentative, rises_from, all_rise, IsShaped, IsClosed}
-use Rattle.pattern_automata.specs.Marks.{all_marks, total}
+use Rattle.pattern_automata.specs.Marks.{all_marks, mark_count}
 use Rattle.pattern_automata.specs.Packed.{all_words, pack, words_for}
 use Rattle.pattern_automata.specs.Tree.{IsEnds, IsMet, IsFull, IsLeft, IsOver, IsOutcome, Spells, words_meet}
 use Rattle.pattern_automata.specs.Machine.{StandForAll}
@@ -32,12 +32,12 @@ from-lower : (i k : ℕ) (js : List ℕ) → i ≤ k → rises_from k js ≡ tru
 from-lower i k [] h r = refl
 from-lower i k (j ∷ js) h r = grind (arith, nat_tests)
 
-pub from-rising : (f : ℕ → Bool) (i k : ℕ) → rises_from i (rising f i k) ≡ true
+pub from-rising : (f : ℕ → Bool) (i k : ℕ) → rises_from i (passing_numbers f i k) ≡ true
 from-rising f i zero = refl
 from-rising f i (suc k) =
-    elim (f i) as (λ b. rises_from i (cond b (i ∷ rising f (i + 1) k) (rising f (i + 1) k)) ≡ true) [
+    elim (f i) as (λ b. rises_from i (cond b (i ∷ passing_numbers f (i + 1) k) (passing_numbers f (i + 1) k)) ≡ true) [
       | true ↦ grind (arith, nat_tests, from-rising f (i + 1) k)
-      | false ↦ from-lower i (i + 1) (rising f (i + 1) k) (omega arith) (from-rising f (i + 1) k)
+      | false ↦ from-lower i (i + 1) (passing_numbers f (i + 1) k) (omega arith) (from-rising f (i + 1) k)
     ]
 
 pub length-lists_of : (ps : List (List Piece)) (t : List ℕ) → length (lists_of ps t) ≡ length ps
@@ -57,7 +57,7 @@ marks-from_places p t u e =
     ext_get_or false (marks_of p t) (marks_of p u) (length-marks_of p t ∙ sym (length-marks_of p u))
     (λ j h.
     let l : j ≤ length p = omega (arith, length-marks_of p t) in
-    get_or-marks_of p t j l ∙ (sym (has-places p t j l) ∙ (ap (λ x. has x j) e ∙ (has-places p u j l ∙ sym (get_or-marks_of p u j l)))))
+    get_or-marks_of p t j l ∙ (sym (has-places p t j l) ∙ (ap (λ x. contains_place x j) e ∙ (has-places p u j l ∙ sym (get_or-marks_of p u j l)))))
 
 marks-from_lists : (ps : List (List Piece)) (t u : List ℕ) → lists_of ps t ≡ lists_of ps u → all_marks ps t ≡ all_marks ps u
 marks-from_lists [] t u e = refl
@@ -81,7 +81,7 @@ module _ (patterns : List (List Piece)) (ends : List ℕ) (clauses : List (List 
         base = record {
           tree = record {
             count = one ∙ sym size;
-            some = omega arith;
+            nonempty = omega arith;
             first = first;
             next = λ i d h l. absurd (omega arith);
           };
@@ -98,7 +98,7 @@ module _ (patterns : List (List Piece)) (ends : List ℕ) (clauses : List (List 
       }
 
   module _ (found : List (List ℕ)) (parents : List Parent) where
-    pub sizes : (step : Step) → IsOutcome patterns ends clauses characters found parents limit step → (k : ℕ) → k < length found → length (get_or found k []) ≡ words_for (total patterns)
+    pub sizes : (step : Step) → IsOutcome patterns ends clauses characters found parents limit step → (k : ℕ) → k < length found → length (get_or found k []) ≡ words_for (mark_count patterns)
     sizes Left o k h = words-length patterns found parents o.left.base.tree k h
     sizes Met o k h = words-length patterns found parents o.tree k h
     sizes Full o k h = words-length patterns found parents o.tree k h
@@ -130,7 +130,7 @@ module _ (patterns : List (List Piece)) (ends : List ℕ) (clauses : List (List 
       starts : Contains closed (lists_of patterns [])
       starts =
           let tree = over.left.base.tree in
-          let h : 0 < length closed = omega (arith, lists.count, tree.some) in
+          let h : 0 < length closed = omega (arith, lists.count, tree.nonempty) in
           (0, h, get_or_default closed 0 (lists_of patterns []) [] h ∙ lists.each 0 [] h tree.first)
 
       scalar-of : (c : ℕ) → IsRepresentative patterns c → IsScalar c

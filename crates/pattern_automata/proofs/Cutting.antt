@@ -1,6 +1,9 @@
 -- Lists that lie one behind another in one list.
-use Rattle.std.proofs.Common.{◌≡◌, ℕ, zero, suc, ◌+◌, ◌-◌, ◌<◌, ◌≤◌, List, [], ◌∷◌, ◌++◌, length, get_or, take, drop, refl, sym, ap, ◌∙◌, subst, append_assoc, arith}
+use Rattle.std.proofs.Common.{◌≡◌, ℕ, zero, suc, ◌+◌, ◌-◌, ◌<◌, ◌≤◌, List, [], ◌∷◌, ◌++◌, length, get_or, take, drop, Bool, false, not, nat_eq, refl, sym, ap, ◌∙◌, subst, append_assoc, arith}
 use Rattle.std.proofs.lemmas.List.{drop_at, drop-append-le, drop-take, length-append, length-drop, length-take, length-take-le, take_all, take_at, take_more, take-append-le, take-take}
+use Rattle.std.proofs.lemmas.Bool.{not-false}
+use Rattle.std.proofs.lemmas.Bool.Decides.{Decides-eqb}
+use Rattle.std.specs.Cmp.Lexicographic.{pointwise, pointwise_decides}
 use Rattle.pattern_automata.specs.Cuts.{AreEndsOf, begin_of, cut_at}
 
 pub length-cut : {X : Type 0} (from : ℕ) (ends : List ℕ) (xs : List X) → length (cut_at from ends xs) ≡ length ends
@@ -129,3 +132,7 @@ part-is ends xs view i from to is h begins ends_at = rw (begins, ends_at) (sym (
 
 pub part-within : (ends : List ℕ) (n i from to : ℕ) → AreEndsOf 0 ends n → i < length ends → from ≡ begin_of 0 ends i → to ≡ get_or ends i 0 → (from ≤ to) × (to ≤ n)
 part-within ends n i from to are h begins ends_at = rw (begins, ends_at) (end-within 0 ends n i are h)
+
+-- slices that don't differ are equal
+pub same-slices : (x y : List ℕ) (differ : Bool) → differ ≡ not (pointwise nat_eq x y) → differ ≡ false → x ≡ y
+same-slices x y differ is off = (pointwise_decides Decides-eqb x y).0 (not-false (pointwise nat_eq x y) (sym is ∙ off))

@@ -10,14 +10,14 @@ use Rattle.std.specs.Char.{IsScalar}
 use Rattle.wildcard_lang.specs.Matching.{takes}
 use Rattle.wildcard_lang.specs.Accepts.{accepts, reaches}
 use Rattle.pattern_automata.specs.declared.wants.Literal.{Literal}
-use Rattle.wildcard_lang.specs.Places.{has, lists_of, step_lists}
-use Rattle.pattern_automata.specs.Closed.{clause_holds, clauses_hold, meets, InRange, names, names_any, named, IsFresh, IsClosed, HaveNoText, ScalarsStepAsRepresentatives, ListsMeetAsTexts}
+use Rattle.wildcard_lang.specs.Places.{contains_place, lists_of, step_lists}
+use Rattle.pattern_automata.specs.Closed.{clause_holds, clauses_hold, text_meets, InRange, names_character, names_any, is_named_character, IsFresh, IsClosed, HaveNoText, ScalarsStepAsRepresentatives, ListsMeetAsTexts}
 use Rattle.pattern_automata.proofs.Scalars.{all-from_text}
 use Rattle.pattern_automata.proofs.Wanting.{meets-from}
 use Rattle.wildcard_lang.proofs.Laws.{has-places, rising-same, step_lists-of}
 
 -- two characters that a piece doesn't name, neither the colon, are taken alike
-takes-same : (p : Piece) (c d : ℕ) → names p c ≡ false → names p d ≡ false → eqb c 58 ≡ false → eqb d 58 ≡ false → takes p c ≡ takes p d
+takes-same : (p : Piece) (c d : ℕ) → names_character p c ≡ false → names_character p d ≡ false → eqb c 58 ≡ false → eqb d 58 ≡ false → takes p c ≡ takes p d
 takes-same (Lit x) c d h k l m = h ∙ sym k
 takes-same (LitFold x) c d h k l m = h ∙ sym k
 takes-same One c d h k l m = refl
@@ -25,13 +25,13 @@ takes-same Many c d h k l m = refl
 takes-same OneNoColon c d h k l m = ap not (l ∙ sym m)
 takes-same ManyNoColon c d h k l m = ap not (l ∙ sym m)
 
-names-at : (ps : List Piece) (c j : ℕ) → names_any ps c ≡ false → names (get_or ps j One) c ≡ false
+names-at : (ps : List Piece) (c j : ℕ) → names_any ps c ≡ false → names_character (get_or ps j One) c ≡ false
 names-at [] c j h = refl
 names-at (p ∷ ps) c zero h = (or_parts _ _ h).0
-names-at (p ∷ ps) c (suc j) h = names-at ps c j (or_parts (names p c) _ h).1
+names-at (p ∷ ps) c (suc j) h = names-at ps c j (or_parts (names_character p c) _ h).1
 
 -- a character that the patterns don't name isn't the colon
-pub colon-named : (patterns : List (List Piece)) (c : ℕ) → named patterns c ≡ false → eqb c 58 ≡ false
+pub colon-named : (patterns : List (List Piece)) (c : ℕ) → is_named_character patterns c ≡ false → eqb c 58 ≡ false
 colon-named [] c h = h
 colon-named (p ∷ ps) c h = colon-named ps c (or_parts (names_any p c) _ h).1
 
@@ -43,14 +43,14 @@ module _ (c d : ℕ) where
       rw (takes-same (get_or ps j One) c d (names-at ps c j h) (names-at ps d j k) l m, reaches-alike ps places h k l m j) refl
 
   -- two characters that the patterns don't name lead to the same lists
-  pub step_lists-alike : (patterns : List (List Piece)) (lists : List (List ℕ)) → named patterns c ≡ false → named patterns d ≡ false →
+  pub step_lists-alike : (patterns : List (List Piece)) (lists : List (List ℕ)) → is_named_character patterns c ≡ false → is_named_character patterns d ≡ false →
       step_lists patterns lists c ≡ step_lists patterns lists d
   step_lists-alike [] lists h k = refl
   step_lists-alike (p ∷ ps) [] h k = refl
   step_lists-alike (p ∷ ps) (l ∷ ls) h k =
-      let x = or_parts (names_any p c) (named ps c) h in
-      let y = or_parts (names_any p d) (named ps d) k in
-      rw (rising-same _ _ 0 (length p + 1) (λ j a b. reaches-alike p (has l) x.0 y.0 (colon-named ps c x.1) (colon-named ps d y.1) j), step_lists-alike ps ls x.1 y.1) refl
+      let x = or_parts (names_any p c) (is_named_character ps c) h in
+      let y = or_parts (names_any p d) (is_named_character ps d) k in
+      rw (rising-same _ _ 0 (length p + 1) (λ j a b. reaches-alike p (contains_place l) x.0 y.0 (colon-named ps c x.1) (colon-named ps d y.1) j), step_lists-alike ps ls x.1 y.1) refl
 
 -- the least number that passes a test
 search-below : (f : ℕ → Bool) (n : ℕ) → ((d : ℕ) → d < n → f d ≡ false) ⊎ ((m : ℕ) × (f m ≡ true) × ((d : ℕ) → d < m → f d ≡ false))
@@ -73,28 +73,28 @@ least f n e =
     ]
 
 -- where a scalar isn't named, some scalar is the fresh one
-fresh : (patterns : List (List Piece)) (c : ℕ) → IsScalar c → named patterns c ≡ false → (r : ℕ) × IsFresh patterns r
+fresh : (patterns : List (List Piece)) (c : ℕ) → IsScalar c → is_named_character patterns c ≡ false → (r : ℕ) × IsFresh patterns r
 fresh patterns c s h =
-    let found = least (λ d. scalar d && not (named patterns d)) c (grind (arith, s)) in
-    let parts = and_parts (scalar found.0) (not (named patterns found.0)) found.1 in (
+    let found = least (λ d. scalar d && not (is_named_character patterns d)) c (grind (arith, s)) in
+    let parts = and_parts (scalar found.0) (not (is_named_character patterns found.0)) found.1 in (
       found.0,
       record {
         scalar = parts.0;
-        new = not-true (named patterns found.0) parts.1;
+        new = not-true (is_named_character patterns found.0) parts.1;
         least = λ d sd l. grind (arith, sd, found.2 d l);
       },
     )
 
 pub representative : ScalarsStepAsRepresentatives
 representative patterns c s =
-    elim (cases_Bool (named patterns c)) [
+    elim (cases_Bool (is_named_character patterns c)) [
       | inl e ↦ (c, inl (s, e), λ lists. refl)
       | inr e ↦ let f = fresh patterns c s e in (f.0, inr f.1, λ lists. step_lists-alike c f.0 patterns lists e f.1.new)
     ]
 
 -- whether a pattern matches, read off the lists
 answer-of : (patterns : List (List Piece)) (t : List ℕ) (i : ℕ) → i < length patterns →
-    has (get_or (lists_of patterns t) i []) (length (get_or patterns i [])) ≡ accepts (get_or patterns i []) t
+    contains_place (get_or (lists_of patterns t) i []) (length (get_or patterns i [])) ≡ accepts (get_or patterns i []) t
 answer-of [] t i h = absurd (omega arith)
 answer-of (p ∷ ps) t zero h = has-places p t (length p) (omega arith) ∙ rw (take_all (length p) p (omega arith)) refl
 answer-of (p ∷ ps) t (suc i) h = answer-of ps t i (omega arith)
@@ -125,4 +125,4 @@ module _ (patterns : List (List Piece)) (clauses : List (List Literal)) (set : L
 
   pub no_text : InRange (length patterns) clauses → HaveNoText patterns clauses
   no_text range t s m =
-      both_ways (meets patterns clauses t) (sym (meets-of patterns clauses t range) ∙ closed.none_meets _ (stays-after [] t closed.starts (all-from_text t s))) (meets-from patterns t clauses m)
+      both_ways (text_meets patterns clauses t) (sym (meets-of patterns clauses t range) ∙ closed.none_meets _ (stays-after [] t closed.starts (all-from_text t s))) (meets-from patterns t clauses m)

@@ -8,8 +8,8 @@ use Rattle.wildcard_lang.specs.declared.piece.Piece.{Piece}
 use Rattle.wildcard_lang.specs.Accepts.{tests}
 use Rattle.wildcard_lang.proofs.Laws.{length-tests, get_or-tests}
 use Rattle.pattern_automata.specs.declared.fronts.Kind.{Kind}
-use Rattle.pattern_automata.specs.Packed.{on, word_mark, word_with}
-use Rattle.pattern_automata.specs.Moves.{fronts, does}
+use Rattle.pattern_automata.specs.Packed.{is_bit_on, word_mark, word_with}
+use Rattle.pattern_automata.specs.Moves.{fronts, piece_does}
 use Rattle.pattern_automata.proofs.Bits.{byte-is, half-small}
 use Rattle.pattern_automata.proofs.Packing.{on-word_with}
 
@@ -44,32 +44,32 @@ word-more f s i word b new low high are made pushed =
 pub word-half : (f : ℕ → Bool) (s i word : ℕ) → 0 < i → word ≡ word_with (tests f (s + i) (64 - i)) → word < 9223372036854775808
 word-half f s i word low are = let h = half-small (tests f (s + i) (64 - i)) (omega (arith, length-tests f (s + i) (64 - i))) in omega (arith, are, h)
 
-pub word-bits : (f : ℕ → Bool) (s i word : ℕ) → i ≤ 0 → word ≡ word_with (tests f (s + i) (64 - i)) → (b : ℕ) → b < 64 → on word b ≡ f (s + b)
+pub word-bits : (f : ℕ → Bool) (s i word : ℕ) → i ≤ 0 → word ≡ word_with (tests f (s + i) (64 - i)) → (b : ℕ) → b < 64 → is_bit_on word b ≡ f (s + b)
 word-bits f s i word none are b h =
     let e : 64 - i ≡ 64 = omega arith in
     let a : s + i ≡ s = omega arith in
     rw (are, e, a) (on-word_with (tests f s 64) b ∙ get_or-tests f s 64 b h)
 
 -- one more word
-pub words-more : (kind : Kind) (F : List (Option Piece)) (words new : List ℕ) (i word : ℕ) → length words ≡ i → ((j : ℕ) → j < 64 * i → word_mark words j ≡ does kind F j) →
-    ((b : ℕ) → b < 64 → on word b ≡ does kind F (64 * i + b)) → new ≡ words ++ word ∷ [] → (length new ≡ i + 1) × ((j : ℕ) → j < 64 * (i + 1) → word_mark new j ≡ does kind F j)
+pub words-more : (kind : Kind) (F : List (Option Piece)) (words new : List ℕ) (i word : ℕ) → length words ≡ i → ((j : ℕ) → j < 64 * i → word_mark words j ≡ piece_does kind F j) →
+    ((b : ℕ) → b < 64 → is_bit_on word b ≡ piece_does kind F (64 * i + b)) → new ≡ words ++ word ∷ [] → (length new ≡ i + 1) × ((j : ℕ) → j < 64 * (i + 1) → word_mark new j ≡ piece_does kind F j)
 words-more kind F words new i word count marks bits pushed = (
   omega (arith, ap length pushed, length-append words (word ∷ []), count),
   λ j h.
       elim (cases_lt j (64 * i)) [
         | inl l ↦
             let old : get_or new (j / 64) 0 ≡ get_or words (j / 64) 0 = ap (λ x. get_or x (j / 64) 0) pushed ∙ get_or_append_left words (word ∷ []) 0 (j / 64) (omega (arith, count)) in
-            ap (λ x. on x (j % 64)) old ∙ marks j l
+            ap (λ x. is_bit_on x (j % 64)) old ∙ marks j l
         | inr g ↦
             let last : get_or new (j / 64) 0 ≡ word = ap (λ x. get_or x (j / 64) 0) pushed ∙ get_or_push words word 0 (j / 64) (omega (arith, count)) in
             let at : 64 * i + j % 64 ≡ j = omega arith in
-            ap (λ x. on x (j % 64)) last ∙ (bits (j % 64) (omega arith) ∙ ap (does kind F) at)
+            ap (λ x. is_bit_on x (j % 64)) last ∙ (bits (j % 64) (omega arith) ∙ ap (piece_does kind F) at)
       ],
 )
 
 -- the words of all
-pub words-end : (kind : Kind) (F : List (Option Piece)) (words : List ℕ) (i : ℕ) → length F / 64 + 1 ≤ i → length words ≡ i → ((j : ℕ) → j < 64 * i → word_mark words j ≡ does kind F j) →
-    (j : ℕ) → word_mark words j ≡ does kind F j
+pub words-end : (kind : Kind) (F : List (Option Piece)) (words : List ℕ) (i : ℕ) → length F / 64 + 1 ≤ i → length words ≡ i → ((j : ℕ) → j < 64 * i → word_mark words j ≡ piece_does kind F j) →
+    (j : ℕ) → word_mark words j ≡ piece_does kind F j
 words-end kind F words i end count marks j =
     elim (cases_lt j (64 * i)) [
       | inl l ↦ marks j l

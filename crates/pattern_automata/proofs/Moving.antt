@@ -2,7 +2,7 @@
 use Rattle.std.proofs.Common.{◌≡◌, ℕ, ◌+◌, ◌<◌, List, [], ◌∷◌, ◌++◌, length, get_or, true, zero, suc, subst, Option, All, sym, ap, ◌∙◌, arith, take}
 use Rattle.std.proofs.lemmas.List.{take_more, map_push}
 use Rattle.std.proofs.lemmas.Bool.{or_left, or_right, eq-eqb}
-use Rattle.wildcard_lang.specs.Places.{has}
+use Rattle.wildcard_lang.specs.Places.{contains_place}
 use Rattle.wildcard_lang.specs.declared.piece.Piece.{Piece}
 use Rattle.pattern_automata.specs.declared.moves.Move.{Move}
 use Rattle.pattern_automata.specs.Moves.{characters_of, IsMove}
@@ -11,7 +11,7 @@ pub characters-more : (moves : List Move) (i : ℕ) (m : Move) → i < length mo
 characters-more moves i m h read =
     ap characters_of (take_more moves i m h) ∙ (map_push (λ (x : Move). x.character) (take i moves) (get_or moves i m) ∙ ap (λ (x : Move). characters_of (take i moves) ++ x.character ∷ []) (sym read))
 
-pub has-character : (moves : List Move) (i : ℕ) (m : Move) → i < length moves → m ≡ get_or moves i m → has (characters_of moves) m.character ≡ true
+pub has-character : (moves : List Move) (i : ℕ) (m : Move) → i < length moves → m ≡ get_or moves i m → contains_place (characters_of moves) m.character ≡ true
 has-character [] i m h e = absurd (omega arith)
 has-character (x ∷ xs) zero m h e = or_left _ _ (eq-eqb x.character m.character (ap (λ (y : Move). y.character) (sym e)))
 has-character (x ∷ xs) (suc i) m h e = or_right _ _ (has-character xs i m (omega arith) e)

@@ -7,16 +7,16 @@ use Rattle.wildcard_lang.specs.declared.piece.Piece.{Piece}
 use Rattle.pattern_automata.specs.declared.moves.Masks.{Masks}
 use Rattle.pattern_automata.specs.declared.moves.Patch.{Patch}
 use Rattle.pattern_automata.specs.declared.moves.Move.{Move}
-use Rattle.pattern_automata.specs.Marks.{total}
-use Rattle.pattern_automata.specs.Packed.{on, word_mark, filled, words_for}
+use Rattle.pattern_automata.specs.Marks.{mark_count}
+use Rattle.pattern_automata.specs.Packed.{is_bit_on, word_mark, filled_marks, words_for}
 use Rattle.pattern_automata.specs.Moves.{HasPatch, IsMasks, IsMove, fronts}
 use Rattle.pattern_automata.specs.Steps.{moved_at, HaveSize, AreMoved, IsMovedBy, IsPatched, AreStepped}
 use Rattle.pattern_automata.specs.Search.{LeadsByWords}
 use Rattle.pattern_automata.proofs.Masking.{all-filled, leads, length-fronts}
 
 -- one more word
-pub moved-more : (G : ℕ → ℕ → Bool) (i : ℕ) (old new : List ℕ) (word : ℕ) → length old ≡ i → ((k b : ℕ) → k < i → b < 64 → on (get_or old k 0) b ≡ G k b) →
-    ((b : ℕ) → b < 64 → on word b ≡ G i b) → new ≡ old ++ word ∷ [] → (length new ≡ i + 1) × ((k b : ℕ) → k < i + 1 → b < 64 → on (get_or new k 0) b ≡ G k b)
+pub moved-more : (G : ℕ → ℕ → Bool) (i : ℕ) (old new : List ℕ) (word : ℕ) → length old ≡ i → ((k b : ℕ) → k < i → b < 64 → is_bit_on (get_or old k 0) b ≡ G k b) →
+    ((b : ℕ) → b < 64 → is_bit_on word b ≡ G i b) → new ≡ old ++ word ∷ [] → (length new ≡ i + 1) × ((k b : ℕ) → k < i + 1 → b < 64 → is_bit_on (get_or new k 0) b ≡ G k b)
 moved-more G i old new word count are made pushed = (
   omega (arith, ap length pushed, length-append old (word ∷ []), count),
   λ k b h l.
@@ -44,11 +44,11 @@ moved-kept state old new xs ys k same w = (
   w.1,
   omega (arith, w.2, length-append xs ys),
   get_or_append_left xs ys w.1 w.0 w.2 ∙ w.3,
-  (w.4.0, λ b l. ap (λ x. on x b) same ∙ w.4.1 b l),
+  (w.4.0, λ b l. ap (λ x. is_bit_on x b) same ∙ w.4.1 b l),
 )
 
 module _ (state : List ℕ) (patches : List Patch) (i : ℕ) (p : Patch) (old mid new : List ℕ) (word : ℕ) (h : i < length patches) (read : p ≡ get_or patches i p)
-    (is : new ≡ set mid p.index word) (room : p.index < length mid) (made : (b : ℕ) → b < 64 → on word b ≡ moved_at p.one p.stay state p.index b) where
+    (is : new ≡ set mid p.index word) (room : p.index < length mid) (made : (b : ℕ) → b < 64 → is_bit_on word b ≡ moved_at p.one p.stay state p.index b) where
   one-more : take (i + 1) patches ≡ take i patches ++ p ∷ []
   one-more = take_more patches i p h ∙ ap (λ x. take i patches ++ x ∷ []) (sym read)
 
@@ -57,7 +57,7 @@ module _ (state : List ℕ) (patches : List Patch) (i : ℕ) (p : Patch) (old mi
       rw one-more (elim (cases_eq k p.index) [
         | inl e ↦
             let at : get_or new k 0 ≡ word = rw (is, e) (get_or-set_same mid p.index word 0 room) in
-            inl (Any-push (IsMovedBy state new k) (take i patches) p (sym e, λ b l. ap (λ x. on x b) at ∙ (made b l ∙ ap (λ x. moved_at p.one p.stay state x b) (sym e))))
+            inl (Any-push (IsMovedBy state new k) (take i patches) p (sym e, λ b l. ap (λ x. is_bit_on x b) at ∙ (made b l ∙ ap (λ x. moved_at p.one p.stay state x b) (sym e))))
         | inr ne ↦
             let same : get_or new k 0 ≡ get_or mid k 0 = rw is (get_or-set_other mid p.index k word 0 ne) in
             elim before [
@@ -76,17 +76,17 @@ patched-end state patches i old words h are = let e : take i patches ≡ patches
 -- the whole step
 pub step-ok : {E : Type 0} (result : Result (Unit {0}) E) (m : Masks) (patches : List Patch) (state base moved words : List ℕ) → AreMoved m state base →
     ((k : ℕ) → k < length state → IsPatched state patches base moved k) → length moved ≡ length state →
-    OnOk result ((j : ℕ) → j < 64 * length moved → word_mark words j ≡ filled (word_mark moved) (word_mark m.many.items) false j) → OnOk result (AreStepped m patches state words)
+    OnOk result ((j : ℕ) → j < 64 * length moved → word_mark words j ≡ filled_marks (word_mark moved) (word_mark m.many.items) false j) → OnOk result (AreStepped m patches state words)
 step-ok (Ok u) m patches state base moved words are patched count fills = λ one stay masks j h.
     all-filled m patches state one stay masks base moved are patched words (λ i l. fills i (rw count l)) j h
 step-ok (Err e) m patches state base moved words are patched count fills = fills
 
 -- sizes
-pub masks-size : (ps : List (List Piece)) (m : Masks) (n : ℕ) → IsMasks (fronts ps) m → n ≡ words_for (total ps) → HaveSize m n
+pub masks-size : (ps : List (List Piece)) (m : Masks) (n : ℕ) → IsMasks (fronts ps) m → n ≡ words_for (mark_count ps) → HaveSize m n
 masks-size ps m n masks is = (masks.size ∙ omega (arith, length-fronts ps, is), masks.many_size ∙ omega (arith, length-fronts ps, is))
 
-pub patches-within : (ps : List (List Piece)) (s : Move) (n : ℕ) → IsMove (fronts ps) s → n ≡ words_for (total ps) → All (λ (p : Patch). p.index < n) s.patches.items
-patches-within ps s n move is k d h = let r = move.told.right k d h in omega (arith, r.within, length-fronts ps, is)
+pub patches-within : (ps : List (List Piece)) (s : Move) (n : ℕ) → IsMove (fronts ps) s → n ≡ words_for (mark_count ps) → All (λ (p : Patch). p.index < n) s.patches.items
+patches-within ps s n move is k d h = let r = move.distinguished.right k d h in omega (arith, r.within, length-fronts ps, is)
 
 pub leads-ok : {E : Type 0} (result : Result (Unit {0}) E) (ps : List (List Piece)) (m : Masks) (s : Move) (patches : List Patch) (state next : List ℕ) → IsMasks (fronts ps) m → IsMove (fronts ps) s →
     patches ≡ s.patches.items → OnOk result (length next ≡ length state) → OnOk result ((k : ℕ) → k < length next → get_or next k 0 < 18446744073709551616) →

@@ -6,7 +6,7 @@ use Rattle.std.proofs.lemmas.List.Elements.{All-push, All-nil, Contains-push}
 use Rattle.wildcard_lang.specs.declared.piece.Piece.{Piece}
 use Rattle.std.specs.Char.{IsScalar}
 use Rattle.pattern_automata.specs.declared.tree.Parent.{Parent}
-use Rattle.pattern_automata.specs.Marks.{total}
+use Rattle.pattern_automata.specs.Marks.{mark_count}
 use Rattle.pattern_automata.specs.Packed.{all_words, words_for}
 use Rattle.pattern_automata.specs.Tree.{IsChild, IsTree, IsRooted, LeadsTo, IsTurn}
 use Rattle.pattern_automata.proofs.Packing.{length-all_words}
@@ -36,7 +36,7 @@ module _ (patterns : List (List Piece)) (found : List (List ℕ)) (parents : Lis
   pub text : (i : ℕ) → i < length found → HasText patterns (get_or found i [])
   text i l = text-below (suc i) i (omega arith) l
 
-  pub words-length : (i : ℕ) → i < length found → length (get_or found i []) ≡ words_for (total patterns)
+  pub words-length : (i : ℕ) → i < length found → length (get_or found i []) ≡ words_for (mark_count patterns)
   words-length i l = let t = text i l in ap length t.is ∙ length-all_words patterns t.text
 
   pub rooted : IsRooted parents
@@ -67,8 +67,8 @@ module _ (patterns : List (List Piece)) (found : List (List ℕ)) (parents : Lis
     pub tree-push : IsTree patterns grown more
     tree-push = record {
       count = omega (arith, ap length are, ap length is, length_push parents (record { state = i; character = c }), length_push found marks, tree.count);
-      some = omega (arith, ap length is, length_push found marks);
-      first = kept 0 tree.some ∙ tree.first;
+      nonempty = omega (arith, ap length is, length_push found marks);
+      first = kept 0 tree.nonempty ∙ tree.first;
       next = λ j d h l.
           elim (cases_lt j (length parents)) [
             | inl s ↦

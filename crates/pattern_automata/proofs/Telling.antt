@@ -14,10 +14,10 @@ use Rattle.pattern_automata.specs.declared.moves.Masks.{Masks}
 use Rattle.pattern_automata.specs.declared.moves.Move.{Move}
 use Rattle.pattern_automata.specs.declared.moves.Patch.{Patch}
 use Rattle.pattern_automata.specs.declared.named.Named.{Named}
-use Rattle.pattern_automata.specs.Closed.{names}
-use Rattle.pattern_automata.specs.Moves.{characters_of, does, if_piece, piece_test, tells, HasPatch, IsMasks, IsPatch, IsToldApart}
+use Rattle.pattern_automata.specs.Closed.{names_character}
+use Rattle.pattern_automata.specs.Moves.{characters_of, piece_does, if_piece, piece_test, distinguishes, HasPatch, IsMasks, IsPatch, IsDistinguished}
 use Rattle.pattern_automata.specs.Named.{bits_of, names_before, AddsBit, HasNamesAt, HasNone, IsLikeOthersAt, IsPatchAt, IsPosition}
-use Rattle.pattern_automata.specs.Packed.{on}
+use Rattle.pattern_automata.specs.Packed.{is_bit_on}
 use Rattle.pattern_automata.proofs.Bits.{on-or, on-xor}
 use Rattle.pattern_automata.proofs.Masking.{tells-none}
 use Rattle.pattern_automata.proofs.Packing.{mark-at}
@@ -31,13 +31,13 @@ not-equal a b ne = false_from_ne_true (eqb a b) (λ g. ne (eqb-true a b g))
 
 -- ---- bits of characters
 
-pub set-bit : (word bit i : ℕ) → bit < 64 → on (bit_or word (1 * 2 ^ bit % 18446744073709551616)) i ≡ (on word i || eqb i bit)
+pub set-bit : (word bit i : ℕ) → bit < 64 → is_bit_on (bit_or word (1 * 2 ^ bit % 18446744073709551616)) i ≡ (is_bit_on word i || eqb i bit)
 set-bit word bit i h =
     elim (cases_eq i bit) [
       | inl e ↦
-          ap (λ k. on (bit_or word (1 * 2 ^ bit % 18446744073709551616)) k) e
-          ∙ (ap (λ x. eqb x 1) (bit_at_set_same w64 word bit h) ∙ sym (or_right (on word i) (eqb i bit) (eq-eqb i bit e)))
-      | inr ne ↦ ap (λ x. eqb x 1) (bit_at_set_other w64 word bit h i ne) ∙ sym (or-false (on word i) (eqb i bit) (not-equal i bit ne))
+          ap (λ k. is_bit_on (bit_or word (1 * 2 ^ bit % 18446744073709551616)) k) e
+          ∙ (ap (λ x. eqb x 1) (bit_at_set_same w64 word bit h) ∙ sym (or_right (is_bit_on word i) (eqb i bit) (eq-eqb i bit e)))
+      | inr ne ↦ ap (λ x. eqb x 1) (bit_at_set_other w64 word bit h i ne) ∙ sym (or-false (is_bit_on word i) (eqb i bit) (not-equal i bit ne))
     ]
 
 abbrev IsOther : ℕ → Named → Type 0
@@ -87,8 +87,8 @@ bits-absent (y ∷ ys) c none =
     let f : eqb y.character c ≡ false = not-equal y.character c (All-head (IsOther c) y ys none) in
     rw f (bits-absent ys c (All-tail (IsOther c) y ys none))
 
-adds : (old new : ℕ → ℕ) (c w bit : ℕ) → ((d : ℕ) → new d ≡ cond (eqb c d) w (old d)) → ((i : ℕ) → on w i ≡ (on (old c) i || eqb i bit)) →
-    (d i : ℕ) → on (new d) i ≡ (on (old d) i || (eqb d c && eqb i bit))
+adds : (old new : ℕ → ℕ) (c w bit : ℕ) → ((d : ℕ) → new d ≡ cond (eqb c d) w (old d)) → ((i : ℕ) → is_bit_on w i ≡ (is_bit_on (old c) i || eqb i bit)) →
+    (d i : ℕ) → is_bit_on (new d) i ≡ (is_bit_on (old d) i || (eqb d c && eqb i bit))
 adds old new c w bit are made d i =
     elim (cases_eq c d) [
       | inl e ↦
@@ -100,34 +100,34 @@ adds old new c w bit are made d i =
           let f : eqb c d ≡ false = not-equal c d ne in
           let g : eqb d c ≡ false = not-equal d c (λ s. ne (sym s)) in
           let n : new d ≡ old d = rw f at (are d) in
-          rw (n, g) (sym (or-false (on (old d) i) false refl))
+          rw (n, g) (sym (or-false (is_bit_on (old d) i) false refl))
     ]
 
-pub set-adds : (old : List Named) (c w bit i : ℕ) (x : Named) → IsPosition c old i → x ≡ get_or old i x → ((j : ℕ) → on w j ≡ (on x.bits j || eqb j bit)) →
+pub set-adds : (old : List Named) (c w bit i : ℕ) (x : Named) → IsPosition c old i → x ≡ get_or old i x → ((j : ℕ) → is_bit_on w j ≡ (is_bit_on x.bits j || eqb j bit)) →
     AddsBit old c bit (set old i (entry c w))
 set-adds old c w bit i x at read made =
     let here : bits_of old c ≡ x.bits = bits-here old i x c at.within (at.is x) at.first ∙ ap (λ (n : Named). n.bits) (sym read) in
-    adds (bits_of old) (bits_of (set old i (entry c w))) c w bit (bits-set old i x c w at.within (at.is x) at.first) (λ j. made j ∙ ap (λ (v : ℕ). on v j || eqb j bit) (sym here))
+    adds (bits_of old) (bits_of (set old i (entry c w))) c w bit (bits-set old i x c w at.within (at.is x) at.first) (λ j. made j ∙ ap (λ (v : ℕ). is_bit_on v j || eqb j bit) (sym here))
 
-pub push-adds : (old new : List Named) (c w bit : ℕ) → new ≡ old ++ entry c w ∷ [] → HasNone c old → ((j : ℕ) → on w j ≡ (on 0 j || eqb j bit)) → AddsBit old c bit new
+pub push-adds : (old new : List Named) (c w bit : ℕ) → new ≡ old ++ entry c w ∷ [] → HasNone c old → ((j : ℕ) → is_bit_on w j ≡ (is_bit_on 0 j || eqb j bit)) → AddsBit old c bit new
 push-adds old new c w bit is none made =
-    rw is (adds (bits_of old) (bits_of (old ++ entry c w ∷ [])) c w bit (bits-push old c w none) (λ j. made j ∙ ap (λ (v : ℕ). on v j || eqb j bit) (sym (bits-absent old c none))))
+    rw is (adds (bits_of old) (bits_of (old ++ entry c w ∷ [])) c w bit (bits-push old c w none) (λ j. made j ∙ ap (λ (v : ℕ). is_bit_on v j || eqb j bit) (sym (bits-absent old c none))))
 
 -- ---- patches
 
-untold-front : (c : ℕ) (x : Option Piece) → if_piece (λ p. names p c) x ≡ false → eqb c 58 ≡ false → if_piece (tells c) x ≡ true → ⊥
+untold-front : (c : ℕ) (x : Option Piece) → if_piece (λ p. names_character p c) x ≡ false → eqb c 58 ≡ false → if_piece (distinguishes c) x ≡ true → ⊥
 untold-front c None h k told = absurd (cc)
-untold-front c (Some p) h k told = let f : tells c p ≡ false = tells-none c p h k in absurd (cc)
+untold-front c (Some p) h k told = let f : distinguishes c p ≡ false = tells-none c p h k in absurd (cc)
 
 pub like-others : (F : List (Option Piece)) (k c : ℕ) (named : List Named) (bits : ℕ) → (c ≡ 58 → ⊥) → HasNamesAt F k named → bits ≡ bits_of named c → bits ≡ 0 → IsLikeOthersAt F k c
 like-others F k c named bits other are is none j at told =
     let e : 64 * k + j % 64 ≡ j = omega (arith, at) in
     let zero-bits : bits_of named c ≡ 0 = sym is ∙ none in
-    let off : on (bits_of named c) (j % 64) ≡ false = ap (λ x. on x (j % 64)) zero-bits ∙ ap (λ x. eqb x 1) (bit_at-zero (j % 64)) in
+    let off : is_bit_on (bits_of named c) (j % 64) ≡ false = ap (λ x. is_bit_on x (j % 64)) zero-bits ∙ ap (λ x. eqb x 1) (bit_at-zero (j % 64)) in
     let unnamed : names_before F (64 * k + j % 64) c ≡ false = sym (are c (j % 64) (omega arith)) ∙ off in
     untold-front c (get_or F j None) (ap (λ n. names_before F n c) (sym e) ∙ unnamed) (not-equal c 58 other) told
 
-passes-named : (c : ℕ) (x : Option Piece) → eqb c 58 ≡ false → (if_piece (piece_test PassesOthers) x || if_piece (λ p. names p c) x) ≡ if_piece (piece_test (Passes c)) x
+passes-named : (c : ℕ) (x : Option Piece) → eqb c 58 ≡ false → (if_piece (piece_test PassesOthers) x || if_piece (λ p. names_character p c) x) ≡ if_piece (piece_test (Passes c)) x
 passes-named c None k = refl
 passes-named c (Some (Lit d)) k = refl
 passes-named c (Some (LitFold d)) k = refl
@@ -149,31 +149,31 @@ pub named-patch : (F : List (Option Piece)) (m : Masks) (k c : ℕ) (named : Lis
     one ≡ get_or m.one.items k 0 → stay ≡ get_or m.many.items k 0 → bits ≡ bits_of named c → IsPatch F c (record { index = k; one = bit_or one bits; stay = stay; differs = bits })
 named-patch F m k c named one stay bits masks within other are ones stays is =
     let colon = not-equal c 58 other in
-    let second : (b : ℕ) → b < 64 → on bits b ≡ names_before F (64 * k + b) c = λ b l. ap (λ x. on x b) is ∙ are c b l in
+    let second : (b : ℕ) → b < 64 → is_bit_on bits b ≡ names_before F (64 * k + b) c = λ b l. ap (λ x. is_bit_on x b) is ∙ are c b l in
     record {
       within = within;
       one = λ b l.
-          let first : on one b ≡ does PassesOthers F (64 * k + b) = ap (λ x. on x b) ones ∙ (sym (mark-at m.one.items k b l) ∙ masks.one (64 * k + b)) in
+          let first : is_bit_on one b ≡ piece_does PassesOthers F (64 * k + b) = ap (λ x. is_bit_on x b) ones ∙ (sym (mark-at m.one.items k b l) ∙ masks.one (64 * k + b)) in
           on-or one bits b ∙ rw (first, second b l) (passes-named c (get_or F (64 * k + b) None) colon);
-      stay = λ b l. ap (λ x. on x b) stays ∙ (sym (mark-at m.many.items k b l) ∙ (masks.many (64 * k + b) ∙ keeps-named c (get_or F (64 * k + b) None) colon));
+      stay = λ b l. ap (λ x. is_bit_on x b) stays ∙ (sym (mark-at m.many.items k b l) ∙ (masks.many (64 * k + b) ∙ keeps-named c (get_or F (64 * k + b) None) colon));
       differs = λ b l off.
           let none : names_before F (64 * k + b) c ≡ false = sym (second b l) ∙ off in (
-            sym (passes-named c (get_or F (64 * k + b) None) colon) ∙ or-false (does PassesOthers F (64 * k + b)) (names_before F (64 * k + b) c) none,
+            sym (passes-named c (get_or F (64 * k + b) None) colon) ∙ or-false (piece_does PassesOthers F (64 * k + b)) (names_before F (64 * k + b) c) none,
             sym (keeps-named c (get_or F (64 * k + b) None) colon),
           );
     }
 
 pub whole-patch : (F : List (Option Piece)) (m : Masks) (k c one stay others many : ℕ) → IsMasks F m → 64 * k ≤ length F → others ≡ get_or m.one.items k 0 → many ≡ get_or m.many.items k 0 →
-    ((b : ℕ) → b < 64 → on one b ≡ does (Passes c) F (64 * k + b)) → ((b : ℕ) → b < 64 → on stay b ≡ does (Keeps c) F (64 * k + b)) →
+    ((b : ℕ) → b < 64 → is_bit_on one b ≡ piece_does (Passes c) F (64 * k + b)) → ((b : ℕ) → b < 64 → is_bit_on stay b ≡ piece_does (Keeps c) F (64 * k + b)) →
     IsPatch F c (record { index = k; one = one; stay = stay; differs = bit_or (bit_xor one others) (bit_xor stay many) })
 whole-patch F m k c one stay others many masks within first second ones stays = record {
   within = within;
   one = ones;
   stay = stays;
   differs = λ b l off.
-      let parts = or_parts (on (bit_xor one others) b) (on (bit_xor stay many) b) (sym (on-or (bit_xor one others) (bit_xor stay many) b) ∙ off) in (
-        sym (ones b l) ∙ (on-xor one others b parts.0 ∙ (ap (λ x. on x b) first ∙ (sym (mark-at m.one.items k b l) ∙ masks.one (64 * k + b)))),
-        sym (stays b l) ∙ (on-xor stay many b parts.1 ∙ (ap (λ x. on x b) second ∙ (sym (mark-at m.many.items k b l) ∙ masks.many (64 * k + b)))),
+      let parts = or_parts (is_bit_on (bit_xor one others) b) (is_bit_on (bit_xor stay many) b) (sym (on-or (bit_xor one others) (bit_xor stay many) b) ∙ off) in (
+        sym (ones b l) ∙ (on-xor one others b parts.0 ∙ (ap (λ x. is_bit_on x b) first ∙ (sym (mark-at m.one.items k b l) ∙ masks.one (64 * k + b)))),
+        sym (stays b l) ∙ (on-xor stay many b parts.1 ∙ (ap (λ x. is_bit_on x b) second ∙ (sym (mark-at m.many.items k b l) ∙ masks.many (64 * k + b)))),
       );
 }
 
@@ -182,7 +182,7 @@ patch-kept xs ys k w = (w.0, w.1, omega (arith, w.2, length-append xs ys), get_o
 
 -- one more word
 pub told-next : (F : List (Option Piece)) (k c : ℕ) (patch : Option Patch) (old new : List Patch) → MatchOption patch (IsLikeOthersAt F k c) (IsPatchAt F k c) → new ≡ old ++ option_to_list patch →
-    IsToldApart F (64 * k) c old → IsToldApart F (64 * (k + 1)) c new
+    IsDistinguished F (64 * k) c old → IsDistinguished F (64 * (k + 1)) c new
 told-next F k c None old new like is told =
     let same : new ≡ old = is ∙ append-nil old in
     rw same (record {

@@ -7,8 +7,8 @@ use Rattle.std.proofs.lemmas.List.Elements.{Contains-append_left, Contains-get_o
 use Rattle.wildcard_lang.specs.declared.piece.Piece.{Piece}
 use Rattle.pattern_automata.specs.declared.wants.Literal.{Literal}
 use Rattle.pattern_automata.specs.declared.tree.Parent.{Parent}
-use Rattle.wildcard_lang.specs.Places.{has}
-use Rattle.pattern_automata.specs.Marks.{total}
+use Rattle.wildcard_lang.specs.Places.{contains_place}
+use Rattle.pattern_automata.specs.Marks.{mark_count}
 use Rattle.pattern_automata.specs.Packed.{words_for}
 use Rattle.pattern_automata.specs.Tree.{LeadsTo, IsLed, AreDifferent, IsSearch, IsTurn, IsBase, IsFull, IsMet, IsVisited, IsLeft, words_meet}
 use Rattle.pattern_automata.proofs.Packing.{length-all_words}
@@ -33,9 +33,9 @@ module _ (patterns : List (List Piece)) (old found more : List (List ℕ)) (is :
               rw e (none (j - length old) (omega (arith, ap length is, length-append old more)))
         ]
 
-    now-kept : (here : List ℕ) → ((d : ℕ) → has here d ≡ true → IsLed patterns old i d) → (d : ℕ) → has (here ++ c ∷ []) d ≡ true → IsLed patterns found i d
+    now-kept : (here : List ℕ) → ((d : ℕ) → contains_place here d ≡ true → IsLed patterns old i d) → (d : ℕ) → contains_place (here ++ c ∷ []) d ≡ true → IsLed patterns found i d
     now-kept here before d h =
-        elim (or_cases (has here d) _ (sym (list_any-append (λ x. eqb x d) here (c ∷ [])) ∙ h)) [
+        elim (or_cases (contains_place here d) _ (sym (list_any-append (λ x. eqb x d) here (c ∷ [])) ∙ h)) [
           | inl a ↦ led-kept i d within (before d a)
           | inr b ↦
               elim (or_cases (eqb c d) false b) [
@@ -67,7 +67,7 @@ different-push old found marks is absent before j k l h same =
 module _ (patterns : List (List Piece)) (ends : List ℕ) (clauses : List (List Literal)) (old found : List (List ℕ)) (before parents : List Parent)
     (i c limit : ℕ) (marks : List ℕ) (new : Bool) (base : IsBase patterns ends clauses old before limit) (within : i < length old)
     (turn : IsTurn patterns old found parents marks i c new) where
-  pub words-size : (view : List ℕ) → view ≡ marks → length view ≡ words_for (total patterns)
+  pub words-size : (view : List ℕ) → view ≡ marks → length view ≡ words_for (mark_count patterns)
   words-size view is =
       let t = text patterns old before base.tree i within in
       ap length (is ∙ turn.leads t.text t.is) ∙ length-all_words patterns (t.text ++ c ∷ [])

@@ -8,7 +8,7 @@ use Rattle.wildcard_lang.specs.Matching.{Matches}
 use Rattle.wildcard_lang.specs.Accepts.{accepts}
 use Rattle.wildcard_lang.proofs.Laws.{Decides-accepts}
 use Rattle.pattern_automata.specs.declared.wants.Literal.{Literal}
-use Rattle.pattern_automata.specs.Closed.{IsLiteralMet, Meets, meets, clause_holds, MeetsIsTested}
+use Rattle.pattern_automata.specs.Closed.{IsLiteralMet, Meets, text_meets, clause_holds, MeetsIsTested}
 
 module _ (patterns : List (List Piece)) (t : List ℕ) where
   abbrev answer : ℕ → Bool
@@ -35,13 +35,13 @@ module _ (patterns : List (List Piece)) (t : List ℕ) where
   clause-from (l ∷ ls) zero x h e m = or_left _ _ (literal-from l.holds (get_or patterns l.pattern []) (rw e m))
   clause-from (l ∷ ls) (suc k) x h e m = or_right _ _ (clause-from ls k x (omega arith) e m)
 
-  pub meets-to : (ks : List (List Literal)) → meets patterns ks t ≡ true → Meets patterns ks t
+  pub meets-to : (ks : List (List Literal)) → text_meets patterns ks t ≡ true → Meets patterns ks t
   meets-to [] h = All-nil (Any (IsLiteralMet patterns t))
   meets-to (k ∷ ks) h =
-      let both : (clause_holds answer k ≡ true) × (meets patterns ks t ≡ true) = and_parts _ _ h in
+      let both : (clause_holds answer k ≡ true) × (text_meets patterns ks t ≡ true) = and_parts _ _ h in
       All-cons (Any (IsLiteralMet patterns t)) k ks (clause-to k both.0) (meets-to ks both.1)
 
-  pub meets-from : (ks : List (List Literal)) → Meets patterns ks t → meets patterns ks t ≡ true
+  pub meets-from : (ks : List (List Literal)) → Meets patterns ks t → text_meets patterns ks t ≡ true
   meets-from [] h = refl
   meets-from (k ∷ ks) h =
       let w = All-head (Any (IsLiteralMet patterns t)) k ks h in

@@ -10,7 +10,7 @@ use Rattle.pattern_automata.specs.declared.tree.Parent.{Parent}
 use Rattle.pattern_automata.specs.declared.tree.Step.{Step}
 use Rattle.pattern_automata.specs.declared.tree.Step.TheVariants.{Left, Met, Full}
 use Rattle.pattern_automata.specs.Packed.{all_words, words_for}
-use Rattle.pattern_automata.specs.Marks.{total}
+use Rattle.pattern_automata.specs.Marks.{mark_count}
 use Rattle.pattern_automata.specs.Tree.{Spells}
 use Rattle.wildcard_lang.specs.Places.{lists_of, ShowWider}
 use Rattle.pattern_automata.specs.Closed.{Meets, IsClosed}
@@ -32,7 +32,7 @@ IsTextFor wants t = Meets wants.patterns wants.clauses t × IsText t
 
 -- each state has a word for each 64 marks
 abbrev pub HaveWords : List (List Piece) → List (List ℕ) → Type 0
-HaveWords patterns found = (k : ℕ) → k < length found → length (slice_index_or found k []) ≡ words_for (total patterns)
+HaveWords patterns found = (k : ℕ) → k < length found → length (slice_index_or found k []) ≡ words_for (mark_count patterns)
 
 -- the product state of the texts whose marks have these words
 abbrev pub IsStateOf : List (List Piece) → List ℕ → List (List ℕ) → Type 0

@@ -11,7 +11,7 @@ use Rattle.wildcard_lang.specs.Matching.{Matches}
 use Rattle.wildcard_lang.specs.Accepts.{accepts}
 use Rattle.pattern_automata.specs.declared.wants.Literal.{Literal}
 use Rattle.pattern_automata.specs.declared.wants.Wants.{Wants}
-use Rattle.wildcard_lang.specs.Places.{has, lists_of, step_lists}
+use Rattle.wildcard_lang.specs.Places.{contains_place, lists_of, step_lists}
 
 -- some literal of the clause is met, where `answer i` says whether pattern i matches
 abbrev pub clause_holds : (ℕ → Bool) → List Literal → Bool
@@ -23,8 +23,8 @@ clauses_hold answer [] = true
 clauses_hold answer (k ∷ ks) = clause_holds answer k && clauses_hold answer ks
 
 -- a test that computes whether the text meets the clauses
-abbrev pub meets : List (List Piece) → List (List Literal) → List ℕ → Bool
-meets patterns clauses t = clauses_hold (λ i. accepts (slice_index_or patterns i []) t) clauses
+abbrev pub text_meets : List (List Piece) → List (List Literal) → List ℕ → Bool
+text_meets patterns clauses t = clauses_hold (λ i. accepts (slice_index_or patterns i []) t) clauses
 
 -- the literal's pattern matches the text or not, as the literal says
 abbrev pub IsLiteralMet : List (List Piece) → List ℕ → Literal → Type 0
@@ -38,38 +38,38 @@ Meets patterns clauses t = All (Any (IsLiteralMet patterns t)) clauses
 -- in a product state a pattern matches where the number of its pieces is among its places
 abbrev pub lists_meet : List (List Piece) → List (List Literal) → List (List ℕ) → Bool
 lists_meet patterns clauses lists =
-    clauses_hold (λ i. has (slice_index_or lists i []) (length (slice_index_or patterns i []))) clauses
+    clauses_hold (λ i. contains_place (slice_index_or lists i []) (length (slice_index_or patterns i []))) clauses
 
 -- each literal names a pattern
 abbrev pub InRange : ℕ → List (List Literal) → Type 0
 InRange n clauses = All (All (λ (l : Literal). l.pattern < n)) clauses
 
 -- the piece names the character
-abbrev pub names : Piece → ℕ → Bool
-names (Lit d) c = c == d
-names (LitFold d) c = (c == d) || (c == to_ascii_uppercase d)
-names One c = false
-names Many c = false
-names OneNoColon c = false
-names ManyNoColon c = false
+abbrev pub names_character : Piece → ℕ → Bool
+names_character (Lit d) c = c == d
+names_character (LitFold d) c = (c == d) || (c == to_ascii_uppercase d)
+names_character One c = false
+names_character Many c = false
+names_character OneNoColon c = false
+names_character ManyNoColon c = false
 
 abbrev pub names_any : List Piece → ℕ → Bool
-names_any ps c = list_any (λ p. names p c) ps
+names_any ps c = list_any (λ p. names_character p c) ps
 
 -- the character is the colon, a literal of the patterns, or a case of a folded one
-abbrev pub named : List (List Piece) → ℕ → Bool
-named [] c = c == 58
-named (p ∷ ps) c = names_any p c || named ps c
+abbrev pub is_named_character : List (List Piece) → ℕ → Bool
+is_named_character [] c = c == 58
+is_named_character (p ∷ ps) c = names_any p c || is_named_character ps c
 
 -- the least scalar that is not named
 pub record IsFresh (patterns : List (List Piece)) (c : ℕ) : Type 0 where
   pub scalar : IsScalar c
-  pub new : named patterns c ≡ false
-  pub least : (d : ℕ) → IsScalar d → d < c → named patterns d ≡ true
+  pub new : is_named_character patterns c ≡ false
+  pub least : (d : ℕ) → IsScalar d → d < c → is_named_character patterns d ≡ true
 
 -- each scalar steps as one of these does
 abbrev pub IsRepresentative : List (List Piece) → ℕ → Type 0
-IsRepresentative patterns c = (IsScalar c × (named patterns c ≡ true)) ⊎ IsFresh patterns c
+IsRepresentative patterns c = (IsScalar c × (is_named_character patterns c ≡ true)) ⊎ IsFresh patterns c
 
 -- whether the numbers strictly rise, from i on
 abbrev pub rises_from : ℕ → List ℕ → Bool
@@ -116,10 +116,10 @@ ScalarsStepAsRepresentatives =
 abbrev pub MeetsIsTested : Type 0
 MeetsIsTested =
     (patterns : List (List Piece)) (clauses : List (List Literal)) (t : List ℕ) →
-    IsTrue (meets patterns clauses t) ↔ Meets patterns clauses t
+    IsTrue (text_meets patterns clauses t) ↔ Meets patterns clauses t
 
 -- and from the product state of a text the same is read as from the text
 abbrev pub ListsMeetAsTexts : Type 0
 ListsMeetAsTexts =
     (patterns : List (List Piece)) (clauses : List (List Literal)) (t : List ℕ) →
-    InRange (length patterns) clauses → lists_meet patterns clauses (lists_of patterns t) ≡ meets patterns clauses t
+    InRange (length patterns) clauses → lists_meet patterns clauses (lists_of patterns t) ≡ text_meets patterns clauses t

@@ -2,7 +2,7 @@
 use Rattle.std.specs.Prelude.{ℕ, ◌+◌, take, drop, List, [], ◌∷◌, ◌++◌, length, Bool}
 use Rattle.wildcard_lang.specs.declared.piece.Piece.{Piece}
 use Rattle.wildcard_lang.specs.Accepts.{marks_of, marks_reached, tests}
-use Rattle.wildcard_lang.specs.Places.{has}
+use Rattle.wildcard_lang.specs.Places.{contains_place}
 
 -- the marks of the patterns after a text, one after another
 abbrev pub all_marks : List (List Piece) → List ℕ → List Bool
@@ -10,9 +10,9 @@ all_marks [] t = []
 all_marks (p ∷ ps) t = marks_of p t ++ all_marks ps t
 
 -- how many marks the patterns have
-abbrev pub total : List (List Piece) → ℕ
-total [] = 0
-total (p ∷ ps) = (length p + 1) + total ps
+abbrev pub mark_count : List (List Piece) → ℕ
+mark_count [] = 0
+mark_count (p ∷ ps) = (length p + 1) + mark_count ps
 
 -- the marks to which the character c leads, pattern by pattern
 abbrev pub all_reached : List (List Piece) → List Bool → ℕ → List Bool
@@ -23,4 +23,4 @@ all_reached (p ∷ ps) marks c = marks_reached p (take (length p + 1) marks) c +
 abbrev pub marks_from : List (List Piece) → List (List ℕ) → List Bool
 marks_from [] lists = []
 marks_from (p ∷ ps) [] = []
-marks_from (p ∷ ps) (l ∷ ls) = tests (has l) 0 (length p + 1) ++ marks_from ps ls
+marks_from (p ∷ ps) (l ∷ ls) = tests (contains_place l) 0 (length p + 1) ++ marks_from ps ls

@@ -11,7 +11,7 @@ use Rattle.pattern_automata.specs.declared.fronts.Kind.TheVariants.{Passes, Keep
 use Rattle.pattern_automata.specs.declared.moves.Masks.{Masks}
 use Rattle.pattern_automata.specs.declared.moves.Patch.{Patch}
 use Rattle.pattern_automata.specs.declared.moves.Move.{Move}
-use Rattle.pattern_automata.specs.Packed.{on, word_mark}
+use Rattle.pattern_automata.specs.Packed.{is_bit_on, word_mark}
 
 -- whether the piece takes the characters that no piece names, the colon aside
 abbrev pub takes_others : Piece → Bool
@@ -23,8 +23,8 @@ takes_others OneNoColon = true
 takes_others ManyNoColon = true
 
 -- whether the piece takes the character, but not those that no piece names, or the other way round
-abbrev pub tells : ℕ → Piece → Bool
-tells c p = not (beq (takes p c) (takes_others p))
+abbrev pub distinguishes : ℕ → Piece → Bool
+distinguishes c p = not (beq (takes p c) (takes_others p))
 
 -- whether the piece passes a mark on at c, or at others; keeps one at c; or is for any number of characters
 abbrev pub piece_test : Kind → Piece → Bool
@@ -44,40 +44,40 @@ if_piece test None = false
 if_piece test (Some p) = test p
 
 -- whether the piece before a mark does this
-abbrev pub does : Kind → List (Option Piece) → ℕ → Bool
-does kind before j = if_piece (piece_test kind) (slice_index_or before j None)
+abbrev pub piece_does : Kind → List (Option Piece) → ℕ → Bool
+piece_does kind before j = if_piece (piece_test kind) (slice_index_or before j None)
 
 -- the words of the characters that no piece names
 pub record IsMasks (before : List (Option Piece)) (m : Masks) : Type 0 where
   pub size : length m.one.items ≡ length before / 64 + 1
   pub many_size : length m.many.items ≡ length before / 64 + 1
-  pub one : (j : ℕ) → word_mark m.one.items j ≡ does PassesOthers before j
-  pub many : (j : ℕ) → word_mark m.many.items j ≡ does Leads before j
+  pub one : (j : ℕ) → word_mark m.one.items j ≡ piece_does PassesOthers before j
+  pub many : (j : ℕ) → word_mark m.many.items j ≡ piece_does Leads before j
 
 -- the piece before the mark does to it at the character what it does at those that no piece names
 abbrev pub DoesAsForOthers : List (Option Piece) → ℕ → ℕ → Type 0
-DoesAsForOthers before c j = (does (Passes c) before j ≡ does PassesOthers before j) × (does (Keeps c) before j ≡ does Leads before j)
+DoesAsForOthers before c j = (piece_does (Passes c) before j ≡ piece_does PassesOthers before j) × (piece_does (Keeps c) before j ≡ piece_does Leads before j)
 
 -- the words of the character at the patch's index
 pub record IsPatch (before : List (Option Piece)) (c : ℕ) (p : Patch) : Type 0 where
   pub within : 64 * p.index ≤ length before
-  pub one : (b : ℕ) → b < 64 → on p.one b ≡ does (Passes c) before (64 * p.index + b)
-  pub stay : (b : ℕ) → b < 64 → on p.stay b ≡ does (Keeps c) before (64 * p.index + b)
-  pub differs : (b : ℕ) → b < 64 → on p.differs b ≡ false → DoesAsForOthers before c (64 * p.index + b)
+  pub one : (b : ℕ) → b < 64 → is_bit_on p.one b ≡ piece_does (Passes c) before (64 * p.index + b)
+  pub stay : (b : ℕ) → b < 64 → is_bit_on p.stay b ≡ piece_does (Keeps c) before (64 * p.index + b)
+  pub differs : (b : ℕ) → b < 64 → is_bit_on p.differs b ≡ false → DoesAsForOthers before c (64 * p.index + b)
 
 -- one of the patches is at the index
 abbrev pub HasPatch : List Patch → ℕ → Type 0
 HasPatch patches k = Any (λ (p : Patch). p.index ≡ k) patches
 
 -- the patches are those of the character, one at least wherever one of the first n pieces tells it from others
-pub record IsToldApart (before : List (Option Piece)) (n c : ℕ) (patches : List Patch) : Type 0 where
+pub record IsDistinguished (before : List (Option Piece)) (n c : ℕ) (patches : List Patch) : Type 0 where
   pub right : All (IsPatch before c) patches
-  pub covers : (j : ℕ) → j < n → if_piece (tells c) (slice_index_or before j None) ≡ true → HasPatch patches (j / 64)
+  pub covers : (j : ℕ) → j < n → if_piece (distinguishes c) (slice_index_or before j None) ≡ true → HasPatch patches (j / 64)
 
 -- what the character of the move does to the marks
 pub record IsMove (before : List (Option Piece)) (m : Move) : Type 0 where
   pub scalar : IsScalar m.character
-  pub told : IsToldApart before (length before) m.character m.patches.items
+  pub distinguished : IsDistinguished before (length before) m.character m.patches.items
 
 abbrev pub characters_of : List Move → List ℕ
 characters_of moves = map (λ m. m.character) moves

@@ -7,7 +7,7 @@ use Rattle.pattern_automata.specs.declared.moves.Move.{Move}
 use Rattle.pattern_automata.specs.declared.search.Search.{Search}
 use Rattle.pattern_automata.specs.declared.search.Room.{Room}
 use Rattle.pattern_automata.specs.declared.tree.Step.{Step}
-use Rattle.pattern_automata.specs.Marks.{all_reached, total}
+use Rattle.pattern_automata.specs.Marks.{all_reached, mark_count}
 use Rattle.pattern_automata.specs.Moves.{characters_of}
 use Rattle.pattern_automata.specs.Packed.{all_words, pack}
 use Rattle.pattern_automata.specs.Tree.{IsTree, IsTurn, IsBase, IsVisit, IsLeft, IsExpansion, IsOutcome}
@@ -21,13 +21,13 @@ pub record HasBegun (patterns : List (List Piece)) (s : Search) : Type 0 where
 -- the words are those to which c leads from the state
 abbrev pub LeadsByWords : List (List Piece) → List ℕ → ℕ → List ℕ → Type 0
 LeadsByWords patterns state c words =
-    (marks : List Bool) → length marks ≡ total patterns → state ≡ pack marks → words ≡ pack (all_reached patterns marks c)
+    (marks : List Bool) → length marks ≡ mark_count patterns → state ≡ pack marks → words ≡ pack (all_reached patterns marks c)
 
 -- the move leads from the state where the first one does, which is of a spare character and isn't that at k
 abbrev pub StepsAsFirst : Wants → Machine → ℕ → Move → List ℕ → Type 0
 StepsAsFirst w m k step state =
     (0 < k)
-    × ((marks : List Bool) → length marks ≡ total w.patterns → state ≡ pack marks →
+    × ((marks : List Bool) → length marks ≡ mark_count w.patterns → state ≡ pack marks →
     pack (all_reached w.patterns marks step.character)
     ≡ pack (all_reached w.patterns marks (slice_index_or (characters_of m.moves.items) 0 0)))
 

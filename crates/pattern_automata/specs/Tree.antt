@@ -8,9 +8,9 @@ use Rattle.pattern_automata.specs.declared.wants.Literal.{Literal}
 use Rattle.pattern_automata.specs.declared.tree.Parent.{Parent}
 use Rattle.pattern_automata.specs.declared.tree.Step.{Step}
 use Rattle.pattern_automata.specs.declared.tree.Step.TheVariants.{Left, Met, Full}
-use Rattle.wildcard_lang.specs.Places.{has}
+use Rattle.wildcard_lang.specs.Places.{contains_place}
 use Rattle.pattern_automata.specs.Closed.{InRange, clause_holds, clauses_hold}
-use Rattle.pattern_automata.specs.Marks.{total}
+use Rattle.pattern_automata.specs.Marks.{mark_count}
 use Rattle.pattern_automata.specs.Packed.{all_words, word_mark}
 
 -- the character c leads from the words of a text to those of the text with c after it
@@ -25,7 +25,7 @@ pub record IsChild (patterns : List (List Piece)) (found : List (List ℕ)) (i :
 
 pub record IsTree (patterns : List (List Piece)) (found : List (List ℕ)) (parents : List Parent) : Type 0 where
   pub count : length parents ≡ length found
-  pub some : 0 < length found
+  pub nonempty : 0 < length found
   pub first : slice_index_or found 0 [] ≡ all_words patterns []
   pub next : (i : ℕ) (d : Parent) → 0 < i → i < length parents → IsChild patterns found i (slice_index_or parents i d)
 
@@ -45,7 +45,7 @@ pub data Spells : List Parent → ℕ → List ℕ → Type 0 where
 pub record IsEnds (patterns : List (List Piece)) (ends : List ℕ) : Type 0 where
   pub count : length ends ≡ length patterns
   pub each : (k : ℕ) → k < length patterns →
-      slice_index ends k ≡ total (take k patterns) + length (slice_index_or patterns k [])
+      slice_index ends k ≡ mark_count (take k patterns) + length (slice_index_or patterns k [])
 
 -- the clauses hold where the last marks say which patterns match
 abbrev pub words_meet : List ℕ → List (List Literal) → List ℕ → Bool
@@ -66,8 +66,8 @@ AreDifferent found = (j k : ℕ) → j < k → k < length found → slice_index_
 pub record IsSearch (patterns : List (List Piece)) (ends : List ℕ) (clauses : List (List Literal))
     (characters : List ℕ) (found : List (List ℕ)) (i : ℕ) (here : List ℕ) : Type 0 where
   pub none : (j : ℕ) → j < length found → words_meet ends clauses (slice_index_or found j []) ≡ false
-  pub done : (j c : ℕ) → j < i → has characters c ≡ true → IsLed patterns found j c
-  pub now : (c : ℕ) → has here c ≡ true → IsLed patterns found i c
+  pub done : (j c : ℕ) → j < i → contains_place characters c ≡ true → IsLed patterns found j c
+  pub now : (c : ℕ) → contains_place here c ≡ true → IsLed patterns found i c
 
 -- what a turn of the search leaves, where it stepped the state at i by c: `new` says whether the marks were new
 pub record IsTurn (patterns : List (List Piece)) (old found : List (List ℕ)) (parents : List Parent)
@@ -84,7 +84,7 @@ pub record IsBase (patterns : List (List Piece)) (ends : List ℕ) (clauses : Li
   pub different : AreDifferent found
   pub count : length found ≤ limit
   pub range : InRange (length ends) clauses
-  pub within : All (λ e. e < total patterns) ends
+  pub within : All (λ e. e < mark_count patterns) ends
 
 -- the clauses hold of the last state
 pub record IsMet (patterns : List (List Piece)) (ends : List ℕ) (clauses : List (List Literal))

@@ -1,13 +1,13 @@
 //! The check of a closed set.
-ghost use Rattle.std.specs.Prelude.{◌≡◌, ◌+◌, ◌<◌, ◌≤◌, ◌++◌, ◌↔◌, ℕ, List, Bool, [], Some, true, nat_le, length, slice_get, IsTrue, IfOk, OnOk, All, Contains};
+ghost use Rattle.std.specs.Prelude.{◌≡◌, ◌+◌, ◌<◌, ◌++◌, ◌↔◌, Some, true, nat_le, length, slice_get, take, IsTrue, IfOk, OnOk, All};
 ghost use Rattle.std.specs.List.{list_all};
 ghost use Rattle.wildcard_lang.specs.Accepts.{tests};
-ghost use Rattle.wildcard_lang.specs.Places.{has};
+ghost use Rattle.wildcard_lang.specs.Places.{contains_place};
 ghost use Rattle.pattern_automata.specs.Closed.{rises_from, all_rise, IsShaped, InRange, IsClosedUnder};
-ghost use Rattle.pattern_automata.specs.Marks.{marks_from, total};
+ghost use Rattle.pattern_automata.specs.Marks.{marks_from, mark_count};
 ghost use Rattle.pattern_automata.specs.Machine.{IsMachine};
-ghost use Rattle.pattern_automata.specs.Packed.{all_words, pack, words_for};
-ghost use Rattle.pattern_automata.specs.Checked.{fits, AllPass, HasAlso, IsIndex, KeepsPassed, StillKeeps, TellsOf, TellsWhether};
+ghost use Rattle.pattern_automata.specs.Packed.{pack, words_for};
+ghost use Rattle.pattern_automata.specs.Checked.{places_fit, AreMembers, HasAlso, HavePassed, IsOfMarks, StandsBefore, TakesIn, DecidesWhether};
 
 use crate::found::Found;
 use crate::machine::{Machine, machine_of};
@@ -15,6 +15,7 @@ use crate::search::{Room, is_met, leads_as_first, start_words, step_into};
 use crate::states::{Closed, State};
 use crate::wants::Wants;
 use crate::words::pack;
+use indexmap::IndexMap;
 use plain_lists::NoMemory;
 use std::alloc::Global;
 use wildcard_lang::Pattern;
@@ -22,11 +23,15 @@ use wildcard_lang::Pattern;
 /// For how many marks there is room from the start.
 const ROOM: usize = 256;
 
-/// What a check keeps: the words that passed, and room for those of a step.
+/// The words of the members of a set.
 #[derive(Drop)]
-struct Passed {
-    words: Found,
-    room: Room,
+struct Members {
+    /// Those of the states whose places fit: what a step can lead to.
+    fitting: Found,
+    /// Those of the other states.
+    others: Found,
+    /// Of each guess at which states are equal the last state that it was made of.
+    guesses: IndexMap<u64, usize>,
 }
 
 /// Whether each number is greater than the one before it. It takes no memory.
@@ -78,7 +83,7 @@ fn at_most(places: &[u32], most: usize) -> bool
 /// Whether each place is at most the number of its pattern's pieces.
 fn all_fit(patterns: &[Pattern], state: &State<'_>) -> bool
     requires { length state.now ≡ length patterns.now }
-    ensures { result ≡ fits patterns.now state.now }
+    ensures { result ≡ places_fit patterns.now state.now }
 {
     for i in 0..patterns.len() {
         if !at_most(state.get(i), patterns[i].len()) {
@@ -101,7 +106,8 @@ fn is_at(list: &[u32], index: usize, place: usize) -> bool
 /// Adds a mark for each number below count, which says whether the rising list has it.
 fn push_marks(list: &[u32], count: usize, marks: &mut Vec<bool>) -> Result<(), NoMemory>
     requires { rises_from 0 list.now ≡ true }
-    ensures { OnOk result (marks.new.items ≡ marks.old.items ++ tests (has list.now) 0 count) }
+    ensures { OnOk result
+        (marks.new.items ≡ marks.old.items ++ tests (contains_place list.now) 0 count) }
 {
     let mut next = 0;
     for j in 0..count {
@@ -146,38 +152,118 @@ fn all_shaped(patterns: &[Pattern], closed: &Closed) -> bool
     true
 }
 
-/// Adds the words of the state to the index, if its places fit.
-fn index_state(
-    alloc: Global,
-    patterns: &[Pattern],
-    state: &State<'_>,
-    index: &mut Found,
-) -> Result<(), NoMemory>
-    requires { IsShaped patterns.now state.now }
-    ensures { OnOk result (HasAlso index.old patterns.now state.now index.new) }
+/// Adds the words, where they aren't there.
+fn keep(words: Vec<u64>, found: &mut Found) -> Result<(), NoMemory>
+    ensures { OnOk result (HasAlso found.old words.items found.new) }
 {
-    if !all_fit(patterns, state) {
+    if found.has(words.as_slice()) {
         return Ok(());
     }
-    let words = words_of(alloc, patterns, state)?;
-    if index.has(words.as_slice()) {
-        return Ok(());
-    }
-    index.push(words)?;
+    found.push(words)?;
     Ok(())
 }
 
-/// The index of the set.
-fn index_of(alloc: Global, patterns: &[Pattern], closed: &Closed) -> Result<Found, NoMemory>
-    requires { All (IsShaped patterns.now) closed.now }
-    ensures { IfOk result (IsIndex patterns.now closed.now (length closed.now)) }
+/// Adds the words of the state.
+fn add_member(
+    alloc: Global,
+    patterns: &[Pattern],
+    state: &State<'_>,
+    members: &mut Members,
+) -> Result<(), NoMemory>
+    requires { IsShaped patterns.now state.now }
+    ensures { OnOk result (TakesIn patterns.now state.now members.old members.new) }
 {
-    let mut index = Found::new(alloc)?;
-    for i in 0..closed.len() {
-        let state = closed.get(i);
-        index_state(alloc, patterns, &state, &mut index)?;
+    let words = words_of(alloc, patterns, state)?;
+    if all_fit(patterns, state) {
+        keep(words, &mut members.fitting)?;
+        return Ok(());
     }
-    Ok(index)
+    keep(words, &mut members.others)?;
+    Ok(())
+}
+
+/// What the hash FNV-1a of 64 bits begins with, and what it multiplies by.
+const FIRST_GUESS: u64 = 14_695_981_039_346_656_037;
+
+const GUESS_FACTOR: u64 = 1_099_511_628_211;
+
+/// A guess at which numbers are equal, with one number more.
+fn mix(guess: u64, number: u64) -> u64 {
+    (guess ^ number).wrapping_mul(GUESS_FACTOR)
+}
+
+/// The same with the places of a list.
+fn mix_places(before: u64, places: &[u32]) -> u64 {
+    let mut guess = before;
+    for place in places {
+        guess = mix(guess, u64::from(*place));
+    }
+    guess
+}
+
+/// A guess at which states are equal.
+fn guess_of(state: &State<'_>) -> u64 {
+    let mut guess = FIRST_GUESS;
+    for i in 0..state.len() {
+        guess = mix(mix_places(guess, state.get(i)), u64::MAX);
+    }
+    guess
+}
+
+/// Whether the state at an index is known to stand earlier too, where the guesses are those of the
+/// earlier ones.
+fn stands_earlier(
+    closed: &Closed,
+    i: usize,
+    guesses: &mut IndexMap<u64, usize>,
+) -> Result<bool, NoMemory>
+    requires { i < length closed.now }
+    ensures { IfOk result (λ yes. IsTrue yes → StandsBefore closed.now i) }
+{
+    let state = closed.get(i);
+    let Some(earlier) = guesses.insert(guess_of(&state), i)? else {
+        return Ok(false);
+    };
+    if earlier >= i {
+        return Ok(false);
+    }
+    Ok(state.is_equal(&closed.get(earlier)))
+}
+
+/// Adds the words of the state at an index to those of the states before it.
+fn take_in(
+    alloc: Global,
+    patterns: &[Pattern],
+    closed: &Closed,
+    i: usize,
+    members: &mut Members,
+) -> Result<(), NoMemory>
+    requires shaped { All (IsShaped patterns.now) closed.now }
+    requires within { i < length closed.now }
+    requires before { AreMembers patterns.now (take i closed.now) members.old }
+    ensures { OnOk result (AreMembers patterns.now (take (i + 1) closed.now) members.new) }
+{
+    if stands_earlier(closed, i, &mut members.guesses)? {
+        return Ok(());
+    }
+    add_member(alloc, patterns, &closed.get(i), members)?;
+    Ok(())
+}
+
+/// The words of the members of the set. A state that stands many times is read once, as a rule.
+fn members_of(alloc: Global, patterns: &[Pattern], closed: &Closed) -> Result<Members, NoMemory>
+    requires { All (IsShaped patterns.now) closed.now }
+    ensures { IfOk result (AreMembers patterns.now closed.now) }
+{
+    let mut members = Members {
+        fitting: Found::new(alloc)?,
+        others: Found::new(alloc)?,
+        guesses: IndexMap::new(alloc),
+    };
+    for i in 0..closed.len() {
+        take_in(alloc, patterns, closed, i, &mut members)?;
+    }
+    Ok(members)
 }
 
 /// Whether the marks meet no clauses and each move leads to words of the index.
@@ -190,8 +276,8 @@ fn passes(
 ) -> Result<bool, NoMemory>
     requires range { InRange (length wants.now.patterns) wants.now.clauses }
     requires machine { IsMachine wants.now.patterns machine.now }
-    requires size { length words.now ≡ words_for (total wants.now.patterns) }
-    ensures { IfOk result (TellsWhether wants.now machine.now index.now words.now) }
+    requires size { length words.now ≡ words_for (mark_count wants.now.patterns) }
+    ensures { IfOk result (DecidesWhether wants.now machine.now index.now words.now) }
 {
     if is_met(wants, machine, words) {
         return Ok(false);
@@ -209,130 +295,30 @@ fn passes(
     Ok(true)
 }
 
-/// Whether the words pass. Those that passed before aren't stepped again.
-fn words_pass(
-    wants: &Wants,
-    machine: &Machine,
-    index: &Found,
-    words: &[u64],
-    passed: &mut Passed,
-) -> Result<bool, NoMemory>
-    requires range { InRange (length wants.now.patterns) wants.now.clauses }
-    requires machine { IsMachine wants.now.patterns machine.now }
-    requires size { length words.now ≡ words_for (total wants.now.patterns) }
-    requires kept { KeepsPassed wants.now machine.now index.now passed.old }
-    ensures answer { IfOk result (TellsWhether wants.now machine.now index.now words.now) }
-    ensures kept { IfOk result (StillKeeps wants.now machine.now index.now passed.new) }
-{
-    if passed.words.has(words) {
-        return Ok(true);
-    }
-    if !passes(wants, machine, index, words, &mut passed.room)? {
-        return Ok(false);
-    }
-    let alloc = *passed.room.words.allocator();
-    passed.words.push(Vec::from_slice(alloc, words)?)?;
-    Ok(true)
-}
-
-/// Whether the state passes.
-fn state_passes(
-    alloc: Global,
-    wants: &Wants,
-    machine: &Machine,
-    index: &Found,
-    state: &State<'_>,
-    passed: &mut Passed,
-) -> Result<bool, NoMemory>
-    requires range { InRange (length wants.now.patterns) wants.now.clauses }
-    requires machine { IsMachine wants.now.patterns machine.now }
-    requires shaped { IsShaped wants.now.patterns state.now }
-    requires kept { KeepsPassed wants.now machine.now index.now passed.old }
-    ensures answer { IfOk result (TellsOf wants.now machine.now index.now state.now) }
-    ensures kept { IfOk result (StillKeeps wants.now machine.now index.now passed.new) }
-{
-    let words = words_of(alloc, wants.patterns.as_slice(), state)?;
-    words_pass(wants, machine, index, words.as_slice(), passed)
-}
-
-/// Whether each member passes.
-fn states_pass(
-    alloc: Global,
-    wants: &Wants,
-    machine: &Machine,
-    index: &Found,
-    closed: &Closed,
-    passed: &mut Passed,
-) -> Result<bool, NoMemory>
-    requires range { InRange (length wants.now.patterns) wants.now.clauses }
-    requires machine { IsMachine wants.now.patterns machine.now }
-    requires shaped { All (IsShaped wants.now.patterns) closed.now }
-    requires kept { KeepsPassed wants.now machine.now index.now passed.old }
-    ensures { IfOk result (λ yes. IsTrue yes ↔ AllPass wants.now machine.now index.now closed.now) }
-{
-    for i in 0..closed.len() {
-        if !state_passes(alloc, wants, machine, index, &closed.get(i), passed)? {
-            return Ok(false);
-        }
-    }
-    Ok(true)
-}
-
-/// Whether each member passes. One that stands many times is stepped once.
+/// Whether all these words pass.
 fn all_pass(
     alloc: Global,
     wants: &Wants,
     machine: &Machine,
     index: &Found,
-    closed: &Closed,
+    found: &Found,
 ) -> Result<bool, NoMemory>
     requires range { InRange (length wants.now.patterns) wants.now.clauses }
     requires machine { IsMachine wants.now.patterns machine.now }
-    requires shaped { All (IsShaped wants.now.patterns) closed.now }
-    ensures { IfOk result (λ yes. IsTrue yes ↔ AllPass wants.now machine.now index.now closed.now) }
+    requires marks { All (IsOfMarks wants.now.patterns) found.now }
+    ensures { IfOk result
+        (λ yes. IsTrue yes ↔ HavePassed wants.now machine.now index.now found.now) }
 {
-    let mut passed = Passed {
-        words: Found::new(alloc)?,
-        room: Room {
-            moved: Vec::new(alloc),
-            words: Vec::new(alloc),
-        },
+    let mut room = Room {
+        moved: Vec::new(alloc),
+        words: Vec::new(alloc),
     };
-    states_pass(alloc, wants, machine, index, closed, &mut passed)
-}
-
-/// Whether the index has the words of the empty text.
-fn has_start(
-    alloc: Global,
-    patterns: &[Pattern],
-    count: usize,
-    index: &Found,
-) -> Result<bool, NoMemory>
-    requires { count ≡ total patterns.now }
-    ensures { IfOk result (λ yes. IsTrue yes ↔ Contains index.now (all_words patterns.now [])) }
-{
-    let start = start_words(alloc, patterns, count)?;
-    Ok(index.has(start.as_slice()))
-}
-
-/// The check of a shaped set by its index.
-fn check_by(
-    alloc: Global,
-    wants: &Wants,
-    machine: &Machine,
-    index: &Found,
-    closed: &Closed,
-) -> Result<bool, NoMemory>
-    requires range { InRange (length wants.now.patterns) wants.now.clauses }
-    requires machine { IsMachine wants.now.patterns machine.now }
-    requires shaped { All (IsShaped wants.now.patterns) closed.now }
-    requires index { IsIndex wants.now.patterns closed.now (length closed.now) index.now }
-    ensures { IfOk result (λ yes. IsTrue yes ↔ IsClosedUnder wants.now closed.now) }
-{
-    if !has_start(alloc, wants.patterns.as_slice(), machine.count, index)? {
-        return Ok(false);
+    for i in 0..found.len() {
+        if !passes(wants, machine, index, found.get(i), &mut room)? {
+            return Ok(false);
+        }
     }
-    all_pass(alloc, wants, machine, index, closed)
+    Ok(true)
 }
 
 /// The check of a shaped set, from what there is to know of the patterns.
@@ -342,8 +328,16 @@ fn check(alloc: Global, wants: &Wants, machine: &Machine, closed: &Closed) -> Re
     requires shaped { All (IsShaped wants.now.patterns) closed.now }
     ensures { IfOk result (λ yes. IsTrue yes ↔ IsClosedUnder wants.now closed.now) }
 {
-    let index = index_of(alloc, wants.patterns.as_slice(), closed)?;
-    check_by(alloc, wants, machine, &index, closed)
+    let patterns = wants.patterns.as_slice();
+    let members = members_of(alloc, patterns, closed)?;
+    let start = start_words(alloc, patterns, machine.count)?;
+    if !members.fitting.has(start.as_slice()) {
+        return Ok(false);
+    }
+    if !all_pass(alloc, wants, machine, &members.fitting, &members.fitting)? {
+        return Ok(false);
+    }
+    all_pass(alloc, wants, machine, &members.fitting, &members.others)
 }
 
 /// Whether the set of product states is closed: each of them has one list for each pattern, with

@@ -1,7 +1,7 @@
 //! The pieces before the marks of patterns.
 ghost use Rattle.std.specs.Prelude.{◌≡◌, ◌*◌, ◌+◌, ◌/◌, ◌<◌, ◌≤◌, ◌++◌, ◌∷◌, ℕ, None, Some, length, map, IfOk, OnOk};
-ghost use Rattle.pattern_automata.specs.Moves.{does, fronts, piece_test, takes_others};
-ghost use Rattle.pattern_automata.specs.Packed.{on, word_mark};
+ghost use Rattle.pattern_automata.specs.Moves.{piece_does, fronts, piece_test, takes_others};
+ghost use Rattle.pattern_automata.specs.Packed.{is_bit_on, word_mark};
 
 use plain_lists::NoMemory;
 use std::alloc::Global;
@@ -41,7 +41,7 @@ fn piece_test(kind: Kind, piece: Piece) -> bool
 
 /// Whether there is a piece before the mark, and does this.
 fn does(fronts: &[Option<Piece>], mark: usize, kind: Kind) -> bool
-    ensures { result ≡ does kind fronts.now mark }
+    ensures { result ≡ piece_does kind fronts.now mark }
 {
     match fronts.get(mark) {
         Some(Some(piece)) => piece_test(kind, *piece),
@@ -78,7 +78,7 @@ pub fn fronts_of(
 /// The word at an index of what the fronts do.
 pub fn word_at(fronts: &[Option<Piece>], index: usize, kind: Kind) -> u64
     requires { 64 * index ≤ length fronts.now }
-    ensures { (b : ℕ) → b < 64 → on result b ≡ does kind fronts.now (64 * index + b) }
+    ensures { (b : ℕ) → b < 64 → is_bit_on result b ≡ piece_does kind fronts.now (64 * index + b) }
 {
     let mut word = 0;
     let mut i = 64;
@@ -92,7 +92,8 @@ pub fn word_at(fronts: &[Option<Piece>], index: usize, kind: Kind) -> u64
 /// The words of what the fronts do.
 pub fn words_by(alloc: Global, fronts: &[Option<Piece>], kind: Kind) -> Result<Vec<u64>, NoMemory>
     ensures count { IfOk result (λ v. length v.items ≡ length fronts.now / 64 + 1) }
-    ensures marks { IfOk result (λ v. (j : ℕ) → word_mark v.items j ≡ does kind fronts.now j) }
+    ensures marks { IfOk result
+        (λ v. (j : ℕ) → word_mark v.items j ≡ piece_does kind fronts.now j) }
 {
     let mut words = Vec::new(alloc);
     for index in 0..fronts.len() / 64 + 1 {

@@ -1,7 +1,7 @@
 //! Whether the marks of a product state meet clauses.
 ghost use Rattle.std.specs.Prelude.{◌≡◌, ◌*◌, ◌+◌, ◌<◌, ℕ, [], false, length, slice_index, slice_index_or, All, IfOk, IfSome, OnOk, OnErr, ◌++◌, ◌∷◌};
 ghost use Rattle.pattern_automata.specs.Closed.{InRange};
-ghost use Rattle.pattern_automata.specs.Marks.{total};
+ghost use Rattle.pattern_automata.specs.Marks.{mark_count};
 ghost use Rattle.pattern_automata.specs.Packed.{word_mark};
 ghost use Rattle.pattern_automata.specs.Tree.{IsEnds, words_meet, words_meet_clause};
 
@@ -13,7 +13,7 @@ use wildcard_lang::Pattern;
 
 /// How many marks the patterns have, or want of memory where one mark more could not be numbered.
 pub fn total_of(patterns: &[Pattern]) -> Result<usize, NoMemory>
-    ensures value { IfOk result (λ n. n ≡ total patterns.now) }
+    ensures value { IfOk result (λ n. n ≡ mark_count patterns.now) }
     ensures room { IfOk result (λ n. n < usize.MAX) }
 {
     match sum_of(patterns) {
@@ -24,7 +24,7 @@ pub fn total_of(patterns: &[Pattern]) -> Result<usize, NoMemory>
 
 /// How many marks the patterns have, if a number of the type can say it.
 fn sum_of(patterns: &[Pattern]) -> Option<usize>
-    ensures { IfSome result (λ n. n ≡ total patterns.now) }
+    ensures { IfSome result (λ n. n ≡ mark_count patterns.now) }
 {
     let mut sum: usize = 0;
     for pattern in patterns {
@@ -35,7 +35,7 @@ fn sum_of(patterns: &[Pattern]) -> Option<usize>
 
 /// The last mark of each pattern.
 pub fn ends_of(alloc: Global, patterns: &[Pattern]) -> Result<Vec<usize>, NoMemory>
-    requires { total patterns.now < usize.MAX }
+    requires { mark_count patterns.now < usize.MAX }
     ensures { IfOk result (λ v. IsEnds patterns.now v.items) }
 {
     let mut ends = Vec::new(alloc);

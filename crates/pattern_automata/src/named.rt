@@ -1,7 +1,7 @@
 //! At which marks pieces name characters, as bits: word by word, and of each word only the characters
 //! that its pieces name.
 ghost use Rattle.std.specs.Prelude.{◌≡◌, ◌*◌, ◌+◌, ◌/◌, ◌<◌, ◌≤◌, ◌||◌, ◌==◌, ℕ, None, length, slice_index_or, IfOk, MatchOption, OnOk};
-ghost use Rattle.pattern_automata.specs.Packed.{on};
+ghost use Rattle.pattern_automata.specs.Packed.{is_bit_on};
 ghost use Rattle.pattern_automata.specs.Named.{bits_of, AddsBit, AddsFront, AddsPiece, HaveNames, HasNamesAt, HasNone, IsPosition};
 
 use plain_lists::NoMemory;
@@ -18,7 +18,7 @@ pub struct Named {
 /// The word with the bit set.
 fn with_bit(word: u64, bit: usize) -> u64
     requires { bit < 64 }
-    ensures { (i : ℕ) → on result i ≡ (on word i || (i == bit)) }
+    ensures { (i : ℕ) → is_bit_on result i ≡ (is_bit_on word i || (i == bit)) }
 {
     word | (1 << bit)
 }

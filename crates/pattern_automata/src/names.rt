@@ -1,8 +1,8 @@
 //! The characters that patterns name, and one that stands for all others.
 ghost use Rattle.std.specs.Prelude.{◌≡◌, ◌≤◌, ◌<◌, ◌||◌, ◌==◌, ℕ, true, false, MatchOption, OnOk, IfOk};
 ghost use Rattle.std.specs.Char.{IsScalar};
-ghost use Rattle.wildcard_lang.specs.Places.{has};
-ghost use Rattle.pattern_automata.specs.Closed.{names, names_any, named};
+ghost use Rattle.wildcard_lang.specs.Places.{contains_place};
+ghost use Rattle.pattern_automata.specs.Closed.{names_character, names_any, is_named_character};
 ghost use Rattle.pattern_automata.specs.Spare.{AreTaken, GrowsBy, HasAllScalars, IsFreeIn, IsSpareOf};
 
 use indexmap::IndexSet;
@@ -15,7 +15,8 @@ const MANY: usize = 64;
 
 /// Adds the character, unless it is there.
 fn add(set: &mut IndexSet<char>, c: char) -> Result<(), NoMemory>
-    ensures { OnOk result ((d : ℕ) → has set.new.keys d ≡ (has set.old.keys d || (c == d))) }
+    ensures { OnOk result
+        ((d : ℕ) → contains_place set.new.keys d ≡ (contains_place set.old.keys d || (c == d))) }
 {
     set.insert_full(c)?;
     Ok(())
@@ -23,7 +24,7 @@ fn add(set: &mut IndexSet<char>, c: char) -> Result<(), NoMemory>
 
 /// Adds the characters that the piece names.
 fn add_piece(set: &mut IndexSet<char>, piece: Piece) -> Result<(), NoMemory>
-    ensures { OnOk result (GrowsBy (names piece) set.old.keys set.new.keys) }
+    ensures { OnOk result (GrowsBy (names_character piece) set.old.keys set.new.keys) }
 {
     match piece {
         Piece::Lit(c) => add(set, c),
@@ -47,7 +48,8 @@ fn add_pattern(set: &mut IndexSet<char>, pattern: &Pattern) -> Result<(), NoMemo
 
 /// The characters that the patterns name, and the colon, in the order in which they come first.
 pub fn named_characters(alloc: Global, patterns: &[Pattern]) -> Result<IndexSet<char>, NoMemory>
-    ensures { IfOk result (λ s. (d : ℕ) → IsScalar d → has s.keys d ≡ named patterns.now d) }
+    ensures { IfOk result
+        (λ s. (d : ℕ) → IsScalar d → contains_place s.keys d ≡ is_named_character patterns.now d) }
 {
     let mut set = IndexSet::with_capacity(alloc, MANY)?;
     add(&mut set, ':')?;

@@ -1,7 +1,7 @@
 //! Product states, as lists of places, from words of marks.
 ghost use Rattle.std.specs.Prelude.{◌≡◌, ◌*◌, ◌+◌, ◌<◌, ◌≤◌, ◌^◌, ◌++◌, ◌∷◌, ℕ, List, [], false, length, slice_index_or, IfOk, OnOk, OnErr};
-ghost use Rattle.wildcard_lang.specs.Places.{rising};
-ghost use Rattle.pattern_automata.specs.Marks.{total};
+ghost use Rattle.wildcard_lang.specs.Places.{passing_numbers};
+ghost use Rattle.pattern_automata.specs.Marks.{mark_count};
 ghost use Rattle.pattern_automata.specs.Packed.{word_mark, words_for};
 ghost use Rattle.pattern_automata.specs.Answer.{AreStatesOf, GrowsByState, HaveWords, IsStateOf};
 
@@ -17,7 +17,8 @@ fn places_in(words: &[u64], at: usize, count: usize, list: &mut Vec<u32>) -> Res
     requires count { count ≤ 2 ^ 32 }
     requires within { at + count ≤ 64 * length words.now }
     requires room { at + count ≤ usize.MAX }
-    ensures { OnOk result (list.new.items ≡ rising (λ j. word_mark words.now (at + j)) 0 count) }
+    ensures { OnOk result
+        (list.new.items ≡ passing_numbers (λ j. word_mark words.now (at + j)) 0 count) }
 {
     list.clear();
     for i in 0..count {
@@ -35,8 +36,8 @@ fn lists_in(
     list: &mut Vec<u32>,
     lists: &mut PlaceLists,
 ) -> Result<(), NoMemory>
-    requires size { length words.now ≡ words_for (total patterns.now) }
-    requires room { total patterns.now < usize.MAX }
+    requires size { length words.now ≡ words_for (mark_count patterns.now) }
+    requires room { mark_count patterns.now < usize.MAX }
     ensures { OnOk result (IsStateOf patterns.now words.now lists.new) }
 {
     lists.truncate(0);
@@ -58,8 +59,8 @@ fn add_state(
     lists: &mut PlaceLists,
     closed: &mut Closed,
 ) -> Result<(), NoMemory>
-    requires size { length words.now ≡ words_for (total patterns.now) }
-    requires room { total patterns.now < usize.MAX }
+    requires size { length words.now ≡ words_for (mark_count patterns.now) }
+    requires room { mark_count patterns.now < usize.MAX }
     ensures { OnOk result (GrowsByState patterns.now words.now closed.old closed.new) }
 {
     lists_in(patterns, words, list, lists)?;
@@ -70,7 +71,7 @@ fn add_state(
 /// The product states that were found.
 pub fn closed_of(alloc: Global, patterns: &[Pattern], found: &Found) -> Result<Closed, NoMemory>
     requires sizes { HaveWords patterns.now found.now }
-    requires room { total patterns.now < usize.MAX }
+    requires room { mark_count patterns.now < usize.MAX }
     ensures count { IfOk result (λ v. length v ≡ length found.now) }
     ensures each { IfOk result (AreStatesOf patterns.now found.now) }
 {

@@ -1,6 +1,6 @@
 //! The search over product states, as words of marks.
 ghost use Rattle.std.specs.Prelude.{◌≡◌, List, Bool, ◌+◌, ◌∷◌, ◌<◌, ◌≤◌, ℕ, [], length, slice_index_or, All, IfOk, IfSome, IsTrue, OnOk};
-ghost use Rattle.pattern_automata.specs.Marks.{total};
+ghost use Rattle.pattern_automata.specs.Marks.{mark_count};
 ghost use Rattle.pattern_automata.specs.Tree.{IsRooted, IsTree, words_meet};
 ghost use Rattle.pattern_automata.specs.Moves.{IsMove, fronts};
 ghost use Rattle.pattern_automata.specs.Packed.{all_words, words_for};
@@ -46,7 +46,7 @@ pub struct Search {
 pub fn is_met(wants: &Wants, machine: &Machine, words: &[u64]) -> bool
     requires range { InRange (length wants.now.patterns) wants.now.clauses }
     requires machine { IsMachine wants.now.patterns machine.now }
-    requires size { length words.now ≡ words_for (total wants.now.patterns) }
+    requires size { length words.now ≡ words_for (mark_count wants.now.patterns) }
     ensures { result ≡ words_meet machine.now.ends.items wants.now.clauses words.now }
 {
     clauses_met(machine.ends.as_slice(), wants.clauses.as_slice(), words)
@@ -62,7 +62,7 @@ pub fn step_into(
 ) -> Result<(), NoMemory>
     requires machine { IsMachine wants.now.patterns machine.now }
     requires does { IsMove (fronts wants.now.patterns) step.now }
-    requires size { length state.now ≡ words_for (total wants.now.patterns) }
+    requires size { length state.now ≡ words_for (mark_count wants.now.patterns) }
     ensures { OnOk result (LeadsInto wants.now state.now step.now room.new) }
 {
     step_words(
@@ -85,7 +85,7 @@ pub fn leads_as_first(
     requires machine { IsMachine wants.now.patterns machine.now }
     requires within { k < length machine.now.moves.items }
     requires does { IsMove (fronts wants.now.patterns) step.now }
-    requires size { length state.now ≡ words_for (total wants.now.patterns) }
+    requires size { length state.now ≡ words_for (mark_count wants.now.patterns) }
     ensures { IsTrue result → StepsAsFirst wants.now machine.now k step.now state.now }
 {
     if k == 0 {
@@ -225,7 +225,7 @@ fn first_parents(alloc: Global) -> Result<Vec<Parent>, NoMemory>
 
 /// A search that has found the product state of the empty text.
 pub fn begin(alloc: Global, patterns: &[Pattern], count: usize) -> Result<Search, NoMemory>
-    requires { count ≡ total patterns.now }
+    requires { count ≡ mark_count patterns.now }
     ensures { IfOk result (HasBegun patterns.now) }
 {
     let words = start_words(alloc, patterns, count)?;
@@ -241,7 +241,7 @@ pub fn begin(alloc: Global, patterns: &[Pattern], count: usize) -> Result<Search
 
 /// The words of the empty text.
 pub fn start_words(alloc: Global, patterns: &[Pattern], count: usize) -> Result<Vec<u64>, NoMemory>
-    requires { count ≡ total patterns.now }
+    requires { count ≡ mark_count patterns.now }
     ensures { IfOk result (λ v. v.items ≡ all_words patterns.now []) }
 {
     let mut marks = vec![in alloc; false; count]?;
@@ -257,8 +257,8 @@ fn answer(
     step: Step,
 ) -> Result<Product, NoMemory>
     requires rooted { IsRooted search.now.parents.items }
-    requires some { 0 < length search.now.parents.items }
-    requires room { total patterns.now < usize.MAX }
+    requires nonempty { 0 < length search.now.parents.items }
+    requires room { mark_count patterns.now < usize.MAX }
     requires sizes { HaveWords patterns.now search.now.found }
     ensures { IfOk result (IsReport patterns.now search.now.found search.now.parents.items step) }
 {
@@ -281,7 +281,7 @@ fn solve_from(
     limit: usize,
 ) -> Result<Product, NoMemory>
     requires range { InRange (length wants.now.patterns) wants.now.clauses }
-    requires some { 1 ≤ limit }
+    requires positive { 1 ≤ limit }
     requires machine { IsMachine wants.now.patterns machine.now }
     requires begun { HasBegun wants.now.patterns search.old }
     ensures { IfOk result (IsProduct wants.now.patterns wants.now.clauses limit) }
@@ -296,7 +296,7 @@ fn solve_from(
 /// The product, from what there is to know of the patterns, by a search in the order of finding.
 fn solve(alloc: Global, wants: &Wants, machine: &Machine, limit: usize) -> Result<Product, NoMemory>
     requires range { InRange (length wants.now.patterns) wants.now.clauses }
-    requires some { 1 ≤ limit }
+    requires positive { 1 ≤ limit }
     requires machine { IsMachine wants.now.patterns machine.now }
     ensures { IfOk result (IsProduct wants.now.patterns wants.now.clauses limit) }
 {
@@ -332,7 +332,7 @@ fn solve_by(
     limit: usize,
 ) -> Result<Product, NoMemory>
     requires range { InRange (length wants.now.patterns) wants.now.clauses }
-    requires some { 1 ≤ limit }
+    requires positive { 1 ≤ limit }
     requires machine { IsMachine wants.now.patterns machine.now }
     ensures { IfOk result (IsProduct wants.now.patterns wants.now.clauses limit) }
 {
@@ -351,7 +351,7 @@ fn solve_by(
 /// at least 1. The only error is want of memory.
 pub fn product(alloc: Global, wants: &Wants, limit: u32) -> Result<Product, NoMemory>
     requires range { InRange (length wants.now.patterns) wants.now.clauses }
-    requires some { 1 ≤ limit }
+    requires positive { 1 ≤ limit }
     ensures { IfOk result (IsProduct wants.now.patterns wants.now.clauses limit) }
 {
     // Under a smaller limit the search in the order of finding answers alone.

@@ -1,6 +1,6 @@
 //! Product states and sets of them. All places of a set lie one behind another, so that it takes few
 //! blocks of memory, however many states it has.
-ghost use Rattle.std.specs.Prelude.{◌≡◌, ◌-◌, ◌<◌, ◌≤◌, ◌++◌, ◌∷◌, [], length, take, drop, slice_index_or, OnOk, OnErr};
+ghost use Rattle.std.specs.Prelude.{◌≡◌, ◌-◌, ◌<◌, ◌≤◌, ◌++◌, ◌∷◌, [], length, take, drop, slice_index_or, IsTrue, OnOk, OnErr};
 ghost use Rattle.pattern_automata.specs.Cuts.{begin_of};
 
 use plain_lists::{List, NoMemory};
@@ -138,6 +138,21 @@ impl<'a> State<'a> {
     {
         let lists = self.lists;
         lists.get(self.from + i)
+    }
+
+    /// Whether the two are equal.
+    pub fn is_equal(&self, other: &State<'_>) -> bool
+        ensures { IsTrue result → self.now ≡ other.now }
+    {
+        if self.len() != other.len() {
+            return false;
+        }
+        'lists: for i in 0..self.len() {
+            if self.get(i) != other.get(i) {
+                return false;
+            }
+        }
+        true
     }
 }
 

@@ -13,7 +13,7 @@ pub fn scalars_step_as_representatives()
     ensures { ScalarsStepAsRepresentatives }
 {}
 
-/// The test `meets` of the definitions answers whether a text meets the clauses.
+/// The test `text_meets` of the definitions answers whether a text meets the clauses.
 pub fn meets_is_tested()
     ensures { MeetsIsTested }
 {}

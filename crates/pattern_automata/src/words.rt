@@ -1,7 +1,7 @@
 //! Marks packed into words, one bit each.
 
 ghost use Rattle.std.specs.Prelude.{◌≡◌, ◌<◌, ◌≤◌, ◌*◌, ℕ, false, length, slice_index, All, IfOk, IsTrue, OnOk};
-ghost use Rattle.pattern_automata.specs.Packed.{before, filled, on, pack, word_mark, word_with};
+ghost use Rattle.pattern_automata.specs.Packed.{mark_before, filled_marks, is_bit_on, pack, word_mark, word_with};
 ghost use Rattle.pattern_automata.specs.Steps.{masked_at, moved_at, near_at, AreFilled, AreMoved, ArePatched, AreStepped, AreWords, HaveSize, IsAway};
 
 use crate::moves::{Masks, Patch};
@@ -11,7 +11,7 @@ use std::alloc::Global;
 /// Whether the bit is set.
 pub fn is_on(word: u64, bit: usize) -> bool
     requires { bit < 64 }
-    ensures { result ≡ on word bit }
+    ensures { result ≡ is_bit_on word bit }
 {
     (word >> bit) & 1 == 1
 }
@@ -55,14 +55,15 @@ pub fn pack(alloc: Global, marks: &[bool]) -> Result<Vec<u64>, NoMemory>
 
 /// The word with its bits one place on, and the first bit in their front.
 fn shifted(word: u64, first: bool) -> u64
-    ensures { (i : ℕ) → i < 64 → on result i ≡ before first (on word) i }
+    ensures { (i : ℕ) → i < 64 → is_bit_on result i ≡ mark_before first (is_bit_on word) i }
 {
     (word << 1) | u64::from(first)
 }
 
 /// The bits that are set, and those that follow a set one and are led to.
 fn fill(set: u64, leads: u64, first: bool) -> u64
-    ensures { (i : ℕ) → i < 64 → on result i ≡ filled (on set) (on leads) first i }
+    ensures { (i : ℕ) → i < 64 →
+        is_bit_on result i ≡ filled_marks (is_bit_on set) (is_bit_on leads) first i }
 {
     let mut word = set;
     for round in 0..64usize {
@@ -78,7 +79,7 @@ fn fill(set: u64, leads: u64, first: bool) -> u64
 /// What stands before the first bit of the word at an index: the last bit of the word before it.
 fn carry(state: &[u64], index: usize) -> bool
     requires { index ≤ length state.now }
-    ensures { result ≡ before false (word_mark state.now) (64 * index) }
+    ensures { result ≡ mark_before false (word_mark state.now) (64 * index) }
 {
     if index == 0 {
         return false;
@@ -89,7 +90,7 @@ fn carry(state: &[u64], index: usize) -> bool
 /// The word at an index after a step, without what is led to.
 fn moved_word(state: &[u64], index: usize, one: u64, stay: u64) -> u64
     requires { index < length state.now }
-    ensures { (b : ℕ) → b < 64 → on result b ≡ moved_at one stay state.now index b }
+    ensures { (b : ℕ) → b < 64 → is_bit_on result b ≡ moved_at one stay state.now index b }
 {
     (shifted(state[index], carry(state, index)) & one) | (state[index] & stay)
 }
@@ -98,7 +99,7 @@ fn moved_word(state: &[u64], index: usize, one: u64, stay: u64) -> u64
 fn masked_word(state: &[u64], index: usize, masks: &Masks) -> u64
     requires size { HaveSize masks.now (length state.now) }
     requires within { index < length state.now }
-    ensures { (b : ℕ) → b < 64 → on result b ≡ masked_at masks.now state.now index b }
+    ensures { (b : ℕ) → b < 64 → is_bit_on result b ≡ masked_at masks.now state.now index b }
 {
     moved_word(state, index, masks.one[index], masks.many[index])
 }
@@ -147,7 +148,7 @@ fn fill_words(moved: &[u64], leads: &[u64], words: &mut Vec<u64>) -> Result<(), 
 /// The marks of the state at an index, and those that follow them.
 fn near_word(state: &[u64], index: usize) -> u64
     requires { index < length state.now }
-    ensures { (b : ℕ) → b < 64 → on result b ≡ near_at state.now index b }
+    ensures { (b : ℕ) → b < 64 → is_bit_on result b ≡ near_at state.now index b }
 {
     state[index] | shifted(state[index], carry(state, index))
 }

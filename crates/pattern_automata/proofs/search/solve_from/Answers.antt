@@ -14,7 +14,7 @@ returns-then-is_met c =
 
 pub explore-requires-clause-left : goal.explore-requires-clause-left
 explore-requires-clause-left c =
-    begins _ _ _ _ _ c.requires.machine.ends c.requires.range _ _ c.requires.begun.found c.requires.begun.parents c.requires.some
+    begins _ _ _ _ _ c.requires.machine.ends c.requires.range _ _ c.requires.begun.found c.requires.begun.parents c.requires.positive
     (ap (λ (x : List ℕ). words_meet c.args.machine.now.ends.items c.args.wants.now.clauses x) (sym (c.as_slice.ensures.value ∙ c.requires.begun.words)) ∙ sym c.if-is_met.ensures)
 
 pub answer-requires-clause-sizes : goal.answer-requires-clause-sizes
