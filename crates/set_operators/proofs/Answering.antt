@@ -26,12 +26,12 @@ use Rattle.set_operators.specs.declared.steps.One.TheVariants as one
 use Rattle.set_operators.specs.Answers.{IsKeyAnswer}
 use Rattle.set_operators.specs.Asks.{AnswerAll, AreValuesOf, AskIsOf, Asks, HaveNone}
 use Rattle.set_operators.specs.Clauses.{asks_clauses, asks_items}
-use Rattle.set_operators.specs.Members.{AnswersEach, HasMember, IsMemberFor, MeetsAsk, NeedsValue, denied, member_asks}
+use Rattle.set_operators.specs.Members.{AnswersEach, HasMember, IsMemberFor, MeetsAsk, NeedsValue, denied_asks, member_asks}
 use Rattle.set_operators.specs.Listed.{IsListedFound, IsListedMember}
 use Rattle.set_operators.specs.Plain.{IsMemberFound, IsPlainFor, IsPlainFound, as_kind, plain_conds, plain_literal_at}
 use Rattle.set_operators.specs.Shown.{AbsentIsWanted, ShowsAbsent, ShowsRequired}
 use Rattle.set_operators.specs.Wants.{IsClosedForValue, value_patterns}
-use Rattle.set_operators.specs.Steps.{AnswersAt, AnswersPicked, AreMembersUpTo, IsChoiceIn, IsOne, IsPosed, IsProductOf, chosen, is_chosen, picked}
+use Rattle.set_operators.specs.Steps.{AnswersAt, AnswersPicked, AreMembersUpTo, IsChoiceIn, IsOne, IsPosed, IsProductOf, chosen_asks, is_chosen, picked_asks}
 use Rattle.set_operators.proofs.Choosing.{picked-chosen, wider-all}
 use Rattle.set_operators.proofs.Lists.{any-nil}
 use Rattle.set_operators.proofs.Membership.{IsAnsweredOf, members-kept, members-more, members-values, member-alone, none-needed, one-value, one_value_or_none, values-each, values-there, wanted-at}
@@ -67,18 +67,18 @@ module _ (v : Value) (choice : Choice) where
   all-pick true a rest each = (λ e. All-head (IsAnsweredOf v) a rest each, All-tail (IsAnsweredOf v) a rest each)
   all-pick false a rest each = (λ e. absurd (let wrong : false ≡ true = e in cc), each)
 
-  from-each : (i : ℕ) (asks : Asks) → From i asks → AnswersEach v (picked choice i asks)
+  from-each : (i : ℕ) (asks : Asks) → From i asks → AnswersEach v (picked_asks choice i asks)
   from-each i [] h = All-nil (IsAnsweredOf v)
-  from-each i (a ∷ asks) h = pick-all (is_chosen choice i a.1) a (picked choice (i + 1) asks) (head-from i a asks h) (from-each (i + 1) asks (tail-from i a asks h))
+  from-each i (a ∷ asks) h = pick-all (is_chosen choice i a.1) a (picked_asks choice (i + 1) asks) (head-from i a asks h) (from-each (i + 1) asks (tail-from i a asks h))
 
-  each-from : (i : ℕ) (asks : Asks) → AnswersEach v (picked choice i asks) → From i asks
+  each-from : (i : ℕ) (asks : Asks) → AnswersEach v (picked_asks choice i asks) → From i asks
   each-from i [] each k d within = absurd (omega (arith, within))
   each-from i (a ∷ asks) each zero d within =
-      let own = all-pick (is_chosen choice i a.1) a (picked choice (i + 1) asks) each in
+      let own = all-pick (is_chosen choice i a.1) a (picked_asks choice (i + 1) asks) each in
       let e : i + zero ≡ i = omega arith in
       subst (λ (n : ℕ). AnswersAt v choice n a) (sym e) own.0
   each-from i (a ∷ asks) each (suc k) d within =
-      let own = all-pick (is_chosen choice i a.1) a (picked choice (i + 1) asks) each in
+      let own = all-pick (is_chosen choice i a.1) a (picked_asks choice (i + 1) asks) each in
       let e : (i + 1) + k ≡ i + suc k = omega arith in
       subst (λ (n : ℕ). AnswersAt v choice n (get_or asks k d)) e (each-from (i + 1) asks own.1 k d (omega arith))
 
@@ -88,10 +88,10 @@ module _ (v : Value) (choice : Choice) where
   from-zero : (asks : Asks) → From 0 asks → AnswersPicked v choice asks
   from-zero asks h k d within = let e : 0 + k ≡ k = omega arith in subst (λ (n : ℕ). AnswersAt v choice n (get_or asks k d)) e (h k d within)
 
-  picked-each : (asks : Asks) → IsChoiceIn asks choice → AnswersPicked v choice asks → AnswersEach v (chosen asks choice)
+  picked-each : (asks : Asks) → IsChoiceIn asks choice → AnswersPicked v choice asks → AnswersEach v (chosen_asks asks choice)
   picked-each asks in_range h = subst (AnswersEach v) (picked-chosen asks choice in_range) (from-each 0 asks (zero-from asks h))
 
-  each-picked : (asks : Asks) → IsChoiceIn asks choice → AnswersEach v (chosen asks choice) → AnswersPicked v choice asks
+  each-picked : (asks : Asks) → IsChoiceIn asks choice → AnswersEach v (chosen_asks asks choice) → AnswersPicked v choice asks
   each-picked asks in_range each = from-zero asks (each-from 0 asks (subst (AnswersEach v) (sym (picked-chosen asks choice in_range)) each))
 
 get-same : {X : Type 0} (xs : List X) (i : ℕ) (x d : X) → i < length xs → x ≡ get_or xs i x → get_or xs i d ≡ x
@@ -101,10 +101,10 @@ get-same (y ∷ xs) (suc i) x d h e = get-same xs i x d (omega arith) e
 
 module _ (asks : Asks) (choice : Choice) (listed : List Value) where
   pub listed-found : (i : ℕ) (v w : Value) (b : Bool) → IsChoiceIn asks choice → i < length listed → v ≡ get_or listed i v → w ≡ v → (IsTrue b ↔ AnswersPicked v choice asks) → b ≡ true →
-      IsListedFound listed (chosen asks choice) (Some w)
+      IsListedFound listed (chosen_asks asks choice) (Some w)
   listed-found i v w b in_range within at same is hit =
       let there : Contains listed v = (i, within, sym at) in
-      (subst (Contains listed) (sym same) there, subst (λ (u : Value). AnswersEach u (chosen asks choice)) (sym same) (picked-each v choice asks in_range (is.0 hit)))
+      (subst (Contains listed) (sym same) there, subst (λ (u : Value). AnswersEach u (chosen_asks asks choice)) (sym same) (picked-each v choice asks in_range (is.0 hit)))
 
   pub listed-more : (i : ℕ) (v : Value) (b : Bool) → ((k : ℕ) (d : Value) → k < i → AnswersPicked (get_or listed k d) choice asks → ⊥) → i < length listed → v ≡ get_or listed i v →
       (IsTrue b ↔ AnswersPicked v choice asks) → b ≡ false → (k : ℕ) (d : Value) → k < i + 1 → AnswersPicked (get_or listed k d) choice asks → ⊥
@@ -113,7 +113,7 @@ module _ (asks : Asks) (choice : Choice) (listed : List Value) where
       (λ e own. let same : get_or listed i e ≡ v = get-same listed i v e within at in
       let wrong : false ≡ true = sym off ∙ is.1 (subst (λ (u : Value). AnswersPicked u choice asks) same own) in cc) k h d
 
-  pub listed-none : (i : ℕ) → IsChoiceIn asks choice → ((k : ℕ) (d : Value) → k < i → AnswersPicked (get_or listed k d) choice asks → ⊥) → length listed ≤ i → IsListedFound listed (chosen asks choice) None
+  pub listed-none : (i : ℕ) → IsChoiceIn asks choice → ((k : ℕ) (d : Value) → k < i → AnswersPicked (get_or listed k d) choice asks → ⊥) → length listed ≤ i → IsListedFound listed (chosen_asks asks choice) None
   listed-none i in_range before past k d within each = before k d (omega (arith, within, past)) (each-picked (get_or listed k d) choice asks in_range each)
 
 -- ---- texts
@@ -234,10 +234,10 @@ one-closed rule asks states o set e is = subst (IsOne rule asks states) e is
 pub one-nothing : (rule : KeyRule) (asks : Asks) (states : ℕ) (o : One) → o ≡ one.Nothing → IsOne rule asks states o → (rule.kind ≢ Text) × (HasMember rule asks → ⊥)
 one-nothing rule asks states o e is = subst (IsOne rule asks states) e is
 
-pub one-wide : (rule : KeyRule) (asks : Asks) (choice : Choice) (states : ℕ) (o : One) (texts : List (List ℕ)) → IsChoiceIn asks choice → o ≡ one.TooMany texts → IsOne rule (chosen asks choice) states o →
+pub one-wide : (rule : KeyRule) (asks : Asks) (choice : Choice) (states : ℕ) (o : One) (texts : List (List ℕ)) → IsChoiceIn asks choice → o ≡ one.TooMany texts → IsOne rule (chosen_asks asks choice) states o →
     (rule.kind ≡ Text) × ShowWider (value_patterns rule asks) states texts
 one-wide rule asks choice states o texts in_range e is =
-    let own : (rule.kind ≡ Text) × ShowWider (value_patterns rule (chosen asks choice)) states texts = subst (IsOne rule (chosen asks choice) states) e is in
+    let own : (rule.kind ≡ Text) × ShowWider (value_patterns rule (chosen_asks asks choice)) states texts = subst (IsOne rule (chosen_asks asks choice) states) e is in
     (own.0, wider-all rule asks choice states texts in_range own.1)
 
 pub ok-weaker : {T E : Type 0} (P Q : T → Type 0) (r : Result T E) → ((x : T) → P x → Q x) → IfOk r P → IfOk r Q
@@ -278,12 +278,12 @@ member-none rule asks i wanted none values are all =
     let ask = wanted-at asks i (slice_get asks i) refl wanted in none (values-each rule asks values are all i ask.0 ask.1)
 
 pub alone-found : (rule : KeyRule) (asks : Asks) (states : ℕ) (v : Value) (values : List Value) → rule.many ≡ true → AreMembersUpTo rule asks (length asks) [] → values ≡ v ∷ [] →
-    IsMemberFor rule (denied asks) v → IsKeyAnswer rule asks states (answer.Found values)
+    IsMemberFor rule (denied_asks asks) v → IsKeyAnswer rule asks states (answer.Found values)
 alone-found rule asks states v values several up e is =
     let own = members-values rule asks (v ∷ []) several (member-alone rule asks (length asks) v up is) (λ r f. absurd (cc)) in
     (subst (AreValuesOf rule) (sym e) own.0, subst (λ (vs : List Value). AnswerAll vs asks) (sym e) own.1)
 
-pub alone-none : (rule : KeyRule) (asks : Asks) → rule.required ≡ true → (HasMember rule (denied asks) → ⊥) → HaveNone rule asks
+pub alone-none : (rule : KeyRule) (asks : Asks) → rule.required ≡ true → (HasMember rule (denied_asks asks) → ⊥) → HaveNone rule asks
 alone-none rule asks required none values are all = none (values-there rule asks values are all required)
 
 pub several-found : (rule : KeyRule) (asks : Asks) (states i : ℕ) (values : List Value) → rule.many ≡ true → length asks ≤ i → i ≤ length asks → AreMembersUpTo rule asks i values → values ≢ [] →

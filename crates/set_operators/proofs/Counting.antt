@@ -1,8 +1,8 @@
 -- Literals and clauses added one by one, and the asks that are picked.
 use Rattle.std.proofs.Common.{◌≡◌, ℕ, zero, suc, ◌+◌, List, [], ◌∷◌, ◌++◌, refl, ap, append_assoc, arith}
-use Rattle.set_operators.specs.Clauses.{numbered, numbered_apart}
+use Rattle.set_operators.specs.Clauses.{numbered_literals, numbered_apart}
 
-pub numbered_more : {L : Type 0} (literal : ℕ → L) (i k : ℕ) → numbered literal i (k + 1) ≡ numbered literal i k ++ literal (i + k) ∷ []
+pub numbered_more : {L : Type 0} (literal : ℕ → L) (i k : ℕ) → numbered_literals literal i (k + 1) ≡ numbered_literals literal i k ++ literal (i + k) ∷ []
 numbered_more literal i zero = let a : i + zero ≡ i = omega arith in rw a refl
 numbered_more literal i (suc k) =
     let a : suc k + 1 ≡ suc (k + 1) = omega arith in

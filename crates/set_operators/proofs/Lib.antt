@@ -1,6 +1,7 @@
 mod Answering
 mod Choosing
 mod Counting
+mod Falling
 pub mod Laws
 mod Lists
 mod Membership

@@ -10,7 +10,7 @@ use Rattle.set_operators.specs.declared.ask.KeyAsk.TheVariants.{Present, SomeMee
 use Rattle.set_operators.specs.declared.answer.KeyAnswer.TheVariants.{Found, Absent, Required, Points, TooMany, Together, Member, SomeMember}
 use Rattle.set_operators.specs.Asks.{AnswerAll, AreValuesOf, AskHolds, Asks, HaveSome}
 use Rattle.set_operators.specs.Laws.{AsksAreOfMembers, OneMemberEach, OneValueOrNone, ShownIsRight}
-use Rattle.set_operators.specs.Members.{AnswersEach, HasMember, HasMembers, IsMemberFor, MeetsAsk, NeedsValue, SomeIsWanted, denied, member_asks}
+use Rattle.set_operators.specs.Members.{AnswersEach, HasMember, HasMembers, IsMemberFor, MeetsAsk, NeedsValue, SomeIsWanted, denied_asks, member_asks}
 use Rattle.set_operators.specs.Shown.{AbsentIsWanted}
 use Rattle.set_operators.specs.Steps.{AreMembersUpTo}
 use Rattle.set_operators.proofs.Lists.{any-here, any-there, any-nil, any-one, any-element, element-any, any-left, any-right, all-left, all-right}
@@ -138,10 +138,10 @@ clear-one : (v : Value) (a : KeyAsk × Bool) (b : Bool) (rest : Asks) → b ≡ 
 clear-one v a true rest e each = (λ deny. absurd (let wrong : true ≡ false = e ∙ deny in cc), each)
 clear-one v a false rest e each = (λ deny. no-has (MeetsAsk v a.0) a.1 deny (All-head (IsAnsweredOf v) a rest each), All-tail (IsAnsweredOf v) a rest each)
 
-pub denied-clear : (v : Value) (asks : Asks) → AnswersEach v (denied asks) → All (IsClear v) asks
+pub denied-clear : (v : Value) (asks : Asks) → AnswersEach v (denied_asks asks) → All (IsClear v) asks
 denied-clear v [] each = All-nil (IsClear v)
 denied-clear v (a ∷ asks) each =
-    let own = clear-one v a a.1 (denied asks) refl each in
+    let own = clear-one v a a.1 (denied_asks asks) refl each in
     All-cons (IsClear v) a asks own.0 (denied-clear v asks own.1)
 
 so-no : (P : Type 0) (b : Bool) → b ≡ false → (P → ⊥) → HoldsSo b P
@@ -152,9 +152,9 @@ one-clear : (v : Value) (a : KeyAsk × Bool) (b : Bool) (rest : Asks) → b ≡ 
 one-clear v a true rest e clear each = each
 one-clear v a false rest e clear each = All-cons (IsAnsweredOf v) a rest (so-no (MeetsAsk v a.0) a.1 (sym e) (clear (sym e))) each
 
-pub clear-denied : (v : Value) (asks : Asks) → All (IsClear v) asks → AnswersEach v (denied asks)
+pub clear-denied : (v : Value) (asks : Asks) → All (IsClear v) asks → AnswersEach v (denied_asks asks)
 clear-denied v [] all = All-nil (IsAnsweredOf v)
-clear-denied v (a ∷ asks) all = one-clear v a a.1 (denied asks) refl (All-head (IsClear v) a asks all) (clear-denied v asks (All-tail (IsClear v) a asks all))
+clear-denied v (a ∷ asks) all = one-clear v a a.1 (denied_asks asks) refl (All-head (IsClear v) a asks all) (clear-denied v asks (All-tail (IsClear v) a asks all))
 
 all-parts : {X : Type 0} (P : X → Type 0) (xs : List X) (k : ℕ) (x : X) → slice_get xs k ≡ Some x → All P (take k xs) → P x → All P (drop (k + 1) xs) → All P xs
 all-parts P [] k x e before here behind = absurd (cc)
@@ -168,10 +168,10 @@ module _ (asks : Asks) (k : ℕ) (ask : KeyAsk) (e : slice_get asks k ≡ Some (
   named = (ask, true)
 
   abbrev before : Asks
-  before = denied (take k asks)
+  before = denied_asks (take k asks)
 
   abbrev behind : Asks
-  behind = denied (drop (k + 1) asks)
+  behind = denied_asks (drop (k + 1) asks)
 
   own-ask : get_or asks k (Present, true) ≡ named
   own-ask = get_or_from_slice_get asks k named (Present, true) e
@@ -206,7 +206,7 @@ values-each rule asks values are all k ask e =
     let w = any-element (λ v. MeetsAsk v ask) values some in
     (w.0, record { permitted = All-contains (IsValueOf rule) values w.0 are.permitted.each w.1; answers = parts-member asks k ask e w.0 (values-clear values asks w.0 all w.1) w.2 })
 
-pub values-there : (rule : KeyRule) (asks : Asks) (values : List Value) → AreValuesOf rule values → AnswerAll values asks → rule.required ≡ true → HasMember rule (denied asks)
+pub values-there : (rule : KeyRule) (asks : Asks) (values : List Value) → AreValuesOf rule values → AnswerAll values asks → rule.required ≡ true → HasMember rule (denied_asks asks)
 values-there rule asks [] are all r = absurd (are.there r refl)
 values-there rule asks (v ∷ values) are all r =
     (v, record { permitted = All-head (IsValueOf rule) v values are.permitted.each; answers = clear-denied v asks (values-clear (v ∷ values) asks v all (0, omega arith, refl)) })
@@ -225,7 +225,7 @@ below-or-at k i h = search (arith, eq-or-lt_of_le)
 
 module _ (rule : KeyRule) (asks : Asks) where
   abbrev ClearOf : Value → Type 0
-  ClearOf v = AnswersEach v (denied asks)
+  ClearOf v = AnswersEach v (denied_asks asks)
 
   pub members-none : AreMembersUpTo rule asks 0 []
   members-none = record { permitted = All-nil (IsValueOf rule); clear = All-nil ClearOf; met = λ k ask h e. absurd (omega arith) }
@@ -249,7 +249,7 @@ module _ (rule : KeyRule) (asks : Asks) where
       }
 
   -- one that is there because the key is required
-  pub member-alone : (i : ℕ) (v : Value) → AreMembersUpTo rule asks i [] → IsMemberFor rule (denied asks) v → AreMembersUpTo rule asks i (v ∷ [])
+  pub member-alone : (i : ℕ) (v : Value) → AreMembersUpTo rule asks i [] → IsMemberFor rule (denied_asks asks) v → AreMembersUpTo rule asks i (v ∷ [])
   member-alone i v up is = record {
     permitted = All-cons (IsValueOf rule) v [] is.permitted (All-nil (IsValueOf rule));
     clear = All-cons ClearOf v [] is.answers (All-nil ClearOf);
@@ -346,5 +346,5 @@ shown_is_right rule asks (Member k set) shows = λ vs are all.
     let ask = wanted-at asks k (slice_get asks k) refl shows.wanted in
     closed-none rule (member_asks asks k) set shows.kind shows.closed (values-each rule asks vs are all k ask.0 ask.1)
 shown_is_right rule asks (SomeMember set) shows = λ vs are all.
-    closed-none rule (denied asks) set shows.kind shows.closed (values-there rule asks vs are all shows.required)
+    closed-none rule (denied_asks asks) set shows.kind shows.closed (values-there rule asks vs are all shows.required)
 shown_is_right rule asks (TooMany texts) shows = λ vs are all. shows

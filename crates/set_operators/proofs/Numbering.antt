@@ -7,7 +7,7 @@ use Rattle.policy_model.specs.Conds.{CondMeets, MeetsSome}
 use Rattle.set_operators.specs.declared.ask.KeyAsk.{KeyAsk}
 use Rattle.set_operators.specs.declared.ask.KeyAsk.TheVariants.{Present, SomeMeets, SomeMeetsNone}
 use Rattle.set_operators.specs.Asks.{Asks}
-use Rattle.set_operators.specs.Clauses.{ask_clauses, ask_items, asks_clauses, numbered, numbered_apart, item_clauses}
+use Rattle.set_operators.specs.Clauses.{ask_clauses, ask_items, asks_clauses, numbered_literals, numbered_apart, item_clauses}
 use Rattle.set_operators.specs.Members.{AnswersEach, MeetsAsk}
 use Rattle.set_operators.specs.Shown.{AbsentIsWanted}
 use Rattle.set_operators.proofs.Lists.{any-here, any-there, any-nil, any-cases, any-one, any-spread, all-left, all-right, drop-tail, drop-within, drop-past}
@@ -20,10 +20,10 @@ module _ {L X : Type 0} (literal : Bool → ℕ → L) (items : List X) where
   -- ---- literals name items
 
   module _ (Q : L → Type 0) (within : (holds : Bool) (i : ℕ) → i < length items → Q (literal holds i)) where
-    range-numbered : (holds : Bool) (xs : List X) (i : ℕ) (rest : List X) → drop i items ≡ xs ++ rest → All Q (numbered (literal holds) i (length xs))
+    range-numbered : (holds : Bool) (xs : List X) (i : ℕ) (rest : List X) → drop i items ≡ xs ++ rest → All Q (numbered_literals (literal holds) i (length xs))
     range-numbered holds [] i rest e = All-nil Q
     range-numbered holds (x ∷ xs) i rest e =
-        All-cons Q (literal holds i) (numbered (literal holds) (i + 1) (length xs)) (within holds i (drop-within items i x (xs ++ rest) e))
+        All-cons Q (literal holds i) (numbered_literals (literal holds) (i + 1) (length xs)) (within holds i (drop-within items i x (xs ++ rest) e))
         (range-numbered holds xs (i + 1) rest (drop-tail items i x (xs ++ rest) e))
 
     range-apart : (holds : Bool) (xs : List X) (i : ℕ) (rest : List X) → drop i items ≡ xs ++ rest → All (All Q) (numbered_apart (literal holds) i (length xs))
@@ -33,7 +33,7 @@ module _ {L X : Type 0} (literal : Bool → ℕ → L) (items : List X) where
         (range-apart holds xs (i + 1) rest (drop-tail items i x (xs ++ rest) e))
 
     pub range-some : (holds : Bool) (xs : List X) (i : ℕ) (rest : List X) → drop i items ≡ xs ++ rest → All (All Q) (item_clauses literal holds i (length xs))
-    range-some true xs i rest e = All-cons (All Q) (numbered (literal true) i (length xs)) [] (range-numbered true xs i rest e) (All-nil (All Q))
+    range-some true xs i rest e = All-cons (All Q) (numbered_literals (literal true) i (length xs)) [] (range-numbered true xs i rest e) (All-nil (All Q))
     range-some false xs i rest e = range-apart false xs i rest e
 
     module _ (parts : Cond → List X) where
@@ -60,20 +60,20 @@ module _ {L X : Type 0} (literal : Bool → ℕ → L) (items : List X) where
     abbrev MeetsAll : List (List L) → Type 0
     MeetsAll clauses = All (Any Met) clauses
 
-    some-met : (xs : List X) (i : ℕ) (rest : List X) → drop i items ≡ xs ++ rest → Any Met (numbered (literal true) i (length xs)) → Any P xs
+    some-met : (xs : List X) (i : ℕ) (rest : List X) → drop i items ≡ xs ++ rest → Any Met (numbered_literals (literal true) i (length xs)) → Any P xs
     some-met [] i rest e m = absurd (any-nil Met m)
     some-met (x ∷ xs) i rest e m =
-        elim (any-cases Met (literal true i) (numbered (literal true) (i + 1) (length xs)) m) [
+        elim (any-cases Met (literal true i) (numbered_literals (literal true) (i + 1) (length xs)) m) [
           | inl h ↦ any-here P x xs ((at true i x (xs ++ rest) e).0 h)
           | inr h ↦ any-there P x xs (some-met xs (i + 1) rest (drop-tail items i x (xs ++ rest) e) h)
         ]
 
-    met-some : (xs : List X) (i : ℕ) (rest : List X) → drop i items ≡ xs ++ rest → Any P xs → Any Met (numbered (literal true) i (length xs))
+    met-some : (xs : List X) (i : ℕ) (rest : List X) → drop i items ≡ xs ++ rest → Any P xs → Any Met (numbered_literals (literal true) i (length xs))
     met-some [] i rest e m = absurd (any-nil P m)
     met-some (x ∷ xs) i rest e m =
         elim (any-cases P x xs m) [
-          | inl h ↦ any-here Met (literal true i) (numbered (literal true) (i + 1) (length xs)) ((at true i x (xs ++ rest) e).1 h)
-          | inr h ↦ any-there Met (literal true i) (numbered (literal true) (i + 1) (length xs)) (met-some xs (i + 1) rest (drop-tail items i x (xs ++ rest) e) h)
+          | inl h ↦ any-here Met (literal true i) (numbered_literals (literal true) (i + 1) (length xs)) ((at true i x (xs ++ rest) e).1 h)
+          | inr h ↦ any-there Met (literal true i) (numbered_literals (literal true) (i + 1) (length xs)) (met-some xs (i + 1) rest (drop-tail items i x (xs ++ rest) e) h)
         ]
 
     none-met : (xs : List X) (i : ℕ) (rest : List X) → drop i items ≡ xs ++ rest → MeetsAll (numbered_apart (literal false) i (length xs)) → Any P xs → ⊥
@@ -94,11 +94,11 @@ module _ {L X : Type 0} (literal : Bool → ℕ → L) (items : List X) where
 
     -- some of the items are met, or none is
     pub so-met : (holds : Bool) (xs : List X) (i : ℕ) (rest : List X) → drop i items ≡ xs ++ rest → MeetsAll (item_clauses literal holds i (length xs)) → HoldsSo holds (Any P xs)
-    so-met true xs i rest e m = some-met xs i rest e (All-head (Any Met) (numbered (literal true) i (length xs)) [] m)
+    so-met true xs i rest e m = some-met xs i rest e (All-head (Any Met) (numbered_literals (literal true) i (length xs)) [] m)
     so-met false xs i rest e m = none-met xs i rest e m
 
     pub met-so : (holds : Bool) (xs : List X) (i : ℕ) (rest : List X) → drop i items ≡ xs ++ rest → HoldsSo holds (Any P xs) → MeetsAll (item_clauses literal holds i (length xs))
-    met-so true xs i rest e m = All-cons (Any Met) (numbered (literal true) i (length xs)) [] (met-some xs i rest e m) (All-nil (Any Met))
+    met-so true xs i rest e m = All-cons (Any Met) (numbered_literals (literal true) i (length xs)) [] (met-some xs i rest e m) (All-nil (Any Met))
     met-so false xs i rest e n = met-none xs i rest e n
 
     -- ---- and so the asks

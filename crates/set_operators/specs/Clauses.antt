@@ -17,9 +17,9 @@ abbrev pub asks_items : {X : Type 0} → (Cond → List X) → Asks → List X
 asks_items items asks = flat_map (λ a. ask_items items a.0) asks
 
 -- one literal for each of n items, which are numbered from i on
-abbrev pub numbered : {L : Type 0} → (ℕ → L) → ℕ → ℕ → List L
-numbered literal i zero = []
-numbered literal i (suc n) = literal i ∷ numbered literal (i + 1) n
+abbrev pub numbered_literals : {L : Type 0} → (ℕ → L) → ℕ → ℕ → List L
+numbered_literals literal i zero = []
+numbered_literals literal i (suc n) = literal i ∷ numbered_literals literal (i + 1) n
 
 -- the same, each as a clause of its own
 abbrev pub numbered_apart : {L : Type 0} → (ℕ → L) → ℕ → ℕ → List (List L)
@@ -29,7 +29,7 @@ numbered_apart literal i (suc n) = (literal i ∷ []) ∷ numbered_apart literal
 -- that the value meets some of the items is one clause for all, which of no items is the empty one, that nothing meets; that it
 -- meets none is a clause for each
 abbrev pub item_clauses : {L : Type 0} → (Bool → ℕ → L) → Bool → ℕ → ℕ → List (List L)
-item_clauses literal true i n = numbered (literal true) i n ∷ []
+item_clauses literal true i n = numbered_literals (literal true) i n ∷ []
 item_clauses literal false i n = numbered_apart (literal false) i n
 
 -- the clauses of an ask with its answer, whose n items are numbered from i on. That there is a value is no clause

@@ -8,3 +8,4 @@ pub mod Laws
 pub mod Steps
 pub mod Listed
 pub mod Plain
+pub mod Few

@@ -29,12 +29,12 @@ abbrev pub HasMember : KeyRule → Asks → Type 0
 HasMember rule asks = (v : Value) × IsMemberFor rule asks v
 
 -- the asks that are answered no: they are to hold of no member
-abbrev pub denied : Asks → Asks
-denied asks = filter (λ a. not a.1) asks
+abbrev pub denied_asks : Asks → Asks
+denied_asks asks = filter (λ a. not a.1) asks
 
 -- what the member for ask k has to meet: that ask, and what is answered no before and behind it
 abbrev pub member_asks : Asks → ℕ → Asks
-member_asks asks k = denied (take k asks) ++ slice_index_or asks k (Present, true) ∷ denied (drop (k + 1) asks)
+member_asks asks k = denied_asks (take k asks) ++ slice_index_or asks k (Present, true) ∷ denied_asks (drop (k + 1) asks)
 
 -- some ask is answered yes
 abbrev pub SomeIsWanted : Asks → Type 0
@@ -47,4 +47,4 @@ NeedsValue rule asks = (rule.required ≡ true) ⊎ SomeIsWanted asks
 -- a member for each ask that is answered yes, and one at all where the key is required
 pub record HasMembers (rule : KeyRule) (asks : Asks) : Type 0 where
   pub each : (k : ℕ) (ask : KeyAsk) → slice_get asks k ≡ Some (ask, true) → HasMember rule (member_asks asks k)
-  pub there : rule.required ≡ true → HasMember rule (denied asks)
+  pub there : rule.required ≡ true → HasMember rule (denied_asks asks)

@@ -7,7 +7,7 @@ use Rattle.set_operators.specs.declared.answer.KeyAnswer.{KeyAnswer}
 use Rattle.set_operators.specs.declared.answer.KeyAnswer.TheVariants.{Found, Absent, Required, Points, TooMany}
 use Rattle.set_operators.specs.declared.answer.KeyAnswer.TheVariants.{Together, Member, SomeMember}
 use Rattle.set_operators.specs.Asks.{Asks, HaveNone}
-use Rattle.set_operators.specs.Members.{NeedsValue, SomeIsWanted, denied, member_asks}
+use Rattle.set_operators.specs.Members.{NeedsValue, SomeIsWanted, denied_asks, member_asks}
 use Rattle.set_operators.specs.Wants.{IsClosedForValue}
 
 -- that there is a value is answered no
@@ -46,7 +46,7 @@ pub record ShowsSomeMember (rule : KeyRule) (asks : Asks) (set : List (List (Lis
   pub kind : rule.kind ≡ Text
   pub several : rule.many ≡ true
   pub required : rule.required ≡ true
-  pub closed : IsClosedForValue rule (denied asks) set
+  pub closed : IsClosedForValue rule (denied_asks asks) set
 
 -- the answer shows that no values of the rule answer the asks so
 abbrev pub ShowsNone : KeyRule → Asks → KeyAnswer → Type 0

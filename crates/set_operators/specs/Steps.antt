@@ -17,15 +17,15 @@ use Rattle.set_operators.specs.declared.steps.One.{One}
 use Rattle.set_operators.specs.declared.steps.One.TheVariants as one
 use Rattle.set_operators.specs.Asks.{AskIsOf, Asks}
 use Rattle.set_operators.specs.Clauses.{asks_clauses, asks_items}
-use Rattle.set_operators.specs.Members.{AnswersEach, HasMember, IsMemberFor, MeetsAsk, denied, member_asks}
+use Rattle.set_operators.specs.Members.{AnswersEach, HasMember, IsMemberFor, MeetsAsk, denied_asks, member_asks}
 use Rattle.set_operators.specs.Shown.{AbsentIsWanted}
 use Rattle.set_operators.specs.Wants.{IsClosedForValue, value_clauses, value_patterns}
 
 -- the asks that are chosen: each, those that are answered no, or those and ask k
-abbrev pub chosen : Asks → Choice → Asks
-chosen asks Each = asks
-chosen asks Denied = denied asks
-chosen asks (DeniedAnd k) = member_asks asks k
+abbrev pub chosen_asks : Asks → Choice → Asks
+chosen_asks asks Each = asks
+chosen_asks asks Denied = denied_asks asks
+chosen_asks asks (DeniedAnd k) = member_asks asks k
 
 -- whether the ask at the index is chosen, by its answer
 abbrev pub is_chosen : Choice → ℕ → Bool → Bool
@@ -34,9 +34,9 @@ is_chosen Denied i answer = not answer
 is_chosen (DeniedAnd k) i answer = (i == k) || not answer
 
 -- of asks that are numbered from i on, those that are chosen
-abbrev pub picked : Choice → ℕ → Asks → Asks
-picked choice i [] = []
-picked choice i (a ∷ asks) = cond (is_chosen choice i a.1) (a ∷ picked choice (i + 1) asks) (picked choice (i + 1) asks)
+abbrev pub picked_asks : Choice → ℕ → Asks → Asks
+picked_asks choice i [] = []
+picked_asks choice i (a ∷ asks) = cond (is_chosen choice i a.1) (a ∷ picked_asks choice (i + 1) asks) (picked_asks choice (i + 1) asks)
 
 -- what is asked so far, of which the rest is still to be added: the items, and the clauses over their numbers
 pub record IsAskedSoFar {L X : Type 0} (literal : Bool → ℕ → L) (items_of : Cond → List X) (all rest : Asks) (so_far : List X) (named : List (List L))
@@ -77,7 +77,7 @@ IsProductOf rule asks states product = IsProduct (value_patterns rule asks) (val
 -- is met by one
 pub record AreMembersUpTo (rule : KeyRule) (asks : Asks) (i : ℕ) (values : List Value) : Type 0 where
   pub permitted : All (IsValueOf rule) values
-  pub clear : All (λ v. AnswersEach v (denied asks)) values
+  pub clear : All (λ v. AnswersEach v (denied_asks asks)) values
   pub met : (k : ℕ) (ask : KeyAsk) → k < i → slice_get asks k ≡ Some (ask, true) → Any (λ v. MeetsAsk v ask) values
 
 -- what a search for one value may come to

@@ -1,6 +1,10 @@
-//! Few asks that no values answer, of a key whose values aren't texts. They are a proposal, of which nothing
-//! is promised: who takes it looks for values of these asks once more.
+//! Few asks that no values answer, of a key whose values aren't texts. They are a proposal: that no values answer
+//! them isn't promised, and who takes it looks for values of these asks once more.
+ghost use Rattle.std.specs.Prelude.{IfOk, length};
+ghost use Rattle.set_operators.specs.Few.{FallBelow};
+
 use crate::ask::KeyAsk;
+use crate::bounds::few_bounds;
 use crate::listed::meets_ask;
 use crate::plain::{plain_kind, points_of};
 use crate::steps::{Choice, is_chosen};
@@ -127,27 +131,60 @@ fn hopeless_choice(rule: &KeyRule, candidates: &[Candidate], asks: &[(KeyAsk, bo
     Choice::Denied
 }
 
-/// The indices of few of the asks, in falling order, that no values of the key answer. Each is left out, the last
-/// first, where each value that answers it otherwise answers another one otherwise that is left.
-pub fn few_asks(
+// Whether the ask at the index stays: it is chosen, and some candidate answers no other ask that is left otherwise.
+// One that doesn't is no longer counted.
+fn stays(
+    alloc: Global,
+    candidates: &[Candidate],
+    counts: &mut Vec<usize>,
+    asked: &(KeyAsk, bool),
+    choice: Choice,
+    index: usize,
+) -> Result<bool, NoMemory> {
+    if !is_chosen(choice, index, asked.1) {
+        return Ok(false);
+    }
+    if is_needed(candidates, counts, asked) {
+        return Ok(true);
+    }
+    *counts = counts_without(alloc, candidates, counts, asked)?;
+    Ok(false)
+}
+
+// The same of asks of any kind, by what answers them otherwise among values that stand for all.
+fn few_counted(
     alloc: Global,
     rule: &KeyRule,
     asks: &[(KeyAsk, bool)],
-) -> Result<Vec<usize>, NoMemory> {
+) -> Result<Vec<usize>, NoMemory>
+    ensures { IfOk result (λ few. FallBelow (length asks.now) few.items) }
+{
     let candidates = candidates(alloc, rule, asks)?;
     let choice = hopeless_choice(rule, &candidates, asks);
     let mut counts = counts_of(alloc, &candidates, asks, choice)?;
     let mut few = Vec::new(alloc);
-    for i in (0..asks.len()).rev() {
-        let asked = &asks[i];
-        if !is_chosen(choice, i, asked.1) {
-            continue;
-        }
-        if is_needed(&candidates, &counts, asked) {
-            few.push(i)?;
-        } else {
-            counts = counts_without(alloc, &candidates, &counts, asked)?;
+    let mut left = asks.len();
+    'asks: while left > 0 {
+        left -= 1;
+        if stays(alloc, &candidates, &mut counts, &asks[left], choice, left)? {
+            few.push(left)?;
         }
     }
     Ok(few)
+}
+
+/// The indices of few of the asks that no values of the key answer: each is the index of an ask, and each is below
+/// the one before it. The last ask is left out first, and each where every value that answers it otherwise answers
+/// another one otherwise that is left. The only error is want of memory.
+pub fn few_asks(
+    alloc: Global,
+    rule: &KeyRule,
+    asks: &[(KeyAsk, bool)],
+) -> Result<Vec<usize>, NoMemory>
+    ensures falling { IfOk result (λ few. FallBelow (length asks.now) few.items) }
+{
+    match few_bounds(alloc, rule, asks)? {
+        Some(few) => Ok(few),
+        None => few_counted(alloc, rule, asks),
+    }
 }

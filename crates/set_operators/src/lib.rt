@@ -4,6 +4,7 @@
 
 mod answer;
 mod ask;
+mod bounds;
 mod few;
 mod listed;
 mod numbered;

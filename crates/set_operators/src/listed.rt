@@ -3,7 +3,7 @@ ghost use Rattle.std.specs.Prelude.{◌↔◌, IfOk, IsTrue};
 ghost use Rattle.policy_model.specs.Soundness.{RuleIsSound};
 ghost use Rattle.set_operators.specs.Listed.{IsListedFound, IsListedMember};
 ghost use Rattle.set_operators.specs.Members.{MeetsAsk};
-ghost use Rattle.set_operators.specs.Steps.{AnswersAt, AnswersPicked, IsChoiceIn, chosen};
+ghost use Rattle.set_operators.specs.Steps.{AnswersAt, AnswersPicked, IsChoiceIn, chosen_asks};
 
 use crate::ask::KeyAsk;
 use crate::steps::{Choice, is_chosen};
@@ -50,7 +50,7 @@ fn listed_for(
     choice: Choice,
 ) -> Result<Option<Value>, NoMemory>
     requires { IsChoiceIn asks.now choice }
-    ensures { IfOk result (IsListedFound listed.now (chosen asks.now choice)) }
+    ensures { IfOk result (IsListedFound listed.now (chosen_asks asks.now choice)) }
 {
     for value in listed {
         if answers_each(value, asks, choice) {
@@ -69,7 +69,7 @@ pub fn listed_member(
 ) -> Result<Option<Value>, NoMemory>
     requires sound { RuleIsSound rule.now }
     requires choice { IsChoiceIn asks.now choice }
-    ensures { IfOk result (IsListedMember rule.now (chosen asks.now choice)) }
+    ensures { IfOk result (IsListedMember rule.now (chosen_asks asks.now choice)) }
 {
     match &rule.among {
         Some(listed) => listed_for(listed.as_slice(), asks, choice),

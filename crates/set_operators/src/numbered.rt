@@ -2,8 +2,8 @@
 //! and conditions where it isn't.
 ghost use Rattle.std.specs.Prelude.{◌≡◌, ◌∷◌, [], ◌++◌, ◌+◌, ◌-◌, ◌<◌, ◌≤◌, ◌^◌, ℕ, List, Bool, true, false, flat_map, length, IfOk, OnOk};
 ghost use Rattle.std.specs.Option.{option_to_list};
-ghost use Rattle.set_operators.specs.Clauses.{ask_clauses, ask_items, asks_clauses, asks_items, numbered, numbered_apart, item_clauses};
-ghost use Rattle.set_operators.specs.Steps.{picked};
+ghost use Rattle.set_operators.specs.Clauses.{ask_clauses, ask_items, asks_clauses, asks_items, numbered_literals, numbered_apart, item_clauses};
+ghost use Rattle.set_operators.specs.Steps.{picked_asks};
 
 use crate::ask::KeyAsk;
 use crate::steps::{Choice, is_chosen};
@@ -45,7 +45,7 @@ fn literal_at<L: Numbered>(holds: bool, number: usize) -> Result<L, NoMemory>
 #[tactic(auto, using(crate::proofs::Counting::numbered_more))]
 fn one_clause<L: Numbered>(alloc: Global, first: usize, count: usize) -> Result<List<L>, NoMemory>
     requires { first + count < 2 ^ 64 }
-    ensures { IfOk result (λ clause. clause ≡ numbered (L.literal_of true) first count) }
+    ensures { IfOk result (λ clause. clause ≡ numbered_literals (L.literal_of true) first count) }
 {
     let mut clause = List::new(alloc);
     for k in 0..count {
@@ -184,9 +184,9 @@ fn add_chosen<T: Item, L: Numbered>(
     asked: &mut Asked<T, L>,
 ) -> Result<(), NoMemory>
     ensures items { OnOk result (asked.new.items ≡
-        asked.old.items ++ asks_items T.items_of (picked choice index (one.now ∷ []))) }
+        asked.old.items ++ asks_items T.items_of (picked_asks choice index (one.now ∷ []))) }
     ensures clauses { OnOk result (asked.new.clauses ≡ asked.old.clauses
-        ++ asks_clauses L.literal_of T.items_of (picked choice index (one.now ∷ []))
+        ++ asks_clauses L.literal_of T.items_of (picked_asks choice index (one.now ∷ []))
         (length asked.old.items)) }
 {
     if is_chosen(choice, index, one.1) {
@@ -203,9 +203,9 @@ pub fn asked_of<T: Item, L: Numbered>(
     choice: Choice,
 ) -> Result<Asked<T, L>, NoMemory>
     ensures items { IfOk result (λ asked.
-        asked.items ≡ asks_items T.items_of (picked choice 0 asks.now)) }
+        asked.items ≡ asks_items T.items_of (picked_asks choice 0 asks.now)) }
     ensures clauses { IfOk result (λ asked. asked.clauses
-        ≡ asks_clauses L.literal_of T.items_of (picked choice 0 asks.now) 0) }
+        ≡ asks_clauses L.literal_of T.items_of (picked_asks choice 0 asks.now) 0) }
 {
     let mut asked = Asked {
         items: List::new(alloc),

@@ -2,7 +2,7 @@
 ghost use Rattle.std.specs.Prelude.{◌≡◌, ◌≤◌, IfOk};
 ghost use Rattle.policy_model.specs.declared.value.Kind.TheVariants.{Text};
 ghost use Rattle.set_operators.specs.Plain.{as_kind};
-ghost use Rattle.set_operators.specs.Steps.{IsChoiceIn, IsOne, IsPosed, chosen};
+ghost use Rattle.set_operators.specs.Steps.{IsChoiceIn, IsOne, IsPosed, chosen_asks};
 
 use crate::ask::KeyAsk;
 use crate::listed::listed_member;
@@ -27,8 +27,8 @@ fn one_text(
     requires posed { IsPosed rule.now asks.now }
     requires kind { rule.now.kind ≡ Text }
     requires choice { IsChoiceIn asks.now choice }
-    requires some { 1 ≤ states }
-    ensures { IfOk result (IsOne rule.now (chosen asks.now choice) states) }
+    requires positive { 1 ≤ states }
+    ensures { IfOk result (IsOne rule.now (chosen_asks asks.now choice) states) }
 {
     if let Some(value) = listed_member(rule, asks, choice)? {
         return Ok(One::Found(value));
@@ -52,7 +52,7 @@ fn one_plain(
     requires posed { IsPosed rule.now asks.now }
     requires kind { as_kind kind ≡ rule.now.kind }
     requires choice { IsChoiceIn asks.now choice }
-    ensures { IfOk result (IsOne rule.now (chosen asks.now choice) states) }
+    ensures { IfOk result (IsOne rule.now (chosen_asks asks.now choice) states) }
 {
     match value_for(alloc, kind, rule, asks, choice)? {
         Some(value) => Ok(One::Found(value)),
@@ -71,8 +71,8 @@ pub fn one(
 ) -> Result<One, NoMemory>
     requires posed { IsPosed rule.now asks.now }
     requires choice { IsChoiceIn asks.now choice }
-    requires some { 1 ≤ states }
-    ensures { IfOk result (IsOne rule.now (chosen asks.now choice) states) }
+    requires positive { 1 ≤ states }
+    ensures { IfOk result (IsOne rule.now (chosen_asks asks.now choice) states) }
 {
     match plain_kind(rule.kind) {
         None => one_text(alloc, rule, asks, choice, states),

@@ -4,7 +4,7 @@ ghost use Rattle.policy_model.specs.declared.value.Kind.TheVariants.{Text};
 ghost use Rattle.set_operators.specs.Asks.{AskIsOf};
 ghost use Rattle.set_operators.specs.Plain.{IsMemberFound, IsPlainFor, IsPlainFound, as_kind, as_value};
 ghost use Rattle.set_operators.specs.Shown.{AbsentIsWanted};
-ghost use Rattle.set_operators.specs.Steps.{IsChoiceIn, IsPosed, chosen};
+ghost use Rattle.set_operators.specs.Steps.{IsChoiceIn, IsPosed, chosen_asks};
 
 use crate::ask::KeyAsk;
 use crate::listed::listed_member;
@@ -80,7 +80,7 @@ fn plain_wants(
     choice: Choice,
 ) -> Result<PlainWants, NoMemory>
     requires { IsChoiceIn asks.now choice }
-    ensures { IfOk result (IsPlainFor kind (chosen asks.now choice)) }
+    ensures { IfOk result (IsPlainFor kind (chosen_asks asks.now choice)) }
 {
     let asked = asked_of(alloc, asks, choice)?;
     Ok(PlainWants {
@@ -117,7 +117,7 @@ fn point_for(
     requires choice { IsChoiceIn asks.now choice }
     requires asks { All (λ a. AskIsOf (as_kind kind) a.0) asks.now }
     requires there { ¬ AbsentIsWanted asks.now }
-    ensures { IfOk result (IsPlainFound kind (chosen asks.now choice)) }
+    ensures { IfOk result (IsPlainFound kind (chosen_asks asks.now choice)) }
 {
     meets_is_meaning();
     let wants = plain_wants(alloc, kind, asks, choice)?;
@@ -138,7 +138,7 @@ pub fn value_for(
     requires posed { IsPosed rule.now asks.now }
     requires kind { as_kind kind ≡ rule.now.kind }
     requires choice { IsChoiceIn asks.now choice }
-    ensures { IfOk result (IsMemberFound rule.now (chosen asks.now choice)) }
+    ensures { IfOk result (IsMemberFound rule.now (chosen_asks asks.now choice)) }
 {
     match &rule.among {
         Some(_) => listed_member(rule, asks, choice),

@@ -43,7 +43,7 @@ fn solve_single(
     requires posed { IsPosed rule.now asks.now }
     requires single { rule.now.many ≡ false }
     requires needs { NeedsValue rule.now asks.now }
-    requires some { 1 ≤ states }
+    requires positive { 1 ≤ states }
     ensures { IfOk result (IsKeyAnswer rule.now asks.now states) }
 {
     match one(alloc, rule, asks, Choice::Each, states)? {
@@ -84,7 +84,7 @@ fn next_member(
     requires within { index < length asks.now }
     requires count { length asks.now < 2 ^ 32 }
     requires before { AreMembersUpTo rule.now asks.now index values.old }
-    requires some { 1 ≤ states }
+    requires positive { 1 ≤ states }
     ensures { IfOk result (λ end. MatchOption end
         (AreMembersUpTo rule.now asks.now (index + 1) values.new)
         (IsKeyAnswer rule.now asks.now states)) }
@@ -114,7 +114,7 @@ fn solve_required(
     requires several { rule.now.many ≡ true }
     requires required { rule.now.required ≡ true }
     requires none { AreMembersUpTo rule.now asks.now (length asks.now) [] }
-    requires some { 1 ≤ states }
+    requires positive { 1 ≤ states }
     ensures { IfOk result (IsKeyAnswer rule.now asks.now states) }
 {
     match one(alloc, rule, asks, Choice::Denied, states)? {
@@ -136,7 +136,7 @@ fn solve_several(
     requires several { rule.now.many ≡ true }
     requires count { length asks.now < 2 ^ 32 }
     requires needs { NeedsValue rule.now asks.now }
-    requires some { 1 ≤ states }
+    requires positive { 1 ≤ states }
     ensures { IfOk result (IsKeyAnswer rule.now asks.now states) }
 {
     let mut values = ValueList::new(alloc);
@@ -162,7 +162,7 @@ fn solve_needed(
     requires posed { IsPosed rule.now asks.now }
     requires count { length asks.now < 2 ^ 32 }
     requires needs { NeedsValue rule.now asks.now }
-    requires some { 1 ≤ states }
+    requires positive { 1 ≤ states }
     ensures { IfOk result (IsKeyAnswer rule.now asks.now states) }
 {
     if rule.many {
@@ -192,7 +192,7 @@ pub fn solve(
     requires sound { RuleIsSound rule.now }
     requires asks { All (λ a. AskIsOf rule.now.kind a.0) asks.now }
     requires count { length asks.now < 2 ^ 32 }
-    requires some { 1 ≤ states }
+    requires positive { 1 ≤ states }
     ensures answer { IfOk result (IsKeyAnswer rule.now asks.now states) }
     ensures idle { IfOk result (λ found. ¬ NeedsValue rule.now asks.now → found ≡ Found []) }
 {

@@ -2,7 +2,7 @@
 ghost use Rattle.std.specs.Prelude.{◌≡◌, ◌++◌, ◌≤◌, ◌↔◌, [], unwrap_or, length, All, IfOk, OnOk, IsTrue};
 ghost use Rattle.std.specs.Option.{option_to_list};
 ghost use Rattle.policy_model.specs.Soundness.{IsShortValue, RuleIsSound};
-ghost use Rattle.set_operators.specs.Steps.{IsChoiceIn, IsProductOf, IsWantsFor, chosen};
+ghost use Rattle.set_operators.specs.Steps.{IsChoiceIn, IsProductOf, IsWantsFor, chosen_asks};
 ghost use Rattle.set_operators.specs.Wants.{IsClosedForValue, list_clause, listed_pattern, listed_patterns, shape_clause};
 
 use crate::ask::KeyAsk;
@@ -112,7 +112,7 @@ fn wants_of(
 ) -> Result<Wants, NoMemory>
     requires sound { RuleIsSound rule.now }
     requires choice { IsChoiceIn asks.now choice }
-    ensures { IfOk result (IsWantsFor rule.now (chosen asks.now choice)) }
+    ensures { IfOk result (IsWantsFor rule.now (chosen_asks asks.now choice)) }
 {
     let mut asked = asked_of(alloc, asks, choice)?;
     add_shape(alloc, &rule.shape, &mut asked)?;
@@ -133,8 +133,8 @@ pub fn text_for(
 ) -> Result<Product, NoMemory>
     requires sound { RuleIsSound rule.now }
     requires choice { IsChoiceIn asks.now choice }
-    requires some { 1 ≤ states }
-    ensures { IfOk result (IsProductOf rule.now (chosen asks.now choice) states) }
+    requires positive { 1 ≤ states }
+    ensures { IfOk result (IsProductOf rule.now (chosen_asks asks.now choice) states) }
 {
     let wants = wants_of(alloc, rule, asks, choice)?;
     product(alloc, &wants, states)
@@ -151,7 +151,7 @@ pub fn is_closed_for(
     requires sound { RuleIsSound rule.now }
     requires choice { IsChoiceIn asks.now choice }
     ensures { IfOk result (λ yes.
-        IsTrue yes ↔ IsClosedForValue rule.now (chosen asks.now choice) closed.now) }
+        IsTrue yes ↔ IsClosedForValue rule.now (chosen_asks asks.now choice) closed.now) }
 {
     let wants = wants_of(alloc, rule, asks, choice)?;
     is_closed(alloc, &wants, closed)

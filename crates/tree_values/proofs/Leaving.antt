@@ -2,17 +2,16 @@
 use Rattle.std.proofs.Common.{◌≡◌, ◌≢◌, ℕ, ◌<◌, ◌≤◌, ◌+◌, ◌-◌, ◌==◌, List, [], ◌∷◌, ◌++◌, length, take, drop, get_or, zero, suc, Bool, true, false, Option, Some, None, is_some, slice_get, ◌⊎◌, inl, inr, refl, sym, ap, subst, ◌∙◌, arith, if◌then◌else◌}
 use Rattle.std.proofs.Common.{Result, Ok, Err, append-nil}
 use Rattle.std.specs.Prelude.{IfOk, OnOk}
-use Rattle.std.specs.List.{All}
-use Rattle.std.proofs.lemmas.List.{drop_all, drop_more, ext_get_or, take_all, take_more}
+use Rattle.std.proofs.lemmas.List.{drop_all, drop_more, ext_get_or, take_more}
 use Rattle.std.proofs.lemmas.Option.{get_or_from_slice_get, slice_get-get_or}
-use Rattle.formula_tree.specs.Answers.{Answers, Contained, IsDistinct, answer_of}
+use Rattle.formula_tree.specs.Answers.{Answers, IsDistinct, answer_of}
 use Rattle.formula_tree.specs.Trees.{Tree, tree_of}
 use Rattle.formula_tree.specs.declared.formula.Formula.{Formula}
-use Rattle.formula_tree.proofs.Laws.{answer_of-besides, cases_eq}
+use Rattle.formula_tree.proofs.Laws.{cases_eq}
 use Rattle.tree_values.specs.Cuts.{IsLeastCut}
-use Rattle.tree_values.specs.Leaving.{AreKeptFor, IsGivenBack, IsKeptFor, IsLeftOut, IsNoGiven, still_answered, with_answer, without_answer}
-use Rattle.tree_values.specs.Models.{Answered, IsAnsweredBy, IsSet, answer_at, answer_in, answered_tree}
-use Rattle.tree_values.specs.Omitting.{omitted}
+use Rattle.tree_values.specs.Leaving.{AreKeptFor, IsKeptFor, IsLeftOut, IsNoGiven, still_answered, with_answer, without_answer}
+use Rattle.tree_values.specs.Models.{Answered, IsSet, answer_at, answer_in, answered_tree}
+use Rattle.tree_values.specs.Omitting.{path_without}
 use Rattle.tree_values.specs.declared.cut.Sides.{Sides}
 use Rattle.tree_values.proofs.Lists.{number-other, number-same}
 use Rattle.tree_values.specs.Seen.{tree_seen}
@@ -304,31 +303,9 @@ seen-with old mid test b s there is =
 pub still-push : (answers : List (Option Bool)) (ps : Answers) (k : ℕ) (p : ℕ × Bool) → IsDistinct ps → slice_get ps k ≡ Some p → answer_of (still_answered answers (take k ps)) p.0 ≡ None
 still-push answers ps k p distinct at = still-free answers (take k ps) p.0 (item-first ps k p distinct at)
 
--- ---- given back
-
-pub back-next : (path : Answers) (mid new : Answered) (ps : Answers) (p : ℕ × Bool) → IsSet mid new p.0 (answer_of path p.0) → ((n : ℕ) (b : Bool) → answer_of ps n ≡ Some b → answer_in mid n ≡ answer_of path n) →
-    (n : ℕ) (b : Bool) → answer_of (ps ++ p ∷ []) n ≡ Some b → answer_in new n ≡ answer_of path n
-back-next path mid new ps p set before n b is =
-    elim (cases_eq n p.0) [
-      | inl e ↦ ap (answer_in new) e ∙ set.at ∙ ap (answer_of path) (sym e)
-      | inr ne ↦ set.others n ne ∙ before n b (sym (answer_of-besides ps p.0 p.1 n ne) ∙ is)
-    ]
-
-pub given-all : (path items : Answers) (k : ℕ) (now : Answered) → items ≡ path → length items ≤ k → ((n : ℕ) (b : Bool) → answer_of (take k items) n ≡ Some b → answer_in now n ≡ answer_of path n) →
-    (n : ℕ) (b : Bool) → answer_of path n ≡ Some b → answer_in now n ≡ Some b
-given-all path items k now e past back n b is = back n b (subst (λ (ps : Answers). answer_of ps n ≡ Some b) (sym (take_all k items past ∙ e)) is) ∙ is
-
-pub back-others : (path : Answers) (old mid new : Answered) (test : ℕ) → IsSet mid new test (answer_of path test) → ((n : ℕ) → answer_of path n ≡ None → answer_in old n ≡ None → answer_in mid n ≡ None) →
-    (n : ℕ) → answer_of path n ≡ None → answer_in old n ≡ None → answer_in new n ≡ None
-back-others path old mid new test set before n free none =
-    elim (cases_eq n test) [
-      | inl e ↦ ap (answer_in new) e ∙ set.at ∙ ap (answer_of path) (sym e) ∙ free
-      | inr ne ↦ set.others n ne ∙ before n free none
-    ]
-
 -- ---- the cut as a whole
 
-omitted-none : (ps : Answers) (n : ℕ) → answer_of (omitted ps n) n ≡ None
+omitted-none : (ps : Answers) (n : ℕ) → answer_of (path_without ps n) n ≡ None
 omitted-none [] n = refl
 omitted-none (p ∷ ps) n =
     elim (cases_eq p.0 n) [
@@ -336,7 +313,7 @@ omitted-none (p ∷ ps) n =
       | inr ne ↦ rw (number-other p.0 n ne, number-other p.0 n ne) (omitted-none ps n)
     ]
 
-omitted-other : (ps : Answers) (n k : ℕ) → k ≢ n → answer_of (omitted ps n) k ≡ answer_of ps k
+omitted-other : (ps : Answers) (n k : ℕ) → k ≢ n → answer_of (path_without ps n) k ≡ answer_of ps k
 omitted-other [] n k ne = refl
 omitted-other (p ∷ ps) n k ne =
     elim (cases_eq p.0 n) [
@@ -348,10 +325,10 @@ omitted-other (p ∷ ps) n k ne =
           rw (number-other p.0 n stays) (ap (λ (o : Option Bool). if p.0 == k then Some p.1 else o) (omitted-other ps n k ne))
     ]
 
-without-omitted : (f : ℕ → Option Bool) (ps : Answers) (n : ℕ) → ((k : ℕ) → f k ≡ answer_of ps k) → (k : ℕ) → without_answer f n k ≡ answer_of (omitted ps n) k
+without-omitted : (f : ℕ → Option Bool) (ps : Answers) (n : ℕ) → ((k : ℕ) → f k ≡ answer_of ps k) → (k : ℕ) → without_answer f n k ≡ answer_of (path_without ps n) k
 without-omitted f ps n same k =
     elim (cases_eq k n) [
-      | inl e ↦ without-same f n k e ∙ sym (omitted-none ps n) ∙ ap (answer_of (omitted ps n)) (sym e)
+      | inl e ↦ without-same f n k e ∙ sym (omitted-none ps n) ∙ ap (answer_of (path_without ps n)) (sym e)
       | inr ne ↦ without-other f n k ne ∙ same k ∙ sym (omitted-other ps n k ne)
     ]
 
@@ -359,9 +336,9 @@ some-of : (o : Option Bool) → is_some o ≡ true → (b : Bool) × (o ≡ Some
 some-of None e = absurd (cc)
 some-of (Some b) e = (b, refl)
 
-module _ (old now : Answered) (path needed : Answers) (test : ℕ) (sides : Sides) (start : IsAnsweredBy old path) (there : Contained needed path) (free : answer_of path test ≡ None) (out : IsLeftOut old now needed test sides) (tried : AreKeptFor now needed test sides path) where
-  within : (n : ℕ) (b : Bool) → answer_in now n ≡ Some b → answer_of path n ≡ Some b
-  within n b is = sym (start n) ∙ out.fewer n b is
+module _ (old now : Answered) (path needed : Answers) (test : ℕ) (sides : Sides) (begun : (n : ℕ) (b : Bool) → answer_in old n ≡ Some b → answer_of path n ≡ Some b) (there : (n : ℕ) (b : Bool) → answer_of needed n ≡ Some b → answer_in old n ≡ Some b) (free : answer_of path test ≡ None) (out : IsLeftOut old now needed test sides) (tried : AreKeptFor now needed test sides path) where
+  pub within : (n : ℕ) (b : Bool) → answer_in now n ≡ Some b → answer_of path n ≡ Some b
+  within n b is = begun n b (out.fewer n b is)
 
   same : (n : ℕ) → answer_in now n ≡ answer_of (still_answered now.answers path) n
   same = still-same now.answers path within
@@ -370,16 +347,16 @@ module _ (old now : Answered) (path needed : Answers) (test : ℕ) (sides : Side
   left-free = sym (same test) ∙ none-of (answer_in now test) (λ b is. none-some b (sym free ∙ within test b is))
 
   -- leaving one more out doesn't answer the test
-  lost : (n : ℕ) (c : Bool) → answer_of (omitted (still_answered now.answers path) n) test ≡ Some c → ⊥
+  lost : (n : ℕ) (c : Bool) → answer_of (path_without (still_answered now.answers path) n) test ≡ Some c → ⊥
   lost n c given =
       elim (cases_eq test n) [
-        | inl e ↦ none-some c (sym (omitted-none (still_answered now.answers path) n) ∙ ap (answer_of (omitted (still_answered now.answers path) n)) (sym e) ∙ given)
+        | inl e ↦ none-some c (sym (omitted-none (still_answered now.answers path) n) ∙ ap (answer_of (path_without (still_answered now.answers path) n)) (sym e) ∙ given)
         | inr ne ↦ none-some c (sym left-free ∙ sym (omitted-other (still_answered now.answers path) n test ne) ∙ given)
       ]
 
   pub is-cut : IsLeastCut (answered_tree old) path needed test sides (still_answered now.answers path)
   is-cut = record {
-    needed_there = λ n b is. sym (same n) ∙ out.needed_stay n b is (start n ∙ there n b is);
+    needed_there = λ n b is. sym (same n) ∙ out.needed_stay n b is (there n b is);
     there = λ n b is. within n b (same n ∙ is);
     still = given-on (answered_tree old) (answer_at now.answers) (still_answered now.answers path) test sides same left-free out.still;
     least = λ n b is.
@@ -387,31 +364,15 @@ module _ (old now : Answered) (path needed : Answers) (test : ℕ) (sides : Side
         elim (tried n b (within n b here) b here) [
           | inl need ↦
               let (c, given) = some-of (answer_of needed n) need in
-              let also : answer_in now n ≡ Some c = out.needed_stay n c given (start n ∙ there n c given) in
+              let also : answer_in now n ≡ Some c = out.needed_stay n c given (there n c given) in
               let equal : c ≡ b = same-answer c b (sym also ∙ here) in
               inl (given ∙ ap (λ (x : Bool). Some x) equal)
           | inr not ↦
               let fewer = without-omitted (answer_at now.answers) (still_answered now.answers path) n same in
-              let open_test : answer_of (omitted (still_answered now.answers path) n) test ≡ None = none-of (answer_of (omitted (still_answered now.answers path) n) test) (λ c given. lost n c given) in
+              let open_test : answer_of (path_without (still_answered now.answers path) n) test ≡ None = none-of (answer_of (path_without (still_answered now.answers path) n) test) (λ c given. lost n c given) in
               inr (λ on.
               not
               (subst (λ (f : Formula). IsNoGiven (tree_of f) (without_answer (answer_at now.answers) n) test sides) (sym out.formula)
-              (given-from (answered_tree old) (without_answer (answer_at now.answers) n) (omitted (still_answered now.answers path) n) test sides fewer open_test on)))
+              (given-from (answered_tree old) (without_answer (answer_at now.answers) n) (path_without (still_answered now.answers path) n) test sides fewer open_test on)))
         ];
   }
-
-  -- and the answers of the path given again are what was there
-  pub is-restored : (new : Answered) → IsGivenBack now new path → new ≡ old
-  is-restored new back = same-answered old new (back.formula ∙ out.formula) (back.tests ∙ out.tests) (λ n.
-      elim (cases-answer (answer_of path n)) [
-        | inl e ↦
-            let none : answer_in now n ≡ None = none-of (answer_in now n) (λ b is. none-some b (sym e ∙ within n b is)) in
-            back.others n e none ∙ sym e ∙ sym (start n)
-        | inr (b, e) ↦ back.back n b e ∙ sym e ∙ sym (start n)
-      ])
-
-  -- each of them has room
-  pub path-room : All (λ p. p.0 < length now.answers) path
-  path-room k d lt =
-      let (b, is) = item-answered path k (get_or path k d) (slice_get-get_or path k d lt) in
-      omega (arith, past old.answers (get_or path k d).0 b (start (get_or path k d).0 ∙ is), out.tests)

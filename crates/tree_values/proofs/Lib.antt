@@ -7,4 +7,5 @@ pub mod Laws
 mod Lists
 mod Seeing
 mod Staying
+mod Supplying
 mod Walking

@@ -5,24 +5,24 @@ use Rattle.tree_values.specs.declared.seen.Seen.{Seen}
 use Rattle.tree_values.specs.declared.seen.Seen.TheVariants.{Yes, No, Waits}
 use Rattle.formula_tree.specs.Answers.{Answers, answer_of}
 use Rattle.formula_tree.specs.Trees.{Tree, Trees, yes, no, test, not, all, one_of, none, more}
-use Rattle.formula_tree.specs.Values.{answer_value, swapped, both, either, value, value_of_all, value_of_some, is_unknown, pick, pick_of_first, AreBelow, EachBelow}
+use Rattle.formula_tree.specs.Values.{answer_value, kleene_not, kleene_and, kleene_or, value, value_of_all, value_of_some, is_unknown, pick, pick_of_first, AreBelow, EachBelow}
 use Rattle.tree_values.specs.Seen.{value_seen, pick_seen, turned_seen, both_seen, either_seen, test_seen, tree_seen, each_seen, some_seen}
 
-both-value : (a b : Seen) → value_seen (both_seen a b) ≡ both (value_seen a) (value_seen b)
+both-value : (a b : Seen) → value_seen (both_seen a b) ≡ kleene_and (value_seen a) (value_seen b)
 both-value Yes b = refl
 both-value No b = refl
 both-value (Waits n) Yes = refl
 both-value (Waits n) No = refl
 both-value (Waits n) (Waits m) = refl
 
-either-value : (a b : Seen) → value_seen (either_seen a b) ≡ either (value_seen a) (value_seen b)
+either-value : (a b : Seen) → value_seen (either_seen a b) ≡ kleene_or (value_seen a) (value_seen b)
 either-value Yes b = refl
 either-value No b = refl
 either-value (Waits n) Yes = refl
 either-value (Waits n) No = refl
 either-value (Waits n) (Waits m) = refl
 
-turned-value : (a : Seen) → value_seen (turned_seen a) ≡ swapped (value_seen a)
+turned-value : (a : Seen) → value_seen (turned_seen a) ≡ kleene_not (value_seen a)
 turned-value Yes = refl
 turned-value No = refl
 turned-value (Waits n) = refl
@@ -130,7 +130,7 @@ module _ (path : Answers) (answers : ℕ → Option Bool) (same : (n : ℕ) → 
     value-is yes = refl
     value-is no = refl
     value-is (test n) = test-value (answers n) n ∙ ap answer_value (same n)
-    value-is (not t) = turned-value (tree_seen answers t) ∙ ap swapped (value-is t)
+    value-is (not t) = turned-value (tree_seen answers t) ∙ ap kleene_not (value-is t)
     value-is (all ts) = all-is ts
     value-is (one_of ts) = some-is ts
 

@@ -1,7 +1,7 @@
 -- Trees that stay no where answers are added.
 use Rattle.std.proofs.Common.{◌≡◌, ℕ, ◌≢◌, Bool, true, false, Option, Some, None, inl, inr, refl, sym, ap, ◌∙◌}
 use Rattle.formula_tree.specs.Answers.{Answers, answer_of}
-use Rattle.formula_tree.specs.Runs.{answered}
+use Rattle.formula_tree.specs.Runs.{path_with}
 use Rattle.formula_tree.specs.Trees.{Tree, Trees, none, more}
 use Rattle.formula_tree.specs.Trees as kind
 use Rattle.formula_tree.specs.Values.{value}
@@ -141,10 +141,10 @@ given-alike tree f g test sides same given = given-more tree f g test sides (λ 
 
 -- ---- by paths
 
-with-answered : (f : ℕ → Option Bool) (path : Answers) (test : ℕ) (b : Bool) → ((n : ℕ) → f n ≡ answer_of path n) → answer_of path test ≡ None → (n : ℕ) → with_answer f test b n ≡ answer_of (answered path test b) n
+with-answered : (f : ℕ → Option Bool) (path : Answers) (test : ℕ) (b : Bool) → ((n : ℕ) → f n ≡ answer_of path n) → answer_of path test ≡ None → (n : ℕ) → with_answer f test b n ≡ answer_of (path_with path test b) n
 with-answered f path test b same free n =
     elim (cases_eq n test) [
-      | inl e ↦ with-same f test b n e ∙ sym (answer_of-last path test b free) ∙ ap (answer_of (answered path test b)) (sym e)
+      | inl e ↦ with-same f test b n e ∙ sym (answer_of-last path test b free) ∙ ap (answer_of (path_with path test b)) (sym e)
       | inr ne ↦ with-other f test b n ne ∙ same n ∙ sym (answer_of-besides path test b n ne)
     ]
 
@@ -154,8 +154,8 @@ no-seen No e = refl
 no-seen (Waits n) e = absurd (cc)
 
 module _ (tree : Tree) (f : ℕ → Option Bool) (path : Answers) (test : ℕ) (sides : Sides) (same : (n : ℕ) → f n ≡ answer_of path n) (free : answer_of path test ≡ None) where
-  at : (b : Bool) → value_seen (tree_seen (with_answer f test b) tree) ≡ value (answered path test b) tree
-  at b = value-is (answered path test b) (with_answer f test b) (with-answered f path test b same free) tree
+  at : (b : Bool) → value_seen (tree_seen (with_answer f test b) tree) ≡ value (path_with path test b) tree
+  at b = value-is (path_with path test b) (with_answer f test b) (with-answered f path test b same free) tree
 
   pub given-from : IsNoOn tree path test sides → IsNoGiven tree f test sides
   given-from on = record {

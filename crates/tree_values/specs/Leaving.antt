@@ -46,10 +46,3 @@ AreKeptFor a needed test sides tried = (n : ℕ) (c : Bool) → answer_of tried 
 abbrev pub still_answered : List (Option Bool) → Answers → Answers
 still_answered answers [] = []
 still_answered answers (p ∷ path) = (if is_some (answer_at answers p.0) then p ∷ still_answered answers path else still_answered answers path)
-
--- the answers of a path were given again, and no others
-pub record IsGivenBack (old new : Answered) (path : Answers) : Type 0 where
-  pub formula : new.formula ≡ old.formula
-  pub tests : length new.answers ≡ length old.answers
-  pub back : (n : ℕ) (b : Bool) → answer_of path n ≡ Some b → answer_in new n ≡ Some b
-  pub others : (n : ℕ) → answer_of path n ≡ None → answer_in old n ≡ None → answer_in new n ≡ None

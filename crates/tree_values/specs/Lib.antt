@@ -4,3 +4,4 @@ pub mod Models
 pub mod Nodes
 pub mod Omitting
 pub mod Seen
+pub mod Supplying

@@ -4,7 +4,9 @@
 
 mod cut;
 mod graph;
+mod newest;
 mod node;
+mod node_values;
 mod seen;
 mod settling;
 mod tree_values;

@@ -1,6 +1,6 @@
 use Rattle.set_operators.specs.Asks.{AskIsOf}
 use Rattle.set_operators.specs.Plain.{as_kind}
-use Rattle.set_operators.specs.Steps.{chosen}
+use Rattle.set_operators.specs.Steps.{chosen_asks}
 use Rattle.set_operators.proofs.Choosing.{chosen-all, chosen-there}
 use Rattle.set_operators.proofs.Plains.{found-at, none-at, proper}
 use Rattle.set_operators.proofs.plain.point_for.Goals as goal
@@ -11,9 +11,9 @@ solve-requires c =
 
 pub returns-in-Found : goal.returns-in-Found
 returns-in-Found c =
-    found-at c.meets_is_meaning.ensures c.args.kind (chosen c.args.asks.now c.args.choice) c.in_ok-wants.wants c.in_ok-value.field-0 c.in-Found.value c.value_of.result c.in_ok-wants.ensures
+    found-at c.meets_is_meaning.ensures c.args.kind (chosen_asks c.args.asks.now c.args.choice) c.in_ok-wants.wants c.in_ok-value.field-0 c.in-Found.value c.value_of.result c.in_ok-wants.ensures
     (chosen-there c.args.asks.now c.args.choice c.requires.choice c.requires.there) c.in-Found.is c.in_ok-value.ensures.answer c.value_of.ensures
 
 pub returns : goal.returns
 returns c =
-    none-at c.meets_is_meaning.ensures c.args.kind (chosen c.args.asks.now c.args.choice) c.in_ok-wants.wants c.in_ok-value.field-0 c.in_ok-wants.ensures c.in-Empty.is c.in_ok-value.ensures.answer
+    none-at c.meets_is_meaning.ensures c.args.kind (chosen_asks c.args.asks.now c.args.choice) c.in_ok-wants.wants c.in_ok-value.field-0 c.in_ok-wants.ensures c.in-Empty.is c.in_ok-value.ensures.answer

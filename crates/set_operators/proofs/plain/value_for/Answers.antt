@@ -4,7 +4,7 @@ use Rattle.set_operators.specs.Asks.{AskIsOf}
 use Rattle.std.specs.Prelude.{All}
 use Rattle.set_operators.specs.Listed.{IsListedMember}
 use Rattle.set_operators.specs.Plain.{IsMemberFound, IsPlainFound}
-use Rattle.set_operators.specs.Steps.{chosen}
+use Rattle.set_operators.specs.Steps.{chosen_asks}
 use Rattle.set_operators.proofs.Answering.{member-listed, ok-weaker, point-member}
 use Rattle.set_operators.proofs.plain.value_for.Goals as goal
 
@@ -13,10 +13,10 @@ point_for-requires-clause-asks c = subst (λ (k : Kind). All (λ a. AskIsOf k a.
 
 pub returns-in-Some : goal.returns-in-Some
 returns-in-Some c =
-    ok-weaker (IsListedMember c.args.rule.now (chosen c.args.asks.now c.args.choice)) (IsMemberFound c.args.rule.now (chosen c.args.asks.now c.args.choice)) c.listed_member.result
-    (λ found is. member-listed c.args.rule.now (chosen c.args.asks.now c.args.choice) _ found c.in-Some.is is) c.listed_member.ensures
+    ok-weaker (IsListedMember c.args.rule.now (chosen_asks c.args.asks.now c.args.choice)) (IsMemberFound c.args.rule.now (chosen_asks c.args.asks.now c.args.choice)) c.listed_member.result
+    (λ found is. member-listed c.args.rule.now (chosen_asks c.args.asks.now c.args.choice) _ found c.in-Some.is is) c.listed_member.ensures
 
 pub returns-in-None : goal.returns-in-None
 returns-in-None c =
-    ok-weaker (IsPlainFound c.args.kind (chosen c.args.asks.now c.args.choice)) (IsMemberFound c.args.rule.now (chosen c.args.asks.now c.args.choice)) c.point_for.result
-    (λ found is. point-member c.args.rule.now c.args.kind (chosen c.args.asks.now c.args.choice) found c.requires.kind c.in-None.is is) c.point_for.ensures
+    ok-weaker (IsPlainFound c.args.kind (chosen_asks c.args.asks.now c.args.choice)) (IsMemberFound c.args.rule.now (chosen_asks c.args.asks.now c.args.choice)) c.point_for.result
+    (λ found is. point-member c.args.rule.now c.args.kind (chosen_asks c.args.asks.now c.args.choice) found c.requires.kind c.in-None.is is) c.point_for.ensures
