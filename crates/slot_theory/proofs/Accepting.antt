@@ -42,7 +42,7 @@ module _ (schema : Schema) (tests : List Test) (path : Answers) (core : List ℕ
   none-empty (x ∷ xs) e = absurd (cc)
 
   pub no-first : (proof : SlotProof) → slice_get core 0 ≡ None → Accepts schema tests path core proof → ⊥
-  no-first proof e a = a.conflict.core_is.some (none-empty core e)
+  no-first proof e a = a.conflict.core_is.nonempty (none-empty core e)
 
   pub no-test : (proof : SlotProof) (first : ℕ) → slice_get core 0 ≡ Some first → slice_get tests first ≡ None → Accepts schema tests path core proof → ⊥
   no-test proof first at none a =

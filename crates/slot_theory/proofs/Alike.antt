@@ -47,7 +47,7 @@ module _ (tests : List Test) (path other : Answers) where
   module _ (core : List ℕ) (alike : AnswerCoreAlike core path other) where
     core-alike : (s : Slot) → IsCore tests path core s → IsCore tests other core s
     core-alike s is = record {
-      some = is.some;
+      nonempty = is.nonempty;
       rises = is.rises;
       within = is.within;
       answered = λ k d l. subst IsSome (alike k d l) (is.answered k d l);

@@ -32,7 +32,7 @@ use Rattle.slot_theory.specs.declared.outcome.SlotValue.TheVariants as value
 use Rattle.slot_theory.specs.declared.question.Question.{Question}
 use Rattle.slot_theory.specs.Slots.{Permits, ValueMeets, answered_patterns, ask_of, asked_by_schema, patterns_at, slot_of, test_at}
 use Rattle.slot_theory.specs.Cores.{KeyShows, MemberShows, Shows, asks_of}
-use Rattle.slot_theory.specs.Question.{IsAskable, IsCoreOf, IsOnKey, KeyShowsOf, ShowsOf, core_asks}
+use Rattle.slot_theory.specs.Question.{IsCoreOf, IsOnKey, KeyShowsOf, ShowsOf, core_asks}
 use Rattle.slot_theory.specs.Steps.{IsRight, IsWrong}
 use Rattle.slot_theory.proofs.Answering.{So}
 use Rattle.slot_theory.proofs.Products.{among-answered}
@@ -186,18 +186,18 @@ module _ (q : Question) (rule : KeyRule) (core : List ℕ) (key : IsOnKey q rule
   on-key : All (λ n. slot_of (test_at tests n) ≡ slot.Key key.key) core
   on-key k d l = is.on_slot k d l ∙ key.slot
 
-  pub key-sound : IsAskable q → RuleIsSound rule
-  key-sound askable = rule-sound schema.keys key.key rule askable.sound.rules key.there
+  pub key-sound : RuleIsSound rule
+  key-sound = rule-sound schema.keys key.key rule q.askable.sound.rules key.there
 
-  pub asks-suit : IsAskable q → All (λ a. AskIsOf rule.kind a.0) (core_asks q core)
-  asks-suit askable = All-map (λ (a : KeyAsk × Bool). AskIsOf rule.kind a.0) (λ n. (ask_of (test_at tests n), unwrap_or (answer_of path n) false)) core
-      (λ k d l. let n = get_or core k d in ask-suits schema key.key rule (test_at tests n) key.there (askable.suit n (Action []) (is.within k d l)) (on-key k d l))
+  pub asks-suit : All (λ a. AskIsOf rule.kind a.0) (core_asks q core)
+  asks-suit = All-map (λ (a : KeyAsk × Bool). AskIsOf rule.kind a.0) (λ n. (ask_of (test_at tests n), unwrap_or (answer_of path n) false)) core
+      (λ k d l. let n = get_or core k d in ask-suits schema key.key rule (test_at tests n) key.there (q.askable.suit n (Action []) (is.within k d l)) (on-key k d l))
 
   pub asks-count : length (core_asks q core) ≡ length core
   asks-count = length-map core (λ n. (ask_of (test_at tests n), unwrap_or (answer_of path n) false))
 
-  pub asks-few : IsAskable q → length (core_asks q core) < 4294967296
-  asks-few askable = omega (arith, asks-count, core-count tests path s core is, askable.count)
+  pub asks-few : length (core_asks q core) < 4294967296
+  asks-few = omega (arith, asks-count, core-count tests path s core is, q.askable.count)
 
   pub shows-of : (proof : SlotProof) → ShowsOf q core proof ≡ KeyShowsOf q rule core proof
   shows-of proof = shows-key schema tests path core s key.key rule proof key.slot key.there

@@ -2,7 +2,7 @@
 use Rattle.std.proofs.Common.{◌≡◌, ◌↔◌, ℕ, ◌<◌, List, length, flat_map, get_or, slice_get, true, Option, Some, All}
 use Rattle.wildcard_lang.specs.declared.piece.Piece.{Piece}
 use Rattle.wildcard_lang.specs.Matching.{Matches}
-use Rattle.wildcard_lang.specs.Patterns.{own}
+use Rattle.wildcard_lang.specs.Patterns.{own_character}
 use Rattle.wildcard_lang.specs.Text.{IsText}
 use Rattle.formula_tree.specs.Answers.{Answers}
 use Rattle.policy_model.specs.declared.principal.PrincipalKind.{PrincipalKind}
@@ -54,7 +54,7 @@ pub slot-in : (schema : Schema) (t : Test) → TestSuits schema t → SlotIsIn s
 slot-in = tests.slot-in
 
 -- a sample of a pattern is a text
-pub sample-text : (ps : List Piece) → IsText (flat_map own ps) → IsText (sample ps)
+pub sample-text : (ps : List Piece) → IsText (flat_map own_character ps) → IsText (sample ps)
 sample-text = samples.sample-text
 
 -- which the pattern matches

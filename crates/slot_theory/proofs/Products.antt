@@ -188,11 +188,11 @@ product-at tests path states ns ms a b p q same shape is h =
     (subst (λ (xs : List ℕ). IsProduct (wanted_patterns tests xs a) (wanted_clauses path xs a 0) states p) same h))
 
 -- a value that the schema permits and that answers the core, tried on all answered tests of the slot
-pub tried-attempt : (q : Question) (core : List ℕ) (states : ℕ) (v : SlotValue) (a : Attempt) → Permits q.schema.now q.slot.now v → ((n : ℕ) → IsWrong q.tests.now q.path.now q.slot.now v n → Contains core n → ⊥) → IsTried q v a → IsAttempt q states core a
-tried-attempt q core states v (attempt.Empty proof) permits new is = absurd is
-tried-attempt q core states v (attempt.Full texts) permits new is = absurd is
-tried-attempt q core states v (attempt.Right w) permits new is = rw is.0 (permits, is.1)
-tried-attempt q core states v (attempt.Wrong n) permits new is = (is.on, new n is)
+pub tried-attempt : (q : Question) (core : List ℕ) (v : SlotValue) (a : Attempt) → Permits q.schema.now q.slot.now v → ((n : ℕ) → IsWrong q.tests.now q.path.now q.slot.now v n → Contains core n → ⊥) → IsTried q v a → IsAttempt q core a
+tried-attempt q core v (attempt.Empty proof) permits new is = absurd is
+tried-attempt q core v (attempt.Full texts) permits new is = absurd is
+tried-attempt q core v (attempt.Right w) permits new is = rw is.0 (permits, is.1)
+tried-attempt q core v (attempt.Wrong n) permits new is = (is.on, new n is)
 
 module _ (q : Question) (core : List ℕ) where
   abbrev schema : Schema

@@ -74,7 +74,7 @@ module _ (tests : List Test) (path : Answers) (s : Slot) (core : List ℕ) where
   core-with n more is on within with =
       let e : more ≡ insert core with.index n = with.is in
       record {
-        some = rw e (some-length (insert core with.index n) (omega (arith, length-insert core with.index n with.within)));
+        nonempty = rw e (some-length (insert core with.index n) (omega (arith, length-insert core with.index n with.within)));
         rises = with.rises;
         within = rw e (All-insert (λ m. m < length tests) core with.index n is.within within);
         answered = rw e (All-insert (λ m. IsSome (answer_of path m)) core with.index n is.answered on.answered);

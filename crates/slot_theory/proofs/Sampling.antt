@@ -9,7 +9,7 @@ use Rattle.std.proofs.lemmas.List.{append-nil, take_all, take_more}
 use Rattle.wildcard_lang.specs.declared.piece.Piece.{Piece}
 use Rattle.wildcard_lang.specs.declared.piece.Piece.TheVariants.{Lit, LitFold, One, Many, OneNoColon, ManyNoColon}
 use Rattle.wildcard_lang.specs.Text.{IsText}
-use Rattle.wildcard_lang.specs.Patterns.{own}
+use Rattle.wildcard_lang.specs.Patterns.{own_character}
 use Rattle.wildcard_lang.specs.Matching.{Matches, no_pieces, takes_one, is_done, takes_more}
 use Rattle.policy_model.specs.Requests.{IsWord}
 use Rattle.policy_model.specs.Soundness.{WordShapeIsSound}
@@ -21,9 +21,9 @@ use Rattle.slot_theory.specs.declared.outcome.SlotValue.{SlotValue}
 use Rattle.slot_theory.specs.Slots.{AnswersSlot, slot_of}
 use Rattle.slot_theory.specs.Cores.{HasTest}
 use Rattle.std.proofs.lemmas.Option.{get_or_from_slice_get}
-use Rattle.slot_theory.specs.Unasked.{or_x, sample, sampled, stated_word}
+use Rattle.slot_theory.specs.Unasked.{or_x, sample, sample_of_piece, stated_word}
 
-pub sample-text : (ps : List Piece) → IsText (flat_map own ps) → IsText (sample ps)
+pub sample-text : (ps : List Piece) → IsText (flat_map own_character ps) → IsText (sample ps)
 sample-text [] h = refl
 sample-text (Lit c ∷ ps) h = let parts = and_parts _ _ h in and_from _ _ parts.0 (sample-text ps parts.1)
 sample-text (LitFold c ∷ ps) h = let parts = and_parts _ _ h in and_from _ _ parts.0 (sample-text ps parts.1)
@@ -33,19 +33,19 @@ sample-text (Many ∷ ps) h = sample-text ps h
 sample-text (ManyNoColon ∷ ps) h = sample-text ps h
 
 -- what was gathered from all pieces is a text
-pub gathered-text : (ps qs : List Piece) (got : List ℕ) (i : ℕ) → qs ≡ ps → IsText (flat_map own ps) → got ≡ sample (take i ps) → length qs ≤ i → IsText got
+pub gathered-text : (ps qs : List Piece) (got : List ℕ) (i : ℕ) → qs ≡ ps → IsText (flat_map own_character ps) → got ≡ sample (take i ps) → length qs ≤ i → IsText got
 gathered-text ps qs got i same text made end =
     let whole : length ps ≤ i = omega (arith, ap length same) in
     rw (made, take_all i ps whole) (sample-text ps text)
 
 -- one more piece was gathered
-pub gathered-more : (ps qs : List Piece) (i : ℕ) (d : Piece) (before after : List ℕ) → qs ≡ ps → i < length qs → before ≡ sample (take i ps) → after ≡ before ++ sampled (get_or qs i d) → after ≡ sample (take (i + 1) ps)
+pub gathered-more : (ps qs : List Piece) (i : ℕ) (d : Piece) (before after : List ℕ) → qs ≡ ps → i < length qs → before ≡ sample (take i ps) → after ≡ before ++ sample_of_piece (get_or qs i d) → after ≡ sample (take (i + 1) ps)
 gathered-more ps qs i d before after same within made is =
     let here : i < length ps = omega (arith, ap length same) in
-    let piece : sampled (get_or qs i d) ≡ sampled (get_or ps i d) = ap (λ (xs : List Piece). sampled (get_or xs i d)) same in
-    let one : sample (get_or ps i d ∷ []) ≡ sampled (get_or ps i d) = append-nil (sampled (get_or ps i d)) in
-    is ∙ ap (λ (xs : List ℕ). xs ++ sampled (get_or qs i d)) made ∙ ap (λ (xs : List ℕ). sample (take i ps) ++ xs) (piece ∙ sym one)
-    ∙ sym (flat_map-append sampled (take i ps) (get_or ps i d ∷ [])) ∙ ap sample (sym (take_more ps i d here))
+    let piece : sample_of_piece (get_or qs i d) ≡ sample_of_piece (get_or ps i d) = ap (λ (xs : List Piece). sample_of_piece (get_or xs i d)) same in
+    let one : sample (get_or ps i d ∷ []) ≡ sample_of_piece (get_or ps i d) = append-nil (sample_of_piece (get_or ps i d)) in
+    is ∙ ap (λ (xs : List ℕ). xs ++ sample_of_piece (get_or qs i d)) made ∙ ap (λ (xs : List ℕ). sample (take i ps) ++ xs) (piece ∙ sym one)
+    ∙ sym (flat_map-append sample_of_piece (take i ps) (get_or ps i d ∷ [])) ∙ ap sample (sym (take_more ps i d here))
 
 -- what was gathered from all pieces is the sample
 pub gathered-all : (ps qs : List Piece) (t got : List ℕ) (i : ℕ) → qs ≡ ps → t ≡ got → got ≡ sample (take i ps) → length qs ≤ i → t ≡ sample ps
@@ -80,13 +80,13 @@ stars-match (Many ∷ ps) some none = takes_more refl refl (is_done refl (subst 
 stars-match (ManyNoColon ∷ ps) some none = takes_more refl refl (is_done refl (subst (Matches ps) none (sample-matches ps)))
 
 pub word-x : (shape : List Piece) (t : List ℕ) → shape ≢ [] → t ≡ sample shape → t ≡ [] → IsWord (Some shape) (codes "x")
-word-x shape t some is none = record { text = refl; some = λ e. absurd cc; fits = stars-match shape some (sym is ∙ none) }
+word-x shape t some is none = record { text = refl; nonempty = λ e. absurd cc; fits = stars-match shape some (sym is ∙ none) }
 
 pub word-free : IsWord None (codes "x")
-word-free = record { text = refl; some = λ e. absurd cc; fits = tt }
+word-free = record { text = refl; nonempty = λ e. absurd cc; fits = tt }
 
 pub word-sample : (shape : List Piece) (t : List ℕ) → t ≡ sample shape → ¬ (t ≡ []) → IsText t → IsWord (Some shape) t
-word-sample shape t is some text = record { text = text; some = some; fits = rw is (sample-matches shape) }
+word-sample shape t is some text = record { text = text; nonempty = some; fits = rw is (sample-matches shape) }
 
 pub or_x-some : (t u : List ℕ) → t ≡ u → ¬ (t ≡ []) → t ≡ or_x u
 or_x-some t [] is some = absurd (some is)
@@ -103,7 +103,7 @@ or_x-word shape (c ∷ cs) is text some = word-sample shape (c ∷ cs) is (λ e.
 -- the stated word is a word of its shape
 pub stated-is-word : (shape : Option (List Piece)) → WordShapeIsSound shape → IsWord shape (stated_word shape)
 stated-is-word None sound = word-free
-stated-is-word (Some shape) sound = or_x-word shape (sample shape) refl (sample-text shape sound.pattern.scalars) (λ e. sound.some (ap (λ (ps : List Piece). Some ps) e))
+stated-is-word (Some shape) sound = or_x-word shape (sample shape) refl (sample-text shape sound.pattern.scalars) (λ e. sound.nonempty (ap (λ (ps : List Piece). Some ps) e))
 
 -- what isn't asked is answered by any value
 pub unasked-answers : (tests : List Test) (path : Answers) (s : Slot) (v : SlotValue) → ¬ HasTest tests path s → AnswersSlot tests path s v

@@ -14,7 +14,7 @@ use Rattle.pattern_automata.proofs.Laws.{closed_sets_are_empty}
 use Rattle.policy_model.specs.declared.test.Test.{Test}
 use Rattle.policy_model.specs.Requests.{FitsShape, IsWord}
 use Rattle.slot_theory.specs.Slots.{HasPattern, pattern_of, some_word, test_at}
-use Rattle.slot_theory.specs.Wants.{IsClosedFor, IsWants, shape_clauses, wanted, wanted_clauses, wanted_patterns}
+use Rattle.slot_theory.specs.Wants.{IsClosedFor, IsWants, shape_clauses, wanted_clause, wanted_clauses, wanted_patterns}
 
 -- ---- patterns by their numbers
 
@@ -105,62 +105,62 @@ module _ (tests : List Test) (path : Answers) (shape : Option (List Piece)) wher
     abbrev R : List Literal → Type 0
     R = All (λ (l : Literal). l.pattern < length patterns)
 
-    one-range : (i : ℕ) (b : Bool) → i < length patterns → R (wanted i b)
+    one-range : (i : ℕ) (b : Bool) → i < length patterns → R (wanted_clause i b)
     one-range i b h = All-cons (λ (l : Literal). l.pattern < length patterns) (record { pattern = i; holds = b }) [] h (All-nil (λ (l : Literal). l.pattern < length patterns))
 
     shape-range : (given : Option (List Piece)) (i : ℕ) → drop i patterns ≡ option_to_list given → InRange (length patterns) (shape_clauses given i)
     shape-range None i e = All-nil R
-    shape-range (Some p) i e = All-cons R (wanted i true) [] (one-range i true (drop-within patterns i p [] e)) (All-nil R)
+    shape-range (Some p) i e = All-cons R (wanted_clause i true) [] (one-range i true (drop-within patterns i p [] e)) (All-nil R)
 
     in-range : (numbers : List ℕ) (i : ℕ) → drop i patterns ≡ all numbers → InRange (length patterns) (clauses numbers i)
     in-range [] i e =
-        All-cons R (wanted i true) (last i) (one-range i true (drop-within patterns i some_word shapes e)) (shape-range shape (i + 1) (drop-tail patterns i some_word shapes e))
+        All-cons R (wanted_clause i true) (last i) (one-range i true (drop-within patterns i some_word shapes e)) (shape-range shape (i + 1) (drop-tail patterns i some_word shapes e))
     in-range (n ∷ numbers) i e =
-        All-cons R (wanted i (holds n)) (clauses numbers (i + 1)) (one-range i (holds n) (drop-within patterns i (own n) (all numbers) e))
+        All-cons R (wanted_clause i (holds n)) (clauses numbers (i + 1)) (one-range i (holds n) (drop-within patterns i (own n) (all numbers) e))
         (in-range numbers (i + 1) (drop-tail patterns i (own n) (all numbers) e))
 
     module _ (w : List ℕ) where
       abbrev M : List Literal → Type 0
       M = Any (IsLiteralMet patterns w)
 
-      meets-wanted : (i : ℕ) (b : Bool) (p : List Piece) (rest : List (List Piece)) → drop i patterns ≡ p ∷ rest → MatchesSo p w b → M (wanted i b)
+      meets-wanted : (i : ℕ) (b : Bool) (p : List Piece) (rest : List (List Piece)) → drop i patterns ≡ p ∷ rest → MatchesSo p w b → M (wanted_clause i b)
       meets-wanted i b p rest e m =
           any-one (IsLiteralMet patterns w) (record { pattern = i; holds = b }) (subst (λ (q : List Piece). MatchesSo q w b) (sym (drop-head patterns i p [] rest e)) m)
 
-      wanted-met : (i : ℕ) (b : Bool) (p : List Piece) (rest : List (List Piece)) → drop i patterns ≡ p ∷ rest → M (wanted i b) → MatchesSo p w b
+      wanted-met : (i : ℕ) (b : Bool) (p : List Piece) (rest : List (List Piece)) → drop i patterns ≡ p ∷ rest → M (wanted_clause i b) → MatchesSo p w b
       wanted-met i b p rest e m =
           subst (λ (q : List Piece). MatchesSo q w b) (drop-head patterns i p [] rest e) (one-any (IsLiteralMet patterns w) (record { pattern = i; holds = b }) m)
 
       meets-shape : (given : Option (List Piece)) (i : ℕ) → drop i patterns ≡ option_to_list given → FitsShape given w → Meets patterns (shape_clauses given i) w
       meets-shape None i e m = All-nil M
-      meets-shape (Some p) i e m = All-cons M (wanted i true) [] (meets-wanted i true p [] e m) (All-nil M)
+      meets-shape (Some p) i e m = All-cons M (wanted_clause i true) [] (meets-wanted i true p [] e m) (All-nil M)
 
       shape-met : (given : Option (List Piece)) (i : ℕ) → drop i patterns ≡ option_to_list given → Meets patterns (shape_clauses given i) w → FitsShape given w
       shape-met None i e m = tt
-      shape-met (Some p) i e m = wanted-met i true p [] e (All-head M (wanted i true) [] m)
+      shape-met (Some p) i e m = wanted-met i true p [] e (All-head M (wanted_clause i true) [] m)
 
       -- a text that the tests' patterns match so, that `?*` matches and that fits the shape meets the clauses
       meets-all : (numbers : List ℕ) (i : ℕ) → drop i patterns ≡ all numbers → All (IsMatchedSo tests path w) numbers → Matches some_word w → FitsShape shape w → Meets patterns (clauses numbers i) w
       meets-all [] i e so some fits =
-          All-cons M (wanted i true) (last i) (meets-wanted i true some_word shapes e some) (meets-shape shape (i + 1) (drop-tail patterns i some_word shapes e) fits)
+          All-cons M (wanted_clause i true) (last i) (meets-wanted i true some_word shapes e some) (meets-shape shape (i + 1) (drop-tail patterns i some_word shapes e) fits)
       meets-all (n ∷ numbers) i e so some fits =
-          All-cons M (wanted i (holds n)) (clauses numbers (i + 1)) (meets-wanted i (holds n) (own n) (all numbers) e (All-head (IsMatchedSo tests path w) n numbers so))
+          All-cons M (wanted_clause i (holds n)) (clauses numbers (i + 1)) (meets-wanted i (holds n) (own n) (all numbers) e (All-head (IsMatchedSo tests path w) n numbers so))
           (meets-all numbers (i + 1) (drop-tail patterns i (own n) (all numbers) e) (All-tail (IsMatchedSo tests path w) n numbers so) some fits)
 
       -- and the other way
       all-so : (numbers : List ℕ) (i : ℕ) → drop i patterns ≡ all numbers → Meets patterns (clauses numbers i) w → All (IsMatchedSo tests path w) numbers
       all-so [] i e m = All-nil (IsMatchedSo tests path w)
       all-so (n ∷ numbers) i e m =
-          All-cons (IsMatchedSo tests path w) n numbers (wanted-met i (holds n) (own n) (all numbers) e (All-head M (wanted i (holds n)) (clauses numbers (i + 1)) m))
-          (all-so numbers (i + 1) (drop-tail patterns i (own n) (all numbers) e) (All-tail M (wanted i (holds n)) (clauses numbers (i + 1)) m))
+          All-cons (IsMatchedSo tests path w) n numbers (wanted-met i (holds n) (own n) (all numbers) e (All-head M (wanted_clause i (holds n)) (clauses numbers (i + 1)) m))
+          (all-so numbers (i + 1) (drop-tail patterns i (own n) (all numbers) e) (All-tail M (wanted_clause i (holds n)) (clauses numbers (i + 1)) m))
 
       all-some : (numbers : List ℕ) (i : ℕ) → drop i patterns ≡ all numbers → Meets patterns (clauses numbers i) w → Matches some_word w
-      all-some [] i e m = wanted-met i true some_word shapes e (All-head M (wanted i true) (last i) m)
-      all-some (n ∷ numbers) i e m = all-some numbers (i + 1) (drop-tail patterns i (own n) (all numbers) e) (All-tail M (wanted i (holds n)) (clauses numbers (i + 1)) m)
+      all-some [] i e m = wanted-met i true some_word shapes e (All-head M (wanted_clause i true) (last i) m)
+      all-some (n ∷ numbers) i e m = all-some numbers (i + 1) (drop-tail patterns i (own n) (all numbers) e) (All-tail M (wanted_clause i (holds n)) (clauses numbers (i + 1)) m)
 
       all-fits : (numbers : List ℕ) (i : ℕ) → drop i patterns ≡ all numbers → Meets patterns (clauses numbers i) w → FitsShape shape w
-      all-fits [] i e m = shape-met shape (i + 1) (drop-tail patterns i some_word shapes e) (All-tail M (wanted i true) (last i) m)
-      all-fits (n ∷ numbers) i e m = all-fits numbers (i + 1) (drop-tail patterns i (own n) (all numbers) e) (All-tail M (wanted i (holds n)) (clauses numbers (i + 1)) m)
+      all-fits [] i e m = shape-met shape (i + 1) (drop-tail patterns i some_word shapes e) (All-tail M (wanted_clause i true) (last i) m)
+      all-fits (n ∷ numbers) i e m = all-fits numbers (i + 1) (drop-tail patterns i (own n) (all numbers) e) (All-tail M (wanted_clause i (holds n)) (clauses numbers (i + 1)) m)
 
   module _ (numbers : List ℕ) (has : All (HasPattern tests) numbers) where
     -- the literals of what is wanted name its patterns
@@ -175,7 +175,7 @@ module _ (tests : List Test) (path : Answers) (shape : Option (List Piece)) wher
 
     -- a text that meets what is wanted is a word of the shape, which the patterns match so
     pub met-word : (w : List ℕ) → IsText w → Meets (wanted_patterns tests numbers shape) (clauses numbers 0) w → IsWord shape w
-    met-word w text met = let m = met-all w met in record { text = text; some = some-is w (all-some (all numbers) w numbers 0 refl m); fits = all-fits (all numbers) w numbers 0 refl m }
+    met-word w text met = let m = met-all w met in record { text = text; nonempty = some-is w (all-some (all numbers) w numbers 0 refl m); fits = all-fits (all numbers) w numbers 0 refl m }
 
     pub met-so : (w : List ℕ) → Meets (wanted_patterns tests numbers shape) (clauses numbers 0) w → All (IsMatchedSo tests path w) numbers
     met-so w met = all-so (all numbers) w numbers 0 refl (met-all w met)
@@ -184,4 +184,4 @@ module _ (tests : List Test) (path : Answers) (shape : Option (List Piece)) wher
     pub closed-none : (closed : List (List (List ℕ))) (w : List ℕ) → IsClosedFor tests path numbers shape closed → IsWord shape w → All (IsMatchedSo tests path w) numbers → ⊥
     closed-none closed w set is so =
         let own_set : IsClosed (all numbers) (clauses numbers 0) closed = subst (λ (ps : List (List Piece)). IsClosed ps (clauses numbers 0) closed) (same-patterns numbers has) set in
-        closed_sets_are_empty (all numbers) (clauses numbers 0) closed wanted-range own_set w is.text (meets-all (all numbers) w numbers 0 refl so (some-matches w is.some) is.fits)
+        closed_sets_are_empty (all numbers) (clauses numbers 0) closed wanted-range own_set w is.text (meets-all (all numbers) w numbers 0 refl so (some-matches w is.nonempty) is.fits)

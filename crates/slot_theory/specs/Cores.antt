@@ -26,7 +26,7 @@ use Rattle.slot_theory.specs.Wants.{IsClosedFor}
 
 -- a core: at least one test, the numbers strictly rise, the path answers each, and all are tests of the slot
 pub record IsCore (tests : List Test) (path : Answers) (core : List ℕ) (s : Slot) : Type 0 where
-  pub some : core ≢ []
+  pub nonempty : core ≢ []
   pub rises : rises_from 0 core ≡ true
   pub within : All (λ n. n < length tests) core
   pub answered : All (λ n. IsSome (answer_of path n)) core

@@ -7,5 +7,6 @@ pub mod Outcome
 pub mod Unasked
 pub mod Steps
 pub mod Shrinking
+pub mod Askable
 pub mod Question
 pub mod Acceptance

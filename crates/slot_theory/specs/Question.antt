@@ -1,30 +1,23 @@
 -- What the definitions say of the question which value a slot has at a path.
-use Rattle.std.specs.Prelude.{◌≡◌, ◌^◌, ◌<◌, ◌≤◌, ℕ, List, length, Option, Some, All}
+use Rattle.std.specs.Prelude.{◌≡◌, ◌<◌, ◌≤◌, ℕ, List, length, Option, None, Some, All}
 use Rattle.text_table.specs.Table.{item_at}
 use Rattle.pattern_automata.specs.declared.outcome.Product.{Product}
 use Rattle.pattern_automata.specs.Answer.{IsProduct}
 use Rattle.policy_model.specs.declared.principal.PrincipalKind.{PrincipalKind}
 use Rattle.policy_model.specs.declared.schema.KeyRule.{KeyRule}
-use Rattle.policy_model.specs.declared.test.Slot.TheVariants.{Key}
-use Rattle.policy_model.specs.Soundness.{SchemaIsSound, TestSuits}
+use Rattle.policy_model.specs.declared.schema.Schema.{Schema}
+use Rattle.policy_model.specs.declared.test.Slot.{Slot}
+use Rattle.policy_model.specs.declared.test.Slot.TheVariants as slot
 use Rattle.wildcard_lang.specs.declared.piece.Piece.{Piece}
 use Rattle.slot_theory.specs.declared.outcome.KindProof.{KindProof}
 use Rattle.slot_theory.specs.declared.outcome.Possible.{Possible}
 use Rattle.slot_theory.specs.declared.outcome.SlotProof.{SlotProof}
 use Rattle.slot_theory.specs.declared.question.Question.{Question}
 use Rattle.slot_theory.specs.Slots.{HasPattern, shape_at}
-use Rattle.slot_theory.specs.Possible.{PathInRange}
 use Rattle.slot_theory.specs.Wants.{wanted_clauses, wanted_patterns}
 use Rattle.set_operators.specs.Asks.{Asks}
 use Rattle.slot_theory.specs.Cores.{IsAnsweredOn, IsConflict, IsCore, KeyShows, KindShows, PrincipalShows, Shows, WordShows, asks_of}
 use Rattle.slot_theory.specs.Outcome.{IsSlotOutcome}
-
--- what may be asked: the schema is sound, the tests suit it and are numbered by 32 bits, and the path answers none but them
-pub record IsAskable (q : Question) : Type 0 where
-  pub sound : SchemaIsSound q.schema.now
-  pub suit : All (TestSuits q.schema.now) q.tests.now
-  pub count : length q.tests.now < 2 ^ 32
-  pub range : PathInRange q.tests.now q.path.now
 
 -- the path answers the test, which is on the slot
 abbrev pub IsAnsweredOf : Question → ℕ → Type 0
@@ -48,8 +41,8 @@ ShowsOf q core proof = Shows q.schema.now q.tests.now q.path.now core q.slot.now
 abbrev pub IsConflictOf : Question → List ℕ → SlotProof → Type 0
 IsConflictOf q core proof = IsConflict q.schema.now q.tests.now q.path.now q.slot.now core proof
 
-abbrev pub IsOutcomeOf : Question → ℕ → Possible → Type 0
-IsOutcomeOf q states found = IsSlotOutcome q.schema.now q.tests.now q.path.now q.slot.now states found
+abbrev pub IsOutcomeOf : Question → Possible → Type 0
+IsOutcomeOf q found = IsSlotOutcome q.schema.now q.tests.now q.path.now q.slot.now q.states found
 
 -- tests that have patterns, not more than there are
 pub record AreWanted (q : Question) (numbers : List ℕ) : Type 0 where
@@ -58,14 +51,21 @@ pub record AreWanted (q : Question) (numbers : List ℕ) : Type 0 where
   pub patterns : All (HasPattern q.tests.now) numbers
 
 -- what a product may answer of a text that the tests of these numbers want
-abbrev pub IsProductFor : Question → List ℕ → Option (List Piece) → ℕ → Product → Type 0
-IsProductFor q numbers shape states product =
-    IsProduct (wanted_patterns q.tests.now numbers shape) (wanted_clauses q.path.now numbers shape 0) states product
+abbrev pub IsProductFor : Question → List ℕ → Option (List Piece) → Product → Type 0
+IsProductFor q numbers shape product =
+    IsProduct (wanted_patterns q.tests.now numbers shape) (wanted_clauses q.path.now numbers shape 0) q.states product
+
+-- the rule of the key that is the slot, where it is one of the schema's
+abbrev pub slot_rule : Schema → Slot → Option KeyRule
+slot_rule schema slot.Principal = None
+slot_rule schema slot.Action = None
+slot_rule schema slot.Resource = None
+slot_rule schema (slot.Key name) = item_at name schema.keys
 
 -- the question is on the values of a key of this rule
 pub record IsOnKey (q : Question) (rule : KeyRule) : Type 0 where
   pub key : List ℕ
-  pub slot : q.slot.now ≡ Key key
+  pub slot : q.slot.now ≡ slot.Key key
   pub there : item_at key q.schema.now.keys ≡ Some rule
 
 -- what the core asks of the key's values

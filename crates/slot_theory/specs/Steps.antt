@@ -36,13 +36,13 @@ IsTried q v (attempt.Right w) = (w ≡ v) × AnswersSlot q.tests.now q.path.now 
 IsTried q v (attempt.Wrong n) = IsWrong q.tests.now q.path.now q.slot.now v n
 
 -- what an attempt may answer
-abbrev pub IsAttempt : Question → ℕ → List ℕ → Attempt → Type 0
-IsAttempt q states core (attempt.Empty proof) = ShowsOf q core proof
-IsAttempt q states core (attempt.Full texts) = ShowWider (patterns_at q.schema.now q.tests.now q.path.now q.slot.now) states texts
-IsAttempt q states core (attempt.Right v) = IsSlotValue q.schema.now q.tests.now q.path.now q.slot.now v
-IsAttempt q states core (attempt.Wrong n) = IsAnsweredOf q n × (Contains core n → ⊥)
+abbrev pub IsAttempt : Question → List ℕ → Attempt → Type 0
+IsAttempt q core (attempt.Empty proof) = ShowsOf q core proof
+IsAttempt q core (attempt.Full texts) = ShowWider (patterns_at q.schema.now q.tests.now q.path.now q.slot.now) q.states texts
+IsAttempt q core (attempt.Right v) = IsSlotValue q.schema.now q.tests.now q.path.now q.slot.now v
+IsAttempt q core (attempt.Wrong n) = IsAnsweredOf q n × (Contains core n → ⊥)
 
 -- what an attempt at the principals of one kind may answer
-abbrev pub IsKindAttempt : Question → ℕ → List ℕ → PrincipalKind → KindAttempt → Type 0
-IsKindAttempt q states core k (kind_attempt.Empty proof) = KindShowsOf q core k proof
-IsKindAttempt q states core k (kind_attempt.Whole made) = IsAttempt q states core made
+abbrev pub IsKindAttempt : Question → List ℕ → PrincipalKind → KindAttempt → Type 0
+IsKindAttempt q core k (kind_attempt.Empty proof) = KindShowsOf q core k proof
+IsKindAttempt q core k (kind_attempt.Whole made) = IsAttempt q core made

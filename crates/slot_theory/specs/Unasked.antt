@@ -19,17 +19,17 @@ use Rattle.slot_theory.specs.declared.outcome.SlotValue.{SlotValue}
 use Rattle.slot_theory.specs.declared.outcome.SlotValue.TheVariants as value
 
 -- the characters of a sample that stand for a piece: a literal's own, `x` for any one, and none for any number
-abbrev pub sampled : Piece → List ℕ
-sampled (Lit c) = c ∷ []
-sampled (LitFold c) = c ∷ []
-sampled One = codes "x"
-sampled OneNoColon = codes "x"
-sampled Many = []
-sampled ManyNoColon = []
+abbrev pub sample_of_piece : Piece → List ℕ
+sample_of_piece (Lit c) = c ∷ []
+sample_of_piece (LitFold c) = c ∷ []
+sample_of_piece One = codes "x"
+sample_of_piece OneNoColon = codes "x"
+sample_of_piece Many = []
+sample_of_piece ManyNoColon = []
 
 -- a text that the pattern matches
 abbrev pub sample : List Piece → List ℕ
-sample = flat_map sampled
+sample = flat_map sample_of_piece
 
 -- the text, or `x` in place of the empty one
 abbrev pub or_x : List ℕ → List ℕ

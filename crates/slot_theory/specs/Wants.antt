@@ -18,20 +18,20 @@ abbrev pub wanted_patterns : List Test → List ℕ → Option (List Piece) → 
 wanted_patterns tests numbers shape = patterns_of tests numbers ++ some_word ∷ option_to_list shape
 
 -- the clause that the pattern of this number matches or not
-abbrev pub wanted : ℕ → Bool → List Literal
-wanted i holds = record { pattern = i; holds = holds } ∷ []
+abbrev pub wanted_clause : ℕ → Bool → List Literal
+wanted_clause i holds = record { pattern = i; holds = holds } ∷ []
 
 -- the clause that the shape matches, where one is given
 abbrev pub shape_clauses : Option (List Piece) → ℕ → List (List Literal)
 shape_clauses None i = []
-shape_clauses (Some shape) i = wanted i true ∷ []
+shape_clauses (Some shape) i = wanted_clause i true ∷ []
 
 -- one clause for each of the tests, whose patterns are numbered from i on: it matches as the path answers it. Then `?*` matches,
 -- and then the shape
 abbrev pub wanted_clauses : Answers → List ℕ → Option (List Piece) → ℕ → List (List Literal)
-wanted_clauses path [] shape i = wanted i true ∷ shape_clauses shape (i + 1)
+wanted_clauses path [] shape i = wanted_clause i true ∷ shape_clauses shape (i + 1)
 wanted_clauses path (n ∷ numbers) shape i =
-    wanted i (unwrap_or (answer_of path n) false) ∷ wanted_clauses path numbers shape (i + 1)
+    wanted_clause i (unwrap_or (answer_of path n) false) ∷ wanted_clauses path numbers shape (i + 1)
 
 -- the wants of the tests of these numbers
 pub record IsWants (tests : List Test) (path : Answers) (numbers : List ℕ) (shape : Option (List Piece)) (wants : Wants)

@@ -1,8 +1,8 @@
 //! Attempts: a value for a core is found by products, and tried on all answered tests of the slot.
-ghost use Rattle.std.specs.Prelude.{◌≡◌, ◌≤◌, IfOk};
+ghost use Rattle.std.specs.Prelude.{◌≡◌, IfOk};
 ghost use Rattle.policy_model.specs.declared.test.Slot.TheVariants.{Principal};
 ghost use Rattle.slot_theory.specs.Slots.{IsWordSlot};
-ghost use Rattle.slot_theory.specs.Question.{IsAskable, IsCoreOf};
+ghost use Rattle.slot_theory.specs.Question.{IsCoreOf};
 ghost use Rattle.slot_theory.specs.Steps.{IsAttempt, IsKindAttempt};
 
 use crate::keys::attempt_key;
@@ -20,20 +20,13 @@ use policy_model::{Slot, shape_of};
 use std::alloc::Global;
 
 /// A word for the core, tried on all answered tests of the slot.
-fn attempt_word(
-    alloc: Global,
-    question: &Question<'_>,
-    core: &[u32],
-    states: u32,
-) -> Result<Attempt, NoMemory>
-    requires askable { IsAskable question.now }
+fn attempt_word(alloc: Global, question: &Question<'_>, core: &[u32]) -> Result<Attempt, NoMemory>
     requires slot { IsWordSlot question.now.slot.now }
     requires core { IsCoreOf question.now core.now }
-    requires some { 1 ≤ states }
-    ensures { IfOk result (IsAttempt question.now states core.now) }
+    ensures { IfOk result (IsAttempt question.now core.now) }
 {
     let shape = shape_at(question.schema, question.slot);
-    match solve(alloc, question, core, shape, states)? {
+    match solve(alloc, question, core, shape)? {
         Product::Empty(closed) => Ok(Attempt::Empty(SlotProof::Word(closed))),
         Product::TooMany(texts) => Ok(Attempt::Full(texts)),
         Product::Found(text) => Ok(tried(question, SlotValue::Word(text))),
@@ -45,21 +38,18 @@ fn attempt_kind(
     alloc: Global,
     question: &Question<'_>,
     core: &[u32],
-    states: u32,
     kind: PrincipalKind,
 ) -> Result<KindAttempt, NoMemory>
-    requires askable { IsAskable question.now }
     requires slot { question.now.slot.now ≡ Principal }
     requires core { IsCoreOf question.now core.now }
-    requires some { 1 ≤ states }
-    ensures { IfOk result (IsKindAttempt question.now states core.now kind) }
+    ensures { IfOk result (IsKindAttempt question.now core.now kind) }
 {
     if is_contradicted(question.tests, question.path, core, kind) {
         return Ok(KindAttempt::Empty(KindProof::Never));
     }
     let open = open_tests(alloc, question.tests, core, kind)?;
     let shape = shape_of(&question.schema.shapes, kind);
-    match solve(alloc, question, open.as_slice(), shape, states)? {
+    match solve(alloc, question, open.as_slice(), shape)? {
         Product::Empty(closed) => Ok(KindAttempt::Empty(KindProof::Closed(closed))),
         Product::TooMany(texts) => Ok(KindAttempt::Whole(Attempt::Full(texts))),
         Product::Found(id) => {
@@ -74,27 +64,24 @@ fn attempt_principal(
     alloc: Global,
     question: &Question<'_>,
     core: &[u32],
-    states: u32,
 ) -> Result<Attempt, NoMemory>
-    requires askable { IsAskable question.now }
     requires slot { question.now.slot.now ≡ Principal }
     requires core { IsCoreOf question.now core.now }
-    requires some { 1 ≤ states }
-    ensures { IfOk result (IsAttempt question.now states core.now) }
+    ensures { IfOk result (IsAttempt question.now core.now) }
 {
-    let aws = match attempt_kind(alloc, question, core, states, Aws)? {
+    let aws = match attempt_kind(alloc, question, core, Aws)? {
         KindAttempt::Empty(proof) => proof,
         KindAttempt::Whole(attempt) => return Ok(attempt),
     };
-    let service = match attempt_kind(alloc, question, core, states, Service)? {
+    let service = match attempt_kind(alloc, question, core, Service)? {
         KindAttempt::Empty(proof) => proof,
         KindAttempt::Whole(attempt) => return Ok(attempt),
     };
-    let federated = match attempt_kind(alloc, question, core, states, Federated)? {
+    let federated = match attempt_kind(alloc, question, core, Federated)? {
         KindAttempt::Empty(proof) => proof,
         KindAttempt::Whole(attempt) => return Ok(attempt),
     };
-    let canonical = match attempt_kind(alloc, question, core, states, CanonicalUser)? {
+    let canonical = match attempt_kind(alloc, question, core, CanonicalUser)? {
         KindAttempt::Empty(proof) => proof,
         KindAttempt::Whole(attempt) => return Ok(attempt),
     };
@@ -102,22 +89,15 @@ fn attempt_principal(
 }
 
 /// A value for the core, tried on all answered tests of the slot.
-pub fn attempt(
-    alloc: Global,
-    question: &Question<'_>,
-    core: &[u32],
-    states: u32,
-) -> Result<Attempt, NoMemory>
-    requires askable { IsAskable question.now }
+pub fn attempt(alloc: Global, question: &Question<'_>, core: &[u32]) -> Result<Attempt, NoMemory>
     requires core { IsCoreOf question.now core.now }
-    requires some { 1 ≤ states }
-    ensures { IfOk result (IsAttempt question.now states core.now) }
+    ensures { IfOk result (IsAttempt question.now core.now) }
 {
     match question.slot {
-        Slot::Principal => attempt_principal(alloc, question, core, states),
-        Slot::Action | Slot::Resource => attempt_word(alloc, question, core, states),
+        Slot::Principal => attempt_principal(alloc, question, core),
+        Slot::Action | Slot::Resource => attempt_word(alloc, question, core),
         Slot::Key(name) => match question.schema.get(name) {
-            Some(rule) => attempt_key(alloc, question, rule, core, states),
+            Some(rule) => attempt_key(alloc, question, rule, core),
             None => unreachable!(),
         },
     }

@@ -5,7 +5,7 @@ ghost use Rattle.policy_model.specs.Soundness.{SchemaIsSound, TestSuits};
 ghost use Rattle.slot_theory.specs.Slots.{IsWordSlot};
 ghost use Rattle.slot_theory.specs.Possible.{PathInRange};
 ghost use Rattle.slot_theory.specs.Cores.{Accepts};
-ghost use Rattle.slot_theory.specs.Question.{IsAskable, IsConflictOf, IsCoreOf, KindShowsOf, PrincipalShowsOf, ShowsOf, WordShowsOf};
+ghost use Rattle.slot_theory.specs.Question.{IsConflictOf, IsCoreOf, KindShowsOf, PrincipalShowsOf, ShowsOf, WordShowsOf};
 
 use crate::cores::is_core;
 use crate::keys::key_shows;
@@ -28,7 +28,6 @@ fn word_shows(
     core: &[u32],
     proof: &SlotProof,
 ) -> Result<bool, NoMemory>
-    requires askable { IsAskable question.now }
     requires core { IsCoreOf question.now core.now }
     requires slot { IsWordSlot question.now.slot.now }
     ensures { IfOk result (λ yes. IsTrue yes ↔ WordShowsOf question.now core.now proof.now) }
@@ -50,7 +49,6 @@ fn kind_shows(
     kind: PrincipalKind,
     proof: &KindProof,
 ) -> Result<bool, NoMemory>
-    requires askable { IsAskable question.now }
     requires core { IsCoreOf question.now core.now }
     requires slot { question.now.slot.now ≡ Principal }
     ensures { IfOk result (λ yes. IsTrue yes ↔ KindShowsOf question.now core.now kind proof.now) }
@@ -72,7 +70,6 @@ fn principal_shows(
     core: &[u32],
     proof: &SlotProof,
 ) -> Result<bool, NoMemory>
-    requires askable { IsAskable question.now }
     requires core { IsCoreOf question.now core.now }
     requires slot { question.now.slot.now ≡ Principal }
     ensures { IfOk result (λ yes. IsTrue yes ↔ PrincipalShowsOf question.now core.now proof.now) }
@@ -95,7 +92,6 @@ fn shows(
     core: &[u32],
     proof: &SlotProof,
 ) -> Result<bool, NoMemory>
-    requires askable { IsAskable question.now }
     requires core { IsCoreOf question.now core.now }
     ensures { IfOk result (λ yes. IsTrue yes ↔ ShowsOf question.now core.now proof.now) }
 {
@@ -116,7 +112,6 @@ fn is_conflict(
     core: &[u32],
     proof: &SlotProof,
 ) -> Result<bool, NoMemory>
-    requires askable { IsAskable question.now }
     ensures { IfOk result (λ yes. IsTrue yes ↔ IsConflictOf question.now core.now proof.now) }
 {
     if !is_core(question.tests, question.path, question.slot, core) {
@@ -169,6 +164,8 @@ pub fn accepts(
         tests: tests.as_slice(),
         path,
         slot: &slot,
+        // A check looks for no value.
+        states: 1,
     };
     is_conflict(alloc, &question, core.as_slice(), proof)
 }

@@ -1,7 +1,7 @@
 //! Cores that lose tests which they don't need. Which tests stay is proposed, and a core of them is taken
 //! where an attempt confirms that no value answers it.
-ghost use Rattle.std.specs.Prelude.{◌≡◌, ◌≤◌, IfOk, IfSome};
-ghost use Rattle.slot_theory.specs.Question.{IsAskable, IsConflictOf};
+ghost use Rattle.std.specs.Prelude.{◌≡◌, IfOk, IfSome};
+ghost use Rattle.slot_theory.specs.Question.{IsConflictOf};
 ghost use Rattle.slot_theory.specs.Shrinking.{IsKept, found_or};
 
 use crate::attempt::attempt;
@@ -17,17 +17,14 @@ use std::alloc::Global;
 fn proof_of(
     alloc: Global,
     question: &Question<'_>,
-    states: u32,
     core: &[u32],
 ) -> Result<Option<SlotProof>, NoMemory>
-    requires askable { IsAskable question.now }
-    requires some { 1 ≤ states }
     ensures { IfOk result (λ found. IfSome found (IsConflictOf question.now core.now)) }
 {
     if !is_core(question.tests, question.path, question.slot, core) {
         return Ok(None);
     }
-    match attempt(alloc, question, core, states)? {
+    match attempt(alloc, question, core)? {
         Attempt::Empty(proof) => Ok(Some(proof)),
         _ => Ok(None),
     }
@@ -37,14 +34,11 @@ fn proof_of(
 pub fn confirmed(
     alloc: Global,
     question: &Question<'_>,
-    states: u32,
     core: Core,
 ) -> Result<Option<Kept>, NoMemory>
-    requires askable { IsAskable question.now }
-    requires some { 1 ≤ states }
     ensures { IfOk result (λ found. IfSome found (IsKept question.now)) }
 {
-    match proof_of(alloc, question, states, core.as_slice())? {
+    match proof_of(alloc, question, core.as_slice())? {
         Some(proof) => Ok(Some(Kept { core, proof })),
         None => Ok(None),
     }
@@ -66,57 +60,43 @@ pub fn found_or<T: Drop>(found: Result<Option<T>, NoMemory>, had: T) -> Result<T
 fn without_test(
     alloc: Global,
     question: &Question<'_>,
-    states: u32,
     core: &[u32],
     index: usize,
     last: u32,
 ) -> Result<Option<Kept>, NoMemory>
-    requires askable { IsAskable question.now }
-    requires some { 1 ≤ states }
     ensures { IfOk result (λ found. IfSome found (IsKept question.now)) }
 {
     if index >= core.len() || core[index] == last {
         return Ok(None);
     }
     let fewer = without(alloc, core, index)?;
-    confirmed(alloc, question, states, fewer)
+    confirmed(alloc, question, fewer)
 }
 
 /// The core without the test at an index, with its proof, where it still has one.
 fn smaller(
     alloc: Global,
     question: &Question<'_>,
-    states: u32,
     kept: Kept,
     index: usize,
     last: u32,
 ) -> Result<Kept, NoMemory>
-    requires askable { IsAskable question.now }
-    requires some { 1 ≤ states }
     requires kept { IsKept question.now kept }
     ensures { IfOk result (IsKept question.now) }
 {
-    let fewer = without_test(alloc, question, states, kept.core.as_slice(), index, last);
+    let fewer = without_test(alloc, question, kept.core.as_slice(), index, last);
     found_or(fewer, kept)
 }
 
 /// The core without the tests that it doesn't need.
-pub fn cut(
-    alloc: Global,
-    question: &Question<'_>,
-    states: u32,
-    first: Kept,
-    last: u32,
-) -> Result<Kept, NoMemory>
-    requires askable { IsAskable question.now }
-    requires some { 1 ≤ states }
+pub fn cut(alloc: Global, question: &Question<'_>, first: Kept, last: u32) -> Result<Kept, NoMemory>
     requires kept { IsKept question.now first }
     ensures { IfOk result (IsKept question.now) }
 {
     let count = first.core.len();
     let mut kept = first;
     for index in (0..count).rev() {
-        kept = smaller(alloc, question, states, kept, index, last)?;
+        kept = smaller(alloc, question, kept, index, last)?;
     }
     Ok(kept)
 }
@@ -152,33 +132,23 @@ fn named_tests(
 fn named_alone(
     alloc: Global,
     question: &Question<'_>,
-    states: u32,
     first: &Kept,
 ) -> Result<Option<Kept>, NoMemory>
-    requires askable { IsAskable question.now }
-    requires some { 1 ≤ states }
     ensures { IfOk result (λ found. IfSome found (IsKept question.now)) }
 {
     let named = named_tests(alloc, question.path, &first.proof, first.core.as_slice())?;
     if named.len() == first.core.len() {
         return Ok(None);
     }
-    confirmed(alloc, question, states, named)
+    confirmed(alloc, question, named)
 }
 
 /// The conflict of the tests alone that its proof rests on. Each test of a key with several values that
 /// is answered yes has a product of its own, so that `cut` would look at many of them again and again.
-pub fn trimmed(
-    alloc: Global,
-    question: &Question<'_>,
-    states: u32,
-    first: Kept,
-) -> Result<Kept, NoMemory>
-    requires askable { IsAskable question.now }
-    requires some { 1 ≤ states }
+pub fn trimmed(alloc: Global, question: &Question<'_>, first: Kept) -> Result<Kept, NoMemory>
     requires kept { IsKept question.now first }
     ensures { IfOk result (IsKept question.now) }
 {
-    let fewer = named_alone(alloc, question, states, &first);
+    let fewer = named_alone(alloc, question, &first);
     found_or(fewer, first)
 }

@@ -1,9 +1,9 @@
 //! A key for a core: the values that answer the core, or what shows that there are none.
-ghost use Rattle.std.specs.Prelude.{◌≡◌, ◌≤◌, ◌↔◌, true, IfOk, IsTrue};
+ghost use Rattle.std.specs.Prelude.{◌≡◌, ◌↔◌, true, IfOk, IsTrue, option_map};
 ghost use Rattle.pattern_automata.specs.Closed.{rises_from};
 ghost use Rattle.policy_model.specs.Soundness.{RuleIsSound};
 ghost use Rattle.slot_theory.specs.Cores.{MemberShows};
-ghost use Rattle.slot_theory.specs.Question.{IsAskable, IsCoreOf, IsOnKey, KeyShowsOf, core_asks};
+ghost use Rattle.slot_theory.specs.Question.{IsCoreOf, IsOnKey, KeyShowsOf, core_asks, slot_rule};
 ghost use Rattle.slot_theory.specs.Steps.{IsAttempt};
 
 use crate::cores::index_in;
@@ -36,7 +36,10 @@ fn asks_of(alloc: Global, question: &Question<'_>, core: &[u32]) -> Result<KeyAs
 }
 
 /// The rule of the key that is the slot.
-pub fn rule_of<'a>(question: &Question<'a>) -> Option<&'a KeyRule> {
+pub fn rule_of<'a>(question: &Question<'a>) -> Option<&'a KeyRule>
+    ensures { option_map (λ v. v.now) result ≡
+        slot_rule question.now.schema.now question.now.slot.now }
+{
     match question.slot {
         Slot::Key(name) => question.schema.get(name),
         _ => None,
@@ -67,16 +70,13 @@ pub fn attempt_key(
     question: &Question<'_>,
     rule: &KeyRule,
     core: &[u32],
-    states: u32,
 ) -> Result<Attempt, NoMemory>
-    requires askable { IsAskable question.now }
     requires key { IsOnKey question.now rule.now }
     requires core { IsCoreOf question.now core.now }
-    requires some { 1 ≤ states }
-    ensures { IfOk result (IsAttempt question.now states core.now) }
+    ensures { IfOk result (IsAttempt question.now core.now) }
 {
     let asks = asks_of(alloc, question, core)?;
-    match solve(alloc, rule, &asks, states)? {
+    match solve(alloc, rule, &asks, question.states)? {
         KeyAnswer::Found(values) => Ok(tried(question, SlotValue::Values(values))),
         KeyAnswer::Absent => Ok(Attempt::Empty(SlotProof::Absent)),
         KeyAnswer::Required => Ok(Attempt::Empty(SlotProof::Required)),
@@ -119,7 +119,6 @@ pub fn key_shows(
     core: &[u32],
     proof: &SlotProof,
 ) -> Result<bool, NoMemory>
-    requires askable { IsAskable question.now }
     requires key { IsOnKey question.now rule.now }
     requires core { IsCoreOf question.now core.now }
     ensures { IfOk result (λ yes.

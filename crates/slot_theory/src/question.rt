@@ -1,4 +1,7 @@
 //! The question which value a slot has at a path.
+ghost use Rattle.std.specs.Prelude.{◌≤◌};
+ghost use Rattle.slot_theory.specs.Askable.{IsAskable, IsAskable-prop};
+
 use formula_tree::Path;
 use policy_model::{Schema, Slot, Test};
 
@@ -10,4 +13,8 @@ pub struct Question<'a> {
     pub tests: &'a [Test],
     pub path: &'a Path,
     pub slot: &'a Slot,
+    /// The most product states that are looked at for some of the tests.
+    pub states: u32,
+    ghost askable: { IsAskable schema.now tests.now path.now } by { IsAskable-prop schema.now tests.now path.now },
+    ghost positive: { 1 ≤ states },
 }

@@ -9,7 +9,7 @@ ghost use Rattle.slot_theory.specs.declared.outcome.Possible.TheVariants.{Found}
 ghost use Rattle.slot_theory.specs.Outcome.{IsSlotOutcome};
 ghost use Rattle.slot_theory.specs.Unasked.{stated_value};
 ghost use Rattle.slot_theory.specs.Slots.{SlotIsIn};
-ghost use Rattle.slot_theory.specs.Question.{IsAnsweredOf, IsAskable, IsOutcomeOf};
+ghost use Rattle.slot_theory.specs.Question.{IsAnsweredOf, IsOutcomeOf};
 
 use crate::attempt::attempt;
 use crate::cores::with_test;
@@ -42,31 +42,24 @@ fn last_on(tests: &[Test], answers: &[(u32, bool)], slot: &Slot) -> Option<u32>
 }
 
 /// The search from a core of one test.
-fn search(
-    alloc: Global,
-    question: &Question<'_>,
-    first: u32,
-    states: u32,
-) -> Result<Possible, NoMemory>
-    requires askable { IsAskable question.now }
+fn search(alloc: Global, question: &Question<'_>, first: u32) -> Result<Possible, NoMemory>
     requires first { IsAnsweredOf question.now first }
-    requires some { 1 ≤ states }
-    ensures { IfOk result (IsOutcomeOf question.now states) }
+    ensures { IfOk result (IsOutcomeOf question.now) }
 {
     let mut last = first;
     let mut core = Core::new(alloc);
     core.push(first)?;
     'grow: loop {
-        match attempt(alloc, question, core.as_slice(), states)? {
+        match attempt(alloc, question, core.as_slice())? {
             Attempt::Empty(proof) => {
-                let kept = trimmed(alloc, question, states, Kept { core, proof })?;
-                let small = cut(alloc, question, states, kept, last)?;
+                let kept = trimmed(alloc, question, Kept { core, proof })?;
+                let small = cut(alloc, question, kept, last)?;
                 return Ok(Possible::Conflict(small.core, small.proof));
             }
             Attempt::Full(texts) => return Ok(Possible::TooMany(texts)),
             Attempt::Right(value) => return Ok(Possible::Found(value)),
             Attempt::Wrong(n) => {
-                if let Some(found) = all_at_once(alloc, question, core.len(), states)? {
+                if let Some(found) = all_at_once(alloc, question, core.len())? {
                     return Ok(found);
                 }
                 core = with_test(alloc, core.as_slice(), n)?;
@@ -97,7 +90,7 @@ pub fn possible(
     requires count { length tests.now < 2 ^ 32 }
     requires range { PathInRange tests.now path.now }
     requires slot { SlotIsIn schema.now slot.now }
-    requires some { 1 ≤ states }
+    requires positive { 1 ≤ states }
     ensures outcome { IfOk result (IsSlotOutcome schema.now tests.now path.now slot.now states) }
     ensures unasked { IfOk result (λ found. ¬ HasTest tests.now path.now slot.now →
         found ≡ Found (stated_value schema.now slot.now)) }
@@ -110,6 +103,7 @@ pub fn possible(
         tests: tests.as_slice(),
         path,
         slot,
+        states,
     };
-    search(alloc, &question, last, states)
+    search(alloc, &question, last)
 }

@@ -1,8 +1,8 @@
 //! The search with all answered tests of a slot at once. A key whose values aren't texts has finitely many
 //! values that stand for all, which are looked at in one pass however many tests there are, while a core
 //! that grows test by test takes a pass for each.
-ghost use Rattle.std.specs.Prelude.{◌≡◌, ◌≤◌, IfOk, IfSome};
-ghost use Rattle.slot_theory.specs.Question.{IsAskable, IsCoreOf, IsOutcomeOf};
+ghost use Rattle.std.specs.Prelude.{◌≡◌, IfOk, IfSome};
+ghost use Rattle.slot_theory.specs.Question.{IsCoreOf, IsOutcomeOf};
 ghost use Rattle.slot_theory.specs.Shrinking.{IsKept};
 
 use crate::attempt::attempt;
@@ -46,37 +46,23 @@ fn answered_tests(alloc: Global, question: &Question<'_>) -> Result<Core, NoMemo
 }
 
 /// The conflict with fewer tests, by what answers them otherwise, or else by leaving out each.
-fn reduced(
-    alloc: Global,
-    question: &Question<'_>,
-    states: u32,
-    first: Kept,
-) -> Result<Kept, NoMemory>
-    requires askable { IsAskable question.now }
-    requires some { 1 ≤ states }
+fn reduced(alloc: Global, question: &Question<'_>, first: Kept) -> Result<Kept, NoMemory>
     requires kept { IsKept question.now first }
     ensures { IfOk result (IsKept question.now) }
 {
     let few = few_of(alloc, question, first.core.as_slice())?;
-    let fewer = confirmed(alloc, question, states, few);
+    let fewer = confirmed(alloc, question, few);
     found_or(fewer, first)
 }
 
 /// What a search with this core answers, unless the core grows.
-fn settled(
-    alloc: Global,
-    question: &Question<'_>,
-    states: u32,
-    core: Core,
-) -> Result<Option<Possible>, NoMemory>
-    requires askable { IsAskable question.now }
+fn settled(alloc: Global, question: &Question<'_>, core: Core) -> Result<Option<Possible>, NoMemory>
     requires core { IsCoreOf question.now core }
-    requires some { 1 ≤ states }
-    ensures { IfOk result (λ found. IfSome found (IsOutcomeOf question.now states)) }
+    ensures { IfOk result (λ found. IfSome found (IsOutcomeOf question.now)) }
 {
-    match attempt(alloc, question, core.as_slice(), states)? {
+    match attempt(alloc, question, core.as_slice())? {
         Attempt::Empty(proof) => {
-            let kept = reduced(alloc, question, states, Kept { core, proof })?;
+            let kept = reduced(alloc, question, Kept { core, proof })?;
             Ok(Some(Possible::Conflict(kept.core, kept.proof)))
         }
         Attempt::Full(texts) => Ok(Some(Possible::TooMany(texts))),
@@ -90,11 +76,8 @@ pub fn all_at_once(
     alloc: Global,
     question: &Question<'_>,
     count: usize,
-    states: u32,
 ) -> Result<Option<Possible>, NoMemory>
-    requires askable { IsAskable question.now }
-    requires some { 1 ≤ states }
-    ensures { IfOk result (λ found. IfSome found (IsOutcomeOf question.now states)) }
+    ensures { IfOk result (λ found. IfSome found (IsOutcomeOf question.now)) }
 {
     if !is_long(question, count) {
         return Ok(None);
@@ -108,5 +91,5 @@ pub fn all_at_once(
     ) {
         return Ok(None);
     }
-    settled(alloc, question, states, core)
+    settled(alloc, question, core)
 }

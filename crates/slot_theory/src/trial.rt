@@ -3,7 +3,6 @@ ghost use Rattle.std.specs.Prelude.{◌≡◌, MatchBool, MatchOption};
 ghost use Rattle.formula_tree.specs.Answers.{IsDistinct};
 ghost use Rattle.slot_theory.specs.Slots.{AnswersSlot, slot_of, AnswersTest};
 ghost use Rattle.slot_theory.specs.Possible.{PathInRange};
-ghost use Rattle.slot_theory.specs.Question.{IsAskable};
 ghost use Rattle.slot_theory.specs.Steps.{IsOtherwise, IsTried, IsWrong};
 
 use crate::outcome::SlotValue;
@@ -46,7 +45,6 @@ fn first_wrong(
 
 /// The value, tried on all answered tests of the slot.
 pub fn tried(question: &Question<'_>, value: SlotValue) -> Attempt
-    requires askable { IsAskable question.now }
     ensures { IsTried question.now value result }
 {
     match first_wrong(

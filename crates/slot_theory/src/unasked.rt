@@ -8,7 +8,7 @@ ghost use Rattle.policy_model.specs.Soundness.{RuleIsSound, SchemaIsSound, WordS
 ghost use Rattle.policy_model.specs.declared.test.Slot.TheVariants as slot;
 ghost use Rattle.set_operators.specs.Asks.{AreValuesOf};
 ghost use Rattle.slot_theory.specs.Slots.{Permits, SlotIsIn};
-ghost use Rattle.slot_theory.specs.Unasked.{or_x, plain_value, sample, sampled, shaped_or, stated_key, stated_value, stated_values, stated_word};
+ghost use Rattle.slot_theory.specs.Unasked.{or_x, plain_value, sample, sample_of_piece, shaped_or, stated_key, stated_value, stated_values, stated_word};
 
 use crate::outcome::SlotValue;
 use cidr_bits::Address;
@@ -20,7 +20,7 @@ use wildcard_lang::{Pattern, Piece, Text};
 
 /// Adds the characters that stand for a piece.
 fn push_sampled(chars: &mut Vec<char>, piece: &Piece) -> Result<(), NoMemory>
-    ensures { OnOk result (chars.new.items ≡ chars.old.items ++ sampled piece.now) }
+    ensures { OnOk result (chars.new.items ≡ chars.old.items ++ sample_of_piece piece.now) }
 {
     match piece {
         Piece::Lit(c) | Piece::LitFold(c) => chars.push(*c)?,

@@ -1,10 +1,10 @@
 //! What tests want of a word or of an id, with `?*` and a shape, and products for that.
-ghost use Rattle.std.specs.Prelude.{◌≡◌, ◌++◌, ◌+◌, ◌^◌, ◌≤◌, ◌<◌, ◌↔◌, IfOk, OnOk, IsTrue, false, unwrap_or};
+ghost use Rattle.std.specs.Prelude.{◌≡◌, ◌++◌, ◌+◌, ◌^◌, ◌<◌, ◌↔◌, IfOk, OnOk, IsTrue, false, unwrap_or};
 ghost use Rattle.std.specs.Option.{option_to_list};
 ghost use Rattle.formula_tree.specs.Answers.{answer_of};
 ghost use Rattle.slot_theory.specs.Slots.{some_word};
-ghost use Rattle.slot_theory.specs.Question.{AreWanted, IsAskable, IsProductFor};
-ghost use Rattle.slot_theory.specs.Wants.{IsClosedFor, IsWants, patterns_of, shape_clauses, wanted, wanted_clauses};
+ghost use Rattle.slot_theory.specs.Question.{AreWanted, IsProductFor};
+ghost use Rattle.slot_theory.specs.Wants.{IsClosedFor, IsWants, patterns_of, shape_clauses, wanted_clause, wanted_clauses};
 
 use crate::question::Question;
 use crate::slots::pattern_of;
@@ -29,7 +29,6 @@ fn patterns_of(
     question: &Question<'_>,
     numbers: &[u32],
 ) -> Result<PatternList, NoMemory>
-    requires askable { IsAskable question.now }
     requires wanted { AreWanted question.now numbers.now }
     ensures { IfOk result (λ v. v ≡ patterns_of question.now.tests.now numbers.now) }
 {
@@ -55,7 +54,7 @@ fn push_shape(shape: &Option<Pattern>, patterns: &mut PatternList) -> Result<(),
 /// The clause that the pattern of this number matches or not.
 fn wanted(alloc: Global, number: usize, holds: bool) -> Result<LiteralList, NoMemory>
     requires { number < 2 ^ 32 }
-    ensures { IfOk result (λ k. k ≡ wanted number holds) }
+    ensures { IfOk result (λ k. k ≡ wanted_clause number holds) }
 {
     let pattern = number as u32;
     let mut clause = LiteralList::new(alloc);
@@ -96,7 +95,6 @@ fn clauses_of(
     numbers: &[u32],
     shape: &Option<Pattern>,
 ) -> Result<ClauseList, NoMemory>
-    requires askable { IsAskable question.now }
     requires wanted { AreWanted question.now numbers.now }
     ensures { IfOk result (λ v. v ≡ wanted_clauses question.now.path.now numbers.now shape.now 0) }
 {
@@ -117,7 +115,6 @@ fn wants_of(
     numbers: &[u32],
     shape: &Option<Pattern>,
 ) -> Result<Wants, NoMemory>
-    requires askable { IsAskable question.now }
     requires wanted { AreWanted question.now numbers.now }
     ensures { IfOk result (
         IsWants question.now.tests.now question.now.path.now numbers.now shape.now) }
@@ -136,15 +133,12 @@ pub fn solve(
     question: &Question<'_>,
     numbers: &[u32],
     shape: &Option<Pattern>,
-    states: u32,
 ) -> Result<Product, NoMemory>
-    requires askable { IsAskable question.now }
     requires wanted { AreWanted question.now numbers.now }
-    requires some { 1 ≤ states }
-    ensures { IfOk result (IsProductFor question.now numbers.now shape.now states) }
+    ensures { IfOk result (IsProductFor question.now numbers.now shape.now) }
 {
     let wants = wants_of(alloc, question, numbers, shape)?;
-    product(alloc, &wants, states)
+    product(alloc, &wants, question.states)
 }
 
 /// Whether the set is closed for what the tests of these numbers want.
@@ -155,7 +149,6 @@ pub fn is_closed_for(
     shape: &Option<Pattern>,
     closed: &Closed,
 ) -> Result<bool, NoMemory>
-    requires askable { IsAskable question.now }
     requires wanted { AreWanted question.now numbers.now }
     ensures { IfOk result (λ yes. IsTrue yes ↔
         IsClosedFor question.now.tests.now question.now.path.now numbers.now shape.now closed.now) }

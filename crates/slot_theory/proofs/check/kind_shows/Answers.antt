@@ -6,9 +6,10 @@ use Rattle.slot_theory.specs.Wants.{IsClosedFor}
 use Rattle.slot_theory.proofs.Products.{kind-wanted}
 use Rattle.slot_theory.proofs.check.kind_shows.Goals as goal
 
-pub is_closed_for-requires-clause-wanted : goal.is_closed_for-requires-clause-wanted
-is_closed_for-requires-clause-wanted c =
-    subst (λ (xs : List ℕ). AreWanted c.args.question.now xs) (sym (c.as_slice.ensures ∙ c.in_ok-open-in-Closed.ensures)) (kind-wanted c.args.question.now c.args.core.now c.args.kind c.requires.slot c.requires.core)
+pub is_closed_for-requires : goal.is_closed_for-requires
+is_closed_for-requires c = record {
+  wanted = subst (λ (xs : List ℕ). AreWanted c.args.question.now xs) (sym (c.as_slice.ensures ∙ c.in_ok-open-in-Closed.ensures)) (kind-wanted c.args.question.now c.args.core.now c.args.kind c.requires.slot c.requires.core);
+}
 
 pub returns-in_ok-open-in-Closed : goal.returns-in_ok-open-in-Closed
 returns-in_ok-open-in-Closed c =

@@ -4,8 +4,10 @@ use Rattle.slot_theory.specs.Wants.{IsClosedFor}
 use Rattle.slot_theory.proofs.Products.{word-wanted}
 use Rattle.slot_theory.proofs.check.word_shows.Goals as goal
 
-pub is_closed_for-requires-clause-wanted : goal.is_closed_for-requires-clause-wanted
-is_closed_for-requires-clause-wanted c = word-wanted c.args.question.now c.args.core.now c.requires.slot c.requires.core
+pub is_closed_for-requires : goal.is_closed_for-requires
+is_closed_for-requires c = record {
+  wanted = word-wanted c.args.question.now c.args.core.now c.requires.slot c.requires.core;
+}
 
 pub returns-in-Word : goal.returns-in-Word
 returns-in-Word c =

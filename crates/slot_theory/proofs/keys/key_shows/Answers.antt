@@ -7,15 +7,15 @@ use Rattle.slot_theory.proofs.Keyed.{asks-few, asks-suit, key-sound}
 use Rattle.slot_theory.proofs.keys.key_shows.Goals as goal
 
 pub shows_points-requires-clause-sound : goal.shows_points-requires-clause-sound
-shows_points-requires-clause-sound c = key-sound c.args.question.now c.args.rule.now c.args.core.now c.requires.key c.requires.core c.requires.askable
+shows_points-requires-clause-sound c = key-sound c.args.question.now c.args.rule.now c.args.core.now c.requires.key c.requires.core
 
 pub shows_points-requires-clause-asks : goal.shows_points-requires-clause-asks
 shows_points-requires-clause-asks c =
     subst (λ (asks : Asks). All (λ (a : KeyAsk × Bool). AskIsOf c.args.rule.now.kind a.0) asks) (sym c.in_ok-asks.ensures)
-    (asks-suit c.args.question.now c.args.rule.now c.args.core.now c.requires.key c.requires.core c.requires.askable)
+    (asks-suit c.args.question.now c.args.rule.now c.args.core.now c.requires.key c.requires.core)
 
 pub shows_points-requires-clause-count : goal.shows_points-requires-clause-count
-shows_points-requires-clause-count c = rw c.in_ok-asks.ensures (asks-few c.args.question.now c.args.rule.now c.args.core.now c.requires.key c.requires.core c.requires.askable)
+shows_points-requires-clause-count c = rw c.in_ok-asks.ensures (asks-few c.args.question.now c.args.rule.now c.args.core.now c.requires.key c.requires.core)
 
 pub returns-in-Points : goal.returns-in-Points
 returns-in-Points c =
@@ -31,7 +31,7 @@ returns-in-Required c =
 
 pub shows_together-requires : goal.shows_together-requires
 shows_together-requires c = record {
-  sound = key-sound c.args.question.now c.args.rule.now c.args.core.now c.requires.key c.requires.core c.requires.askable;
+  sound = key-sound c.args.question.now c.args.rule.now c.args.core.now c.requires.key c.requires.core;
 }
 
 pub returns-in-Word : goal.returns-in-Word
@@ -39,7 +39,7 @@ returns-in-Word c =
     rw c.in-Word.is (subst (λ (asks : Asks). IfOk c.shows_together.result (λ yes. IsTrue yes ↔ ShowsTogether c.args.rule.now asks c.in-Word.closed)) c.in_ok-asks.ensures c.shows_together.ensures)
 
 pub member_shows-requires-clause-sound : goal.member_shows-requires-clause-sound
-member_shows-requires-clause-sound c = key-sound c.args.question.now c.args.rule.now c.args.core.now c.requires.key c.requires.core c.requires.askable
+member_shows-requires-clause-sound c = key-sound c.args.question.now c.args.rule.now c.args.core.now c.requires.key c.requires.core
 
 pub returns-in-Member : goal.returns-in-Member
 returns-in-Member c =
@@ -47,7 +47,7 @@ returns-in-Member c =
 
 pub shows_some_member-requires : goal.shows_some_member-requires
 shows_some_member-requires c = record {
-  sound = key-sound c.args.question.now c.args.rule.now c.args.core.now c.requires.key c.requires.core c.requires.askable;
+  sound = key-sound c.args.question.now c.args.rule.now c.args.core.now c.requires.key c.requires.core;
 }
 
 pub returns : goal.returns
