@@ -10,7 +10,7 @@ use Rattle.cnf_clauses.specs.declared.clause.Found.{Found}
 use Rattle.cnf_clauses.specs.declared.clause.Found.TheVariants.{Refuted, Unit, Open}
 use Rattle.cnf_clauses.specs.Literals.{Clause, Literal, IsFalseUnder, IsUndecided, IsRefuted, IsUnit}
 use Rattle.cnf_clauses.specs.Found.{IsOpen, Finds}
-use Rattle.cnf_clauses.specs.Scan.{same_value, noted_undecided, noted}
+use Rattle.cnf_clauses.specs.Scan.{same_value, found_after_undecided, found_after}
 
 -- ---- membership
 
@@ -85,7 +85,7 @@ literal_differs v b l h e =
     let t : (nat_eq v l.0 && same_value b l.1) ≡ true = subst (λ (x : Literal). (nat_eq v x.0 && same_value b x.1) ≡ true) e s in
     cc
 
-undecided-more : (d : Answers) (seen : Clause) (l : Literal) (found : Found) → IsUndecided d l → Finds d seen found → Finds d (seen ++ l ∷ []) (noted_undecided found l)
+undecided-more : (d : Answers) (seen : Clause) (l : Literal) (found : Found) → IsUndecided d l → Finds d seen found → Finds d (seen ++ l ∷ []) (found_after_undecided found l)
 undecided-more d seen l Refuted h f = unit-first d seen l f h
 undecided-more d seen l (Unit v b) h f =
     elim (cases_Bool (nat_eq v l.0 && same_value b l.1)) [
@@ -94,19 +94,19 @@ undecided-more d seen l (Unit v b) h f =
     ]
 undecided-more d seen l Open h f = open-more d seen (l ∷ []) f
 
-value-more : (d : Answers) (seen : Clause) (l : Literal) (found : Found) (value : Bool) → answer_of d l.0 ≡ Some value → Finds d seen found → Finds d (seen ++ l ∷ []) (noted found l (Some value))
+value-more : (d : Answers) (seen : Clause) (l : Literal) (found : Found) (value : Bool) → answer_of d l.0 ≡ Some value → Finds d seen found → Finds d (seen ++ l ∷ []) (found_after found l (Some value))
 value-more d seen l found value h f =
     elim (cases_Bool (same_value value l.1)) [
       | inl e ↦ rw e (inl (l, Contains-push seen l, rw (same_is value l.1 e) at h))
       | inr e ↦ rw e (false-more d seen l found (rw (differs_is value l.1 e) at h) f)
     ]
 
-noted-at : (d : Answers) (seen : Clause) (l : Literal) (found : Found) (value : Option Bool) → answer_of d l.0 ≡ value → Finds d seen found → Finds d (seen ++ l ∷ []) (noted found l value)
+noted-at : (d : Answers) (seen : Clause) (l : Literal) (found : Found) (value : Option Bool) → answer_of d l.0 ≡ value → Finds d seen found → Finds d (seen ++ l ∷ []) (found_after found l value)
 noted-at d seen l found None h f = undecided-more d seen l found h f
 noted-at d seen l found (Some value) h f = value-more d seen l found value h f
 
 -- one more literal
-pub noted-more : (d : Answers) (seen : Clause) (l : Literal) (found next : Found) → next ≡ noted found l (answer_of d l.0) → Finds d seen found → Finds d (seen ++ l ∷ []) next
+pub noted-more : (d : Answers) (seen : Clause) (l : Literal) (found next : Found) → next ≡ found_after found l (answer_of d l.0) → Finds d seen found → Finds d (seen ++ l ∷ []) next
 noted-more d seen l found next e f = rw e (noted-at d seen l found (answer_of d l.0) refl f)
 
 pub nothing-found : (d : Answers) (m : Literal) → Contains [] m → IsFalseUnder d m
@@ -114,7 +114,7 @@ nothing-found d m (k, h, e) = absurd (omega arith)
 
 -- one step of a look over a list of literals
 pub look-step : (d : Answers) (lits : Clause) (i : ℕ) (dflt : Literal) (found next : Found) (value : Option Bool) → i < length lits → value ≡ answer_of d (get_or lits i dflt).0 →
-    next ≡ noted found (get_or lits i dflt) value → Finds d (take i lits) found → Finds d (take (i + 1) lits) next
+    next ≡ found_after found (get_or lits i dflt) value → Finds d (take i lits) found → Finds d (take (i + 1) lits) next
 look-step d lits i dflt found next value h read e f =
     rw (take_more lits i dflt h)
     (noted-more d (take i lits) (get_or lits i dflt) found next (rw (← read) e) f)

@@ -10,8 +10,8 @@ Literal = ℕ × Bool
 abbrev pub Clause : Type 0
 Clause = List Literal
 
-abbrev pub negated : Literal → Literal
-negated l = (l.0, not l.1)
+abbrev pub complement : Literal → Literal
+complement l = (l.0, not l.1)
 
 -- decided variables with their values are a list as the answers of a path are
 abbrev pub IsTrueUnder : Answers → Literal → Type 0

@@ -80,6 +80,10 @@ abbrev mutual
   node_clauses_in next none = []
   node_clauses_in next (more t ts) = node_clauses next t ++ node_clauses_in (next + nodes t) ts
 
+-- the most clauses, in numbers
+abbrev pub ClauseLimits : Type 0
+ClauseLimits = MOST_CLAUSES ≡ 4294967296
+
 -- each clause has a number
 unfoldable pub HaveNumbers : List Clause → Type 0
 HaveNumbers clauses = length clauses ≤ MOST_CLAUSES

@@ -10,11 +10,11 @@ same_value false true = false
 same_value false false = true
 
 -- one more undecided literal
-abbrev pub noted_undecided : Found → Literal → Found
-noted_undecided Refuted l = Unit l.0 l.1
-noted_undecided (Unit v b) l = if nat_eq v l.0 && same_value b l.1 then Unit v b else Open
-noted_undecided Open l = Open
+abbrev pub found_after_undecided : Found → Literal → Found
+found_after_undecided Refuted l = Unit l.0 l.1
+found_after_undecided (Unit v b) l = if nat_eq v l.0 && same_value b l.1 then Unit v b else Open
+found_after_undecided Open l = Open
 
-abbrev pub noted : Found → Literal → Option Bool → Found
-noted found l None = noted_undecided found l
-noted found l (Some value) = if same_value value l.1 then Open else found
+abbrev pub found_after : Found → Literal → Option Bool → Found
+found_after found l None = found_after_undecided found l
+found_after found l (Some value) = if same_value value l.1 then Open else found

@@ -1,7 +1,7 @@
 //! A clause, and a look at it under decided variables.
 ghost use Rattle.std.specs.Prelude.{◌≡◌, ◌++◌, ◌∷◌, List, ℕ, Bool};
 ghost use Rattle.cnf_clauses.specs.Found.{Finds};
-ghost use Rattle.cnf_clauses.specs.Scan.{noted};
+ghost use Rattle.cnf_clauses.specs.Scan.{found_after};
 
 use crate::decided::Decided;
 use plain_lists::List;
@@ -25,7 +25,7 @@ pub(crate) enum Found {
 
 // What one more literal makes of what was found.
 pub(crate) fn noted(found: Found, literal: Literal, value: Option<bool>) -> Found
-    ensures { result ≡ noted found literal value }
+    ensures { result ≡ found_after found literal value }
 {
     match value {
         Some(value) => {

@@ -1,6 +1,7 @@
-//! What replayed hints say of the formula, and from which answers they replay. Functions without a
-//! body, whose contracts are the laws.
+//! What replayed hints say of the formula, from which answers they replay, and how many clauses there are
+//! at most. Functions without a body, whose contracts are the laws.
 ghost use Rattle.cnf_clauses.specs.Laws.{ReplaysExcludeYes};
+ghost use Rattle.cnf_clauses.specs.Numbering.{ClauseLimits};
 ghost use Rattle.cnf_clauses.specs.Used.{ReplaysAreConvex};
 
 /// Where hints replay from a path, no completion of the path makes the tree yes. The tests of the
@@ -13,4 +14,9 @@ pub fn replayed_hints_exclude_yes()
 /// monotone: a further answer may satisfy a clause that a hint names, and then the replay fails.
 pub fn replays_are_convex()
     ensures { ReplaysAreConvex }
+{}
+
+/// At most 4,294,967,296 clauses have numbers.
+pub fn clause_limits()
+    ensures { ClauseLimits }
 {}

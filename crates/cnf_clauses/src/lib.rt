@@ -18,7 +18,7 @@ mod watching;
 
 pub use clauses::{Clauses, Hints};
 pub use following::{Conflict, Following, Start};
-pub use laws::{replayed_hints_exclude_yes, replays_are_convex};
+pub use laws::{clause_limits, replayed_hints_exclude_yes, replays_are_convex};
 pub use numbering::clauses_of;
 pub use plain_lists::NoMemory;
 pub use propagation::conflict;

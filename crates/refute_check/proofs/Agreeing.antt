@@ -1,7 +1,7 @@
 -- A path has one propagated run, and it ends as the plain run does, after at most as many splits.
 use Rattle.std.proofs.Common.{◌≡◌, ◌≤◌, ℕ, List, Bool, true, false, refl, sym, subst, arith}
 use Rattle.formula_tree.specs.Answers.{Answers}
-use Rattle.formula_tree.specs.Runs.{Run, answered, no_by_path, no_by_value, no_side, yes_by_value, yes_side}
+use Rattle.formula_tree.specs.Runs.{Run, path_with, no_by_path, no_by_value, no_side, yes_by_value, yes_side}
 use Rattle.formula_tree.specs.Trees.{Tree}
 use Rattle.formula_tree.specs.Values.{value}
 use Rattle.formula_tree.specs.declared.value.Three.TheVariants.{Yes}
@@ -64,14 +64,14 @@ module _ (schema : Schema) (tests : List Test) (tree : Tree) (below : TreeInRang
   same-propagated p b c n m range (propagated.yes_side p1 t1 k1 a1 h1 q1 e1 y1 c1) (propagated.no_by_clauses p2 q2) = absurd (q1 q2)
   same-propagated p b c n m range (propagated.yes_side p1 t1 k1 a1 h1 q1 e1 y1 c1) (propagated.yes_side p2 t2 k2 a2 h2 q2 e2 y2 c2) =
       let same_test : t1 ≡ t2 = cc in
-      let y : S (answered p t2 true) true k1 = subst (λ (x : ℕ). S (answered p x true) true k1) same_test y1 in
-      let first = same-propagated (answered p t2 true) true true k1 k2 (range-picked schema tests tree below p t2 true range e2) y y2 in
+      let y : S (path_with p t2 true) true k1 = subst (λ (x : ℕ). S (path_with p x true) true k1) same_test y1 in
+      let first = same-propagated (path_with p t2 true) true true k1 k2 (range-picked schema tests tree below p t2 true range e2) y y2 in
       let count = first.1 in
       (refl, omega arith)
   same-propagated p b c n m range (propagated.yes_side p1 t1 k1 a1 h1 q1 e1 y1 c1) (propagated.no_side p2 t2 end2 k2 m2 a2 h2 q2 e2 y2 z2 c2) =
       let same_test : t1 ≡ t2 = cc in
-      let y : S (answered p t2 true) true k1 = subst (λ (x : ℕ). S (answered p x true) true k1) same_test y1 in
-      let first = same-propagated (answered p t2 true) true false k1 k2 (range-picked schema tests tree below p t2 true range e2) y y2 in
+      let y : S (path_with p t2 true) true k1 = subst (λ (x : ℕ). S (path_with p x true) true k1) same_test y1 in
+      let first = same-propagated (path_with p t2 true) true false k1 k2 (range-picked schema tests tree below p t2 true range e2) y y2 in
       let bad = first.0 in
       absurd (cc)
   same-propagated p b c n m range (propagated.no_side p1 t1 end1 k1 m1 a1 h1 q1 e1 y1 z1 c1) (propagated.no_by_value p2 v2) = let u = pick-unknown p tree t1 e1 in absurd (cc)
@@ -80,16 +80,16 @@ module _ (schema : Schema) (tests : List Test) (tree : Tree) (below : TreeInRang
   same-propagated p b c n m range (propagated.no_side p1 t1 end1 k1 m1 a1 h1 q1 e1 y1 z1 c1) (propagated.no_by_clauses p2 q2) = absurd (q1 q2)
   same-propagated p b c n m range (propagated.no_side p1 t1 end1 k1 m1 a1 h1 q1 e1 y1 z1 c1) (propagated.yes_side p2 t2 k2 a2 h2 q2 e2 y2 c2) =
       let same_test : t1 ≡ t2 = cc in
-      let y : S (answered p t2 true) false k1 = subst (λ (x : ℕ). S (answered p x true) false k1) same_test y1 in
-      let first = same-propagated (answered p t2 true) false true k1 k2 (range-picked schema tests tree below p t2 true range e2) y y2 in
+      let y : S (path_with p t2 true) false k1 = subst (λ (x : ℕ). S (path_with p x true) false k1) same_test y1 in
+      let first = same-propagated (path_with p t2 true) false true k1 k2 (range-picked schema tests tree below p t2 true range e2) y y2 in
       let bad = first.0 in
       absurd (cc)
   same-propagated p b c n m range (propagated.no_side p1 t1 end1 k1 m1 a1 h1 q1 e1 y1 z1 c1) (propagated.no_side p2 t2 end2 k2 m2 a2 h2 q2 e2 y2 z2 c2) =
       let same_test : t1 ≡ t2 = cc in
-      let y : S (answered p t2 true) false k1 = subst (λ (x : ℕ). S (answered p x true) false k1) same_test y1 in
-      let first = same-propagated (answered p t2 true) false false k1 k2 (range-picked schema tests tree below p t2 true range e2) y y2 in
-      let z : S (answered p t2 false) b m1 = subst (λ (x : ℕ). S (answered p x false) b m1) same_test z1 in
-      let second = same-propagated (answered p t2 false) b c m1 m2 (range-picked schema tests tree below p t2 false range e2) z z2 in
+      let y : S (path_with p t2 true) false k1 = subst (λ (x : ℕ). S (path_with p x true) false k1) same_test y1 in
+      let first = same-propagated (path_with p t2 true) false false k1 k2 (range-picked schema tests tree below p t2 true range e2) y y2 in
+      let z : S (path_with p t2 false) b m1 = subst (λ (x : ℕ). S (path_with p x false) b m1) same_test z1 in
+      let second = same-propagated (path_with p t2 false) b c m1 m2 (range-picked schema tests tree below p t2 false range e2) z z2 in
       let count = first.1 in
       let more = second.1 in
       (second.0, omega arith)
@@ -116,14 +116,14 @@ module _ (schema : Schema) (tests : List Test) (tree : Tree) (below : TreeInRang
   shorter p b c n m range (propagated.yes_side p1 t1 k1 a1 h1 q1 e1 y1 c1) (yes_by_value p2 v2 h2) = let u = pick-unknown p tree t1 e1 in absurd (cc)
   shorter p b c n m range (propagated.yes_side p1 t1 k1 a1 h1 q1 e1 y1 c1) (yes_side p2 t2 k2 a2 h2 e2 y2 c2) =
       let same_test : t1 ≡ t2 = cc in
-      let y : S (answered p t2 true) true k1 = subst (λ (x : ℕ). S (answered p x true) true k1) same_test y1 in
-      let first = shorter (answered p t2 true) true true k1 k2 (range-picked schema tests tree below p t2 true range e2) y y2 in
+      let y : S (path_with p t2 true) true k1 = subst (λ (x : ℕ). S (path_with p x true) true k1) same_test y1 in
+      let first = shorter (path_with p t2 true) true true k1 k2 (range-picked schema tests tree below p t2 true range e2) y y2 in
       let count = first.1 in
       (refl, omega arith)
   shorter p b c n m range (propagated.yes_side p1 t1 k1 a1 h1 q1 e1 y1 c1) (no_side p2 t2 end2 k2 m2 a2 h2 e2 y2 z2 c2) =
       let same_test : t1 ≡ t2 = cc in
-      let y : S (answered p t2 true) true k1 = subst (λ (x : ℕ). S (answered p x true) true k1) same_test y1 in
-      let first = shorter (answered p t2 true) true false k1 k2 (range-picked schema tests tree below p t2 true range e2) y y2 in
+      let y : S (path_with p t2 true) true k1 = subst (λ (x : ℕ). S (path_with p x true) true k1) same_test y1 in
+      let first = shorter (path_with p t2 true) true false k1 k2 (range-picked schema tests tree below p t2 true range e2) y y2 in
       let bad = first.0 in
       absurd (cc)
   shorter p b c n m range (propagated.no_side p1 t1 end1 k1 m1 a1 h1 q1 e1 y1 z1 c1) (no_by_value p2 v2) = let u = pick-unknown p tree t1 e1 in absurd (cc)
@@ -131,16 +131,16 @@ module _ (schema : Schema) (tests : List Test) (tree : Tree) (below : TreeInRang
   shorter p b c n m range (propagated.no_side p1 t1 end1 k1 m1 a1 h1 q1 e1 y1 z1 c1) (yes_by_value p2 v2 h2) = let u = pick-unknown p tree t1 e1 in absurd (cc)
   shorter p b c n m range (propagated.no_side p1 t1 end1 k1 m1 a1 h1 q1 e1 y1 z1 c1) (yes_side p2 t2 k2 a2 h2 e2 y2 c2) =
       let same_test : t1 ≡ t2 = cc in
-      let y : S (answered p t2 true) false k1 = subst (λ (x : ℕ). S (answered p x true) false k1) same_test y1 in
-      let first = shorter (answered p t2 true) false true k1 k2 (range-picked schema tests tree below p t2 true range e2) y y2 in
+      let y : S (path_with p t2 true) false k1 = subst (λ (x : ℕ). S (path_with p x true) false k1) same_test y1 in
+      let first = shorter (path_with p t2 true) false true k1 k2 (range-picked schema tests tree below p t2 true range e2) y y2 in
       let bad = first.0 in
       absurd (cc)
   shorter p b c n m range (propagated.no_side p1 t1 end1 k1 m1 a1 h1 q1 e1 y1 z1 c1) (no_side p2 t2 end2 k2 m2 a2 h2 e2 y2 z2 c2) =
       let same_test : t1 ≡ t2 = cc in
-      let y : S (answered p t2 true) false k1 = subst (λ (x : ℕ). S (answered p x true) false k1) same_test y1 in
-      let first = shorter (answered p t2 true) false false k1 k2 (range-picked schema tests tree below p t2 true range e2) y y2 in
-      let z : S (answered p t2 false) b m1 = subst (λ (x : ℕ). S (answered p x false) b m1) same_test z1 in
-      let second = shorter (answered p t2 false) b c m1 m2 (range-picked schema tests tree below p t2 false range e2) z z2 in
+      let y : S (path_with p t2 true) false k1 = subst (λ (x : ℕ). S (path_with p x true) false k1) same_test y1 in
+      let first = shorter (path_with p t2 true) false false k1 k2 (range-picked schema tests tree below p t2 true range e2) y y2 in
+      let z : S (path_with p t2 false) b m1 = subst (λ (x : ℕ). S (path_with p x false) b m1) same_test z1 in
+      let second = shorter (path_with p t2 false) b c m1 m2 (range-picked schema tests tree below p t2 false range e2) z z2 in
       let count = first.1 in
       let more = second.1 in
       (second.0, omega arith)

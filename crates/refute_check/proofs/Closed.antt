@@ -7,7 +7,7 @@ use Rattle.cnf_clauses.specs.Numbering.{clauses_of}
 use Rattle.cnf_clauses.specs.Replays.{Replays}
 use Rattle.cnf_clauses.proofs.Cited.{exclude_yes}
 use Rattle.formula_tree.specs.Answers.{Answers, Completes, answer_of}
-use Rattle.formula_tree.specs.Runs.{answered}
+use Rattle.formula_tree.specs.Runs.{path_with}
 use Rattle.formula_tree.specs.Trees.{Tree}
 use Rattle.formula_tree.specs.Values.{holds}
 use Rattle.formula_tree.proofs.Laws.{answer_of-besides, answer_of-last, cases_eq, says-no}
@@ -26,11 +26,11 @@ use Rattle.refute_check.specs.Proofs.{Proof, by_clauses, by_slot, by_value, ende
 use Rattle.refute_check.proofs.Ranges.{all-in-range, range_more}
 
 -- one more answer that the request gives
-completes_more : (total : ℕ → Bool) (path : Answers) (n : ℕ) (b : Bool) → answer_of path n ≡ None → total n ≡ b → Completes total path → Completes total (answered path n b)
+completes_more : (total : ℕ → Bool) (path : Answers) (n : ℕ) (b : Bool) → answer_of path n ≡ None → total n ≡ b → Completes total path → Completes total (path_with path n b)
 completes_more total path n b new is before m c here =
     elim (cases_eq m n) [
       | inl same ↦
-          let last : answer_of (answered path n b) m ≡ Some b = subst (λ (k : ℕ). answer_of (answered path n b) k ≡ Some b) (sym same) (answer_of-last path n b new) in
+          let last : answer_of (path_with path n b) m ≡ Some b = subst (λ (k : ℕ). answer_of (path_with path n b) k ≡ Some b) (sym same) (answer_of-last path n b new) in
           let told : total m ≡ b = subst (λ (k : ℕ). total k ≡ b) (sym same) is in
           cc
       | inr other ↦ before m c (sym (answer_of-besides path n b m other) ∙ here)
@@ -62,8 +62,8 @@ module _ (schema : Schema) (tests : List Test) (tree : Tree) (range : TreeInRang
 
   closed-misses : (p : Proof) (before : Before) (path : Answers) → PathInRange tests path → AllMiss before.ended → Closes schema tests tree before p path → Misses path × AllMiss (before.ended ++ ended_in p)
   closed-misses (split n y z) before path here right closes =
-      let yes = closed-misses y before (answered path n true) (range_more tests path n true here closes.0.0) right closes.1 in
-      let no = closed-misses z (after_part before y) (answered path n false) (range_more tests path n false here closes.0.0) yes.1 closes.2 in (
+      let yes = closed-misses y before (path_with path n true) (range_more tests path n true here closes.0.0) right closes.1 in
+      let no = closed-misses z (after_part before y) (path_with path n false) (range_more tests path n false here closes.0.0) yes.1 closes.2 in (
         λ completes.
             elim (cases_Bool (total n)) [
               | inl e ↦ yes.0 (completes_more total path n true closes.0.1 e completes)

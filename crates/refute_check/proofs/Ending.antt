@@ -1,7 +1,7 @@
 -- From a path each of the two runs ends exactly where some valid request answers the path and makes the query yes.
 use Rattle.std.proofs.Common.{◌≡◌, ℕ, List, length, Bool, true, false, Some, None, refl, inl, inr}
 use Rattle.formula_tree.specs.Answers.{Answers, answer_of}
-use Rattle.formula_tree.specs.Runs.{Run, answered, no_by_path, no_by_value, no_side, yes_by_value, yes_side}
+use Rattle.formula_tree.specs.Runs.{Run, path_with, no_by_path, no_by_value, no_side, yes_by_value, yes_side}
 use Rattle.formula_tree.specs.Trees.{Tree}
 use Rattle.formula_tree.specs.Values.{pick, value}
 use Rattle.formula_tree.specs.declared.value.Three.TheVariants.{No, Yes}
@@ -51,14 +51,14 @@ module _ (schema : Schema) (tests : List Test) (tree : Tree) where
     is = record { valid = can.valid; answers = can.answers; meets = makes-yes tests tree path can.request range can.answers is_yes };
   }
 
-  pub found-before : (path : Answers) (n : ℕ) (b : Bool) → Found (answered path n b) → Found path
+  pub found-before : (path : Answers) (n : ℕ) (b : Bool) → Found (path_with path n b) → Found path
   found-before path n b found = record {
     request = found.request;
     is = record { valid = found.is.valid; answers = answers-before tests path n b found.request found.is.answers; meets = found.is.meets };
   }
 
   -- a request answers a test one way
-  pub unmet-by-split : (path : Answers) (n : ℕ) → answer_of path n ≡ None → Unmet (answered path n true) → Unmet (answered path n false) → Unmet path
+  pub unmet-by-split : (path : Answers) (n : ℕ) → answer_of path n ≡ None → Unmet (path_with path n true) → Unmet (path_with path n false) → Unmet path
   unmet-by-split path n new yes_side_unmet no_side_unmet r met =
       elim (answers-either tests path n r new met.answers) [
         | inl more ↦ yes_side_unmet r (record { valid = met.valid; answers = more; meets = met.meets })
@@ -67,10 +67,10 @@ module _ (schema : Schema) (tests : List Test) (tree : Tree) where
 
   module _ (below : TreeInRange tests tree) where
     -- a picked test is in range, and so is the path with its answer
-    pub range-picked : (path : Answers) (n : ℕ) (b : Bool) → PathInRange tests path → pick path tree ≡ Some n → PathInRange tests (answered path n b)
+    pub range-picked : (path : Answers) (n : ℕ) (b : Bool) → PathInRange tests path → pick path tree ≡ Some n → PathInRange tests (path_with path n b)
     range-picked path n b range is = range_more tests path n b range (pick-within (length tests) path tree n below is)
 
-    pub unmet-by-picked : (path : Answers) (n : ℕ) → pick path tree ≡ Some n → Unmet (answered path n true) → Unmet (answered path n false) → Unmet path
+    pub unmet-by-picked : (path : Answers) (n : ℕ) → pick path tree ≡ Some n → Unmet (path_with path n true) → Unmet (path_with path n false) → Unmet path
     unmet-by-picked path n is = unmet-by-split path n (pick-unanswered path tree n is)
 
     -- ---- the plain run
@@ -82,8 +82,8 @@ module _ (schema : Schema) (tests : List Test) (tree : Tree) where
     plain-found p b n range (no_by_value p1 v1) e = absurd (cc)
     plain-found p b n range (no_by_path p1 x1) e = absurd (cc)
     plain-found p b n range (yes_by_value p1 v1 h1) e = found-by-value p range v1 h1
-    plain-found p b n range (yes_side p1 t1 k1 a1 h1 e1 y1 c1) e = found-before p t1 true (plain-found (answered p t1 true) true k1 (range-picked p t1 true range e1) y1 refl)
-    plain-found p b n range (no_side p1 t1 end1 k1 m1 a1 h1 e1 y1 z1 c1) e = found-before p t1 false (plain-found (answered p t1 false) b m1 (range-picked p t1 false range e1) z1 e)
+    plain-found p b n range (yes_side p1 t1 k1 a1 h1 e1 y1 c1) e = found-before p t1 true (plain-found (path_with p t1 true) true k1 (range-picked p t1 true range e1) y1 refl)
+    plain-found p b n range (no_side p1 t1 end1 k1 m1 a1 h1 e1 y1 z1 c1) e = found-before p t1 false (plain-found (path_with p t1 false) b m1 (range-picked p t1 false range e1) z1 e)
 
     -- where no valid request answers the path and makes the query yes, it ends without one
     pub plain-ends : (p : Answers) (b : Bool) (n : ℕ) → PathInRange tests p → Unmet p → R p b n → b ≡ false
@@ -95,7 +95,7 @@ module _ (schema : Schema) (tests : List Test) (tree : Tree) where
     plain-unmet p b n range (yes_by_value p1 v1 h1) e = absurd (cc)
     plain-unmet p b n range (yes_side p1 t1 k1 a1 h1 e1 y1 c1) e = absurd (cc)
     plain-unmet p b n range (no_side p1 t1 end1 k1 m1 a1 h1 e1 y1 z1 c1) e =
-        unmet-by-picked p t1 e1 (plain-unmet (answered p t1 true) false k1 (range-picked p t1 true range e1) y1 refl) (plain-unmet (answered p t1 false) b m1 (range-picked p t1 false range e1) z1 e)
+        unmet-by-picked p t1 e1 (plain-unmet (path_with p t1 true) false k1 (range-picked p t1 true range e1) y1 refl) (plain-unmet (path_with p t1 false) b m1 (range-picked p t1 false range e1) z1 e)
 
     -- ---- the propagated run
 
@@ -107,8 +107,8 @@ module _ (schema : Schema) (tests : List Test) (tree : Tree) where
     propagated-found p b n range (propagated.no_by_path p1 x1) e = absurd (cc)
     propagated-found p b n range (propagated.yes_by_value p1 v1 h1) e = found-by-value p range v1 h1
     propagated-found p b n range (propagated.no_by_clauses p1 q1) e = absurd (cc)
-    propagated-found p b n range (propagated.yes_side p1 t1 k1 a1 h1 q1 e1 y1 c1) e = found-before p t1 true (propagated-found (answered p t1 true) true k1 (range-picked p t1 true range e1) y1 refl)
-    propagated-found p b n range (propagated.no_side p1 t1 end1 k1 m1 a1 h1 q1 e1 y1 z1 c1) e = found-before p t1 false (propagated-found (answered p t1 false) b m1 (range-picked p t1 false range e1) z1 e)
+    propagated-found p b n range (propagated.yes_side p1 t1 k1 a1 h1 q1 e1 y1 c1) e = found-before p t1 true (propagated-found (path_with p t1 true) true k1 (range-picked p t1 true range e1) y1 refl)
+    propagated-found p b n range (propagated.no_side p1 t1 end1 k1 m1 a1 h1 q1 e1 y1 z1 c1) e = found-before p t1 false (propagated-found (path_with p t1 false) b m1 (range-picked p t1 false range e1) z1 e)
 
     pub propagated-ends : (p : Answers) (b : Bool) (n : ℕ) → PathInRange tests p → Unmet p → S p b n → b ≡ false
     propagated-ends p b n range unmet run = not-true b (λ e. let found = propagated-found p b n range run e in unmet found.request found.is)
@@ -126,4 +126,4 @@ module _ (schema : Schema) (tests : List Test) (tree : Tree) where
     propagated-unmet p b n range (propagated.no_by_clauses p1 q1) e = unmet-by-clauses p range q1
     propagated-unmet p b n range (propagated.yes_side p1 t1 k1 a1 h1 q1 e1 y1 c1) e = absurd (cc)
     propagated-unmet p b n range (propagated.no_side p1 t1 end1 k1 m1 a1 h1 q1 e1 y1 z1 c1) e =
-        unmet-by-picked p t1 e1 (propagated-unmet (answered p t1 true) false k1 (range-picked p t1 true range e1) y1 refl) (propagated-unmet (answered p t1 false) b m1 (range-picked p t1 false range e1) z1 e)
+        unmet-by-picked p t1 e1 (propagated-unmet (path_with p t1 true) false k1 (range-picked p t1 true range e1) y1 refl) (propagated-unmet (path_with p t1 false) b m1 (range-picked p t1 false range e1) z1 e)

@@ -1,7 +1,7 @@
 -- There is a propagated run from each path.
 use Rattle.std.proofs.Common.{◌≡◌, ◌+◌, ◌⊎◌, ℕ, zero, suc, List, length, Bool, true, false, Some, inl, inr, refl, arith}
 use Rattle.formula_tree.specs.Answers.{Answers}
-use Rattle.formula_tree.specs.Runs.{answered, unanswered}
+use Rattle.formula_tree.specs.Runs.{path_with, unanswered_count}
 use Rattle.formula_tree.specs.Trees.{Tree}
 use Rattle.formula_tree.specs.Values.{pick, value}
 use Rattle.formula_tree.specs.declared.value.Three.{Three}
@@ -29,15 +29,15 @@ module _ (schema : Schema) (tests : List Test) (tree : Tree) where
 
   module _ (p : Answers) (n : ℕ) (is : pick p tree ≡ Some n) (ok : IsPossible schema tests p) (free : ¬ MeetsConflict tests tree p) where
     -- where the yes side can't end without a path that is met, it has no run
-    without-yes : ((k : ℕ) → S (answered p n true) false k → ⊥) → Without p → Without (answered p n true)
+    without-yes : ((k : ℕ) → S (path_with p n true) false k → ⊥) → Without p → Without (path_with p n true)
     without-yes unmet never true k y = never true (k + 1) (yes_side p n k (k + 1) ok free is y refl)
     without-yes unmet never false k y = unmet k y
 
-    without-no : Without p → (k : ℕ) → S (answered p n true) false k → Without (answered p n false)
+    without-no : Without p → (k : ℕ) → S (path_with p n true) false k → Without (path_with p n false)
     without-no never k y c m z = never c (k + m + 1) (no_side p n c k m (k + m + 1) ok free is y z refl)
 
   -- the runs of both sides give one of the path
-  from-sides : (p : Answers) (n : ℕ) → pick p tree ≡ Some n → (Without (answered p n true) → ⊥) → (Without (answered p n false) → ⊥) → Without p → ⊥
+  from-sides : (p : Answers) (n : ℕ) → pick p tree ≡ Some n → (Without (path_with p n true) → ⊥) → (Without (path_with p n false) → ⊥) → Without p → ⊥
   from-sides p n is some_yes some_no never =
       never false 0 (no_by_path p (λ ok.
       let free : ¬ MeetsConflict tests tree p = λ conflict. never false 0 (no_by_clauses p conflict) in
@@ -47,7 +47,7 @@ module _ (schema : Schema) (tests : List Test) (tree : Tree) where
   from-yes p v never = never false 0 (no_by_path p (λ ok. never true 0 (yes_by_value p v ok)))
 
   module _ (below : TreeInRange tests tree) where
-    pub some-propagated : (u : ℕ) (p : Answers) → unanswered p (length tests) ≡ u → Without p → ⊥
+    pub some-propagated : (u : ℕ) (p : Answers) → unanswered_count p (length tests) ≡ u → Without p → ⊥
     some-propagated zero p e never =
         elim (cases_value (value p tree)) [
           | inl v ↦ from-yes p v never
@@ -65,5 +65,5 @@ module _ (schema : Schema) (tests : List Test) (tree : Tree) where
               let (n, is) = some-pick p tree v in
               let less = unanswered-more p n true (length tests) (pick-within (length tests) p tree n below is) (pick-unanswered p tree n is) in
               let also = unanswered-more p n false (length tests) (pick-within (length tests) p tree n below is) (pick-unanswered p tree n is) in
-              from-sides p n is (some-propagated u (answered p n true) (omega arith)) (some-propagated u (answered p n false) (omega arith)) never
+              from-sides p n is (some-propagated u (path_with p n true) (omega arith)) (some-propagated u (path_with p n false) (omega arith)) never
         ]

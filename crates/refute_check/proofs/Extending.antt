@@ -2,7 +2,7 @@
 use Rattle.std.proofs.Common.{◌≡◌, ℕ, List, [], ◌∷◌, slice_get, Bool, true, false, Some, None, MatchBool, ◌⊎◌, ◌∙◌, sym, subst, inl, inr}
 use Rattle.std.proofs.lemmas.Bool.{cases_Bool}
 use Rattle.formula_tree.specs.Answers.{Answers, Contained, answer_of}
-use Rattle.formula_tree.specs.Runs.{CanGoOn, IsHarderAlong, answered}
+use Rattle.formula_tree.specs.Runs.{CanGoOn, IsHarderAlong, path_with}
 use Rattle.formula_tree.proofs.Laws.{answer_of-besides, answer_of-last, answer_of-more, cases_eq}
 use Rattle.policy_model.specs.declared.request.Request.{Request}
 use Rattle.policy_model.specs.declared.schema.Schema.{Schema}
@@ -21,15 +21,15 @@ pub answers-few : (tests : List Test) (few many : Answers) (r : Request) → Con
 answers-few tests few many r inside answers n b t given at = answers n b t (inside n b given) at
 
 -- and so what answers one more test
-pub answers-before : (tests : List Test) (path : Answers) (n : ℕ) (b : Bool) (r : Request) → AnswersPath tests (answered path n b) r → AnswersPath tests path r
-answers-before tests path n b r = answers-few tests path (answered path n b) r (λ m c given. answer_of-more path ((n, b) ∷ []) m c given)
+pub answers-before : (tests : List Test) (path : Answers) (n : ℕ) (b : Bool) (r : Request) → AnswersPath tests (path_with path n b) r → AnswersPath tests path r
+answers-before tests path n b r = answers-few tests path (path_with path n b) r (λ m c given. answer_of-more path ((n, b) ∷ []) m c given)
 
 -- a request that answers the path and one more test so
-pub answers-more : (tests : List Test) (path : Answers) (n : ℕ) (b : Bool) (r : Request) → answer_of path n ≡ None → ((t : Test) → slice_get tests n ≡ Some t → MatchBool b (TestHolds r t) (¬ TestHolds r t)) → AnswersPath tests path r → AnswersPath tests (answered path n b) r
+pub answers-more : (tests : List Test) (path : Answers) (n : ℕ) (b : Bool) (r : Request) → answer_of path n ≡ None → ((t : Test) → slice_get tests n ≡ Some t → MatchBool b (TestHolds r t) (¬ TestHolds r t)) → AnswersPath tests path r → AnswersPath tests (path_with path n b) r
 answers-more tests path n b r new is before m c t given at =
     elim (cases_eq m n) [
       | inl same ↦
-          let last : answer_of (answered path n b) m ≡ Some b = subst (λ (k : ℕ). answer_of (answered path n b) k ≡ Some b) (sym same) (answer_of-last path n b new) in
+          let last : answer_of (path_with path n b) m ≡ Some b = subst (λ (k : ℕ). answer_of (path_with path n b) k ≡ Some b) (sym same) (answer_of-last path n b new) in
           subst (λ (x : Bool). MatchBool x (TestHolds r t) (¬ TestHolds r t)) (some-same b c (sym last ∙ given)) (is t (subst (λ (k : ℕ). slice_get tests k ≡ Some t) same at))
       | inr other ↦ before m c t (sym (answer_of-besides path n b m other) ∙ given) at
     ]
@@ -40,7 +40,7 @@ decides-at tests n b r e t at =
     subst (λ (x : Bool). MatchBool x (TestHolds r t) (¬ TestHolds r t)) own (test-decided r t)
 
 -- a request that answers a path answers it with one of the two answers to a further test
-pub answers-either : (tests : List Test) (path : Answers) (n : ℕ) (r : Request) → answer_of path n ≡ None → AnswersPath tests path r → AnswersPath tests (answered path n true) r ⊎ AnswersPath tests (answered path n false) r
+pub answers-either : (tests : List Test) (path : Answers) (n : ℕ) (r : Request) → answer_of path n ≡ None → AnswersPath tests path r → AnswersPath tests (path_with path n true) r ⊎ AnswersPath tests (path_with path n false) r
 answers-either tests path n r new before =
     elim (cases_Bool (holds_on r (test_at tests n))) [
       | inl e ↦ inl (answers-more tests path n true r new (decides-at tests n true r e) before)

@@ -1,7 +1,7 @@
 -- The lemmas on refutations that close that crates above cite.
 use Rattle.std.proofs.Common.{ℕ, ◌<◌, List, length, Bool, All}
 use Rattle.formula_tree.specs.Answers.{Answers}
-use Rattle.formula_tree.specs.Runs.{answered}
+use Rattle.formula_tree.specs.Runs.{path_with}
 use Rattle.formula_tree.specs.Trees.{Tree}
 use Rattle.policy_model.specs.declared.schema.Schema.{Schema}
 use Rattle.policy_model.specs.declared.test.Test.{Test}
@@ -30,7 +30,7 @@ pub fails-not-closes : (schema : Schema) (tests : List Test) (tree : Tree) (befo
 fails-not-closes = failing.fails-not-closes
 
 -- a path with one more answer to a test in range answers tests in range
-pub range_more : (tests : List Test) (path : Answers) (n : ℕ) (b : Bool) → PathInRange tests path → n < length tests → PathInRange tests (answered path n b)
+pub range_more : (tests : List Test) (path : Answers) (n : ℕ) (b : Bool) → PathInRange tests path → n < length tests → PathInRange tests (path_with path n b)
 range_more = ranges.range_more
 
 -- each test that a path in range answers is in range

@@ -2,7 +2,7 @@
 use Rattle.std.proofs.Common.{◌≡◌, ◌<◌, ℕ, Bool, true, false, Option, Some, None, ◌⊎◌, if◌then◌else◌, inl, inr, refl, subst}
 use Rattle.formula_tree.specs.Answers.{Answers}
 use Rattle.formula_tree.specs.Trees.{Tree, Trees, yes, no, test, not, all, one_of, none, more}
-use Rattle.formula_tree.specs.Values.{AreBelow, EachBelow, both, either, is_unknown, pick, pick_of_first, swapped, value, value_of_all, value_of_some}
+use Rattle.formula_tree.specs.Values.{AreBelow, EachBelow, kleene_and, kleene_or, is_unknown, pick, pick_of_first, kleene_not, value, value_of_all, value_of_some}
 use Rattle.formula_tree.specs.declared.value.Three.{Three}
 use Rattle.formula_tree.specs.declared.value.Three.TheVariants.{No, Unknown, Yes}
 
@@ -36,7 +36,7 @@ mutual
 
 -- ---- an unknown tree
 
-unswapped : (v : Three) → swapped v ≡ Unknown → v ≡ Unknown
+unswapped : (v : Three) → kleene_not v ≡ Unknown → v ≡ Unknown
 unswapped Yes e = absurd (cc)
 unswapped No e = absurd (cc)
 unswapped Unknown e = refl
@@ -45,12 +45,12 @@ unswapped Unknown e = refl
 abbrev FirstUnknown : Three → Three → Type 0
 FirstUnknown a b = (a ≡ Unknown) ⊎ ((is_unknown a ≡ false) × (b ≡ Unknown))
 
-both-unknown : (a b : Three) → both a b ≡ Unknown → FirstUnknown a b
+both-unknown : (a b : Three) → kleene_and a b ≡ Unknown → FirstUnknown a b
 both-unknown No b e = absurd (cc)
 both-unknown Yes b e = inr (refl, e)
 both-unknown Unknown b e = inl refl
 
-either-unknown : (a b : Three) → either a b ≡ Unknown → FirstUnknown a b
+either-unknown : (a b : Three) → kleene_or a b ≡ Unknown → FirstUnknown a b
 either-unknown Yes b e = absurd (cc)
 either-unknown No b e = inr (refl, e)
 either-unknown Unknown b e = inl refl

@@ -3,13 +3,13 @@ use Rattle.std.proofs.Common.{◌≡◌, ◌<◌, ℕ, List, ◌∷◌, [], leng
 use Rattle.std.proofs.lemmas.Grind.{common_steps}
 use Rattle.std.proofs.lemmas.List.Elements.{All-cons, All-nil}
 use Rattle.formula_tree.specs.Answers.{Answers, answer_of}
-use Rattle.formula_tree.specs.Runs.{answered}
+use Rattle.formula_tree.specs.Runs.{path_with}
 use Rattle.formula_tree.proofs.Laws.{answer_of-besides, cases_eq}
 use Rattle.policy_model.specs.declared.test.Test.{Test}
 use Rattle.slot_theory.specs.Possible.{PathInRange}
 
 -- one more answer to a test in range
-pub range_more : (tests : List Test) (path : Answers) (n : ℕ) (b : Bool) → PathInRange tests path → n < length tests → PathInRange tests (answered path n b)
+pub range_more : (tests : List Test) (path : Answers) (n : ℕ) (b : Bool) → PathInRange tests path → n < length tests → PathInRange tests (path_with path n b)
 range_more tests path n b before within m c is =
     elim (cases_eq m n) [
       | inl same ↦ omega (arith, same)

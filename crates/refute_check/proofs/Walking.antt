@@ -3,7 +3,7 @@ use Rattle.std.proofs.Common.{◌≡◌, ◌<◌, ◌≤◌, ◌+◌, ◌^◌, �
 use Rattle.std.proofs.lemmas.List.Elements.{All-append, All-nil, All-push, All-weaker}
 use Rattle.std.specs.declared.rc.Rc.{Rc}
 use Rattle.formula_tree.specs.Answers.{Answers}
-use Rattle.formula_tree.specs.Runs.{answered}
+use Rattle.formula_tree.specs.Runs.{path_with}
 use Rattle.formula_tree.specs.Trees.{Tree, tree_of}
 use Rattle.policy_compile.specs.declared.outcome.Query.{Query}
 use Rattle.policy_model.specs.declared.schema.Schema.{Schema}
@@ -17,7 +17,7 @@ use Rattle.refute_check.specs.Closing.{Before, Closes, FailsAt, IsLabel, OwnRule
 use Rattle.refute_check.specs.Labels.{HasNotEnded}
 use Rattle.refute_check.specs.Proofs.{Proof, by_clauses, by_slot, by_value, ended_in, label, labels, proof_of, reuse, size, split}
 use Rattle.refute_check.specs.Queries.{HoldsHere}
-use Rattle.refute_check.specs.Walks.{IsLabelWalked, IsOpenTest, IsWalked, IsWholeWalk, raised}
+use Rattle.refute_check.specs.Walks.{IsLabelWalked, IsOpenTest, IsWalked, IsWholeWalk, raised_walk}
 use Rattle.refute_check.proofs.Failing.{fails-not-closes, fails-within}
 
 -- ---- the tree of a refutation by its form
@@ -70,15 +70,15 @@ module _ (schema : Schema) (q : Query) where
   -- ---- the sides of a split
 
   module _ (before : Before) (n : ℕ) (y z : Proof) (path : Answers) (own : IsOpenTest q n path) where
-    pub first-fails : (middle after : Before) (node : ℕ) → Walks before y (answered path n true) middle (Failed node) → Walks before (split n y z) path after (raised (Failed node) 0)
+    pub first-fails : (middle after : Before) (node : ℕ) → Walks before y (path_with path n true) middle (Failed node) → Walks before (split n y z) path after (raised_walk (Failed node) 0)
     first-fails middle after node (k, fails, is) = (k + 1, in_yes own fails refl, omega (arith, is))
 
-    pub second : (middle after : Before) (nodes : ℕ) (walked : Walked) → Walks before y (answered path n true) middle (Closed nodes) → Walks middle z (answered path n false) after walked → Walks before (split n y z) path after (raised walked nodes)
+    pub second : (middle after : Before) (nodes : ℕ) (walked : Walked) → Walks before y (path_with path n true) middle (Closed nodes) → Walks middle z (path_with path n false) after walked → Walks before (split n y z) path after (raised_walk walked nodes)
     second middle after nodes (Closed more) (closes, count, is) walks =
-        let (closed, rest, end) = subst (λ (b : Before). Walks b z (answered path n false) after (Closed more)) is walks in
+        let (closed, rest, end) = subst (λ (b : Before). Walks b z (path_with path n false) after (Closed more)) is walks in
         ((own, closes, closed), omega (arith, count, rest), end ∙ same-before (before.begun + labels y + labels z) (before.begun + (labels y + labels z)) ((before.ended ++ ended_in y) ++ ended_in z) (before.ended ++ (ended_in y ++ ended_in z)) (omega arith) (append_assoc before.ended (ended_in y) (ended_in z)))
     second middle after nodes (Failed node) (closes, count, is) walks =
-        let (k, fails, place) = subst (λ (b : Before). Walks b z (answered path n false) after (Failed node)) is walks in
+        let (k, fails, place) = subst (λ (b : Before). Walks b z (path_with path n false) after (Failed node)) is walks in
         (k + size y + 1, in_no own closes fails refl, omega (arith, count, place))
 
   -- ---- labels
@@ -90,8 +90,8 @@ module _ (schema : Schema) (q : Query) where
   -- the labels in a part that closes have the numbers from that of the next on
   pub ended-above : (before : Before) (p : Proof) (path : Answers) → Closes schema q.tests tree before p path → All (λ (l : ℕ × Answers). before.begun ≤ l.0) (ended_in p)
   ended-above before (split n y z) path closes =
-      let first = ended-above before y (answered path n true) closes.1 in
-      let later = ended-above (after_part before y) z (answered path n false) closes.2 in
+      let first = ended-above before y (path_with path n true) closes.1 in
+      let later = ended-above (after_part before y) z (path_with path n false) closes.2 in
       All-append (λ (l : ℕ × Answers). before.begun ≤ l.0) (ended_in y) (ended_in z) first
       (All-weaker (λ (l : ℕ × Answers). before.begun + labels y ≤ l.0) (λ (l : ℕ × Answers). before.begun ≤ l.0) (λ l big. omega (arith, big)) (ended_in z) later)
   ended-above before (label n answers p) path closes =
@@ -115,7 +115,7 @@ module _ (schema : Schema) (q : Query) where
       in
       subst (λ (b : Before). HasNotEnded b before.begun) (sym is) both
 
-  pub label-fails : (before middle after : Before) (n : ℕ) (answers : Answers) (p : Proof) (node : ℕ) → Walks (inside_label before) p answers middle (Failed node) → IsLabelWalked schema q before n answers p after (raised (Failed node) 0)
+  pub label-fails : (before middle after : Before) (n : ℕ) (answers : Answers) (p : Proof) (node : ℕ) → Walks (inside_label before) p answers middle (Failed node) → IsLabelWalked schema q before n answers p after (raised_walk (Failed node) 0)
   label-fails before middle after n answers p node (k, fails, is) path own = (k + 1, in_label own fails refl, omega (arith, is))
 
   -- ---- whole refutations

@@ -1,7 +1,7 @@
 -- When a refutation closes a query under a path, and which of its nodes fails first.
 use Rattle.std.specs.Prelude.{◌≡◌, ◌<◌, ◌+◌, ℕ, List, [], ◌++◌, length, map, true, false, None, Any}
 use Rattle.formula_tree.specs.Answers.{Answers, Contained, answer_of}
-use Rattle.formula_tree.specs.Runs.{answered}
+use Rattle.formula_tree.specs.Runs.{path_with}
 use Rattle.formula_tree.specs.Trees.{Tree}
 use Rattle.formula_tree.specs.Values.{value}
 use Rattle.formula_tree.specs.declared.value.Three.TheVariants.{No}
@@ -58,8 +58,8 @@ OwnRule schema tests tree before (reuse n) path = IsReuse before n path
 abbrev pub Closes : Schema → List Test → Tree → Before → Proof → Answers → Type 0
 Closes schema tests tree before (split n y z) path =
     OwnRule schema tests tree before (split n y z) path ×
-    Closes schema tests tree before y (answered path n true) ×
-    Closes schema tests tree (after_part before y) z (answered path n false)
+    Closes schema tests tree before y (path_with path n true) ×
+    Closes schema tests tree (after_part before y) z (path_with path n false)
 Closes schema tests tree before (label n answers p) path =
     OwnRule schema tests tree before (label n answers p) path × Closes schema tests tree (inside_label before) p answers
 Closes schema tests tree before by_value path = OwnRule schema tests tree before by_value path
@@ -72,11 +72,11 @@ pub data FailsAt (schema : Schema) (tests : List Test) (tree : Tree) : Before �
   here : {before : Before} {p : Proof} {path : Answers} → ¬ OwnRule schema tests tree before p path →
       FailsAt schema tests tree before p path 0
   in_yes : {before : Before} {n k node : ℕ} {y z : Proof} {path : Answers} →
-      OwnRule schema tests tree before (split n y z) path → FailsAt schema tests tree before y (answered path n true) k →
+      OwnRule schema tests tree before (split n y z) path → FailsAt schema tests tree before y (path_with path n true) k →
       node ≡ k + 1 → FailsAt schema tests tree before (split n y z) path node
   in_no : {before : Before} {n k node : ℕ} {y z : Proof} {path : Answers} →
-      OwnRule schema tests tree before (split n y z) path → Closes schema tests tree before y (answered path n true) →
-      FailsAt schema tests tree (after_part before y) z (answered path n false) k → node ≡ k + size y + 1 →
+      OwnRule schema tests tree before (split n y z) path → Closes schema tests tree before y (path_with path n true) →
+      FailsAt schema tests tree (after_part before y) z (path_with path n false) k → node ≡ k + size y + 1 →
       FailsAt schema tests tree before (split n y z) path node
   in_label : {before : Before} {n k node : ℕ} {answers path : Answers} {p : Proof} →
       OwnRule schema tests tree before (label n answers p) path → FailsAt schema tests tree (inside_label before) p answers k →

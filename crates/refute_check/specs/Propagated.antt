@@ -2,7 +2,7 @@
 use Rattle.std.specs.Prelude.{◌≡◌, ◌<◌, ℕ, ◌+◌, List, length, Bool, true, false, Some}
 use Rattle.formula_tree.specs.declared.value.Three.TheVariants.{Yes, No}
 use Rattle.formula_tree.specs.Answers.{Answers}
-use Rattle.formula_tree.specs.Runs.{answered}
+use Rattle.formula_tree.specs.Runs.{path_with}
 use Rattle.formula_tree.specs.Trees.{Tree}
 use Rattle.formula_tree.specs.Values.{pick, value}
 use Rattle.cnf_clauses.specs.Numbering.{clauses_of}
@@ -25,12 +25,12 @@ pub data PropagatedRun (schema : Schema) (tests : List Test) (tree : Tree) : Ans
       PropagatedRun schema tests tree path true 0
   no_by_clauses : (path : Answers) → MeetsConflict tests tree path → PropagatedRun schema tests tree path false 0
   yes_side : (path : Answers) (n k all : ℕ) → IsPossible schema tests path → ¬ MeetsConflict tests tree path →
-      pick path tree ≡ Some n → PropagatedRun schema tests tree (answered path n true) true k → all ≡ k + 1 →
+      pick path tree ≡ Some n → PropagatedRun schema tests tree (path_with path n true) true k → all ≡ k + 1 →
       PropagatedRun schema tests tree path true all
   no_side : (path : Answers) (n : ℕ) (end : Bool) (k m all : ℕ) → IsPossible schema tests path →
       ¬ MeetsConflict tests tree path → pick path tree ≡ Some n →
-      PropagatedRun schema tests tree (answered path n true) false k →
-      PropagatedRun schema tests tree (answered path n false) end m → all ≡ k + m + 1 →
+      PropagatedRun schema tests tree (path_with path n true) false k →
+      PropagatedRun schema tests tree (path_with path n false) end m → all ≡ k + m + 1 →
       PropagatedRun schema tests tree path end all
 
 -- the propagated run from the path needs more splits than the number

@@ -20,16 +20,16 @@ pub record IsCheckable (c : Checking) : Type 0 where
   pub clauses : c.clauses ≡ clauses_of (length c.query.now.tests) (tree_of c.query.now.formula.value)
 
 -- a number as 32 bits count it, up to the greatest
-abbrev pub capped : ℕ → ℕ
-capped n = min n (2 ^ 32 - 1)
+abbrev pub capped_count : ℕ → ℕ
+capped_count n = min n (2 ^ 32 - 1)
 
 -- The part closes, has so many nodes, and leaves these labels before what follows it; or the node of this number is the first
 -- that fails.
 abbrev pub IsWalked : Schema → Query → Before → Proof → Answers → Before → Walked → Type 0
 IsWalked schema q before p path after (Closed nodes) =
-    Closes schema q.tests (tree_of q.formula.value) before p path × (nodes ≡ capped (size p)) × (after ≡ after_part before p)
+    Closes schema q.tests (tree_of q.formula.value) before p path × (nodes ≡ capped_count (size p)) × (after ≡ after_part before p)
 IsWalked schema q before p path after (Failed node) =
-    (k : ℕ) × FailsAt schema q.tests (tree_of q.formula.value) before p path k × (node ≡ capped k)
+    (k : ℕ) × FailsAt schema q.tests (tree_of q.formula.value) before p path k × (node ≡ capped_count k)
 
 -- the walk through a label whose own rule holds, under whichever path
 abbrev pub IsLabelWalked : Schema → Query → Before → ℕ → Answers → Proof → Before → Walked → Type 0
@@ -45,6 +45,6 @@ abbrev pub IsOpenTest : Query → ℕ → Answers → Type 0
 IsOpenTest q n path = (n < length q.tests) × (answer_of path n ≡ None)
 
 -- what the walk of a part says of the node above it, which has so many nodes before the part
-abbrev pub raised : Walked → ℕ → Walked
-raised (Closed nodes) before = Closed (capped (nodes + before + 1))
-raised (Failed node) before = Failed (capped (node + before + 1))
+abbrev pub raised_walk : Walked → ℕ → Walked
+raised_walk (Closed nodes) before = Closed (capped_count (nodes + before + 1))
+raised_walk (Failed node) before = Failed (capped_count (node + before + 1))

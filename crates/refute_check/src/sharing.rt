@@ -1,11 +1,12 @@
 //! Proofs of slots that are kept once, however many refutations they stand in.
-ghost use Rattle.std.specs.Prelude.{◌≡◌, IfOk, IfSome, IsTrue};
+ghost use Rattle.std.specs.Prelude.{◌≡◌, [], IfOk, IfSome, IsTrue};
 
 use indexmap::IndexMap;
 use pattern_automata::{Closed, State};
 use plain_lists::NoMemory;
 use slot_theory::{KindProof, SlotProof};
 use std::alloc::Global;
+use std::marker::Model;
 use std::rc::Rc;
 
 /// The most words that kept proofs take.
@@ -18,6 +19,19 @@ pub struct SharedProofs {
     kept: IndexMap<u64, Rc<SlotProof>>,
     /// How many words more may be kept.
     room: usize,
+}
+
+impl Model for SharedProofs {
+    ghost use Rattle.std.specs.Prelude.{List, map};
+    ghost use Rattle.std.specs.Coded.{codes};
+    ghost use Rattle.slot_theory.specs.contracts.outcome.SlotProof as proof_row;
+    ghost use Rattle.slot_theory.specs.declared.outcome.SlotProof.{SlotProof};
+
+    ghost Value = { List SlotProof };
+
+    ghost coded = { Prim.hlevel (codes, proof_row.the_row.coded) };
+
+    ghost view = { λ s. map (λ e. e.1.value) s.kept.entries };
 }
 
 /// A proof that may stand in several refutations, and whether it is among the kept ones.
@@ -36,7 +50,9 @@ struct Print {
 
 impl SharedProofs {
     /// No proof. It takes no memory.
-    pub fn new(alloc: Global) -> SharedProofs {
+    pub fn new(alloc: Global) -> SharedProofs
+        ensures { result ≡ [] }
+    {
         SharedProofs {
             kept: IndexMap::new(alloc),
             room: MOST_SHARED_WORDS,

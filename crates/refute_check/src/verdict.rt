@@ -1,6 +1,6 @@
 //! The check of refutations.
 ghost use Rattle.std.specs.Prelude.{◌≡◌, ◌<◌, ◌^◌, ◌↔◌, All, IfOk, IsTrue, OnOk, length};
-ghost use Rattle.formula_tree.specs.Runs.{answered};
+ghost use Rattle.formula_tree.specs.Runs.{path_with};
 ghost use Rattle.formula_tree.specs.Trees.{tree_of};
 ghost use Rattle.policy_model.specs.Soundness.{SchemaIsSound, TestSuits};
 ghost use Rattle.slot_theory.specs.Possible.{PathInRange};
@@ -9,7 +9,7 @@ ghost use Rattle.refute_check.specs.Laws.{TreeInRange};
 ghost use Rattle.refute_check.specs.Proofs.{proof_of, size, split};
 ghost use Rattle.refute_check.specs.Queries.{ClosesQuery, HoldsHere};
 ghost use Rattle.refute_check.specs.Verdicts.{IsVerdict};
-ghost use Rattle.refute_check.specs.Walks.{IsCheckable, IsLabelWalked, IsOpenTest, IsWalked, IsWholeWalk, raised};
+ghost use Rattle.refute_check.specs.Walks.{IsCheckable, IsLabelWalked, IsOpenTest, IsWalked, IsWholeWalk, raised_walk};
 
 use crate::labels::{Labels, path_of};
 use crate::refutation::{AnswerList, Refutation};
@@ -150,7 +150,7 @@ impl<'a> Checking<'a> {
         requires range { PathInRange self.now.query.now.tests path.old }
         requires open { IsOpenTest self.now.query.now test path.old }
         ensures walked { IfOk result (IsWalked self.now.schema.now self.now.query.now
-            labels.old (proof_of side.now) (answered path.old test answer) labels.new) }
+            labels.old (proof_of side.now) (path_with path.old test answer) labels.new) }
         ensures path { OnOk result (path.new ≡ path.old) }
     {
         path.push(test, answer)?;
@@ -190,7 +190,7 @@ impl<'a> Checking<'a> {
 
 // What the walk of a part says of the node above it, which has so many nodes before the part.
 fn raised(walked: Walked, before: u32) -> Walked
-    ensures { result ≡ raised walked before }
+    ensures { result ≡ raised_walk walked before }
 {
     match walked {
         Walked::Closed(nodes) => Walked::Closed(nodes.saturating_add(before).saturating_add(1)),

@@ -5,13 +5,13 @@ use Rattle.std.proofs.lemmas.Bool.{and_from, and_parts, cases_lt}
 use Rattle.std.proofs.lemmas.Bool.Decides.{nat_tests}
 use Rattle.std.proofs.lemmas.List.Elements.{All-head, All-nil, All-push, All-tail, All-weaker}
 use Rattle.formula_tree.specs.Answers.{Answers, Contained, answer_of}
-use Rattle.formula_tree.specs.Runs.{answered}
+use Rattle.formula_tree.specs.Runs.{path_with}
 use Rattle.formula_tree.specs.Trees.{Tree}
 use Rattle.formula_tree.specs.Values.{value}
 use Rattle.formula_tree.specs.declared.value.Three.TheVariants.{No}
 use Rattle.formula_tree.proofs.Laws.{answer_of-besides, answer_of-last, cases_eq, contained-both, keeps-no}
 use Rattle.tree_values.specs.Cuts.{IsLeastCut, IsNoOn}
-use Rattle.tree_values.specs.Omitting.{omitted}
+use Rattle.tree_values.specs.Omitting.{path_without}
 use Rattle.tree_values.specs.declared.cut.Sides.{Sides}
 use Rattle.pattern_automata.specs.Closed.{rises_from}
 use Rattle.search_parts.specs.declared.part.Needs.{Needs}
@@ -148,8 +148,8 @@ module _ (path first second answers : Answers) (are : AreChosen path first secon
   either-of None None e = absurd (cc)
 
   -- what the sides need besides the split's answer, put together
-  module _ (test : ℕ) (free : answer_of path test ≡ None) (inside_first : Contained first (answered path test true)) (inside_second : Contained second (answered path test false)) where
-    of-path : (side : Answers) (a : Bool) → Contained side (answered path test a) → (n : ℕ) (b : Bool) → n ≢ test → answer_of side n ≡ Some b → answer_of path n ≡ Some b
+  module _ (test : ℕ) (free : answer_of path test ≡ None) (inside_first : Contained first (path_with path test true)) (inside_second : Contained second (path_with path test false)) where
+    of-path : (side : Answers) (a : Bool) → Contained side (path_with path test a) → (n : ℕ) (b : Bool) → n ≢ test → answer_of side n ≡ Some b → answer_of path n ≡ Some b
     of-path side a inside n b ne is = sym (answer_of-besides path test a n ne) ∙ inside n b is
 
     same-answer : (n : ℕ) (b c : Bool) → answer_of path n ≡ Some b → answer_of path n ≡ Some c → c ≡ b
@@ -158,8 +158,8 @@ module _ (path first second answers : Answers) (are : AreChosen path first secon
     apart : (n : ℕ) (b : Bool) → answer_of path n ≡ Some b → n ≢ test
     apart n b own e = let none : answer_of path n ≡ None = rw e free in let bad : None ≡ Some b = sym none ∙ own in absurd (cc)
 
-    rest : (side : Answers) (n : ℕ) (b : Bool) → answer_of (omitted side test) n ≡ Some b → n ≢ test
-    rest side n b is e = let none : answer_of (omitted side test) n ≡ None = rw e (omitted-none side test) in let bad : None ≡ Some b = sym none ∙ is in absurd (cc)
+    rest : (side : Answers) (n : ℕ) (b : Bool) → answer_of (path_without side test) n ≡ Some b → n ≢ test
+    rest side n b is e = let none : answer_of (path_without side test) n ≡ None = rw e (omitted-none side test) in let bad : None ≡ Some b = sym none ∙ is in absurd (cc)
 
     pub chosen-union : IsUnion test first second answers
     chosen-union = record {
@@ -207,14 +207,14 @@ has-more tree Unknown few many inside has = has
 module _ (tree : Tree) (path : Answers) (test : ℕ) (yes no : Needs) (free : answer_of path test ≡ None) where
   have-more : (few many : Answers) → answer_of few test ≡ None → answer_of many test ≡ None → Contained few many → HaveNeeds tree test yes no few → HaveNeeds tree test yes no many
   have-more few many new new2 inside have = record {
-    yes_side = has-more tree yes (answered few test true) (answered many test true) (contained-both few many test true inside new new2) have.yes_side;
-    no_side = has-more tree no (answered few test false) (answered many test false) (contained-both few many test false inside new new2) have.no_side;
+    yes_side = has-more tree yes (path_with few test true) (path_with many test true) (contained-both few many test true inside new new2) have.yes_side;
+    no_side = has-more tree no (path_with few test false) (path_with many test false) (contained-both few many test false inside new new2) have.no_side;
   }
 
-  omitted-inside : (one other : Answers) (n : ℕ) → Contained one other → Contained (omitted one n) (omitted other n)
+  omitted-inside : (one other : Answers) (n : ℕ) → Contained one other → Contained (path_without one n) (path_without other n)
   omitted-inside one other n inside m b is =
       elim (cases_eq m n) [
-        | inl e ↦ (let none : answer_of (omitted one n) m ≡ None = rw e (omitted-none one n) in let bad : None ≡ Some b = sym none ∙ is in absurd (cc))
+        | inl e ↦ (let none : answer_of (path_without one n) m ≡ None = rw e (omitted-none one n) in let bad : None ≡ Some b = sym none ∙ is in absurd (cc))
         | inr ne ↦ omitted-other other n m ne ∙ inside m b (sym (omitted-other one n m ne) ∙ is)
       ]
 
@@ -228,7 +228,7 @@ module _ (tree : Tree) (path : Answers) (test : ℕ) (yes no : Needs) (free : an
         enough = have-more one other new new2 forth least.enough;
         least = λ n b is have.
             least.least n b (back n b is)
-            (have-more (omitted other n) (omitted one n) (open-in (omitted other n) other test (omitted-within other n) new2) (open-in (omitted one n) one test (omitted-within one n) new)
+            (have-more (path_without other n) (path_without one n) (open-in (path_without other n) other test (omitted-within other n) new2) (open-in (path_without one n) one test (omitted-within one n) new)
             (omitted-inside other one n back) have);
       }
 
@@ -250,31 +250,31 @@ module _ (tree : Tree) (path : Answers) (test : ℕ) (yes no : Needs) (free : an
   known-no : (need : Needs) (q : Answers) → AreKnownNeeds tree q need → need ≡ Open → value q tree ≡ No
   known-no need q known e = subst (λ (m : Needs). AreKnownNeeds tree q m) e known
 
-  module _ (yes_known : AreKnownNeeds tree (answered path test true) yes) (no_known : AreKnownNeeds tree (answered path test false) no) (needed : Answers) (are : AreChosen path (needs_list yes) (needs_list no) needed)
+  module _ (yes_known : AreKnownNeeds tree (path_with path test true) yes) (no_known : AreKnownNeeds tree (path_with path test false) no) (needed : Answers) (are : AreChosen path (needs_list yes) (needs_list no) needed)
       (sides : Sides) (says_yes : IsTrue sides.yes ↔ (yes ≡ Open)) (says_no : IsTrue sides.no ↔ (no ≡ Open)) where
     union : IsUnion test (needs_list yes) (needs_list no) needed
-    union = chosen-union path (needs_list yes) (needs_list no) needed are test free (known-listed yes (answered path test true) yes_known) (known-listed no (answered path test false) no_known)
+    union = chosen-union path (needs_list yes) (needs_list no) needed are test free (known-listed yes (path_with path test true) yes_known) (known-listed no (path_with path test false) no_known)
 
     pub sides-no : IsNoOn tree path test sides
     sides-no = record {
-      yes = λ e. known-no yes (answered path test true) yes_known (says_yes.0 e);
-      no = λ e. known-no no (answered path test false) no_known (says_no.0 e);
+      yes = λ e. known-no yes (path_with path test true) yes_known (says_yes.0 e);
+      no = λ e. known-no no (path_with path test false) no_known (says_no.0 e);
     }
 
     still : (answers : Answers) → IsNoOn tree answers test sides → AreNoWhereOpen tree test yes no answers
     still answers on = (
-      no-where yes sides.yes (answered path test true) (answered answers test true) says_yes yes_known on.yes,
-      no-where no sides.no (answered path test false) (answered answers test false) says_no no_known on.no,
+      no-where yes sides.yes (path_with path test true) (path_with answers test true) says_yes yes_known on.yes,
+      no-where no sides.no (path_with path test false) (path_with answers test false) says_no no_known on.no,
     )
 
     back-on : (answers : Answers) → AreNoWhereOpen tree test yes no answers → IsNoOn tree answers test sides
     back-on answers (first, second) = record {
-      yes = no-there yes sides.yes (answered answers test true) says_yes first;
-      no = no-there no sides.no (answered answers test false) says_no second;
+      yes = no-there yes sides.yes (path_with answers test true) says_yes first;
+      no = no-there no sides.no (path_with answers test false) says_no second;
     }
 
     least-of : (answers : Answers) → AreCutFor tree path test yes no answers → AreLeast tree path test yes no answers
-    least-of answers cut = cut-least tree path test yes no free (known-listed yes (answered path test true) yes_known) (known-listed no (answered path test false) no_known) answers cut
+    least-of answers cut = cut-least tree path test yes no free (known-listed yes (path_with path test true) yes_known) (known-listed no (path_with path test false) no_known) answers cut
 
     -- where neither side is open, all that is needed
     pub least-needs : (sides.yes || sides.no) ≡ false → AreLeast tree path test yes no needed
@@ -303,7 +303,7 @@ module _ (tree : Tree) (path : Answers) (test : ℕ) (yes no : Needs) (free : an
           needed_there = is.needed_there;
           there = is.there;
           still = still cut is.still;
-          least = λ n b own. elim (is.least n b own) [ inl known ↦ inl known | inr never ↦ inr (λ both. never (back-on (omitted cut n) both)) ];
+          least = λ n b own. elim (is.least n b own) [ inl known ↦ inl known | inr never ↦ inr (λ both. never (back-on (path_without cut n) both)) ];
         }))
 
     pub least-result : {E : Type 0} (result : Result Answers E) → IfOk result (IsCutDown tree path needed test sides) → IfOk result (AreLeast tree path test yes no)

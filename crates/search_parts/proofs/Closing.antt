@@ -2,7 +2,7 @@
 use Rattle.std.proofs.Common.{◌≡◌, ◌<◌, ◌≤◌, ◌+◌, ℕ, zero, suc, List, [], ◌∷◌, ◌++◌, length, Bool, true, false, Option, Some, None, IsSome, All, get_or, slice_get, ◌⊎◌, refl, sym, ◌∙◌, subst, inl, inr, arith}
 use Rattle.std.proofs.lemmas.List.{get_or_append_left, length-append}
 use Rattle.formula_tree.specs.Answers.{Answers, Contained, answer_of}
-use Rattle.formula_tree.specs.Runs.{answered}
+use Rattle.formula_tree.specs.Runs.{path_with}
 use Rattle.formula_tree.specs.Trees.{Tree}
 use Rattle.formula_tree.proofs.Laws.{contained-both, keeps-no}
 use Rattle.cnf_clauses.specs.Numbering.{clauses_of}
@@ -37,9 +37,9 @@ alike-at path other n None inside e some = absurd (cc)
 
 -- more answers answer a core alike
 pub core-within : (core : List ℕ) (few many : Answers) → Contained few many → All (λ n. IsSome (answer_of few n)) core → AnswerCoreAlike core few many
-core-within core few many inside answered k d small =
+core-within core few many inside path_with k d small =
     let n = get_or core k d in
-    alike-at few many n (answer_of few n) inside refl (answered k d small)
+    alike-at few many n (answer_of few n) inside refl (path_with k d small)
 
 -- so does what lies between
 pub accepts-more : (schema : Schema) (tests : List Test) (few many : Answers) (core : List ℕ) (proof : SlotProof) → Contained few many → Accepts schema tests few core proof → Accepts schema tests many core proof
@@ -60,7 +60,7 @@ module _ (schema : Schema) (tests : List Test) (tree : Tree) where
   -- ---- what is stored
 
   pub closes-stored : (store : List Answers) (p : Proof) (q : Answers) → C store p q → AreStored store p
-  closes-stored store (split n y z) q (own, left, right) = (closes-stored store y (answered q n true) left, closes-stored store z (answered q n false) right)
+  closes-stored store (split n y z) q (own, left, right) = (closes-stored store y (path_with q n true) left, closes-stored store z (path_with q n false) right)
   closes-stored store by_value q h = tt
   closes-stored store (by_slot core proof) q h = tt
   closes-stored store (by_clauses hints) q h = tt
@@ -79,8 +79,8 @@ module _ (schema : Schema) (tests : List Test) (tree : Tree) where
     pub grows : (k : ℕ) (p : Proof) (q : Answers) → EndInOrder k p → k + labels p ≤ length store → C store p q → C (store ++ more) p q
     grows k (split n y z) q order room (own, left, right) = (
       own,
-      grows k y (answered q n true) order.0 (omega (arith, room)) left,
-      grows (k + labels y) z (answered q n false) order.1 (omega (arith, room)) right,
+      grows k y (path_with q n true) order.0 (omega (arith, room)) left,
+      grows (k + labels y) z (path_with q n false) order.1 (omega (arith, room)) right,
     )
     grows k by_value q order room h = h
     grows k (by_slot core proof) q order room h = h
@@ -95,8 +95,8 @@ module _ (schema : Schema) (tests : List Test) (tree : Tree) where
     pub grew : (k : ℕ) (p : Proof) (q : Answers) → EndInOrder k p → k + labels p ≤ length store → C (store ++ more) p q → C store p q
     grew k (split n y z) q order room (own, left, right) = (
       own,
-      grew k y (answered q n true) order.0 (omega (arith, room)) left,
-      grew (k + labels y) z (answered q n false) order.1 (omega (arith, room)) right,
+      grew k y (path_with q n true) order.0 (omega (arith, room)) left,
+      grew (k + labels y) z (path_with q n false) order.1 (omega (arith, room)) right,
     )
     grew k by_value q order room h = h
     grew k (by_slot core proof) q order room h = h
@@ -119,9 +119,9 @@ module _ (schema : Schema) (tests : List Test) (tree : Tree) where
       let middle = open-in between many n outside last in
       let first = own.1 in (
         (own.0, middle),
-        convex store y (answered few n true) (answered between n true) (answered many n true)
+        convex store y (path_with few n true) (path_with between n true) (path_with many n true)
             (contained-both few between n true inside first middle) (contained-both between many n true outside middle last) left left2,
-        convex store z (answered few n false) (answered between n false) (answered many n false)
+        convex store z (path_with few n false) (path_with between n false) (path_with many n false)
             (contained-both few between n false inside first middle) (contained-both between many n false outside middle last) right right2,
       )
   convex store by_value few between many inside outside h g = keeps-no few between tree inside h

@@ -5,7 +5,7 @@ use Rattle.std.proofs.lemmas.List.Elements.{All-cons, All-head, All-nil, All-tai
 use Rattle.std.proofs.lemmas.Option.{get_or_from_slice_get, slice_get_within}
 use Rattle.std.specs.declared.rc.Rc.{Rc}
 use Rattle.formula_tree.specs.Answers.{Answers, Contained, IsDistinct, answer_of}
-use Rattle.formula_tree.specs.Runs.{answered}
+use Rattle.formula_tree.specs.Runs.{path_with}
 use Rattle.formula_tree.specs.Trees.{Tree, tree_of}
 use Rattle.formula_tree.specs.Values.{value}
 use Rattle.formula_tree.specs.declared.value.Three.TheVariants.{No}
@@ -145,17 +145,17 @@ module _ (s : Shortening) (n : ℕ) (y z : Proof) (path : Answers) where
   sides-answered some schema many inside closes = (λ bad. absurd (cc), λ here. absurd (not-open some here.0.1))
 
   module _ (new : answer_of path n ≡ None) where
-    pub sides-first : IsStillClosed s y (answered path n true) false → IsStillClosed s (split n y z) path false
+    pub sides-first : IsStillClosed s y (path_with path n true) false → IsStillClosed s (split n y z) path false
     sides-first first schema many inside closes =
-        (λ bad. absurd (cc), λ here. (first schema (answered many n true) (contained-both path many n true inside new closes.0.1) closes.1).1 here.1)
+        (λ bad. absurd (cc), λ here. (first schema (path_with many n true) (contained-both path many n true inside new closes.0.1) closes.1).1 here.1)
 
-    pub sides-both : (ok : Bool) → IsStillClosed s y (answered path n true) true → IsStillClosed s z (answered path n false) ok → IsStillClosed s (split n y z) path ok
+    pub sides-both : (ok : Bool) → IsStillClosed s y (path_with path n true) true → IsStillClosed s z (path_with path n false) ok → IsStillClosed s (split n y z) path ok
     sides-both ok first second schema many inside closes =
-        let one = first schema (answered many n true) (contained-both path many n true inside new closes.0.1) closes.1 in
-        let other = second schema (answered many n false) (contained-both path many n false inside new closes.0.1) closes.2 in
+        let one = first schema (path_with many n true) (contained-both path many n true inside new closes.0.1) closes.1 in
+        let other = second schema (path_with many n false) (contained-both path many n false inside new closes.0.1) closes.2 in
         (λ yes. ((closes.0.0, new), one.0 refl, other.0 yes), λ here. other.1 here.2)
 
-    pub sides-all : {E : Type 0} (result : Result Bool E) → IsStillClosed s y (answered path n true) true → IfOk result (IsStillClosed s z (answered path n false)) → IfOk result (IsStillClosed s (split n y z) path)
+    pub sides-all : {E : Type 0} (result : Result Bool E) → IsStillClosed s y (path_with path n true) true → IfOk result (IsStillClosed s z (path_with path n false)) → IfOk result (IsStillClosed s (split n y z) path)
     sides-all (Ok ok) first second = sides-both ok first second
     sides-all (Err e) first second = tt
 
@@ -167,7 +167,7 @@ not-some (Some b) ok e says = let yes : ok ≡ true = says.1 refl in absurd (cc)
 
 module _ (s : Shortening) (part : Part) (path : Answers) (test : ℕ) (free : answer_of path test ≡ None) (r : Bool) where
   -- needs that leave the split's test open are of the split's path
-  there-open : (needs : Answers) → Contained needs (answered path test true) → answer_of needs test ≡ None → Contained needs path
+  there-open : (needs : Answers) → Contained needs (path_with path test true) → answer_of needs test ≡ None → Contained needs path
   there-open needs inside new n b is =
       elim (cases_eq n test) [
         | inl e ↦ (let none : answer_of needs n ≡ None = rw e new in let bad : None ≡ Some b = sym none ∙ is in absurd (cc))
@@ -176,7 +176,7 @@ module _ (s : Shortening) (part : Part) (path : Answers) (test : ℕ) (free : an
 
   pub needless-just : (needs : Answers) → part.needs ≡ Just needs → IsTrue r ↔ (answer_of needs test ≡ None) → IsNeedless s part path test r
   needless-just needs is says schema are closes may =
-      let just : NeedsJust (ClosesFor s schema (part_proof part)) (answered path test true) needs = subst (λ (m : Needs). AreNeeds s.learned.now.lists (ClosesFor s schema (part_proof part)) (part_proof part) (answered path test true) m) is are in
+      let just : NeedsJust (ClosesFor s schema (part_proof part)) (path_with path test true) needs = subst (λ (m : Needs). AreNeeds s.learned.now.lists (ClosesFor s schema (part_proof part)) (part_proof part) (path_with path test true) m) is are in
       let inside = contained-answered path test true in (
         λ yes. just.enough path inside (there-open needs just.there (says.0 yes)),
         λ here. says.1 (open-in needs path test (just.needed path inside here) free),
@@ -184,13 +184,13 @@ module _ (s : Shortening) (part : Part) (path : Answers) (test : ℕ) (free : an
 
   pub needless-open : part.needs ≡ Open → r ≡ false → IsNeedless s part path test r
   needless-open is off schema are closes may =
-      let value_is : part_proof part ≡ by_value = subst (λ (m : Needs). AreNeeds s.learned.now.lists (ClosesFor s schema (part_proof part)) (part_proof part) (answered path test true) m) is are in (
+      let value_is : part_proof part ≡ by_value = subst (λ (m : Needs). AreNeeds s.learned.now.lists (ClosesFor s schema (part_proof part)) (part_proof part) (path_with path test true) m) is are in (
         λ on. (let bad : false ≡ true = sym off ∙ on in absurd (cc)),
         λ here. absurd (may (subst (λ (p : Proof). ClosesFor s schema p path) value_is here)),
       )
 
   pub needless-still : IsStillClosed s (part_proof part) path r → IsNeedless s part path test r
-  needless-still still schema are closes may = still schema (answered path test true) (contained-answered path test true) closes
+  needless-still still schema are closes may = still schema (path_with path test true) (contained-answered path test true) closes
 
 pub needless-where : {E : Type 0} (s : Shortening) (part : Part) (path : Answers) (test : ℕ) (free : answer_of path test ≡ None) (result : Result Bool E) → IfOk result (IsStillClosed s (part_proof part) path) → IfOk result (IsNeedless s part path test)
 needless-where s part path test free (Ok r) still = needless-still s part path test free r still

@@ -4,7 +4,7 @@ use Rattle.std.proofs.lemmas.Bool.{cases_lt}
 use Rattle.std.proofs.lemmas.List.{append_assoc, length-append}
 use Rattle.std.proofs.lemmas.List.Elements.{All-push}
 use Rattle.formula_tree.specs.Answers.{Answers, Contained, answer_of}
-use Rattle.formula_tree.specs.Runs.{answered, unanswered}
+use Rattle.formula_tree.specs.Runs.{path_with, unanswered_count}
 use Rattle.formula_tree.specs.Trees.{Tree}
 use Rattle.formula_tree.proofs.Laws.{unanswered-more}
 use Rattle.nogoods.specs.Hits.{NoHit, answers_at}
@@ -24,7 +24,7 @@ use Rattle.search_parts.specs.Least.{AreKnownNeeds}
 use Rattle.search_parts.specs.Making.{AreMadeHalves, AreOwnNeeds, IsMadePart, IsPartOf, part_proof}
 use Rattle.search_parts.specs.Needs.{AreLeast, AreNeeds}
 use Rattle.search_parts.specs.Parts.{ClosesByStore, EndInOrder, IsTrimmedAlong, LabelSplits}
-use Rattle.search_parts.specs.Trimmed.{bare}
+use Rattle.search_parts.specs.Trimmed.{bare_splits}
 use Rattle.search_parts.proofs.Closing.{grew, grows}
 use Rattle.search_parts.proofs.Making.{made-of}
 use Rattle.search_parts.proofs.Needing.{label-just, least-closes, least-needed, needs-grow}
@@ -67,26 +67,26 @@ module _ (schema : Schema) (tests : List Test) (tree : Tree) where
   record IsJoint (old new : List Answers) (path : Answers) (n : ℕ) (y z : Proof) (first second : Needs) (used : ℕ) : Type 0 where
     within : n < length tests
     free : answer_of path n ≡ None
-    left : C new y (answered path n true)
-    right : C new z (answered path n false)
+    left : C new y (path_with path n true)
+    right : C new z (path_with path n false)
     order : EndInOrder (length old) (split n y z)
     stored : length new ≡ length old + labels (split n y z)
     more : List Answers
     grows : new ≡ old ++ more
     trimmed : Along new (length old) (split n y z) path
     labelled : LabelSplits (split n y z)
-    learned : (bare y + bare z ≡ 0) ⊎ (MOST_LEARNED ≤ length new)
-    nests : depth (split n y z) + 1 ≤ 2 * unanswered path (length tests)
+    learned : (bare_splits y + bare_splits z ≡ 0) ⊎ (MOST_LEARNED ≤ length new)
+    nests : depth (split n y z) + 1 ≤ 2 * unanswered_count path (length tests)
     few : splits (split n y z) ≤ used
-    needs_left : AreNeeds new (C new y) y (answered path n true) first
-    needs_right : AreNeeds new (C new z) z (answered path n false) second
+    needs_left : AreNeeds new (C new y) y (path_with path n true) first
+    needs_right : AreNeeds new (C new z) z (path_with path n false) second
 
   none-bare : (m n : ℕ) (a b : ℕ) (most : ℕ) → a ≤ b → (m ≡ 0) ⊎ (most ≤ a) → (n ≡ 0) ⊎ (most ≤ b) → (m + n ≡ 0) ⊎ (most ≤ b)
   none-bare m n a b most le (inl e) (inl d) = inl (omega (arith, e, d))
   none-bare m n a b most le (inr h) other = inr (omega (arith, h, le))
   none-bare m n a b most le (inl e) (inr h) = inr h
 
-  joint : (old middle more : List Answers) (path : Answers) (n : ℕ) (yes no : Part) (first second used : ℕ) → n < length tests → answer_of path n ≡ None → Made old middle (answered path n true) first yes → Made middle (middle ++ more) (answered path n false) second no →
+  joint : (old middle more : List Answers) (path : Answers) (n : ℕ) (yes no : Part) (first second used : ℕ) → n < length tests → answer_of path n ≡ None → Made old middle (path_with path n true) first yes → Made middle (middle ++ more) (path_with path n false) second no →
       ¬ C middle (part_proof yes) path → NoHit old path → first + second + 1 ≤ used → IsJoint old (middle ++ more) path n (part_proof yes) (part_proof no) yes.needs no.needs used
   joint old middle more path n a b first second used within free one other needed nothing le =
       let y = part_proof a in
@@ -96,9 +96,9 @@ module _ (schema : Schema) (tests : List Test) (tree : Tree) where
       let place : length middle ≡ length old + labels y = one.closed.stored in
       let longer : length middle ≤ length new = omega (arith, length-append middle more) in
       let all : new ≡ old ++ (one.closed.more ++ more) = ap (λ (l : List Answers). l ++ more) one.closed.grows ∙ append_assoc old one.closed.more more in
-      let closes_y : C new y (answered path n true) = grows schema tests tree middle more (length old) y (answered path n true) one.closed.order room one.closed.closes in
-      let along_y : Along new (length old) y (answered path n true) = along-grows schema tests tree middle more (length old) y (answered path n true) one.closed.order room one.trim.trimmed in
-      let along_z : Along new (length old + labels y) z (answered path n false) = subst (λ (k : ℕ). Along new k z (answered path n false)) place other.trim.trimmed in
+      let closes_y : C new y (path_with path n true) = grows schema tests tree middle more (length old) y (path_with path n true) one.closed.order room one.closed.closes in
+      let along_y : Along new (length old) y (path_with path n true) = along-grows schema tests tree middle more (length old) y (path_with path n true) one.closed.order room one.trim.trimmed in
+      let along_z : Along new (length old + labels y) z (path_with path n false) = subst (λ (k : ℕ). Along new k z (path_with path n false)) place other.trim.trimmed in
       let order_z : EndInOrder (length old + labels y) z = subst (λ (k : ℕ). EndInOrder k z) place other.closed.order in
       let alone : ¬ C new y path = λ early. needed (grew schema tests tree middle more (length old) y path one.closed.order room early) in
       let none : (i : ℕ) → i < length old → ¬ Contained (answers_at new i) path = subst (λ (s : List Answers). (i : ℕ) → i < length old → ¬ Contained (answers_at s i) path) (sym all) (none-stored schema tests tree old (one.closed.more ++ more) path nothing) in
@@ -115,10 +115,10 @@ module _ (schema : Schema) (tests : List Test) (tree : Tree) where
         grows = all;
         trimmed = along-split schema tests tree new (length old) n y z path free closes_y alone none along_y along_z;
         labelled = (one.trim.splits_labelled, other.trim.splits_labelled);
-        learned = none-bare (bare y) (bare z) (length middle) (length new) MOST_LEARNED longer one.trim.learned other.trim.learned;
-        nests = deep (depth y) (depth z) (unanswered (answered path n true) (length tests)) (unanswered (answered path n false) (length tests)) (unanswered path (length tests)) fewer_y fewer_z one.trim.nests other.trim.nests;
+        learned = none-bare (bare_splits y) (bare_splits z) (length middle) (length new) MOST_LEARNED longer one.trim.learned other.trim.learned;
+        nests = deep (depth y) (depth z) (unanswered_count (path_with path n true) (length tests)) (unanswered_count (path_with path n false) (length tests)) (unanswered_count path (length tests)) fewer_y fewer_z one.trim.nests other.trim.nests;
         few = omega (arith, one.trim.few, other.trim.few, le);
-        needs_left = needs-grow schema tests tree middle more (length old) y one.closed.order room (answered path n true) a.needs one.closed.needs;
+        needs_left = needs-grow schema tests tree middle more (length old) y one.closed.order room (path_with path n true) a.needs one.closed.needs;
         needs_right = other.closed.needs;
       }
     where
@@ -199,7 +199,7 @@ module _ (path : Answers) (halves : Halves) (before : List Answers) (tree : Tree
       IsJoint schema tests tree old before path halves.test (part_proof halves.yes) (part_proof halves.no) halves.yes.needs halves.no.needs used
   joint-of schema tests old middle first second used made le =
       let grown = made.no_side.closed.grows in
-      let other = subst (λ (s : List Answers). IsMadePart schema tests tree middle s (answered path halves.test false) second halves.no) grown made.no_side in
+      let other = subst (λ (s : List Answers). IsMadePart schema tests tree middle s (path_with path halves.test false) second halves.no) grown made.no_side in
       subst (λ (s : List Answers). IsJoint schema tests tree old s path halves.test (part_proof halves.yes) (part_proof halves.no) halves.yes.needs halves.no.needs used) (sym grown)
       (joint schema tests tree old middle made.no_side.closed.more path halves.test halves.yes halves.no first second used made.within made.open_test made.yes_side other made.needed made.nothing le)
 

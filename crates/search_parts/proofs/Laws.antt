@@ -1,7 +1,7 @@
 -- The lemmas on parts that a search cites.
 use Rattle.std.proofs.Common.{◌≡◌, ◌⊎◌, ◌<◌, ◌≤◌, ◌+◌, ℕ, List, [], ◌++◌, length, Bool, true, false, Some, None, All, slice_get}
 use Rattle.formula_tree.specs.Answers.{Answers, Contained, answer_of}
-use Rattle.formula_tree.specs.Runs.{answered}
+use Rattle.formula_tree.specs.Runs.{path_with}
 use Rattle.formula_tree.specs.Trees.{Tree}
 use Rattle.formula_tree.specs.Values.{value}
 use Rattle.formula_tree.specs.declared.value.Three.TheVariants.{No}
@@ -24,10 +24,10 @@ use Rattle.search_parts.specs.declared.part.Needs.TheVariants.{Just, Open}
 use Rattle.search_parts.specs.declared.part.Part.{Part}
 use Rattle.search_parts.specs.Making.{AreOwnNeeds, IsKeptCore, IsMadePart, IsPartOf, IsRefutationOf, IsSlotPart, part_proof}
 use Rattle.search_parts.specs.Needs.{AreAnswersTo, AreCutFor, AreLeast, AreNeeds, NeedsJust, needs_list}
-use Rattle.tree_values.specs.Omitting.{omitted}
+use Rattle.tree_values.specs.Omitting.{path_without}
 use Rattle.search_parts.specs.Parts.{AreStored, ClosesByStore, EndInOrder, IsTrimmedAlong, LabelSplits}
-use Rattle.search_parts.specs.Renaming.{AreNames, before_by, line_names, renamed}
-use Rattle.search_parts.specs.Trimmed.{IsTrimmed, NoneCanBeLeftOut, bare}
+use Rattle.search_parts.specs.Renaming.{AreNames, before_by, line_names, renamed_proof}
+use Rattle.search_parts.specs.Trimmed.{IsTrimmed, NoneCanBeLeftOut, bare_splits}
 use Rattle.search_parts.proofs.Closing as closing
 use Rattle.search_parts.proofs.Halving as halving
 use Rattle.search_parts.proofs.Making as making
@@ -39,15 +39,15 @@ use Rattle.search_parts.proofs.Trimming as trimming
 use Rattle.search_parts.proofs.Unmet as unmet
 
 -- a path without an answer doesn't answer its test
-pub omitted-none : (path : Answers) (n : ℕ) → answer_of (omitted path n) n ≡ None
+pub omitted-none : (path : Answers) (n : ℕ) → answer_of (path_without path n) n ≡ None
 omitted-none = omitting.omitted-none
 
 -- it answers the other tests as before
-pub omitted-other : (path : Answers) (n k : ℕ) → ¬ (k ≡ n) → answer_of (omitted path n) k ≡ answer_of path k
+pub omitted-other : (path : Answers) (n k : ℕ) → ¬ (k ≡ n) → answer_of (path_without path n) k ≡ answer_of path k
 omitted-other = omitting.omitted-other
 
 -- and so is contained in the path
-pub omitted-within : (path : Answers) (n : ℕ) → Contained (omitted path n) path
+pub omitted-within : (path : Answers) (n : ℕ) → Contained (path_without path n) path
 omitted-within = omitting.omitted-within
 
 -- what needs just some answers needs just these of a shorter path that has them
@@ -91,11 +91,11 @@ module _ (schema : Schema) (tests : List Test) (tree : Tree) where
   needs-grow = needing.needs-grow schema tests tree
 
   -- a split closes under answers that are least for its sides
-  pub least-closes : (store : List Answers) (path : Answers) (n : ℕ) (y z : Proof) (first second : Needs) → n < length tests → answer_of path n ≡ None → AreNeeds store (C store y) y (answered path n true) first → AreNeeds store (C store z) z (answered path n false) second → (answers : Answers) → AreLeast tree path n first second answers → C store (split n y z) answers
+  pub least-closes : (store : List Answers) (path : Answers) (n : ℕ) (y z : Proof) (first second : Needs) → n < length tests → answer_of path n ≡ None → AreNeeds store (C store y) y (path_with path n true) first → AreNeeds store (C store z) z (path_with path n false) second → (answers : Answers) → AreLeast tree path n first second answers → C store (split n y z) answers
   least-closes = needing.least-closes schema tests tree
 
   -- and without none of them
-  pub least-needed : (store : List Answers) (path : Answers) (n : ℕ) (y z : Proof) (first second : Needs) → n < length tests → answer_of path n ≡ None → AreNeeds store (C store y) y (answered path n true) first → AreNeeds store (C store z) z (answered path n false) second → (answers : Answers) → AreLeast tree path n first second answers → NoneCanBeLeftOut (C store (split n y z)) answers
+  pub least-needed : (store : List Answers) (path : Answers) (n : ℕ) (y z : Proof) (first second : Needs) → n < length tests → answer_of path n ≡ None → AreNeeds store (C store y) y (path_with path n true) first → AreNeeds store (C store z) z (path_with path n false) second → (answers : Answers) → AreLeast tree path n first second answers → NoneCanBeLeftOut (C store (split n y z)) answers
   least-needed = needing.least-needed schema tests tree
 
   -- a trimmed part is trimmed where more is stored
@@ -103,12 +103,12 @@ module _ (schema : Schema) (tests : List Test) (tree : Tree) where
   along-grows = trimming.along-grows schema tests tree
 
   -- and without the split above it
-  pub along-skipped : (store : List Answers) (k : ℕ) (p : Proof) (path : Answers) (n : ℕ) (b : Bool) → IsTrimmedAlong store schema tests tree k p (answered path n b) → IsTrimmedAlong store schema tests tree k p path
+  pub along-skipped : (store : List Answers) (k : ℕ) (p : Proof) (path : Answers) (n : ℕ) (b : Bool) → IsTrimmedAlong store schema tests tree k p (path_with path n b) → IsTrimmedAlong store schema tests tree k p path
   along-skipped = trimming.along-skipped schema tests tree
 
   -- a split of trimmed sides is trimmed where its yes side needs it and its path contained nothing that was stored
-  pub along-split : (store : List Answers) (k n : ℕ) (y z : Proof) (path : Answers) → answer_of path n ≡ None → C store y (answered path n true) → ¬ C store y path → ((i : ℕ) → i < k → ¬ Contained (answers_at store i) path) →
-      IsTrimmedAlong store schema tests tree k y (answered path n true) → IsTrimmedAlong store schema tests tree (k + labels y) z (answered path n false) → IsTrimmedAlong store schema tests tree k (split n y z) path
+  pub along-split : (store : List Answers) (k n : ℕ) (y z : Proof) (path : Answers) → answer_of path n ≡ None → C store y (path_with path n true) → ¬ C store y path → ((i : ℕ) → i < k → ¬ Contained (answers_at store i) path) →
+      IsTrimmedAlong store schema tests tree k y (path_with path n true) → IsTrimmedAlong store schema tests tree (k + labels y) z (path_with path n false) → IsTrimmedAlong store schema tests tree k (split n y z) path
   along-split = trimming.along-split schema tests tree
 
   -- a label is where none of its answers can be left out
@@ -120,11 +120,11 @@ module _ (schema : Schema) (tests : List Test) (tree : Tree) where
   none-stored = trimming.none-stored schema tests tree
 
   -- the whole refutation with its labels numbered by their lines closes
-  pub whole-closes : (store : List Answers) (p : Proof) → EndInOrder 0 p → labels p ≤ length store → C store p [] → Closes schema tests tree at_first (renamed [] 0 p) []
+  pub whole-closes : (store : List Answers) (p : Proof) → EndInOrder 0 p → labels p ≤ length store → C store p [] → Closes schema tests tree at_first (renamed_proof [] 0 p) []
   whole-closes = trimming.whole-closes schema tests tree
 
   -- and is trimmed
-  pub whole-trimmed : (store : List Answers) (p : Proof) → EndInOrder 0 p → labels p ≤ length store → C store p [] → IsTrimmedAlong store schema tests tree 0 p [] → LabelSplits p → labels p ≡ length store → (bare p ≡ 0) ⊎ (MOST_LEARNED ≤ length store) → IsTrimmed schema tests tree (renamed [] 0 p)
+  pub whole-trimmed : (store : List Answers) (p : Proof) → EndInOrder 0 p → labels p ≤ length store → C store p [] → IsTrimmedAlong store schema tests tree 0 p [] → LabelSplits p → labels p ≡ length store → (bare_splits p ≡ 0) ⊎ (MOST_LEARNED ≤ length store) → IsTrimmed schema tests tree (renamed_proof [] 0 p)
   whole-trimmed = trimming.whole-trimmed schema tests tree
 
   -- what no request answers and makes the tree yes, none does with more answers
@@ -132,7 +132,7 @@ module _ (schema : Schema) (tests : List Test) (tree : Tree) where
   none-more = unmet.none-more schema tests tree
 
   -- nor where none does with either answer to a further test
-  pub none-split : (path : Answers) (n : ℕ) → answer_of path n ≡ None → NoneMeets schema tests tree (answered path n true) → NoneMeets schema tests tree (answered path n false) → NoneMeets schema tests tree path
+  pub none-split : (path : Answers) (n : ℕ) → answer_of path n ≡ None → NoneMeets schema tests tree (path_with path n true) → NoneMeets schema tests tree (path_with path n false) → NoneMeets schema tests tree path
   none-split = unmet.none-split schema tests tree
 
   -- where each stored list leaves no request, neither does a part that closes by what is stored
@@ -140,20 +140,20 @@ module _ (schema : Schema) (tests : List Test) (tree : Tree) where
   closed-none = unmet.closed-none schema tests tree
 
 -- a cut of a split's answers is least for its sides
-pub cut-least : (tree : Tree) (path : Answers) (n : ℕ) (first second : Needs) → answer_of path n ≡ None → Contained (needs_list first) (answered path n true) → Contained (needs_list second) (answered path n false) → (answers : Answers) → AreCutFor tree path n first second answers → AreLeast tree path n first second answers
+pub cut-least : (tree : Tree) (path : Answers) (n : ℕ) (first second : Needs) → answer_of path n ≡ None → Contained (needs_list first) (path_with path n true) → Contained (needs_list second) (path_with path n false) → (answers : Answers) → AreCutFor tree path n first second answers → AreLeast tree path n first second answers
 cut-least = needing.cut-least
 
 -- numbers by lines leave how many splits, labels and nodes there are, and how deep they nest
-pub renamed-splits : (p : Proof) (names : List ℕ) (begun : ℕ) → splits (renamed names begun p) ≡ splits p
+pub renamed-splits : (p : Proof) (names : List ℕ) (begun : ℕ) → splits (renamed_proof names begun p) ≡ splits p
 renamed-splits = numbers.renamed-splits
 
-pub renamed-labels : (p : Proof) (names : List ℕ) (begun : ℕ) → labels (renamed names begun p) ≡ labels p
+pub renamed-labels : (p : Proof) (names : List ℕ) (begun : ℕ) → labels (renamed_proof names begun p) ≡ labels p
 renamed-labels = numbers.renamed-labels
 
-pub renamed-size : (p : Proof) (names : List ℕ) (begun : ℕ) → size (renamed names begun p) ≡ size p
+pub renamed-size : (p : Proof) (names : List ℕ) (begun : ℕ) → size (renamed_proof names begun p) ≡ size p
 renamed-size = numbers.renamed-size
 
-pub renamed-depth : (p : Proof) (names : List ℕ) (begun : ℕ) → depth (renamed names begun p) ≡ depth p
+pub renamed-depth : (p : Proof) (names : List ℕ) (begun : ℕ) → depth (renamed_proof names begun p) ≡ depth p
 renamed-depth = numbers.renamed-depth
 
 -- no labels stand before the first
@@ -165,7 +165,7 @@ pub next-names : (y : Proof) (names : List ℕ) (begun k : ℕ) → AreNames 0 b
 next-names = numbers.next-names
 
 -- after a part its labels stand before what follows
-pub after-renamed : (store : List Answers) (p : Proof) (k begun : ℕ) (names : List ℕ) → length names ≡ k → EndInOrder k p → AreStored store p → after_part (before_by store names begun) (renamed names begun p) ≡ before_by store (names ++ line_names begun p) (begun + labels p)
+pub after-renamed : (store : List Answers) (p : Proof) (k begun : ℕ) (names : List ℕ) → length names ≡ k → EndInOrder k p → AreStored store p → after_part (before_by store names begun) (renamed_proof names begun p) ≡ before_by store (names ++ line_names begun p) (begun + labels p)
 after-renamed = numbers.after-renamed
 
 -- a part that closes has its labels stored
@@ -173,7 +173,7 @@ pub closes-stored : (schema : Schema) (tests : List Test) (tree : Tree) (store :
 closes-stored = closing.closes-stored
 
 -- with its labels numbered by their lines a part closes where it closes by what is stored
-pub renamed-closes : (schema : Schema) (tests : List Test) (tree : Tree) (store : List Answers) (p : Proof) (k begun : ℕ) (names : List ℕ) (q : Answers) → EndInOrder k p → AreNames 0 begun k names → k + labels p ≤ length store → ClosesByStore store schema tests tree p q → Closes schema tests tree (before_by store names begun) (renamed names begun p) q
+pub renamed-closes : (schema : Schema) (tests : List Test) (tree : Tree) (store : List Answers) (p : Proof) (k begun : ℕ) (names : List ℕ) (q : Answers) → EndInOrder k p → AreNames 0 begun k names → k + labels p ≤ length store → ClosesByStore store schema tests tree p q → Closes schema tests tree (before_by store names begun) (renamed_proof names begun p) q
 renamed-closes = numbers.renamed-closes
 
 -- ---- parts while they are made
@@ -207,7 +207,7 @@ module _ (schema : Schema) (tests : List Test) (tree : Tree) where
   core-kept = making.core-kept schema tests tree
 
   -- a yes side's part that closes without the split
-  pub skip-made : (old new : List Answers) (path : Answers) (n used more : ℕ) (part : Part) → n < length tests → answer_of path n ≡ None → Made old new (answered path n true) used part → C schema tests tree new (part_proof part) path → used ≤ more → Made old new path more part
+  pub skip-made : (old new : List Answers) (path : Answers) (n used more : ℕ) (part : Part) → n < length tests → answer_of path n ≡ None → Made old new (path_with path n true) used part → C schema tests tree new (part_proof part) path → used ≤ more → Made old new path more part
   skip-made = making.skip-made schema tests tree
 
   -- what a part needs is of its path, also where more is stored
@@ -215,7 +215,7 @@ module _ (schema : Schema) (tests : List Test) (tree : Tree) where
   own-needs = halving.own-needs schema tests tree
 
   -- the whole with its labels numbered by their lines
-  pub finished-made : (store : List Answers) (used : ℕ) (part : Part) → Made [] store [] used part → IsRefutationOf schema tests tree used (renamed [] 0 (part_proof part))
+  pub finished-made : (store : List Answers) (used : ℕ) (part : Part) → Made [] store [] used part → IsRefutationOf schema tests tree used (renamed_proof [] 0 (part_proof part))
   finished-made = making.finished-made schema tests tree
 
   -- has as many labels as lists are stored

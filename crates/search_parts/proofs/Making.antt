@@ -3,7 +3,7 @@ use Rattle.std.proofs.Common.{◌≡◌, ◌<◌, ◌≤◌, ℕ, suc, List, [],
 use Rattle.std.proofs.lemmas.List.{append-nil}
 use Rattle.std.proofs.lemmas.Option.{slice_get-get_or}
 use Rattle.formula_tree.specs.Answers.{Answers, Contained, answer_of}
-use Rattle.formula_tree.specs.Runs.{answered, unanswered}
+use Rattle.formula_tree.specs.Runs.{path_with, unanswered_count}
 use Rattle.formula_tree.specs.Trees.{Tree}
 use Rattle.formula_tree.specs.Values.{value}
 use Rattle.formula_tree.specs.declared.value.Three.TheVariants.{No}
@@ -24,7 +24,7 @@ use Rattle.search_parts.specs.declared.part.Part.{Part}
 use Rattle.search_parts.specs.Making.{IsClosedPart, IsKeptCore, IsMadePart, IsPartOf, IsRefutationOf, IsSlotPart, IsTrimPart, part_proof}
 use Rattle.search_parts.specs.Needs.{AreAnswersTo, AreNeeds}
 use Rattle.search_parts.specs.Parts.{ClosesByStore, EndInOrder}
-use Rattle.search_parts.specs.Renaming.{renamed}
+use Rattle.search_parts.specs.Renaming.{renamed_proof}
 use Rattle.search_parts.proofs.Closing.{accepts-more, core-within}
 use Rattle.search_parts.proofs.Needing.{clauses-just, just-shorter, reuse-just, slot-just}
 use Rattle.search_parts.proofs.Renamed.{renamed-depth, renamed-splits}
@@ -124,15 +124,15 @@ module _ (schema : Schema) (tests : List Test) (tree : Tree) where
 
   -- ---- a part without the split above it
 
-  skipped-needs : (store : List Answers) (p : Proof) (path : Answers) (n : ℕ) (b : Bool) (need : Needs) → C store p path → AreNeeds store (C store p) p (answered path n b) need → AreNeeds store (C store p) p path need
+  skipped-needs : (store : List Answers) (p : Proof) (path : Answers) (n : ℕ) (b : Bool) (need : Needs) → C store p path → AreNeeds store (C store p) p (path_with path n b) need → AreNeeds store (C store p) p path need
   skipped-needs store p path n b (Just needs) closes are =
-      just-shorter (C store p) path (answered path n b) needs (contained-answered path n b) are (are.needed path (contained-answered path n b) closes)
+      just-shorter (C store p) path (path_with path n b) needs (contained-answered path n b) are (are.needed path (contained-answered path n b) closes)
   skipped-needs store p path n b Open closes are = are
   skipped-needs store p path n b Unknown closes are = are
 
-  pub skip-made : (old new : List Answers) (path : Answers) (n used more : ℕ) (part : Part) → n < length tests → answer_of path n ≡ None → Made old new (answered path n true) used part → C new (part_proof part) path → used ≤ more → Made old new path more part
+  pub skip-made : (old new : List Answers) (path : Answers) (n used more : ℕ) (part : Part) → n < length tests → answer_of path n ≡ None → Made old new (path_with path n true) used part → C new (part_proof part) path → used ≤ more → Made old new path more part
   skip-made old new path n used more part within free made closes le =
-      let fewer : unanswered path (length tests) ≡ suc (unanswered (answered path n true) (length tests)) = unanswered-more path n true (length tests) within free in
+      let fewer : unanswered_count path (length tests) ≡ suc (unanswered_count (path_with path n true) (length tests)) = unanswered-more path n true (length tests) within free in
       record {
         closed = record {
           closes = closes;
@@ -153,15 +153,15 @@ module _ (schema : Schema) (tests : List Test) (tree : Tree) where
 
   -- ---- the whole
 
-  pub finished-made : (store : List Answers) (used : ℕ) (part : Part) → Made [] store [] used part → IsRefutationOf schema tests tree used (renamed [] 0 (part_proof part))
+  pub finished-made : (store : List Answers) (used : ℕ) (part : Part) → Made [] store [] used part → IsRefutationOf schema tests tree used (renamed_proof [] 0 (part_proof part))
   finished-made store used part made =
       let p = part_proof part in
       let closed = made.closed in
       let count : length store ≡ labels p = omega (arith, closed.stored) in
       let room : labels p ≤ length store = omega (arith, count) in
-      let deep : depth (renamed [] 0 p) ≡ depth p = renamed-depth p [] 0 in
-      let many : splits (renamed [] 0 p) ≡ splits p = renamed-splits p [] 0 in
-      let open_tests : unanswered [] (length tests) ≡ length tests = unanswered-start (length tests) in
+      let deep : depth (renamed_proof [] 0 p) ≡ depth p = renamed-depth p [] 0 in
+      let many : splits (renamed_proof [] 0 p) ≡ splits p = renamed-splits p [] 0 in
+      let open_tests : unanswered_count [] (length tests) ≡ length tests = unanswered-start (length tests) in
       record {
         closes = whole-closes schema tests tree store p closed.order room closed.closes;
         few = omega (arith, made.trim.few, many);

@@ -3,7 +3,7 @@ use Rattle.std.proofs.Common.{◌≡◌, ◌≢◌, ◌<◌, ◌≤◌, ◌+◌,
 use Rattle.std.proofs.lemmas.Option.{get_or_from_slice_get, slice_get_within}
 use Rattle.std.proofs.lemmas.List.{length-append}
 use Rattle.formula_tree.specs.Answers.{Answers, Contained, answer_of}
-use Rattle.formula_tree.specs.Runs.{answered}
+use Rattle.formula_tree.specs.Runs.{path_with}
 use Rattle.formula_tree.specs.Trees.{Tree}
 use Rattle.formula_tree.proofs.Laws.{answer_of-besides, answer_of-last, cases_eq, contained-both}
 use Rattle.cnf_clauses.specs.Numbering.{clauses_of}
@@ -19,7 +19,7 @@ use Rattle.refute_check.specs.Proofs.{Proof, by_clauses, by_slot, label, labels,
 use Rattle.search_parts.specs.declared.part.Needs.{Needs}
 use Rattle.search_parts.specs.declared.part.Needs.TheVariants.{Just, Open, Unknown}
 use Rattle.search_parts.specs.Needs.{AreAnswersTo, AreCutFor, AreLeast, AreNeeds, HasNeeds, IsNoWhereOpen, NeedsJust, needs_list}
-use Rattle.tree_values.specs.Omitting.{omitted}
+use Rattle.tree_values.specs.Omitting.{path_without}
 use Rattle.search_parts.specs.Parts.{ClosesByStore, EndInOrder}
 use Rattle.search_parts.specs.Trimmed.{NoneCanBeLeftOut}
 use Rattle.search_parts.proofs.Closing.{accepts-more, grew, grows, open-in}
@@ -110,23 +110,23 @@ module _ (schema : Schema) (tests : List Test) (tree : Tree) where
   needs-of store p path few other Open are known inside closes = subst (λ (x : Proof). C store x few) are closes
   needs-of store p path few other Unknown are known inside closes = absurd known
 
-  module _ (store : List Answers) (path : Answers) (n : ℕ) (y z : Proof) (first second : Needs) (small : n < length tests) (new : answer_of path n ≡ None) (are_first : AreNeeds store (C store y) y (answered path n true) first) (are_second : AreNeeds store (C store z) z (answered path n false) second) (answers : Answers) (least : AreLeast tree path n first second answers) where
-    side-within : (few : Answers) (b : Bool) → Contained few path → Contained (answered few n b) (answered path n b)
+  module _ (store : List Answers) (path : Answers) (n : ℕ) (y z : Proof) (first second : Needs) (small : n < length tests) (new : answer_of path n ≡ None) (are_first : AreNeeds store (C store y) y (path_with path n true) first) (are_second : AreNeeds store (C store z) z (path_with path n false) second) (answers : Answers) (least : AreLeast tree path n first second answers) where
+    side-within : (few : Answers) (b : Bool) → Contained few path → Contained (path_with few n b) (path_with path n b)
     side-within few b inside = contained-both few path n b inside (open-in few path n inside new) new
 
     pub least-closes : C store (split n y z) answers
     least-closes = (
       (small, open-in answers path n least.there new),
-      closes-with store y (answered path n true) (answered answers n true) first are_first (side-within answers true least.there) least.enough.yes_side,
-      closes-with store z (answered path n false) (answered answers n false) second are_second (side-within answers false least.there) least.enough.no_side,
+      closes-with store y (path_with path n true) (path_with answers n true) first are_first (side-within answers true least.there) least.enough.yes_side,
+      closes-with store z (path_with path n false) (path_with answers n false) second are_second (side-within answers false least.there) least.enough.no_side,
     )
 
     pub least-needed : NoneCanBeLeftOut (C store (split n y z)) answers
     least-needed m b is closes =
-        let inside : Contained (omitted answers m) path = λ k c given. least.there k c (omitted-within answers m k c given) in
+        let inside : Contained (path_without answers m) path = λ k c given. least.there k c (omitted-within answers m k c given) in
         least.least m b is (record {
-          yes_side = needs-of store y (answered path n true) (answered (omitted answers m) n true) (answered answers n true) first are_first least.enough.yes_side (side-within (omitted answers m) true inside) closes.1;
-          no_side = needs-of store z (answered path n false) (answered (omitted answers m) n false) (answered answers n false) second are_second least.enough.no_side (side-within (omitted answers m) false inside) closes.2;
+          yes_side = needs-of store y (path_with path n true) (path_with (path_without answers m) n true) (path_with answers n true) first are_first least.enough.yes_side (side-within (path_without answers m) true inside) closes.1;
+          no_side = needs-of store z (path_with path n false) (path_with (path_without answers m) n false) (path_with answers n false) second are_second least.enough.no_side (side-within (path_without answers m) false inside) closes.2;
         })
 
 -- ---- least answers from a cut
@@ -147,41 +147,41 @@ no-where-open tree Open answers has = has
 no-where-open tree Unknown answers has = has
 
 -- what is needed on a side, from all that is needed but the split's answer
-with-answer : (path needs answers : Answers) (n : ℕ) (b : Bool) → answer_of path n ≡ None → answer_of answers n ≡ None → Contained needs (answered path n b) → Contained (omitted needs n) answers → Contained needs (answered answers n b)
+with-answer : (path needs answers : Answers) (n : ℕ) (b : Bool) → answer_of path n ≡ None → answer_of answers n ≡ None → Contained needs (path_with path n b) → Contained (path_without needs n) answers → Contained needs (path_with answers n b)
 with-answer path needs answers n b new free inside has m c is =
     elim (cases_eq m n) [
       | inl e ↦
-          let first : answer_of (answered path n b) m ≡ Some b = rw e (answer_of-last path n b new) in
-          let second : answer_of (answered answers n b) m ≡ Some b = rw e (answer_of-last answers n b free) in
+          let first : answer_of (path_with path n b) m ≡ Some b = rw e (answer_of-last path n b new) in
+          let second : answer_of (path_with answers n b) m ≡ Some b = rw e (answer_of-last answers n b free) in
           second ∙ sym first ∙ inside m c is
       | inr ne ↦ answer_of-besides answers n b m ne ∙ has m c (omitted-other needs n m ne ∙ is)
     ]
 
 -- an answer that was left out isn't there
-left-out : (needs answers : Answers) (n m : ℕ) (b c : Bool) → m ≢ n → Contained needs (answered (omitted answers m) n b) → answer_of needs m ≡ Some c → ⊥
+left-out : (needs answers : Answers) (n m : ℕ) (b c : Bool) → m ≢ n → Contained needs (path_with (path_without answers m) n b) → answer_of needs m ≡ Some c → ⊥
 left-out needs answers n m b c ne inside is =
-    let none : answer_of (answered (omitted answers m) n b) m ≡ None = answer_of-besides (omitted answers m) n b m ne ∙ omitted-none answers m in
+    let none : answer_of (path_with (path_without answers m) n b) m ≡ None = answer_of-besides (path_without answers m) n b m ne ∙ omitted-none answers m in
     let bad : None ≡ Some c = sym none ∙ inside m c is in
     absurd (cc)
 
-module _ (tree : Tree) (path : Answers) (n : ℕ) (first second : Needs) (new : answer_of path n ≡ None) (inside_first : Contained (needs_list first) (answered path n true)) (inside_second : Contained (needs_list second) (answered path n false)) (answers : Answers) where
+module _ (tree : Tree) (path : Answers) (n : ℕ) (first second : Needs) (new : answer_of path n ≡ None) (inside_first : Contained (needs_list first) (path_with path n true)) (inside_second : Contained (needs_list second) (path_with path n false)) (answers : Answers) where
   pub cut-least : AreCutFor tree path n first second answers → AreLeast tree path n first second answers
   cut-least cut =
       let free = open-in answers path n cut.there new in
       record {
         there = cut.there;
         enough = record {
-          yes_side = listed tree first (answered answers n true) (with-answer path (needs_list first) answers n true new free inside_first (λ m c is. cut.needed_there m c (cut.union.has_first m c is))) cut.still.0;
-          no_side = listed tree second (answered answers n false) (with-answer path (needs_list second) answers n false new free inside_second (λ m c is. cut.needed_there m c (cut.union.has_second m c is))) cut.still.1;
+          yes_side = listed tree first (path_with answers n true) (with-answer path (needs_list first) answers n true new free inside_first (λ m c is. cut.needed_there m c (cut.union.has_first m c is))) cut.still.0;
+          no_side = listed tree second (path_with answers n false) (with-answer path (needs_list second) answers n false new free inside_second (λ m c is. cut.needed_there m c (cut.union.has_second m c is))) cut.still.1;
         };
         least = λ m b is have.
             let apart : m ≢ n = λ e. (let none : answer_of answers m ≡ None = rw e free in let bad : None ≡ Some b = sym none ∙ is in absurd (cc)) in
             elim (cut.least m b is) [
               | inl known ↦
                   elim (cut.union.only m b known) [
-                    | inl one ↦ left-out (needs_list first) answers n m true b apart (has-listed tree first (answered (omitted answers m) n true) have.yes_side) one
-                    | inr other ↦ left-out (needs_list second) answers n m false b apart (has-listed tree second (answered (omitted answers m) n false) have.no_side) other
+                    | inl one ↦ left-out (needs_list first) answers n m true b apart (has-listed tree first (path_with (path_without answers m) n true) have.yes_side) one
+                    | inr other ↦ left-out (needs_list second) answers n m false b apart (has-listed tree second (path_with (path_without answers m) n false) have.no_side) other
                   ]
-              | inr never ↦ never (no-where-open tree first (answered (omitted answers m) n true) have.yes_side, no-where-open tree second (answered (omitted answers m) n false) have.no_side)
+              | inr never ↦ never (no-where-open tree first (path_with (path_without answers m) n true) have.yes_side, no-where-open tree second (path_with (path_without answers m) n false) have.no_side)
             ];
       }

@@ -4,7 +4,7 @@ use Rattle.std.proofs.Common.{◌≡◌, ◌<◌, ◌≤◌, ◌+◌, ℕ, zero,
 use Rattle.std.proofs.lemmas.List.{drop-drop, get_or_default}
 use Rattle.std.proofs.lemmas.Slice.Zip.{get_or-zip, length-zip}
 use Rattle.formula_tree.specs.Answers.{Answers, Contained}
-use Rattle.formula_tree.specs.Runs.{answered}
+use Rattle.formula_tree.specs.Runs.{path_with}
 use Rattle.formula_tree.specs.Trees.{Tree}
 use Rattle.nogoods.specs.Hits.{answers_at}
 use Rattle.policy_model.specs.declared.schema.Schema.{Schema}
@@ -12,8 +12,8 @@ use Rattle.policy_model.specs.declared.test.Test.{Test}
 use Rattle.refute_check.specs.Closing.{Before, Closes, IsReuse, after_part}
 use Rattle.refute_check.specs.Proofs.{Proof, by_clauses, by_slot, by_value, depth, ended_in, label, labels, reuse, size, split, splits}
 use Rattle.search_parts.specs.Parts.{AreStored, ClosesByStore, EndInOrder, IsTrimmedBy, LabelSplits}
-use Rattle.search_parts.specs.Renaming.{AreNames, before_by, line_names, renamed}
-use Rattle.search_parts.specs.Trimmed.{IsTrimmedAt, bare, bare_in_label, learned, one_if_split}
+use Rattle.search_parts.specs.Renaming.{AreNames, before_by, line_names, renamed_proof}
+use Rattle.search_parts.specs.Trimmed.{IsTrimmedAt, bare_splits, bare_in_label, learned_splits, one_if_split}
 use Rattle.search_parts.proofs.Closing.{closes-stored}
 use Rattle.search_parts.proofs.Naming.{line_names-are, line_names-length, names-behind, wider}
 
@@ -35,7 +35,7 @@ zip-one (a ∷ store) (suc n) b answers at = zip-one store n b answers at
 
 -- ---- what numbers don't change
 
-pub renamed-labels : (p : Proof) (names : List ℕ) (begun : ℕ) → labels (renamed names begun p) ≡ labels p
+pub renamed-labels : (p : Proof) (names : List ℕ) (begun : ℕ) → labels (renamed_proof names begun p) ≡ labels p
 renamed-labels (split n y z) names begun = rw (renamed-labels y names begun, renamed-labels z (names ++ line_names begun y) (begun + labels y)) refl
 renamed-labels by_value names begun = refl
 renamed-labels (by_slot core proof) names begun = refl
@@ -43,7 +43,7 @@ renamed-labels (by_clauses hints) names begun = refl
 renamed-labels (label n answers p) names begun = rw (renamed-labels p names (begun + 1)) refl
 renamed-labels (reuse n) names begun = refl
 
-pub renamed-splits : (p : Proof) (names : List ℕ) (begun : ℕ) → splits (renamed names begun p) ≡ splits p
+pub renamed-splits : (p : Proof) (names : List ℕ) (begun : ℕ) → splits (renamed_proof names begun p) ≡ splits p
 renamed-splits (split n y z) names begun = rw (renamed-splits y names begun, renamed-splits z (names ++ line_names begun y) (begun + labels y)) refl
 renamed-splits by_value names begun = refl
 renamed-splits (by_slot core proof) names begun = refl
@@ -51,7 +51,7 @@ renamed-splits (by_clauses hints) names begun = refl
 renamed-splits (label n answers p) names begun = renamed-splits p names (begun + 1)
 renamed-splits (reuse n) names begun = refl
 
-pub renamed-size : (p : Proof) (names : List ℕ) (begun : ℕ) → size (renamed names begun p) ≡ size p
+pub renamed-size : (p : Proof) (names : List ℕ) (begun : ℕ) → size (renamed_proof names begun p) ≡ size p
 renamed-size (split n y z) names begun = rw (renamed-size y names begun, renamed-size z (names ++ line_names begun y) (begun + labels y)) refl
 renamed-size by_value names begun = refl
 renamed-size (by_slot core proof) names begun = refl
@@ -59,7 +59,7 @@ renamed-size (by_clauses hints) names begun = refl
 renamed-size (label n answers p) names begun = rw (renamed-size p names (begun + 1)) refl
 renamed-size (reuse n) names begun = refl
 
-pub renamed-depth : (p : Proof) (names : List ℕ) (begun : ℕ) → depth (renamed names begun p) ≡ depth p
+pub renamed-depth : (p : Proof) (names : List ℕ) (begun : ℕ) → depth (renamed_proof names begun p) ≡ depth p
 renamed-depth (split n y z) names begun = rw (renamed-depth y names begun, renamed-depth z (names ++ line_names begun y) (begun + labels y)) refl
 renamed-depth by_value names begun = refl
 renamed-depth (by_slot core proof) names begun = refl
@@ -67,7 +67,7 @@ renamed-depth (by_clauses hints) names begun = refl
 renamed-depth (label n answers p) names begun = rw (renamed-depth p names (begun + 1)) refl
 renamed-depth (reuse n) names begun = refl
 
-renamed-one : (p : Proof) (names : List ℕ) (begun : ℕ) → one_if_split (renamed names begun p) ≡ one_if_split p
+renamed-one : (p : Proof) (names : List ℕ) (begun : ℕ) → one_if_split (renamed_proof names begun p) ≡ one_if_split p
 renamed-one (split n y z) names begun = refl
 renamed-one by_value names begun = refl
 renamed-one (by_slot core proof) names begun = refl
@@ -75,7 +75,7 @@ renamed-one (by_clauses hints) names begun = refl
 renamed-one (label n answers p) names begun = refl
 renamed-one (reuse n) names begun = refl
 
-pub renamed-learned : (p : Proof) (names : List ℕ) (begun : ℕ) → learned (renamed names begun p) ≡ learned p
+pub renamed-learned : (p : Proof) (names : List ℕ) (begun : ℕ) → learned_splits (renamed_proof names begun p) ≡ learned_splits p
 renamed-learned (split n y z) names begun = rw (renamed-learned y names begun, renamed-learned z (names ++ line_names begun y) (begun + labels y)) refl
 renamed-learned by_value names begun = refl
 renamed-learned (by_slot core proof) names begun = refl
@@ -84,7 +84,7 @@ renamed-learned (label n answers p) names begun = rw (renamed-one p names (begun
 renamed-learned (reuse n) names begun = refl
 
 mutual
-  pub renamed-bare : (p : Proof) (names : List ℕ) (begun : ℕ) → bare (renamed names begun p) ≡ bare p
+  pub renamed-bare : (p : Proof) (names : List ℕ) (begun : ℕ) → bare_splits (renamed_proof names begun p) ≡ bare_splits p
   renamed-bare (split n y z) names begun = rw (renamed-bare y names begun, renamed-bare z (names ++ line_names begun y) (begun + labels y)) refl
   renamed-bare by_value names begun = refl
   renamed-bare (by_slot core proof) names begun = refl
@@ -92,7 +92,7 @@ mutual
   renamed-bare (label n answers p) names begun = bare-inside p names (begun + 1)
   renamed-bare (reuse n) names begun = refl
 
-  bare-inside : (p : Proof) (names : List ℕ) (begun : ℕ) → bare_in_label (renamed names begun p) ≡ bare_in_label p
+  bare-inside : (p : Proof) (names : List ℕ) (begun : ℕ) → bare_in_label (renamed_proof names begun p) ≡ bare_in_label p
   bare-inside (split n y z) names begun = rw (renamed-bare y names begun, renamed-bare z (names ++ line_names begun y) (begun + labels y)) refl
   bare-inside by_value names begun = refl
   bare-inside (by_slot core proof) names begun = refl
@@ -101,7 +101,7 @@ mutual
   bare-inside (reuse n) names begun = refl
 
 -- where each label is a split's, each is a learned split
-pub learned-labels : (p : Proof) → LabelSplits p → learned p ≡ labels p
+pub learned-labels : (p : Proof) → LabelSplits p → learned_splits p ≡ labels p
 learned-labels (split n y z) are = rw (learned-labels y are.0, learned-labels z are.1) refl
 learned-labels by_value are = refl
 learned-labels (by_slot core proof) are = refl
@@ -118,7 +118,7 @@ learned-labels (reuse n) are = refl
 
 module _ (store : List Answers) where
   -- the labels of a part end with the lists that were stored for them
-  pub ended-renamed : (p : Proof) (k begun : ℕ) (names : List ℕ) → EndInOrder k p → AreStored store p → ended_in (renamed names begun p) ≡ zip (line_names begun p) (drop k store)
+  pub ended-renamed : (p : Proof) (k begun : ℕ) (names : List ℕ) → EndInOrder k p → AreStored store p → ended_in (renamed_proof names begun p) ≡ zip (line_names begun p) (drop k store)
   ended-renamed (split n y z) k begun names order stored =
       let first = ended-renamed y k begun names order.0 stored.0 in
       let second = ended-renamed z (k + labels y) (begun + labels y) (names ++ line_names begun y) order.1 stored.1 in
@@ -142,12 +142,12 @@ module _ (store : List Answers) where
   made begun ended = record { begun = begun; ended = ended }
 
   -- after a part its labels stand before what follows
-  pub after-renamed : (p : Proof) (k begun : ℕ) (names : List ℕ) → length names ≡ k → EndInOrder k p → AreStored store p → after_part (before_by store names begun) (renamed names begun p) ≡ before_by store (names ++ line_names begun p) (begun + labels p)
+  pub after-renamed : (p : Proof) (k begun : ℕ) (names : List ℕ) → length names ≡ k → EndInOrder k p → AreStored store p → after_part (before_by store names begun) (renamed_proof names begun p) ≡ before_by store (names ++ line_names begun p) (begun + labels p)
   after-renamed p k begun names count order stored =
-      let more : zip names store ++ ended_in (renamed names begun p) ≡ zip (names ++ line_names begun p) store =
+      let more : zip names store ++ ended_in (renamed_proof names begun p) ≡ zip (names ++ line_names begun p) store =
       ap (λ l. zip names store ++ l) (ended-renamed p k begun names order stored ∙ ap (λ (m : ℕ). zip (line_names begun p) (drop m store)) (sym count)) ∙ sym (zip-behind names (line_names begun p) store)
       in
-      ap (λ (m : ℕ). made (begun + m) (zip names store ++ ended_in (renamed names begun p))) (renamed-labels p names begun) ∙ ap (made (begun + labels p)) more
+      ap (λ (m : ℕ). made (begun + m) (zip names store ++ ended_in (renamed_proof names begun p))) (renamed-labels p names begun) ∙ ap (made (begun + labels p)) more
 
 -- ---- a node that reuses a label
 
@@ -194,13 +194,13 @@ module _ (schema : Schema) (tests : List Test) (tree : Tree) (store : List Answe
   inside-names : (names : List ℕ) (begun k : ℕ) → AreNames 0 begun k names → AreNames 0 (begun + 1) k names
   inside-names names begun k are = wider 0 0 begun (begun + 1) k names (omega arith) (omega arith) are
 
-  pub renamed-closes : (p : Proof) (k begun : ℕ) (names : List ℕ) (q : Answers) → EndInOrder k p → AreNames 0 begun k names → k + labels p ≤ length store → C p q → After names begun (renamed names begun p) q
+  pub renamed-closes : (p : Proof) (k begun : ℕ) (names : List ℕ) (q : Answers) → EndInOrder k p → AreNames 0 begun k names → k + labels p ≤ length store → C p q → After names begun (renamed_proof names begun p) q
   renamed-closes (split n y z) k begun names q order are room (own, left, right) =
-      let after = after-renamed store y k begun names are.count_is order.0 (closes-stored schema tests tree store y (answered q n true) left) in (
+      let after = after-renamed store y k begun names are.count_is order.0 (closes-stored schema tests tree store y (path_with q n true) left) in (
         own,
-        renamed-closes y k begun names (answered q n true) order.0 are (omega (arith, room)) left,
-        subst (λ (b : Before). Closes schema tests tree b (renamed (names ++ line_names begun y) (begun + labels y) z) (answered q n false)) (sym after)
-            (renamed-closes z (k + labels y) (begun + labels y) (names ++ line_names begun y) (answered q n false) order.1 (next-names y names begun k are) (omega (arith, room)) right),
+        renamed-closes y k begun names (path_with q n true) order.0 are (omega (arith, room)) left,
+        subst (λ (b : Before). Closes schema tests tree b (renamed_proof (names ++ line_names begun y) (begun + labels y) z) (path_with q n false)) (sym after)
+            (renamed-closes z (k + labels y) (begun + labels y) (names ++ line_names begun y) (path_with q n false) order.1 (next-names y names begun k are) (omega (arith, room)) right),
       )
   renamed-closes by_value k begun names q order are room h = h
   renamed-closes (by_slot core proof) k begun names q order are room h = h
@@ -209,13 +209,13 @@ module _ (schema : Schema) (tests : List Test) (tree : Tree) (store : List Answe
       (record { next = refl; rise = own.rise; there = own.there }, renamed-closes p k (begun + 1) names answers order.0 (inside-names names begun k are) (omega (arith, room)) inner)
   renamed-closes (reuse n) k begun names q order are room h = reuse-forth store names begun k are (omega (arith, room)) n q order h.there
 
-  pub closes-renamed : (p : Proof) (k begun : ℕ) (names : List ℕ) (q : Answers) → EndInOrder k p → AreStored store p → AreNames 0 begun k names → k + labels p ≤ length store → After names begun (renamed names begun p) q → C p q
+  pub closes-renamed : (p : Proof) (k begun : ℕ) (names : List ℕ) (q : Answers) → EndInOrder k p → AreStored store p → AreNames 0 begun k names → k + labels p ≤ length store → After names begun (renamed_proof names begun p) q → C p q
   closes-renamed (split n y z) k begun names q order stored are room (own, left, right) =
       let after = after-renamed store y k begun names are.count_is order.0 stored.0 in (
         own,
-        closes-renamed y k begun names (answered q n true) order.0 stored.0 are (omega (arith, room)) left,
-        closes-renamed z (k + labels y) (begun + labels y) (names ++ line_names begun y) (answered q n false) order.1 stored.1 (next-names y names begun k are) (omega (arith, room))
-            (subst (λ (b : Before). Closes schema tests tree b (renamed (names ++ line_names begun y) (begun + labels y) z) (answered q n false)) after right),
+        closes-renamed y k begun names (path_with q n true) order.0 stored.0 are (omega (arith, room)) left,
+        closes-renamed z (k + labels y) (begun + labels y) (names ++ line_names begun y) (path_with q n false) order.1 stored.1 (next-names y names begun k are) (omega (arith, room))
+            (subst (λ (b : Before). Closes schema tests tree b (renamed_proof (names ++ line_names begun y) (begun + labels y) z) (path_with q n false)) after right),
       )
   closes-renamed by_value k begun names q order stored are room h = h
   closes-renamed (by_slot core proof) k begun names q order stored are room h = h
@@ -228,14 +228,14 @@ module _ (schema : Schema) (tests : List Test) (tree : Tree) (store : List Answe
 
   -- ---- trimmed
 
-  pub renamed-trimmed : (p : Proof) (k begun : ℕ) (names : List ℕ) (q : Answers) → EndInOrder k p → AreStored store p → AreNames 0 begun k names → k + labels p ≤ length store → IsTrimmedBy store schema tests tree k p q → IsTrimmedAt schema tests tree (before_by store names begun) (renamed names begun p) q
+  pub renamed-trimmed : (p : Proof) (k begun : ℕ) (names : List ℕ) (q : Answers) → EndInOrder k p → AreStored store p → AreNames 0 begun k names → k + labels p ≤ length store → IsTrimmedBy store schema tests tree k p q → IsTrimmedAt schema tests tree (before_by store names begun) (renamed_proof names begun p) q
   renamed-trimmed (split n y z) k begun names q order stored are room (needed, none, left, right) =
       let after = after-renamed store y k begun names are.count_is order.0 stored.0 in (
         λ closes. needed (closes-renamed y k begun names q order.0 stored.0 are (omega (arith, room)) closes),
         none-reused store names begun k are (omega (arith, room)) q none,
-        renamed-trimmed y k begun names (answered q n true) order.0 stored.0 are (omega (arith, room)) left,
-        subst (λ (b : Before). IsTrimmedAt schema tests tree b (renamed (names ++ line_names begun y) (begun + labels y) z) (answered q n false)) (sym after)
-            (renamed-trimmed z (k + labels y) (begun + labels y) (names ++ line_names begun y) (answered q n false) order.1 stored.1 (next-names y names begun k are) (omega (arith, room)) right),
+        renamed-trimmed y k begun names (path_with q n true) order.0 stored.0 are (omega (arith, room)) left,
+        subst (λ (b : Before). IsTrimmedAt schema tests tree b (renamed_proof (names ++ line_names begun y) (begun + labels y) z) (path_with q n false)) (sym after)
+            (renamed-trimmed z (k + labels y) (begun + labels y) (names ++ line_names begun y) (path_with q n false) order.1 stored.1 (next-names y names begun k are) (omega (arith, room)) right),
       )
   renamed-trimmed by_value k begun names q order stored are room h = h
   renamed-trimmed (by_slot core proof) k begun names q order stored are room h = h

@@ -2,7 +2,7 @@
 use Rattle.std.proofs.Common.{◌≡◌, ◌⊎◌, ◌<◌, ◌≤◌, ◌+◌, ℕ, List, [], ◌++◌, length, Bool, true, false, None, ◌∙◌, subst, inl, inr, arith}
 use Rattle.std.proofs.lemmas.List.{get_or_append_left}
 use Rattle.formula_tree.specs.Answers.{Answers, Contained, answer_of}
-use Rattle.formula_tree.specs.Runs.{answered}
+use Rattle.formula_tree.specs.Runs.{path_with}
 use Rattle.formula_tree.specs.Trees.{Tree}
 use Rattle.formula_tree.proofs.Laws.{contained-answered, contained-both}
 use Rattle.nogoods.specs.Hits.{NoHit, answers_at}
@@ -12,8 +12,8 @@ use Rattle.refute_check.specs.Closing.{Closes, at_first}
 use Rattle.refute_check.specs.Proofs.{Proof, by_clauses, by_slot, by_value, label, labels, reuse, split}
 use Rattle.search_parts.specs.declared.learning.TheConstants.{MOST_LEARNED}
 use Rattle.search_parts.specs.Parts.{ClosesByStore, EndInOrder, IsTrimmedAlong, IsTrimmedBy, LabelSplits}
-use Rattle.search_parts.specs.Renaming.{renamed}
-use Rattle.search_parts.specs.Trimmed.{IsTrimmed, NoneCanBeLeftOut, bare, learned}
+use Rattle.search_parts.specs.Renaming.{renamed_proof}
+use Rattle.search_parts.specs.Trimmed.{IsTrimmed, NoneCanBeLeftOut, bare_splits, learned_splits}
 use Rattle.search_parts.proofs.Closing.{closes-stored, convex, grew}
 use Rattle.search_parts.proofs.Naming.{names-none}
 use Rattle.search_parts.proofs.Renamed.{learned-labels, renamed-bare, renamed-closes, renamed-learned, renamed-trimmed}
@@ -34,8 +34,8 @@ module _ (schema : Schema) (tests : List Test) (tree : Tree) where
   trimmed-grows store more k (split n y z) q order room (needed, none, left, right) = (
     λ closes. needed (grew schema tests tree store more k y q order.0 (omega (arith, room)) closes),
     λ i small inside. none i small (subst (λ (a : Answers). Contained a q) (get_or_append_left store more [] i (omega (arith, small, room))) inside),
-    trimmed-grows store more k y (answered q n true) order.0 (omega (arith, room)) left,
-    trimmed-grows store more (k + labels y) z (answered q n false) order.1 (omega (arith, room)) right,
+    trimmed-grows store more k y (path_with q n true) order.0 (omega (arith, room)) left,
+    trimmed-grows store more (k + labels y) z (path_with q n false) order.1 (omega (arith, room)) right,
   )
   trimmed-grows store more k by_value q order room h = h
   trimmed-grows store more k (by_slot core proof) q order room h = h
@@ -57,17 +57,17 @@ module _ (schema : Schema) (tests : List Test) (tree : Tree) where
   along-shorter store k p path many inside along few within = along few (λ n b is. inside n b (within n b is))
 
   -- a part that goes without the split above it
-  pub along-skipped : (store : List Answers) (k : ℕ) (p : Proof) (path : Answers) (n : ℕ) (b : Bool) → Along store k p (answered path n b) → Along store k p path
-  along-skipped store k p path n b = along-shorter store k p path (answered path n b) (contained-answered path n b)
+  pub along-skipped : (store : List Answers) (k : ℕ) (p : Proof) (path : Answers) (n : ℕ) (b : Bool) → Along store k p (path_with path n b) → Along store k p path
+  along-skipped store k p path n b = along-shorter store k p path (path_with path n b) (contained-answered path n b)
 
   -- a split whose yes side doesn't close without it, where nothing that is stored was contained in its path
-  pub along-split : (store : List Answers) (k : ℕ) (n : ℕ) (y z : Proof) (path : Answers) → answer_of path n ≡ None → C store y (answered path n true) → ¬ C store y path → ((i : ℕ) → i < k → ¬ Contained (answers_at store i) path) →
-      Along store k y (answered path n true) → Along store (k + labels y) z (answered path n false) → Along store k (split n y z) path
+  pub along-split : (store : List Answers) (k : ℕ) (n : ℕ) (y z : Proof) (path : Answers) → answer_of path n ≡ None → C store y (path_with path n true) → ¬ C store y path → ((i : ℕ) → i < k → ¬ Contained (answers_at store i) path) →
+      Along store k y (path_with path n true) → Along store (k + labels y) z (path_with path n false) → Along store k (split n y z) path
   along-split store k n y z path new closes needed none left right few inside (own, first, second) = (
-    λ early. needed (convex schema tests tree store y few path (answered path n true) inside (contained-answered path n true) early closes),
+    λ early. needed (convex schema tests tree store y few path (path_with path n true) inside (contained-answered path n true) early closes),
     λ i small there. none i small (λ m b is. inside m b (there m b is)),
-    left (answered few n true) (contained-both few path n true inside own.1 new) first,
-    right (answered few n false) (contained-both few path n false inside own.1 new) second,
+    left (path_with few n true) (contained-both few path n true inside own.1 new) first,
+    right (path_with few n false) (contained-both few path n false inside own.1 new) second,
   )
 
   -- a label none of whose answers can be left out
@@ -85,16 +85,16 @@ module _ (schema : Schema) (tests : List Test) (tree : Tree) where
 
   module _ (store : List Answers) (p : Proof) (order : EndInOrder 0 p) (room : labels p ≤ length store) (closes : C store p []) where
     -- with its labels numbered by their lines it closes by the rules of finished refutations
-    pub whole-closes : Closes schema tests tree at_first (renamed [] 0 p) []
+    pub whole-closes : Closes schema tests tree at_first (renamed_proof [] 0 p) []
     whole-closes = renamed-closes schema tests tree store p 0 0 [] [] order (names-none 0) (omega (arith, room)) closes
 
     -- and is trimmed
-    pub whole-trimmed : Along store 0 p [] → LabelSplits p → labels p ≡ length store → (bare p ≡ 0) ⊎ (MOST_LEARNED ≤ length store) → IsTrimmed schema tests tree (renamed [] 0 p)
+    pub whole-trimmed : Along store 0 p [] → LabelSplits p → labels p ≡ length store → (bare_splits p ≡ 0) ⊎ (MOST_LEARNED ≤ length store) → IsTrimmed schema tests tree (renamed_proof [] 0 p)
     whole-trimmed along splits count enough = record {
       learned =
           elim enough [
             | inl none ↦ inl (renamed-bare p [] 0 ∙ none)
-            | inr many ↦ let all : learned (renamed [] 0 p) ≡ length store = renamed-learned p [] 0 ∙ learned-labels p splits ∙ count in inr (omega (arith, all, many))
+            | inr many ↦ let all : learned_splits (renamed_proof [] 0 p) ≡ length store = renamed-learned p [] 0 ∙ learned-labels p splits ∙ count in inr (omega (arith, all, many))
           ];
       each = renamed-trimmed schema tests tree store p 0 0 [] [] order (closes-stored schema tests tree store p [] closes) (names-none 0) (omega (arith, room)) (along [] (λ n b is. is) closes);
     }

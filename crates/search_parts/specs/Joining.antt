@@ -1,7 +1,7 @@
 -- What a split of two sides is made of, and what is known of it.
 use Rattle.std.specs.Prelude.{◌≡◌, ◌<◌, ◌≤◌, ◌+◌, ℕ, List, length, true, false, None, All}
 use Rattle.formula_tree.specs.Answers.{Answers, answer_of}
-use Rattle.formula_tree.specs.Runs.{answered}
+use Rattle.formula_tree.specs.Runs.{path_with}
 use Rattle.formula_tree.specs.Trees.{Tree}
 use Rattle.nogoods.specs.Tracking.{Tracked}
 use Rattle.policy_model.specs.declared.schema.Schema.{Schema}
@@ -21,8 +21,8 @@ pub record AreReady (path : Answers) (halves : Halves) (learned : Tracked) (valu
   pub answered_by : IsAnsweredBy values path
   pub follows : learned.path ≡ path
   pub few : length learned.lists ≤ MOST_LEARNED
-  pub yes_needs : AreOwnNeeds (answered_tree values) learned.lists (answered path halves.test true) halves.yes.needs
-  pub no_needs : AreOwnNeeds (answered_tree values) learned.lists (answered path halves.test false) halves.no.needs
+  pub yes_needs : AreOwnNeeds (answered_tree values) learned.lists (path_with path halves.test true) halves.yes.needs
+  pub no_needs : AreOwnNeeds (answered_tree values) learned.lists (path_with path halves.test false) halves.no.needs
 
 -- no valid request answers one of the lists and makes the tree yes
 abbrev pub AreUnmet : Schema → List Test → Tree → List Answers → Type 0

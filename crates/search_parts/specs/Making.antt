@@ -1,7 +1,7 @@
 -- What is known of a part while a refutation is made.
 use Rattle.std.specs.Prelude.{◌≡◌, ◌<◌, ◌≤◌, ◌⊎◌, ◌+◌, ◌*◌, ◌++◌, ℕ, List, [], length, true, false, None}
 use Rattle.formula_tree.specs.Answers.{Answers, Contained, answer_of}
-use Rattle.formula_tree.specs.Runs.{answered, unanswered}
+use Rattle.formula_tree.specs.Runs.{path_with, unanswered_count}
 use Rattle.formula_tree.specs.Trees.{Tree}
 use Rattle.formula_tree.specs.Values.{value}
 use Rattle.formula_tree.specs.declared.value.Three.TheVariants.{No}
@@ -19,7 +19,7 @@ use Rattle.search_parts.specs.declared.part.Halves.{Halves}
 use Rattle.search_parts.specs.declared.part.Part.{Part}
 use Rattle.search_parts.specs.Needs.{AreAnswersTo, AreNeeds}
 use Rattle.search_parts.specs.Parts.{ClosesByStore, EndInOrder, IsTrimmedAlong, LabelSplits}
-use Rattle.search_parts.specs.Trimmed.{IsTrimmed, bare}
+use Rattle.search_parts.specs.Trimmed.{IsTrimmed, bare_splits}
 
 -- the tree of a part
 abbrev pub part_proof : Part → Proof
@@ -42,8 +42,8 @@ pub record IsTrimPart (schema : Schema) (tests : List Test) (tree : Tree) (old n
     (used : ℕ) (p : Proof) : Type 0 where
   pub trimmed : IsTrimmedAlong new schema tests tree (length old) p path
   pub splits_labelled : LabelSplits p
-  pub learned : (bare p ≡ 0) ⊎ (MOST_LEARNED ≤ length new)
-  pub nests : depth p ≤ 2 * unanswered path (length tests)
+  pub learned : (bare_splits p ≡ 0) ⊎ (MOST_LEARNED ≤ length new)
+  pub nests : depth p ≤ 2 * unanswered_count path (length tests)
   pub few : splits p ≤ used
 
 -- both are so of a part
@@ -77,8 +77,8 @@ pub record AreMadeHalves (schema : Schema) (tests : List Test) (tree : Tree) (ol
     (path : Answers) (first second : ℕ) (halves : Halves) : Type 0 where
   pub within : halves.test < length tests
   pub open_test : answer_of path halves.test ≡ None
-  pub yes_side : IsMadePart schema tests tree old middle (answered path halves.test true) first halves.yes
-  pub no_side : IsMadePart schema tests tree middle new (answered path halves.test false) second halves.no
+  pub yes_side : IsMadePart schema tests tree old middle (path_with path halves.test true) first halves.yes
+  pub no_side : IsMadePart schema tests tree middle new (path_with path halves.test false) second halves.no
   pub needed : ¬ ClosesByStore middle schema tests tree (part_proof halves.yes) path
   pub nothing : NoHit old path
 

@@ -1,13 +1,13 @@
 -- What a refuted part needs of its path.
 use Rattle.std.specs.Prelude.{◌≡◌, ◌≤◌, ◌⊎◌, ℕ, List, [], ◌∷◌, ◌++◌, length, Bool, true, false, Some, Contains}
 use Rattle.formula_tree.specs.Answers.{Answers, Contained, answer_of}
-use Rattle.formula_tree.specs.Runs.{answered}
+use Rattle.formula_tree.specs.Runs.{path_with}
 use Rattle.formula_tree.specs.Trees.{Tree}
 use Rattle.formula_tree.specs.Values.{value}
 use Rattle.formula_tree.specs.declared.value.Three.TheVariants.{No}
 use Rattle.refute_check.specs.Proofs.{Proof, by_value}
 use Rattle.slot_theory.specs.Acceptance.{AnswerCoreAlike}
-use Rattle.tree_values.specs.Omitting.{omitted}
+use Rattle.tree_values.specs.Omitting.{path_without}
 use Rattle.search_parts.specs.declared.learning.TheConstants.{MOST_LEARNED}
 use Rattle.search_parts.specs.declared.part.Needs.{Needs}
 use Rattle.search_parts.specs.declared.part.Needs.TheVariants.{Just, Open, Unknown}
@@ -39,14 +39,14 @@ HasNeeds tree Unknown answers = ⊥
 
 -- under these answers and the one to the test each side of a split has what it needs
 pub record HaveNeeds (tree : Tree) (test : ℕ) (yes no : Needs) (answers : Answers) : Type 0 where
-  pub yes_side : HasNeeds tree yes (answered answers test true)
-  pub no_side : HasNeeds tree no (answered answers test false)
+  pub yes_side : HasNeeds tree yes (path_with answers test true)
+  pub no_side : HasNeeds tree no (path_with answers test false)
 
 -- answers of the path under which each side of a split has what it needs, and that don't do without any of them
 pub record AreLeast (tree : Tree) (path : Answers) (test : ℕ) (yes no : Needs) (answers : Answers) : Type 0 where
   pub there : Contained answers path
   pub enough : HaveNeeds tree test yes no answers
-  pub least : (n : ℕ) (b : Bool) → answer_of answers n ≡ Some b → ¬ HaveNeeds tree test yes no (omitted answers n)
+  pub least : (n : ℕ) (b : Bool) → answer_of answers n ≡ Some b → ¬ HaveNeeds tree test yes no (path_without answers n)
 
 -- the answers that a part needs, where it is known; none where it is left open
 abbrev pub needs_list : Needs → Answers
@@ -56,8 +56,8 @@ needs_list Unknown = []
 
 -- what two sides need besides the answer to the split's test, put together
 pub record IsUnion (test : ℕ) (first second answers : Answers) : Type 0 where
-  pub has_first : Contained (omitted first test) answers
-  pub has_second : Contained (omitted second test) answers
+  pub has_first : Contained (path_without first test) answers
+  pub has_second : Contained (path_without second test) answers
   pub only : (n : ℕ) (b : Bool) → answer_of answers n ≡ Some b → (answer_of first n ≡ Some b) ⊎ (answer_of second n ≡ Some b)
 
 -- where a part's needs are open, the tree's value is no
@@ -69,7 +69,7 @@ IsNoWhereOpen tree Unknown answers = ⊥
 -- on both sides of a split
 abbrev pub AreNoWhereOpen : Tree → ℕ → Needs → Needs → Answers → Type 0
 AreNoWhereOpen tree test first second answers =
-    IsNoWhereOpen tree first (answered answers test true) × IsNoWhereOpen tree second (answered answers test false)
+    IsNoWhereOpen tree first (path_with answers test true) × IsNoWhereOpen tree second (path_with answers test false)
 
 -- answers of the path, with all that is known to be needed, under which the open sides are no; and without any of the others
 -- they aren't
@@ -80,7 +80,7 @@ pub record AreCutFor (tree : Tree) (path : Answers) (test : ℕ) (first second :
   pub there : Contained answers path
   pub still : AreNoWhereOpen tree test first second answers
   pub least : (n : ℕ) (b : Bool) → answer_of answers n ≡ Some b →
-      (answer_of needed n ≡ Some b) ⊎ ¬ AreNoWhereOpen tree test first second (omitted answers n)
+      (answer_of needed n ≡ Some b) ⊎ ¬ AreNoWhereOpen tree test first second (path_without answers n)
 
 -- one more test of a core: the path's answer to it is there too
 abbrev pub AddsAnswer : Answers → ℕ → Answers → Answers → Type 0

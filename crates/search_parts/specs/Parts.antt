@@ -2,7 +2,7 @@
 -- that are stored, and the order of their lines is one numbering of them.
 use Rattle.std.specs.Prelude.{◌≡◌, ◌<◌, ◌+◌, ℕ, List, length, true, false, None, Some, slice_get}
 use Rattle.formula_tree.specs.Answers.{Answers, Contained, answer_of}
-use Rattle.formula_tree.specs.Runs.{answered}
+use Rattle.formula_tree.specs.Runs.{path_with}
 use Rattle.formula_tree.specs.Trees.{Tree}
 use Rattle.formula_tree.specs.Values.{value}
 use Rattle.formula_tree.specs.declared.value.Three.TheVariants.{No}
@@ -30,8 +30,8 @@ pub record IsStoredLabel (store : List Answers) (n : ℕ) (answers path : Answer
 -- the part closes under the path, by what is stored
 abbrev pub ClosesByStore : List Answers → Schema → List Test → Tree → Proof → Answers → Type 0
 ClosesByStore store schema tests tree (split n y z) path =
-    ((n < length tests) × (answer_of path n ≡ None)) × ClosesByStore store schema tests tree y (answered path n true) ×
-    ClosesByStore store schema tests tree z (answered path n false)
+    ((n < length tests) × (answer_of path n ≡ None)) × ClosesByStore store schema tests tree y (path_with path n true) ×
+    ClosesByStore store schema tests tree z (path_with path n false)
 ClosesByStore store schema tests tree by_value path = value path tree ≡ No
 ClosesByStore store schema tests tree (by_slot core proof) path = Accepts schema tests path core proof
 ClosesByStore store schema tests tree (by_clauses hints) path = Replays (clauses_of (length tests) tree) path hints
@@ -79,8 +79,8 @@ abbrev mutual
 abbrev pub IsTrimmedBy : List Answers → Schema → List Test → Tree → ℕ → Proof → Answers → Type 0
 IsTrimmedBy store schema tests tree k (split n y z) path =
     (¬ ClosesByStore store schema tests tree y path) × ((i : ℕ) → i < k → ¬ Contained (answers_at store i) path) ×
-    IsTrimmedBy store schema tests tree k y (answered path n true) ×
-    IsTrimmedBy store schema tests tree (k + labels y) z (answered path n false)
+    IsTrimmedBy store schema tests tree k y (path_with path n true) ×
+    IsTrimmedBy store schema tests tree (k + labels y) z (path_with path n false)
 IsTrimmedBy store schema tests tree k (label n answers p) path =
     NoneCanBeLeftOut (ClosesByStore store schema tests tree p) answers × IsTrimmedBy store schema tests tree k p answers
 IsTrimmedBy store schema tests tree k by_value path = Unit {0}

@@ -14,13 +14,13 @@ line_names begun (label n answers p) = line_names (begun + 1) p ++ begun ∷ []
 line_names begun (reuse n) = []
 
 -- the part with these numbers; `names` are those of the labels that have ended before
-abbrev pub renamed : List ℕ → ℕ → Proof → Proof
-renamed names begun (split n y z) = split n (renamed names begun y) (renamed (names ++ line_names begun y) (begun + labels y) z)
-renamed names begun by_value = by_value
-renamed names begun (by_slot core proof) = by_slot core proof
-renamed names begun (by_clauses hints) = by_clauses hints
-renamed names begun (label n answers p) = label begun answers (renamed names (begun + 1) p)
-renamed names begun (reuse n) = reuse (slice_index_or names n 0)
+abbrev pub renamed_proof : List ℕ → ℕ → Proof → Proof
+renamed_proof names begun (split n y z) = split n (renamed_proof names begun y) (renamed_proof (names ++ line_names begun y) (begun + labels y) z)
+renamed_proof names begun by_value = by_value
+renamed_proof names begun (by_slot core proof) = by_slot core proof
+renamed_proof names begun (by_clauses hints) = by_clauses hints
+renamed_proof names begun (label n answers p) = label begun answers (renamed_proof names (begun + 1) p)
+renamed_proof names begun (reuse n) = reuse (slice_index_or names n 0)
 
 -- so many numbers that differ, each of them from the first of two on and below the second
 pub record AreNames (from end count : ℕ) (names : List ℕ) : Type 0 where

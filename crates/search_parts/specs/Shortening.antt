@@ -2,7 +2,7 @@
 use Rattle.std.specs.Prelude.{◌≡◌, ◌≢◌, ◌↔◌, ℕ, length, Bool, true, IsTrue}
 use Rattle.cnf_clauses.specs.Numbering.{clauses_of}
 use Rattle.formula_tree.specs.Answers.{Answers, Contained}
-use Rattle.formula_tree.specs.Runs.{answered}
+use Rattle.formula_tree.specs.Runs.{path_with}
 use Rattle.formula_tree.specs.Trees.{tree_of}
 use Rattle.formula_tree.specs.Values.{value}
 use Rattle.formula_tree.specs.declared.value.Three.TheVariants.{No}
@@ -33,6 +33,6 @@ IsStillClosed s p path still = (schema : Schema) (many : Answers) → Contained 
 abbrev pub IsNeedless : Shortening → Part → Answers → ℕ → Bool → Type 0
 IsNeedless s part path test needless =
     (schema : Schema) →
-    AreNeeds s.learned.now.lists (ClosesFor s schema (part_proof part)) (part_proof part) (answered path test true) part.needs →
-    ClosesFor s schema (part_proof part) (answered path test true) → value path (tree_of s.query.now.formula.value) ≢ No →
+    AreNeeds s.learned.now.lists (ClosesFor s schema (part_proof part)) (part_proof part) (path_with path test true) part.needs →
+    ClosesFor s schema (part_proof part) (path_with path test true) → value path (tree_of s.query.now.formula.value) ≢ No →
     (IsTrue needless ↔ ClosesFor s schema (part_proof part) path)

@@ -1,6 +1,6 @@
 //! Splits of two refuted sides: each becomes the node of a label, under answers none of which can be left
 //! out, as long as lists are learned.
-ghost use Rattle.std.specs.Prelude.{◌≡◌, ◌↔◌, ◌<◌, ◌≤◌, IfOk, IsTrue, OnOk, length};
+ghost use Rattle.std.specs.Prelude.{◌≡◌, ◌↔◌, ◌<◌, ◌≤◌, IfOk, IsTrue, OnErr, OnOk, length};
 ghost use Rattle.tree_values.specs.Models.{answered_tree};
 ghost use Rattle.refute_check.specs.Proofs.{label, proof_of, split};
 ghost use Rattle.search_parts.specs.declared.learning.TheConstants.{MOST_LEARNED};
@@ -22,7 +22,7 @@ use tree_values::TreeValues;
 /// The split of two sides under the path, which the values answer and the lists follow. Where fewer lists
 /// than the most are learned it becomes the node of a label, whose answers are learned.
 ///
-/// The only error is want of memory.
+/// The only error is want of memory: the lists and the values are then as before.
 pub fn join(
     alloc: Global,
     path: &Path,
@@ -33,7 +33,8 @@ pub fn join(
     requires ready { AreReady path.now halves learned.old values.old }
     ensures joined { IfOk result (IsJoined
         path.now halves learned.old.lists learned.new.lists (answered_tree values.old)) }
-    ensures follows { OnOk result (learned.new.path ≡ learned.old.path) }
+    ensures follows { learned.new.path ≡ learned.old.path }
+    ensures kept { OnErr result (learned.new.lists ≡ learned.old.lists) }
     ensures few { OnOk result (length learned.new.lists ≤ MOST_LEARNED) }
     ensures values { values.new ≡ values.old }
 {
@@ -62,7 +63,8 @@ fn learn(
     requires room { length learned.old.lists < MOST_LEARNED }
     ensures joined { IfOk result (IsJoined
         path.now halves learned.old.lists learned.new.lists (answered_tree values.old)) }
-    ensures follows { OnOk result (learned.new.path ≡ learned.old.path) }
+    ensures follows { learned.new.path ≡ learned.old.path }
+    ensures kept { OnErr result (learned.new.lists ≡ learned.old.lists) }
     ensures few { OnOk result (length learned.new.lists ≤ MOST_LEARNED) }
     ensures values { values.new ≡ values.old }
 {

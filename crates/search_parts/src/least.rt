@@ -2,7 +2,7 @@
 ghost use Rattle.std.specs.Prelude.{◌≡◌, ◌<◌, ◌≤◌, ◌^◌, ◌+◌, ◌↔◌, ◌||◌, [], All, IfOk, IsTrue, None, OnOk, false, length, true};
 ghost use Rattle.std.specs.Option.{is_some};
 ghost use Rattle.formula_tree.specs.Answers.{Contained, answer_of};
-ghost use Rattle.formula_tree.specs.Runs.{answered};
+ghost use Rattle.formula_tree.specs.Runs.{path_with};
 ghost use Rattle.tree_values.specs.Cuts.{IsNoOn};
 ghost use Rattle.tree_values.specs.Models.{IsAnsweredBy, answered_tree};
 ghost use Rattle.refute_check.specs.Closing.{Rise};
@@ -33,9 +33,9 @@ pub fn least_answers(
     requires free { answer_of path.now test ≡ None }
     requires answered { IsAnsweredBy values.old path.now }
     requires yes_needs { AreKnownNeeds (answered_tree values.old)
-        (answered path.now test true) yes.now }
+        (path_with path.now test true) yes.now }
     requires no_needs { AreKnownNeeds (answered_tree values.old)
-        (answered path.now test false) no.now }
+        (path_with path.now test false) no.now }
     ensures least { IfOk result (AreLeast (answered_tree values.old) path.now test yes.now no.now) }
     ensures rise { IfOk result (λ answers. Rise answers) }
     ensures values { values.new ≡ values.old }

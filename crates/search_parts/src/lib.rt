@@ -17,5 +17,5 @@ pub use least::least_answers;
 pub use leaves::{answers_to, clauses_part, kept_part, reuse_part, slot_part, value_part};
 pub use part::{Halves, Needs, Part};
 pub use plain_lists::NoMemory;
-pub use renumbering::{finished, renumbered};
+pub use renumbering::finished;
 pub use shortening::Shortening;

@@ -1,5 +1,5 @@
 //! Splits that a part doesn't need.
-ghost use Rattle.std.specs.Prelude.{◌≡◌, ◌↔◌, IfOk, IsTrue, None, OnOk};
+ghost use Rattle.std.specs.Prelude.{◌≡◌, ◌↔◌, IfOk, IsTrue, None};
 ghost use Rattle.formula_tree.specs.Answers.{answer_of};
 ghost use Rattle.search_parts.specs.Shortening.{HasClauses, IsNeedless};
 
@@ -10,19 +10,21 @@ use plain_lists::NoMemory;
 
 impl<'a> Shortening<'a> {
     /// Whether the part that closes the yes side of a split on the test closes under the split's own path,
-    /// which is as before and under which the formula isn't no.
+    /// under which the formula isn't no.
     ///
     /// The only error is want of memory.
-    pub fn is_needless(&self, part: &Part, test: u32, path: &mut Path) -> Result<bool, NoMemory>
+    pub fn is_needless(&self, part: &Part, test: u32, path: &Path) -> Result<bool, NoMemory>
         requires clauses { HasClauses self.now }
-        requires free { answer_of path.old test ≡ None }
-        ensures needless { IfOk result (IsNeedless self.now part.now path.old test) }
-        ensures path { OnOk result (path.new ≡ path.old) }
+        requires free { answer_of path.now test ≡ None }
+        ensures { IfOk result (IsNeedless self.now part.now path.now test) }
     {
         match &part.needs {
             Needs::Just(answers) => Ok(leaves_open(answers, test)),
             Needs::Open => Ok(false),
-            Needs::Unknown => self.still_closes(&part.refutation, path),
+            Needs::Unknown => {
+                let mut own = path.copy()?;
+                self.still_closes(&part.refutation, &mut own)
+            }
         }
     }
 }

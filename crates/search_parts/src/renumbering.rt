@@ -2,7 +2,7 @@
 ghost use Rattle.std.specs.Prelude.{◌≡◌, ◌++◌, ◌+◌, ◌<◌, ◌^◌, [], IfOk, OnOk, slice_index_or};
 ghost use Rattle.refute_check.specs.Proofs.{label, labels, proof_of, split};
 ghost use Rattle.search_parts.specs.Making.{part_proof};
-ghost use Rattle.search_parts.specs.Renaming.{line_names, renamed};
+ghost use Rattle.search_parts.specs.Renaming.{line_names, renamed_proof};
 
 use crate::part::Part;
 use plain_lists::{List, NoMemory};
@@ -14,8 +14,9 @@ use std::rc::Rc;
 /// number was its place in the order in which labels end: `names` has the new numbers of those that end
 /// before the part, and then also of its own. Parts without splits and labels are shared.
 ///
-/// Labels are numbered by 32 bits. The only error is want of memory.
-pub fn renumbered(
+/// Labels are numbered by 32 bits. The only error is want of memory. The names, which `finished` makes for
+/// itself, aren't used then.
+pub(crate) fn renumbered(
     alloc: Global,
     part: &Rc<Refutation>,
     names: &mut Vec<u32>,
@@ -23,7 +24,7 @@ pub fn renumbered(
 ) -> Result<(Rc<Refutation>, u32), NoMemory>
     requires { begun + labels (proof_of part.now.value) < 2 ^ 32 }
     ensures part { IfOk result (λ r.
-        proof_of r.0.value ≡ renamed names.old.items begun (proof_of part.now.value)) }
+        proof_of r.0.value ≡ renamed_proof names.old.items begun (proof_of part.now.value)) }
     ensures count { IfOk result (λ r. r.1 ≡ begun + labels (proof_of part.now.value)) }
     ensures names { OnOk result (
         names.new.items ≡ names.old.items ++ line_names begun (proof_of part.now.value)) }
@@ -89,7 +90,7 @@ fn label_of(
 /// Labels are numbered by 32 bits. The only error is want of memory.
 pub fn finished(alloc: Global, part: Part) -> Result<Rc<Refutation>, NoMemory>
     requires { labels (part_proof part) < 2 ^ 32 }
-    ensures { IfOk result (λ r. proof_of r.value ≡ renamed [] 0 (part_proof part)) }
+    ensures { IfOk result (λ r. proof_of r.value ≡ renamed_proof [] 0 (part_proof part)) }
 {
     let mut names = Vec::new(alloc);
     let (refutation, _) = renumbered(alloc, &part.refutation, &mut names, 0)?;

@@ -1,7 +1,7 @@
 //! Parts under shorter paths.
 ghost use Rattle.std.specs.Prelude.{◌≡◌, ◌↔◌, All, IfOk, IsSome, IsTrue, OnOk};
 ghost use Rattle.formula_tree.specs.Answers.{answer_of};
-ghost use Rattle.formula_tree.specs.Runs.{answered};
+ghost use Rattle.formula_tree.specs.Runs.{path_with};
 ghost use Rattle.refute_check.specs.Labels.{IsAnswered};
 ghost use Rattle.refute_check.specs.Proofs.{proof_of, split};
 ghost use Rattle.search_parts.specs.Parts.{IsStoredIn};
@@ -28,9 +28,9 @@ impl<'a> Shortening<'a> {
     /// Whether a part that closes under a longer path by what is stored closes under this one, which is as
     /// before. What is inside its labels isn't looked at, since it closes under the labels' answers.
     ///
-    /// The only error is want of memory.
+    /// The only error is want of memory. The path, a copy of the caller's own, isn't used then.
     #[cycle(still_closes)]
-    pub fn still_closes(&self, part: &Refutation, path: &mut Path) -> Result<bool, NoMemory>
+    pub(crate) fn still_closes(&self, part: &Refutation, path: &mut Path) -> Result<bool, NoMemory>
         requires { HasClauses self.now }
         ensures still { IfOk result (IsStillClosed self.now (proof_of part.now) path.old) }
         ensures path { OnOk result (path.new ≡ path.old) }
@@ -80,7 +80,7 @@ impl<'a> Shortening<'a> {
         requires clauses { HasClauses self.now }
         requires new { answer_of path.old test ≡ None }
         ensures still { IfOk result (IsStillClosed self.now
-            (proof_of side.now) (answered path.old test answer)) }
+            (proof_of side.now) (path_with path.old test answer)) }
         ensures path { OnOk result (path.new ≡ path.old) }
     {
         path.push(test, answer)?;

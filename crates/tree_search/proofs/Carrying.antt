@@ -7,7 +7,7 @@ use Rattle.std.proofs.lemmas.List.{take_at, length-set, length_push, get_or-set_
 use Rattle.std.proofs.lemmas.Option.{slice_get-get_or}
 use Rattle.std.proofs.lemmas.List.Elements.{All-push, Contains-append_left}
 use Rattle.formula_tree.specs.Answers.{Answers, answer_of}
-use Rattle.formula_tree.specs.Runs.{answered}
+use Rattle.formula_tree.specs.Runs.{path_with}
 use Rattle.formula_tree.proofs.Laws.{answer_of-besides, answer_of-last, cases_eq}
 use Rattle.policy_model.specs.declared.schema.Schema.{Schema}
 use Rattle.policy_model.specs.declared.test.Slot.{Slot}
@@ -139,7 +139,7 @@ slot-cases s t =
 
 module _ (schema : Schema) (tests : List Test) (path : Answers) (n : ℕ) (b : Bool) (new : answer_of path n ≡ None) where
   abbrev more : Answers
-  more = answered path n b
+  more = path_with path n b
 
   abbrev own : Test
   own = test_at tests n

@@ -1,7 +1,7 @@
 -- What a search finds at a node that it splits, by what it finds on the two sides.
 use Rattle.std.proofs.Common.{◌≡◌, ◌<◌, ◌≤◌, ◌-◌, ◌++◌, ℕ, List, [], length, true, false, Some, None, sym, ap, ◌∙◌, subst, arith, append_assoc, append-nil}
 use Rattle.formula_tree.specs.Answers.{Answers, answer_of}
-use Rattle.formula_tree.specs.Runs.{answered}
+use Rattle.formula_tree.specs.Runs.{path_with}
 use Rattle.formula_tree.specs.Trees.{Tree, tree_of}
 use Rattle.formula_tree.specs.Values.{pick}
 use Rattle.formula_tree.proofs.Laws.{pick-unanswered}
@@ -23,7 +23,7 @@ use Rattle.tree_search.specs.declared.found.Found.{Found}
 use Rattle.tree_search.specs.declared.found.Found.TheVariants.{Refuted}
 use Rattle.tree_search.specs.declared.search.Search.{Search}
 use Rattle.tree_search.specs.declared.state.State.{State}
-use Rattle.tree_search.specs.Search.{Carries, Follows, IsFoundFrom, IsFoundHere, IsJoinedHere, IsReady, IsRefutedPart, IsRestored, IsShortOf, IsSide, NothingLearned, Spent, Stands}
+use Rattle.tree_search.specs.Search.{Carries, IsAtPath, IsFoundFrom, IsFoundHere, IsJoinedHere, IsRefutedPart, IsRestored, IsShortOf, IsSide, NothingLearned, Spent, Stands}
 use Rattle.tree_search.specs.States.{AreAllUnmet, IsEvaluated}
 use Rattle.tree_search.proofs.Following.{quiet-here}
 use Rattle.tree_search.proofs.Picking.{pick-within}
@@ -45,7 +45,7 @@ restored-then s a b d first second = record {
   grows = second.grows ∙ ap (λ (l : List Answers). l ++ second.more) first.grows ∙ append_assoc a.learned.lists first.more second.more;
 }
 
-module _ (s : Search) (state : State) (ready : IsReady s) (stands : Stands s state) (carries : Carries s state) (follows : Follows s state) (quiet_at : NoneReplay state.clauses.clauses state.clauses.path) where
+module _ (s : Search) (state : State) (placed : IsAtPath s state) (carries : Carries s state) (quiet_at : NoneReplay state.clauses.clauses state.clauses.path) where
   abbrev schema : Schema
   schema = s.schema.now
 
@@ -65,20 +65,20 @@ module _ (s : Search) (state : State) (ready : IsReady s) (stands : Stands s sta
   From p old new left used f = IsFoundFrom schema query s.states p (record { old = old; new = new; left = left; used = used }) f
 
   can : IsPossible schema query.tests path
-  can = joined-possible schema query.tests path state.values ready.asked.sound ready.asked.order carries.each
+  can = joined-possible schema query.tests path state.values placed.ready.asked.sound placed.ready.asked.order carries.each
 
   quiet : ¬ MeetsConflict query.tests tree path
-  quiet = quiet-here query path state.clauses follows quiet_at
+  quiet = quiet-here query path state.clauses placed.follows quiet_at
 
   module _ (t : ℕ) (e : pick path tree ≡ Some t) where
     abbrev on_yes : Answers
-    on_yes = answered path t true
+    on_yes = path_with path t true
 
     abbrev on_no : Answers
-    on_no = answered path t false
+    on_no = path_with path t false
 
     pub test-within : t < length query.tests
-    test-within = pick-within (length query.tests) path tree t ready.asked.below e
+    test-within = pick-within (length query.tests) path tree t placed.ready.asked.below e
 
     pub test-open : answer_of path t ≡ None
     test-open = pick-unanswered path tree t e
@@ -95,7 +95,7 @@ module _ (s : Search) (state : State) (ready : IsReady s) (stands : Stands s sta
       module _ (y : Part) (side_yes : IsRefutedPart schema query on_yes lists middle.learned.lists (state.left - 1 - middle.left) y) (right : AreAllUnmet schema query middle.learned.lists) where
         -- the part of the yes side, where it closes without the answer
         pub found-skip : ClosesByStore middle.learned.lists schema query.tests tree (part_proof y) path → IsRefutedPart schema query path lists middle.learned.lists (state.left - middle.left) y
-        found-skip closes = skip-refuted schema query path t can quiet e lists middle.learned.lists (state.left - 1 - middle.left) y side_yes ready.asked.below carries.range test-within (state.left - middle.left) right closes (omega arith)
+        found-skip closes = skip-refuted schema query path t can quiet e lists middle.learned.lists (state.left - 1 - middle.left) y side_yes placed.ready.asked.below carries.range test-within (state.left - middle.left) right closes (omega arith)
 
         module _ (end : State) (low : end.left ≤ middle.left) (more : List Answers) (grows : end.learned.lists ≡ middle.learned.lists ++ more) where
           -- what is found on the no side, unless that is refuted
@@ -125,7 +125,7 @@ module _ (s : Search) (state : State) (ready : IsReady s) (stands : Stands s sta
             found-join new part nothing needed here at is =
                 let own : answered_tree end.tree ≡ tree = ap tree_of at.evaluated.formula_is in
                 let joined : IsJoined path (record { test = t; yes = y; no = z }) end.learned.lists new.learned.lists tree part = rw (← here, ← own) is.joined in
-                rw is.left (join-refuted schema query path t can quiet e lists middle.learned.lists (state.left - 1 - middle.left) y side_yes ready.asked.below carries.range test-within
+                rw is.left (join-refuted schema query path t can quiet e lists middle.learned.lists (state.left - 1 - middle.left) y side_yes placed.ready.asked.below carries.range test-within
                 end.learned.lists new.learned.lists (middle.left - end.left) (state.left - end.left) z part side_no nothing needed (omega arith) joined at.stored.right)
 
 -- after a join all is at the path
@@ -138,5 +138,5 @@ joined-stands s old new halves part at is right = rw is.path (record {
 })
 
 -- the part of a yes side, where the path is the same
-pub side-made : (s : Search) (path : Answers) (old : List Answers) (k t : ℕ) (y : Part) (middle : State) → middle.path ≡ path → IsRefutedPart s.schema.now s.query.now (answered path t true) old middle.learned.lists k y → IsSide s middle t y
+pub side-made : (s : Search) (path : Answers) (old : List Answers) (k t : ℕ) (y : Part) (middle : State) → middle.path ≡ path → IsRefutedPart s.schema.now s.query.now (path_with path t true) old middle.learned.lists k y → IsSide s middle t y
 side-made s path old k t y middle here is = rw here (record { closes = is.made.closed.closes; needs = is.made.closed.needs })

@@ -1,7 +1,7 @@
 -- Unit propagation along a path of a search: one more answer, and the way back.
 use Rattle.std.proofs.Common.{◌≡◌, ℕ, List, [], ◌∷◌, ◌++◌, length, Bool, None, refl, sym, ap, ◌∙◌, subst}
 use Rattle.formula_tree.specs.Answers.{Answers, answer_of}
-use Rattle.formula_tree.specs.Runs.{answered}
+use Rattle.formula_tree.specs.Runs.{path_with}
 use Rattle.cnf_clauses.specs.declared.following.Conflict.{Conflict}
 use Rattle.cnf_clauses.specs.Following.{IsConflictAt, LosesLast}
 use Rattle.cnf_clauses.specs.Levels.{Followed}
@@ -25,7 +25,7 @@ module _ (query : Query) where
   pub quiet-here : (path : Answers) (f : Followed) → f ≡ followed_at query path → NoneReplay f.clauses f.path → ¬ MeetsConflict query.tests (asked_tree query) path
   quiet-here path f is none met = subst (λ (g : Followed). NoneReplay g.clauses g.path) is none met.hints met.replay
 
-  module _ (before path : Answers) (test : ℕ) (answer : Bool) (f : Followed) (at : f ≡ followed_at query before) (is : path ≡ answered before test answer) where
+  module _ (before path : Answers) (test : ℕ) (answer : Bool) (f : Followed) (at : f ≡ followed_at query before) (is : path ≡ path_with before test answer) where
     pub new-there : answer_of before test ≡ None → answer_of f.path test ≡ None
     new-there = subst (λ (g : Followed). answer_of g.path test ≡ None) (sym at)
 

@@ -4,7 +4,7 @@ use Rattle.formula_tree.specs.declared.value.Three.{Three}
 use Rattle.formula_tree.specs.declared.value.Three.TheVariants.{Yes, No, Unknown}
 use Rattle.formula_tree.specs.Answers.{Answers, answer_of}
 use Rattle.formula_tree.specs.Trees.{Tree, Trees, yes, no, test, not, all, one_of, none, more}
-use Rattle.formula_tree.specs.Values.{AreBelow, EachBelow, answer_value, both, either, is_unknown, pick, pick_of_first, swapped, value, value_of_all, value_of_some}
+use Rattle.formula_tree.specs.Values.{AreBelow, EachBelow, answer_value, kleene_and, kleene_or, is_unknown, pick, pick_of_first, kleene_not, value, value_of_all, value_of_some}
 
 unknown-some : (v : Three) (o : Option ℕ) → v ≡ Unknown → IsSome o → IsSome (if is_unknown v then o else None)
 unknown-some Unknown o e h = h
@@ -15,18 +15,18 @@ some-inside : (b : Bool) (o : Option ℕ) (n : ℕ) → (if b then o else None) 
 some-inside true o n e = e
 some-inside false o n e = absurd (cc)
 
-swapped-unknown : (v : Three) → swapped v ≡ Unknown → v ≡ Unknown
+swapped-unknown : (v : Three) → kleene_not v ≡ Unknown → v ≡ Unknown
 swapped-unknown Yes e = absurd (cc)
 swapped-unknown No e = absurd (cc)
 swapped-unknown Unknown e = refl
 
 -- the first branch that is unknown, or the first of the others
-both-some : (v rest : Three) (o others : Option ℕ) → both v rest ≡ Unknown → (v ≡ Unknown → IsSome o) → (rest ≡ Unknown → IsSome others) → IsSome (if is_unknown v then o else others)
+both-some : (v rest : Three) (o others : Option ℕ) → kleene_and v rest ≡ Unknown → (v ≡ Unknown → IsSome o) → (rest ≡ Unknown → IsSome others) → IsSome (if is_unknown v then o else others)
 both-some Yes rest o others e first second = second e
 both-some No rest o others e first second = absurd (cc)
 both-some Unknown rest o others e first second = first refl
 
-either-some : (v rest : Three) (o others : Option ℕ) → either v rest ≡ Unknown → (v ≡ Unknown → IsSome o) → (rest ≡ Unknown → IsSome others) → IsSome (if is_unknown v then o else others)
+either-some : (v rest : Three) (o others : Option ℕ) → kleene_or v rest ≡ Unknown → (v ≡ Unknown → IsSome o) → (rest ≡ Unknown → IsSome others) → IsSome (if is_unknown v then o else others)
 either-some No rest o others e first second = second e
 either-some Yes rest o others e first second = absurd (cc)
 either-some Unknown rest o others e first second = first refl

@@ -2,7 +2,7 @@
 use Rattle.std.proofs.Common.{◌≡◌, ◌≢◌, ℕ, ◌+◌, ◌<◌, ◌≤◌, ◌++◌, List, length, All, true, false, Some, refl, sym, subst, arith, length-append}
 use Rattle.formula_tree.specs.Answers.{Answers, Contained}
 use Rattle.formula_tree.specs.Nodes.{EndsWithNone, at_start, in_no, in_yes}
-use Rattle.formula_tree.specs.Runs.{Run, answered}
+use Rattle.formula_tree.specs.Runs.{Run, path_with}
 use Rattle.formula_tree.specs.Trees.{Tree}
 use Rattle.formula_tree.specs.Values.{pick, value}
 use Rattle.formula_tree.specs.declared.value.Three.TheVariants.{No, Yes}
@@ -67,10 +67,10 @@ module _ (schema : Schema) (query : Query) where
 
   module _ (p : Answers) (t : ℕ) (h : P p) (quiet : ¬ MeetsConflict query.tests tree p) (e : pick p tree ≡ Some t) where
     abbrev on_yes : Answers
-    on_yes = answered p t true
+    on_yes = path_with p t true
 
     abbrev on_no : Answers
-    on_no = answered p t false
+    on_no = path_with p t false
 
     -- both runs from it split
     need-one : NeedMore schema query p 0

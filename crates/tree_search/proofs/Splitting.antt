@@ -1,7 +1,7 @@
 -- Runs that split at a path: what they come to on the two sides says what they come to there.
 use Rattle.std.proofs.Common.{◌≡◌, ◌<◌, ◌≤◌, ◌+◌, ◌⊎◌, ℕ, List, Bool, true, false, Some, inl, inr, refl, subst, arith}
 use Rattle.formula_tree.specs.Answers.{Answers}
-use Rattle.formula_tree.specs.Runs.{Run, answered, no_by_path, no_by_value, no_side, yes_by_value, yes_side}
+use Rattle.formula_tree.specs.Runs.{Run, path_with, no_by_path, no_by_value, no_side, yes_by_value, yes_side}
 use Rattle.formula_tree.specs.Trees.{Tree}
 use Rattle.formula_tree.specs.Values.{pick}
 use Rattle.formula_tree.proofs.Laws.{pick-unknown}
@@ -95,25 +95,25 @@ module _ (schema : Schema) (tests : List Test) (tree : Tree) (p : Answers) (t : 
   abbrev S : Runs
   S = PropagatedRun schema tests tree
 
-  pub plain-splits : AllSplit R p (answered p t true) (answered p t false)
+  pub plain-splits : AllSplit R p (path_with p t true) (path_with p t false)
   plain-splits end n (no_by_value p1 v1) = let u = pick-unknown p tree t e in absurd (cc)
   plain-splits end n (no_by_path p1 x1) = absurd (x1 can)
   plain-splits end n (yes_by_value p1 v1 h1) = let u = pick-unknown p tree t e in absurd (cc)
   plain-splits end n (yes_side p1 t1 k1 a1 h1 e1 y1 c1) =
       let same : t1 ≡ t = cc in
-      inl (k1, subst (λ (x : ℕ). R (answered p x true) true k1) same y1, refl, c1)
+      inl (k1, subst (λ (x : ℕ). R (path_with p x true) true k1) same y1, refl, c1)
   plain-splits end n (no_side p1 t1 end1 k1 m1 a1 h1 e1 y1 z1 c1) =
       let same : t1 ≡ t = cc in
-      inr (k1, m1, subst (λ (x : ℕ). R (answered p x true) false k1) same y1, subst (λ (x : ℕ). R (answered p x false) end m1) same z1, c1)
+      inr (k1, m1, subst (λ (x : ℕ). R (path_with p x true) false k1) same y1, subst (λ (x : ℕ). R (path_with p x false) end m1) same z1, c1)
 
-  pub propagated-splits : ¬ MeetsConflict tests tree p → AllSplit S p (answered p t true) (answered p t false)
+  pub propagated-splits : ¬ MeetsConflict tests tree p → AllSplit S p (path_with p t true) (path_with p t false)
   propagated-splits quiet end n (propagated.no_by_value p1 v1) = let u = pick-unknown p tree t e in absurd (cc)
   propagated-splits quiet end n (propagated.no_by_path p1 x1) = absurd (x1 can)
   propagated-splits quiet end n (propagated.yes_by_value p1 v1 h1) = let u = pick-unknown p tree t e in absurd (cc)
   propagated-splits quiet end n (propagated.no_by_clauses p1 q1) = absurd (quiet q1)
   propagated-splits quiet end n (propagated.yes_side p1 t1 k1 a1 h1 q1 e1 y1 c1) =
       let same : t1 ≡ t = cc in
-      inl (k1, subst (λ (x : ℕ). S (answered p x true) true k1) same y1, refl, c1)
+      inl (k1, subst (λ (x : ℕ). S (path_with p x true) true k1) same y1, refl, c1)
   propagated-splits quiet end n (propagated.no_side p1 t1 end1 k1 m1 a1 h1 q1 e1 y1 z1 c1) =
       let same : t1 ≡ t = cc in
-      inr (k1, m1, subst (λ (x : ℕ). S (answered p x true) false k1) same y1, subst (λ (x : ℕ). S (answered p x false) end m1) same z1, c1)
+      inr (k1, m1, subst (λ (x : ℕ). S (path_with p x true) false k1) same y1, subst (λ (x : ℕ). S (path_with p x false) end m1) same z1, c1)

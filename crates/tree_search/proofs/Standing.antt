@@ -1,7 +1,7 @@
 -- What follows a search's path, one answer further and back.
 use Rattle.std.proofs.Common.{◌≡◌, ◌≤◌, ℕ, List, [], ◌++◌, length, Bool, Option, Some, None, refl, sym, ap, ◌∙◌, subst, inl, inr, arith, append-nil}
 use Rattle.formula_tree.specs.Answers.{Answers, answer_of}
-use Rattle.formula_tree.specs.Runs.{answered}
+use Rattle.formula_tree.specs.Runs.{path_with}
 use Rattle.formula_tree.specs.Trees.{Tree, tree_of}
 use Rattle.formula_tree.specs.Values.{pick, value}
 use Rattle.formula_tree.specs.declared.value.Three.{Three}
@@ -17,12 +17,12 @@ use Rattle.tree_search.specs.declared.cores.Cores.{Cores}
 use Rattle.tree_search.specs.declared.search.Search.{Search}
 use Rattle.tree_search.specs.declared.state.State.{State}
 use Rattle.tree_search.specs.Cores.{AreKeptCores}
-use Rattle.tree_search.specs.Search.{IsRestored, Stands, spent}
+use Rattle.tree_search.specs.Search.{IsRestored, Stands, spent_between}
 use Rattle.tree_search.specs.States.{AreAllUnmet, IsStanding, IsTakenBack, IsDeeper, IsEvaluated, IsLearned}
 
 module _ (query : Query) (path : Answers) (test : ℕ) (answer : Bool) (new : answer_of path test ≡ None) where
   abbrev more : Answers
-  more = answered path test answer
+  more = path_with path test answer
 
   -- the values with one more answer
   pub evaluated-on : (v w : Answered) → IsEvaluated query path v → IsSet v w test (Some answer) → IsEvaluated query more w
@@ -76,33 +76,33 @@ module _ (schema : Schema) (query : Query) where
   At path state = IsStanding schema query path state.tree state.learned state.cores
 
   -- all stands at the longer path
-  pub at-deeper : (path : Answers) (old new : State) (test : ℕ) (answer : Bool) → path ≡ old.path → answer_of old.path test ≡ None → IsDeeper old test answer new → At path old → At (answered path test answer) new
+  pub at-deeper : (path : Answers) (old new : State) (test : ℕ) (answer : Bool) → path ≡ old.path → answer_of old.path test ≡ None → IsDeeper old test answer new → At path old → At (path_with path test answer) new
   at-deeper path old new test answer here open_test step at = record {
     evaluated = evaluated-on query path test answer (rw here open_test) old.tree new.tree at.evaluated step.tree;
-    stored = learned-at schema query path (answered path test answer) old.learned new.learned at.stored step.beside.lists (step.learned ∙ ap (λ (p : Answers). answered p test answer) at.stored.path_is);
-    cores_path = step.cores ∙ ap (λ (p : Answers). answered p test answer) at.cores_path;
+    stored = learned-at schema query path (path_with path test answer) old.learned new.learned at.stored step.beside.lists (step.learned ∙ ap (λ (p : Answers). path_with p test answer) at.stored.path_is);
+    cores_path = step.cores ∙ ap (λ (p : Answers). path_with p test answer) at.cores_path;
     kept = kept-at schema query.tests old.cores new.cores at.kept step.beside.cores_lists step.beside.cores_parts;
   }
 
   -- and back
-  pub at-back : (path : Answers) (old new : State) (test : ℕ) (answer : Bool) → answer_of path test ≡ None → IsTakenBack old test new → At (answered path test answer) old → At path new
+  pub at-back : (path : Answers) (old new : State) (test : ℕ) (answer : Bool) → answer_of path test ≡ None → IsTakenBack old test new → At (path_with path test answer) old → At path new
   at-back path old new test answer open_test step at = record {
     evaluated = evaluated-back query path test answer open_test old.tree new.tree at.evaluated step.tree;
-    stored = learned-at schema query (answered path test answer) path old.learned new.learned at.stored step.beside.lists (step.learned path (test, answer) at.stored.path_is);
+    stored = learned-at schema query (path_with path test answer) path old.learned new.learned at.stored step.beside.lists (step.learned path (test, answer) at.stored.path_is);
     cores_path = step.cores path (test, answer) at.cores_path;
     kept = kept-at schema query.tests old.cores new.cores at.kept step.beside.cores_lists step.beside.cores_parts;
   }
 
 -- what is restored below is restored here
 module _ (s : Search) (old deep after new : State) (test : ℕ) (answer : Bool) (open_test : answer_of old.path test ≡ None) (down : IsDeeper old test answer deep) (below : IsRestored s deep after) (back : IsTakenBack after test new) where
-  after-path : after.path ≡ answered old.path test answer
+  after-path : after.path ≡ path_with old.path test answer
   after-path = below.path ∙ down.path
 
   pub back-path : new.path ≡ old.path
   back-path = back.path old.path (test, answer) after-path
 
   -- and what is spent below is spent here
-  pub spent-back : spent deep after ≡ spent old new
+  pub spent-back : spent_between deep after ≡ spent_between old new
   spent-back = rw (down.beside.lists, down.beside.left, back.beside.lists, back.beside.left) refl
 
   pub restored-back : IsRestored s old new
@@ -112,7 +112,7 @@ module _ (s : Search) (old deep after new : State) (test : ℕ) (answer : Bool) 
     clauses = back.beside.clauses ∙ below.clauses ∙ down.beside.clauses;
     left = rw (back.beside.left, ← down.beside.left) below.left;
     stands =
-        let there : IsStanding s.schema.now s.query.now (answered old.path test answer) after.tree after.learned after.cores = subst (λ (p : Answers). IsStanding s.schema.now s.query.now p after.tree after.learned after.cores) after-path below.stands in
+        let there : IsStanding s.schema.now s.query.now (path_with old.path test answer) after.tree after.learned after.cores = subst (λ (p : Answers). IsStanding s.schema.now s.query.now p after.tree after.learned after.cores) after-path below.stands in
         subst (λ (p : Answers). IsStanding s.schema.now s.query.now p new.tree new.learned new.cores) (sym back-path) (at-back s.schema.now s.query.now old.path after new test answer open_test back there);
     more = below.more;
     grows = back.beside.lists ∙ below.grows ∙ ap (λ (l : List Answers). l ++ below.more) down.beside.lists;

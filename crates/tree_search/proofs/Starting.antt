@@ -8,7 +8,7 @@ use Rattle.refute_check.specs.Proofs.{Proof, proof_of}
 use Rattle.search_parts.specs.declared.learning.TheConstants.{MOST_LEARNED}
 use Rattle.search_parts.specs.declared.part.Part.{Part}
 use Rattle.search_parts.specs.Making.{IsRefutationOf, part_proof}
-use Rattle.search_parts.specs.Renaming.{renamed}
+use Rattle.search_parts.specs.Renaming.{renamed_proof}
 use Rattle.search_parts.proofs.Laws.{finished-made, made-labels, names-none}
 use Rattle.formula_tree.specs.Values.{value}
 use Rattle.formula_tree.specs.declared.value.Three.TheVariants.{No}
@@ -34,18 +34,18 @@ use Rattle.tree_search.specs.declared.outcome.Decided.{Decided}
 use Rattle.tree_search.specs.Decisions.{IsDecision, IsNear, IsRefutation, IsWithinSplits}
 use Rattle.tree_search.specs.Leading.{IsReachedBy}
 use Rattle.tree_search.specs.declared.state.State.{State}
-use Rattle.tree_search.specs.Search.{AreCarried, IsFoundFrom, IsRefutedPart, followed_at, spent}
+use Rattle.tree_search.specs.Search.{AreCarried, IsFoundFrom, IsRefutedPart, followed_at, spent_between}
 use Rattle.tree_search.specs.States.{IsStanding, IsLearned, IsStartState}
-use Rattle.tree_search.specs.Whole.{HasFewLabels, IsTold, IsWholeSearch}
+use Rattle.tree_search.specs.Whole.{HasFewLabels, IsDecidedFrom, IsWholeSearch}
 use Rattle.tree_search.proofs.Finding.{found-at}
 use Rattle.tree_search.proofs.Keeping.{none-kept}
 use Rattle.tree_search.proofs.Leading.{leads-renamed}
 use Rattle.tree_search.proofs.Searching.{clauses-refuted, value-refuted}
 
 module _ (schema : Schema) (query : Query) where
-  refutation-from : (store : List Answers) (most used : ℕ) (part : Part) (p : Proof) → IsRefutedPart schema query [] [] store used part → used ≤ most → p ≡ renamed [] 0 (part_proof part) → IsRefutation schema query most p
+  refutation-from : (store : List Answers) (most used : ℕ) (part : Part) (p : Proof) → IsRefutedPart schema query [] [] store used part → used ≤ most → p ≡ renamed_proof [] 0 (part_proof part) → IsRefutation schema query most p
   refutation-from store most used part p is few same =
-      let done : IsRefutationOf schema query.tests (asked_tree query) used (renamed [] 0 (part_proof part)) = finished-made schema query.tests (asked_tree query) store used part is.made in
+      let done : IsRefutationOf schema query.tests (asked_tree query) used (renamed_proof [] 0 (part_proof part)) = finished-made schema query.tests (asked_tree query) store used part is.made in
       rw same (record { closes = done.closes; few = let splits = done.few in omega arith; nests = done.nests; trimmed = done.trimmed })
 
   near-from : (store : List Answers) (most used : ℕ) (node : Answers) → IsReachedBy schema query store 0 used [] node → used ≤ most → IsNear schema query at_first most [] node
@@ -56,7 +56,7 @@ module _ (schema : Schema) (query : Query) where
   }
 
   -- what was found is what is decided
-  pub told-decides : (budgets : Budgets) (f : Found) (d : Decided) → IsWholeSearch schema query budgets f → IsTold f d → IsDecision schema query budgets d
+  pub told-decides : (budgets : Budgets) (f : Found) (d : Decided) → IsWholeSearch schema query budgets f → IsDecidedFrom f d → IsDecision schema query budgets d
   told-decides budgets (found.Refuted part) d whole told =
       subst (λ (x : Decided). IsDecision schema query budgets x) (sym told.1) (refutation-from whole.store budgets.splits whole.used part (proof_of told.0.value) whole.is whole.few told.2)
   told-decides budgets (found.Met q) d whole told = subst (λ (x : Decided). IsDecision schema query budgets x) (sym told) (record { valid = whole.is.met.valid; meets = whole.is.met.meets })
@@ -71,7 +71,7 @@ module _ (schema : Schema) (query : Query) where
       })
 
   -- and comes within the budget of splits
-  pub told-within : (budgets : Budgets) (f : Found) (d : Decided) → IsWholeSearch schema query budgets f → IsTold f d → IsWithinSplits schema query budgets.splits d
+  pub told-within : (budgets : Budgets) (f : Found) (d : Decided) → IsWholeSearch schema query budgets f → IsDecidedFrom f d → IsWithinSplits schema query budgets.splits d
   told-within budgets (found.Refuted part) d whole told =
       subst (λ (x : Decided). IsWithinSplits schema query budgets.splits x) (sym told.1) (refutation-from whole.store budgets.splits whole.used part (proof_of told.0.value) whole.is whole.few told.2).few
   told-within budgets (found.Met q) d whole told =
@@ -158,14 +158,14 @@ module _ (schema : Schema) (query : Query) where
 
     -- what is found from it
     pub whole-from : {E : Type 0} (budgets : Budgets) (end : State) (r : Result Found E) (A : Type 0) → left ≡ budgets.splits → (A → length end.learned.lists ≤ MOST_LEARNED) →
-        IfOk r (IsFoundFrom schema query budgets.states state.path (spent state end)) → OnOk r A → IfOk r (IsWholeSearch schema query budgets)
+        IfOk r (IsFoundFrom schema query budgets.states state.path (spent_between state end)) → OnOk r A → IfOk r (IsWholeSearch schema query budgets)
     whole-from budgets end (Ok f) A same small is_found restored =
         let all : state.left ≡ budgets.splits = is.left_is ∙ same in
         let lists : state.learned.lists ≡ [] = ap (λ (t : Tracked). t.lists) is.learned in
         record {
           store = end.learned.lists;
           used = state.left - end.left;
-          is = found-at schema query budgets.states state.path [] (spent state end) (record { old = []; new = end.learned.lists; left = budgets.splits; used = state.left - end.left }) f is.path (rw (lists, ← all) refl) is_found;
+          is = found-at schema query budgets.states state.path [] (spent_between state end) (record { old = []; new = end.learned.lists; left = budgets.splits; used = state.left - end.left }) f is.path (rw (lists, ← all) refl) is_found;
           small = small restored;
           few = omega arith;
         }

@@ -2,7 +2,7 @@
 use Rattle.std.specs.Prelude.{◌≡◌, ◌≤◌, ◌+◌, ℕ, List, length, true, false}
 use Rattle.formula_tree.specs.Answers.{Answers}
 use Rattle.formula_tree.specs.Nodes.{IsNode}
-use Rattle.formula_tree.specs.Runs.{answered}
+use Rattle.formula_tree.specs.Runs.{path_with}
 use Rattle.policy_model.specs.declared.schema.Schema.{Schema}
 use Rattle.policy_compile.specs.declared.outcome.Query.{Query}
 use Rattle.policy_compile.specs.Queries.{asked_tree}
@@ -24,11 +24,11 @@ pub record IsPassedBy (schema : Schema) (query : Query) (store : List Answers) (
 -- so many splits lead from the first path to the second
 pub data LeadBy (schema : Schema) (query : Query) (store : List Answers) : ℕ → ℕ → Answers → Answers → Type 0 where
   nowhere : (ended : ℕ) (path : Answers) → LeadBy schema query store ended 0 path path
-  to_yes : (ended : ℕ) (path node : Answers) (n k all : ℕ) → LeadBy schema query store ended k (answered path n true) node →
+  to_yes : (ended : ℕ) (path node : Answers) (n k all : ℕ) → LeadBy schema query store ended k (path_with path n true) node →
       all ≡ k + 1 → LeadBy schema query store ended all path node
   to_no : (ended : ℕ) (path node : Answers) (n made k all : ℕ) (passed : Proof) →
-      IsPassedBy schema query store ended made (answered path n true) passed →
-      LeadBy schema query store (ended + labels passed) k (answered path n false) node → all ≡ made + k + 1 →
+      IsPassedBy schema query store ended made (path_with path n true) passed →
+      LeadBy schema query store (ended + labels passed) k (path_with path n false) node → all ≡ made + k + 1 →
       LeadBy schema query store ended all path node
 
 -- to a node of the plain run from the first

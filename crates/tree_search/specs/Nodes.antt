@@ -1,7 +1,7 @@
 -- How many splits a search makes on its way to a node of the run.
 use Rattle.std.specs.Prelude.{◌≡◌, ◌≤◌, ◌+◌, ℕ, Bool, true, false, Some}
 use Rattle.formula_tree.specs.Answers.{Answers}
-use Rattle.formula_tree.specs.Runs.{Run, answered}
+use Rattle.formula_tree.specs.Runs.{Run, path_with}
 use Rattle.formula_tree.specs.Values.{pick}
 use Rattle.policy_model.specs.declared.schema.Schema.{Schema}
 use Rattle.policy_compile.specs.declared.outcome.Query.{Query}
@@ -31,11 +31,11 @@ pub record IsClosedAfter (schema : Schema) (query : Query) (before : Before) (ma
 -- that is passed is closed. What is passed stands before what follows.
 pub data LeadTo (schema : Schema) (query : Query) : Before → ℕ → Answers → Answers → Type 0 where
   nowhere : (before : Before) (path : Answers) → LeadTo schema query before 0 path path
-  to_yes : (before : Before) (path node : Answers) (n k all : ℕ) → LeadTo schema query before k (answered path n true) node →
+  to_yes : (before : Before) (path node : Answers) (n k all : ℕ) → LeadTo schema query before k (path_with path n true) node →
       all ≡ k + 1 → LeadTo schema query before all path node
   to_no : (before : Before) (path node : Answers) (n made k all : ℕ) (passed : Proof) →
-      IsClosedAfter schema query before made (answered path n true) passed →
-      LeadTo schema query (after_part before passed) k (answered path n false) node → all ≡ made + k + 1 →
+      IsClosedAfter schema query before made (path_with path n true) passed →
+      LeadTo schema query (after_part before passed) k (path_with path n false) node → all ≡ made + k + 1 →
       LeadTo schema query before all path node
 
 -- both runs split at the path: it is possible, a test is picked, and unit propagation meets no conflict

@@ -2,7 +2,7 @@
 use Rattle.std.specs.Prelude.{◌≡◌, ◌≢◌, ◌≤◌, ◌<◌, ◌-◌, ◌^◌, ◌++◌, ◌∷◌, ◌↔◌, [], ℕ, List, length, slice_set}
 use Rattle.std.specs.Prelude.{Bool, true, Option, Some, None, All, IsTrue}
 use Rattle.formula_tree.specs.Answers.{Answers, answer_of}
-use Rattle.formula_tree.specs.Runs.{answered}
+use Rattle.formula_tree.specs.Runs.{path_with}
 use Rattle.formula_tree.specs.Values.{AreBelow, value}
 use Rattle.formula_tree.specs.declared.value.Three.TheVariants.{No, Yes}
 use Rattle.cnf_clauses.specs.Levels.{Followed}
@@ -51,7 +51,7 @@ pub record IsAskedFor (schema : Schema) (query : Query) (states : ℕ) : Type 0 
   pub suit : All (TestSuits schema) query.tests
   pub count : length query.tests < 2 ^ 32
   pub below : AreBelow (length query.tests) (asked_tree query)
-  pub some : 1 ≤ states
+  pub positive : 1 ≤ states
 
 -- and the clauses are the query's
 pub record IsReady (s : Search) : Type 0 where
@@ -83,7 +83,7 @@ pub record IsLonger (schema : Schema) (query : Query) (path : Answers) (values :
   pub carried : AreCarried schema query before values
   pub within : test < length query.tests
   pub new : answer_of before test ≡ None
-  pub is : path ≡ answered before test answer
+  pub is : path ≡ path_with before test answer
 
 abbrev pub IsOneLonger : Search → State → ℕ → Bool → Type 0
 IsOneLonger s state test answer = IsLonger s.schema.now s.query.now state.path state.values test answer
@@ -108,6 +108,18 @@ MayBeYes s state = value state.path (asked_tree s.query.now) ≢ No
 -- the path has the answers of nothing that was learned
 abbrev pub NothingLearned : State → Type 0
 NothingLearned state = NoHit state.learned.lists state.path
+
+-- the search is at the state's path, but for the slots' values
+pub record IsAtPath (s : Search) (state : State) : Type 0 where
+  pub ready : IsReady s
+  pub stands : Stands s state
+  pub follows : Follows s state
+
+-- and neither the tree's value nor what was learned closes it
+pub record IsOpenAt (s : Search) (state : State) : Type 0 where
+  pub at : IsAtPath s state
+  pub may : MayBeYes s state
+  pub nothing : NothingLearned state
 
 -- all is at the path as before; some more may have been learned, and no split has been added to those that are left
 pub record IsRestored (s : Search) (old new : State) : Type 0 where
@@ -160,8 +172,8 @@ pub record Spent : Type 0 where
   pub left : ℕ
   pub used : ℕ
 
-abbrev pub spent : State → State → Spent
-spent old new = record { old = old.learned.lists; new = new.learned.lists; left = old.left; used = old.left - new.left }
+abbrev pub spent_between : State → State → Spent
+spent_between old new = record { old = old.learned.lists; new = new.learned.lists; left = old.left; used = old.left - new.left }
 
 -- what is found from a path
 abbrev pub IsFoundFrom : Schema → Query → ℕ → Answers → Spent → Found → Type 0
@@ -172,12 +184,12 @@ IsFoundFrom schema query states path s (OutOfStates w) = IsWideBy schema query s
 
 -- what is found from the state's path
 abbrev pub IsFoundHere : Search → State → State → Found → Type 0
-IsFoundHere s old new = IsFoundFrom s.schema.now s.query.now s.states old.path (spent old new)
+IsFoundHere s old new = IsFoundFrom s.schema.now s.query.now s.states old.path (spent_between old new)
 
 -- what is found from its path with one more answer
 abbrev pub IsFoundThere : Search → State → ℕ → Bool → State → Found → Type 0
 IsFoundThere s old test answer new =
-    IsFoundFrom s.schema.now s.query.now s.states (answered old.path test answer) (spent old new)
+    IsFoundFrom s.schema.now s.query.now s.states (path_with old.path test answer) (spent_between old new)
 
 -- ---- a split
 
@@ -187,8 +199,8 @@ closes_here s state part path =
 
 -- the part closes the yes side of a split, and it is known what it needs
 pub record IsSide (s : Search) (state : State) (test : ℕ) (yes : Part) : Type 0 where
-  pub closes : closes_here s state yes (answered state.path test true)
-  pub needs : AreNeeds state.learned.lists (closes_here s state yes) (part_proof yes) (answered state.path test true) yes.needs
+  pub closes : closes_here s state yes (path_with state.path test true)
+  pub needs : AreNeeds state.learned.lists (closes_here s state yes) (part_proof yes) (path_with state.path test true) yes.needs
 
 -- it says whether the part closes at the path itself
 abbrev pub SaysIfClosed : Search → State → Part → Bool → Type 0

@@ -1,7 +1,7 @@
 -- Where a search stands: what follows its path, and how it goes on and back.
 use Rattle.std.specs.Prelude.{◌≡◌, ◌≤◌, ℕ, List, [], length, Bool, All, Some, None}
 use Rattle.formula_tree.specs.Answers.{Answers}
-use Rattle.formula_tree.specs.Runs.{answered}
+use Rattle.formula_tree.specs.Runs.{path_with}
 use Rattle.cnf_clauses.specs.Following.{LosesLast}
 use Rattle.cnf_clauses.specs.Levels.{Followed}
 use Rattle.nogoods.specs.Tracking.{Tracked}
@@ -60,10 +60,10 @@ pub record IsBeside (old new : State) : Type 0 where
 -- one more answer
 pub record IsDeeper (old : State) (test : ℕ) (answer : Bool) (new : State) : Type 0 where
   pub beside : IsBeside old new
-  pub path : new.path ≡ answered old.path test answer
+  pub path : new.path ≡ path_with old.path test answer
   pub tree : IsSet old.tree new.tree test (Some answer)
-  pub learned : new.learned.path ≡ answered old.learned.path test answer
-  pub cores : new.cores.lists.path ≡ answered old.cores.lists.path test answer
+  pub learned : new.learned.path ≡ path_with old.learned.path test answer
+  pub cores : new.cores.lists.path ≡ path_with old.cores.lists.path test answer
 
 -- the last answer, to this test, is taken back
 pub record IsTakenBack (old : State) (test : ℕ) (new : State) : Type 0 where

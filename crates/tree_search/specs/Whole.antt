@@ -9,7 +9,7 @@ use Rattle.refute_check.specs.declared.refutation.Refutation.{Refutation}
 use Rattle.refute_check.specs.Proofs.{labels, proof_of}
 use Rattle.search_parts.specs.declared.learning.TheConstants.{MOST_LEARNED}
 use Rattle.search_parts.specs.Making.{part_proof}
-use Rattle.search_parts.specs.Renaming.{renamed}
+use Rattle.search_parts.specs.Renaming.{renamed_proof}
 use Rattle.tree_search.specs.declared.found.Found.{Found}
 use Rattle.tree_search.specs.declared.found.Found.TheVariants as found
 use Rattle.tree_search.specs.declared.outcome.Budgets.{Budgets}
@@ -34,8 +34,8 @@ HasFewLabels found.OutOfSplits = Unit {0}
 HasFewLabels (found.OutOfStates w) = Unit {0}
 
 -- what is decided by what was found: the refutation with its labels numbered by their lines, and all else as it is
-abbrev pub IsTold : Found → Decided → Type 0
-IsTold (found.Refuted part) d = (r : Rc Refutation Global) × (d ≡ Refuted r) × (proof_of r.value ≡ renamed [] 0 (part_proof part))
-IsTold (found.Met q) d = d ≡ Met q
-IsTold found.OutOfSplits d = d ≡ OutOfSplits
-IsTold (found.OutOfStates w) d = d ≡ OutOfStates w
+abbrev pub IsDecidedFrom : Found → Decided → Type 0
+IsDecidedFrom (found.Refuted part) d = (r : Rc Refutation Global) × (d ≡ Refuted r) × (proof_of r.value ≡ renamed_proof [] 0 (part_proof part))
+IsDecidedFrom (found.Met q) d = d ≡ Met q
+IsDecidedFrom found.OutOfSplits d = d ≡ OutOfSplits
+IsDecidedFrom (found.OutOfStates w) d = d ≡ OutOfStates w

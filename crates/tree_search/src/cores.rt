@@ -41,7 +41,8 @@ impl Cores {
     }
 
     /// Keeps a part by a core whose proof is kept, while there is room: so kept cores take no more memory
-    /// than kept proofs and the answers of so many lists.
+    /// than kept proofs and the answers of so many lists. Where there is no memory the answers may be kept without
+    /// the part: the search ends.
     pub(crate) fn keep(&mut self, part: &Part, kept: bool) -> Result<(), NoMemory>
         requires { AreNeedsWithin part.now.needs self.old.lists.path }
         ensures { OnOk result (IsKeptWith self.old part.now self.new) }

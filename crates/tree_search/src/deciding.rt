@@ -7,7 +7,7 @@ ghost use Rattle.policy_compile.specs.Queries.{asked_tree};
 ghost use Rattle.tree_search.specs.Decisions.{IsDecision, IsWithinSplits};
 ghost use Rattle.tree_search.specs.Search.{IsAskedFor, followed_at};
 ghost use Rattle.tree_search.specs.States.{IsStartState};
-ghost use Rattle.tree_search.specs.Whole.{HasFewLabels, IsTold, IsWholeSearch};
+ghost use Rattle.tree_search.specs.Whole.{HasFewLabels, IsDecidedFrom, IsWholeSearch};
 
 use crate::found::Found;
 use crate::outcome::{Budgets, Decided};
@@ -90,7 +90,7 @@ fn begin(
     search_from(alloc, schema, query, budgets, &mut state)
 }
 
-// The same from the state there.
+// The same from the state there, which isn't used again where there is no memory.
 fn search_from(
     alloc: Global,
     schema: &Schema,
@@ -117,7 +117,7 @@ fn search_from(
 // What is decided by what was found from the start: a refutation with its labels numbered by their lines.
 fn told(alloc: Global, found: Found) -> Result<Decided, NoMemory>
     requires { HasFewLabels found }
-    ensures { IfOk result (IsTold found) }
+    ensures { IfOk result (IsDecidedFrom found) }
 {
     match found {
         Found::Refuted(part) => Ok(Decided::Refuted(finished(alloc, part)?)),

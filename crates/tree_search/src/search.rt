@@ -8,7 +8,7 @@ ghost use Rattle.formula_tree.specs.declared.value.Three.TheVariants.{No, Yes};
 ghost use Rattle.policy_compile.specs.Queries.{asked_tree};
 ghost use Rattle.search_parts.specs.Joining.{AreReady};
 ghost use Rattle.slot_theory.specs.Slots.{slot_of, test_at};
-ghost use Rattle.tree_search.specs.Search.{Carries, CarriesWith, Follows, IsAhead, IsFoundHere, IsFoundThere, IsJoinedHere, IsMetHere, IsOneLonger, IsReady, IsRestored, IsSide, MayBeYes, NothingLearned, SaysIfClosed, Stands};
+ghost use Rattle.tree_search.specs.Search.{Carries, CarriesWith, IsAhead, IsAtPath, IsFoundHere, IsFoundThere, IsJoinedHere, IsMetHere, IsOneLonger, IsOpenAt, IsReady, IsRestored, IsSide, MayBeYes, SaysIfClosed, Stands};
 ghost use Rattle.tree_search.specs.Values.{IsIndexOf};
 
 use crate::found::Found;
@@ -41,15 +41,12 @@ pub(crate) struct Search<'a> {
 }
 
 impl<'a> Search<'a> {
-    /// The search from a node that isn't closed.
+    /// The search from a node that isn't closed. Where there is no memory the whole search ends, and the state
+    /// isn't used again.
     #[cycle(search)]
     pub(crate) fn search(&self, state: &mut State) -> Result<Found, NoMemory>
-        requires ready { IsReady self.now }
-        requires stands { Stands self.now state.old }
+        requires open { IsOpenAt self.now state.old }
         requires carries { Carries self.now state.old }
-        requires follows { Follows self.now state.old }
-        requires may { MayBeYes self.now state.old }
-        requires nothing { NothingLearned state.old }
         ensures found { IfOk result (IsFoundHere self.now state.old state.new) }
         ensures restored { OnOk result (IsRestored self.now state.old state.new) }
     {
@@ -102,7 +99,7 @@ impl<'a> Search<'a> {
             clauses: self.clauses,
             learned: &state.learned,
         };
-        shortening.is_needless(yes, test, &mut state.path.copy()?)
+        shortening.is_needless(yes, test, &state.path)
     }
 
     /// The split of two sides that are closed, learned where there is room.
@@ -122,10 +119,8 @@ impl<'a> Search<'a> {
     /// The search from the path with one more answer.
     #[cycle(search)]
     fn side(&self, state: &mut State, test: u32, answer: bool) -> Result<Found, NoMemory>
-        requires ready { IsReady self.now }
-        requires stands { Stands self.now state.old }
+        requires at { IsAtPath self.now state.old }
         requires carries { Carries self.now state.old }
-        requires follows { Follows self.now state.old }
         requires within { test < length self.now.query.now.tests }
         requires new { answer_of state.old.path test ≡ None }
         ensures found { IfOk result (IsFoundThere self.now state.old test answer state.new) }
@@ -161,10 +156,8 @@ impl<'a> Search<'a> {
     /// something that was learned or of a kept core.
     #[cycle(search)]
     fn go_in(&self, state: &mut State, test: u32, answer: bool) -> Result<Found, NoMemory>
-        requires ready { IsReady self.now }
-        requires stands { Stands self.now state.old }
+        requires at { IsAtPath self.now state.old }
         requires longer { IsOneLonger self.now state.old test answer }
-        requires follows { Follows self.now state.old }
         requires may { MayBeYes self.now state.old }
         ensures found { IfOk result (IsFoundHere self.now state.old state.new) }
         ensures restored { OnOk result (IsRestored self.now state.old state.new) }
@@ -182,12 +175,8 @@ impl<'a> Search<'a> {
     /// The search from such a path, which has no such answers.
     #[cycle(search)]
     fn settle(&self, state: &mut State, test: u32, answer: bool) -> Result<Found, NoMemory>
-        requires ready { IsReady self.now }
-        requires stands { Stands self.now state.old }
+        requires open { IsOpenAt self.now state.old }
         requires longer { IsOneLonger self.now state.old test answer }
-        requires follows { Follows self.now state.old }
-        requires may { MayBeYes self.now state.old }
-        requires nothing { NothingLearned state.old }
         ensures found { IfOk result (IsFoundHere self.now state.old state.new) }
         ensures restored { OnOk result (IsRestored self.now state.old state.new) }
     {
@@ -212,12 +201,8 @@ impl<'a> Search<'a> {
         slot: Slot,
         index: Option<usize>,
     ) -> Result<Found, NoMemory>
-        requires ready { IsReady self.now }
-        requires stands { Stands self.now state.old }
+        requires open { IsOpenAt self.now state.old }
         requires longer { IsOneLonger self.now state.old test answer }
-        requires follows { Follows self.now state.old }
-        requires may { MayBeYes self.now state.old }
-        requires nothing { NothingLearned state.old }
         requires slot { slot ≡ slot_of (test_at self.now.query.now.tests test) }
         requires index { IsIndexOf slot state.old.values index }
         ensures found { IfOk result (IsFoundHere self.now state.old state.new) }
@@ -247,13 +232,9 @@ impl<'a> Search<'a> {
         value: (Slot, SlotValue),
         index: Option<usize>,
     ) -> Result<Found, NoMemory>
-        requires ready { IsReady self.now }
-        requires stands { Stands self.now state.old }
+        requires open { IsOpenAt self.now state.old }
         requires index { IsIndexOf value.0 state.old.values index }
         requires carries { CarriesWith self.now state.old value index }
-        requires follows { Follows self.now state.old }
-        requires may { MayBeYes self.now state.old }
-        requires nothing { NothingLearned state.old }
         ensures found { IfOk result (IsFoundHere self.now state.old state.new) }
         ensures restored { OnOk result (IsRestored self.now state.old state.new) }
     {

@@ -60,7 +60,8 @@ impl State {
         })
     }
 
-    /// One more answer. The values of slots and the clauses don't follow it yet.
+    /// One more answer. The values of slots and the clauses don't follow it yet. Where there is no memory some may
+    /// follow it and others not: the search ends.
     pub(crate) fn go_down(&mut self, test: u32, answer: bool) -> Result<(), NoMemory>
         requires new { answer_of self.old.path test ≡ None }
         requires room { test < length self.old.tree.answers }

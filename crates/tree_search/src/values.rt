@@ -40,7 +40,7 @@ pub fn exchange(
 /// Takes the last value away. It takes no memory.
 pub fn pop(alloc: Global, values: &mut SlotValues) -> Option<(Slot, SlotValue)>
     ensures last { values.old ≡ values.new ++ option_to_list result }
-    ensures some { IsSome result ↔ (0 < length values.old) }
+    ensures nonempty { IsSome result ↔ (0 < length values.old) }
 {
     let mut items = replace(values, SlotValues::new(alloc)).into_vec();
     let last = items.pop();

@@ -1,17 +1,17 @@
 use Rattle.std.proofs.Common.{true, false, sym, subst}
 use Rattle.formula_tree.specs.Answers.{Answers, Contained}
-use Rattle.formula_tree.specs.Runs.{answered}
+use Rattle.formula_tree.specs.Runs.{path_with}
 use Rattle.tree_values.specs.Models.{answered_tree}
 use Rattle.search_parts.proofs.Halving.{known-needs, learn-joined, learned-few}
 use Rattle.search_parts.proofs.joining.learn.Goals as goal
 
 pub least_answers-requires-clause-yes_needs : goal.least_answers-requires-clause-yes_needs
 least_answers-requires-clause-yes_needs c =
-    known-needs (answered_tree c.args.values.now) c.args.learned.now.lists (answered c.args.path.now c.args.halves.test true) c.args.halves.yes.needs c.requires.room c.requires.ready.yes_needs
+    known-needs (answered_tree c.args.values.now) c.args.learned.now.lists (path_with c.args.path.now c.args.halves.test true) c.args.halves.yes.needs c.requires.room c.requires.ready.yes_needs
 
 pub least_answers-requires-clause-no_needs : goal.least_answers-requires-clause-no_needs
 least_answers-requires-clause-no_needs c =
-    known-needs (answered_tree c.args.values.now) c.args.learned.now.lists (answered c.args.path.now c.args.halves.test false) c.args.halves.no.needs c.requires.room c.requires.ready.no_needs
+    known-needs (answered_tree c.args.values.now) c.args.learned.now.lists (path_with c.args.path.now c.args.halves.test false) c.args.halves.no.needs c.requires.room c.requires.ready.no_needs
 
 pub learn-requires : goal.learn-requires
 learn-requires c = subst (λ (q : Answers). Contained c.in_ok-answers.answers q) (sym c.requires.ready.follows) c.in_ok-answers.ensures.least.there

@@ -2,13 +2,13 @@ use Rattle.std.proofs.Common.{◌≡◌, ◌∙◌, ◌+◌, ◌++◌, ◌∷◌
 use Rattle.std.proofs.lemmas.Result.{IfOk-from_err}
 use Rattle.formula_tree.specs.Answers.{Answers}
 use Rattle.refute_check.specs.Proofs.{Proof, label, labels, split}
-use Rattle.search_parts.specs.Renaming.{line_names, renamed}
+use Rattle.search_parts.specs.Renaming.{line_names, renamed_proof}
 use Rattle.search_parts.proofs.Fewer.{of-label, of-split}
 use Rattle.search_parts.proofs.renumbering.+renumbered.Goals as goal
 
 -- what is numbered anew, the number of labels that begin before its end, and the names of those that end before that
 record IsRenumbered (names : List ℕ) (begun : ℕ) (whole r : Proof) (end : ℕ) (all : List ℕ) : Type 0 where
-  part : r ≡ renamed names begun whole
+  part : r ≡ renamed_proof names begun whole
   count : end ≡ begun + labels whole
   names_are : all ≡ names ++ line_names begun whole
 

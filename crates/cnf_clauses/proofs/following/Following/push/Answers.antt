@@ -44,14 +44,14 @@ pub invariant_of-self-in-Ok-Some : goal.invariant_of-self-in-Ok-Some
 invariant_of-self-in-Ok-Some c =
     let now = c.self.inside in
     trail-same now.clauses now.path c.pop.new.self now.trail c.follow_level.new.trail
-    (popped-back now.path c.push.new.self c.pop.new.self (c.args.test, c.args.answer) c.pop.result c.in_ok-push.ensures.ok c.pop.ensures.last c.pop.ensures.some)
+    (popped-back now.path c.push.new.self c.pop.new.self (c.args.test, c.args.answer) c.pop.result c.in_ok-push.ensures.ok c.pop.ensures.last c.pop.ensures.nonempty)
     (MatchOption-at_some _ _ _ c.in-Ok-Some.field-0-is c.in-Ok-Some.ensures.same) c.self.invariant
 
 pub invariant_of-self-in-Err : goal.invariant_of-self-in-Err
 invariant_of-self-in-Err c =
     let now = c.self.inside in
     trail-same now.clauses now.path c.pop-in-Err.new.self now.trail c.follow_level.new.trail
-    (popped-back now.path c.push.new.self c.pop-in-Err.new.self (c.args.test, c.args.answer) c.pop-in-Err.result c.in_ok-push.ensures.ok c.pop-in-Err.ensures.last c.pop-in-Err.ensures.some)
+    (popped-back now.path c.push.new.self c.pop-in-Err.new.self (c.args.test, c.args.answer) c.pop-in-Err.result c.in_ok-push.ensures.ok c.pop-in-Err.ensures.last c.pop-in-Err.ensures.nonempty)
     c.in-Err.ensures.err c.self.invariant
 
 pub returns-in-Ok-None-clause-ok : goal.returns-in-Ok-None-clause-ok
@@ -61,7 +61,7 @@ returns-in-Ok-None-clause-ok c =
 pub returns-in-Ok-Some-clause-ok : goal.returns-in-Ok-Some-clause-ok
 returns-in-Ok-Some-clause-ok c =
     let now = c.self.inside in
-    let back = popped-back now.path c.push.new.self c.pop.new.self (c.args.test, c.args.answer) c.pop.result c.in_ok-push.ensures.ok c.pop.ensures.last c.pop.ensures.some in
+    let back = popped-back now.path c.push.new.self c.pop.new.self (c.args.test, c.args.answer) c.pop.result c.in_ok-push.ensures.ok c.pop.ensures.last c.pop.ensures.nonempty in
     let met = MatchOption-at_some _ _ _ c.in-Ok-Some.field-0-is c.in-Ok-Some.ensures.conflict in (
       ap (λ (p : Answers). followed now.clauses p) back ∙ c.self.view_is,
       subst (λ (f : Followed). IsConflictAt f.clauses (f.path ++ (c.args.test, c.args.answer) ∷ []) c.in-Ok-Some.conflict) c.self.view_is
@@ -71,5 +71,5 @@ returns-in-Ok-Some-clause-ok c =
 pub returns-in-Err-clause-err : goal.returns-in-Err-clause-err
 returns-in-Err-clause-err c =
     let now = c.self.inside in
-    let back = popped-back now.path c.push.new.self c.pop-in-Err.new.self (c.args.test, c.args.answer) c.pop-in-Err.result c.in_ok-push.ensures.ok c.pop-in-Err.ensures.last c.pop-in-Err.ensures.some in
+    let back = popped-back now.path c.push.new.self c.pop-in-Err.new.self (c.args.test, c.args.answer) c.pop-in-Err.result c.in_ok-push.ensures.ok c.pop-in-Err.ensures.last c.pop-in-Err.ensures.nonempty in
     ap (λ (p : Answers). followed now.clauses p) back ∙ c.self.view_is

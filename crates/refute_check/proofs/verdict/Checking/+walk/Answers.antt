@@ -1,10 +1,10 @@
 use Rattle.std.proofs.Common.{◌≡◌, ◌+◌, ◌∙◌, false, true, refl, sym, ap, subst, arith}
-use Rattle.formula_tree.specs.Runs.{answered}
+use Rattle.formula_tree.specs.Runs.{path_with}
 use Rattle.refute_check.specs.declared.verdict.Walked.{Walked}
 use Rattle.refute_check.specs.declared.verdict.Walked.TheVariants.{Closed, Failed}
 use Rattle.refute_check.specs.Closing.{inside_label}
 use Rattle.refute_check.specs.Proofs.{proof_of, size, split}
-use Rattle.refute_check.specs.Walks.{IsLabelWalked, IsWalked, raised}
+use Rattle.refute_check.specs.Walks.{IsLabelWalked, IsWalked, raised_walk}
 use Rattle.refute_check.proofs.Ranges.{range_more}
 use Rattle.refute_check.proofs.Walking.{fails-here, first-fails, label-fails, not-ended, of-label, own-label, second, walked-at}
 use Rattle.refute_check.proofs.verdict.Checking.+walk.Goals as goal
@@ -31,7 +31,7 @@ walk_label-returns-in-Failed t c =
     let p = proof_of c.args.inner.now in
     let below = walked-at schema q _ (inside_label labels) p _ c.args.answers.now c.walk.new.labels _ (Failed c.in-Failed.field-0) c.in_ok-begin.ensures.begun (c.in_ok-own.ensures ∙ c.as_slice.ensures) c.in-Failed.is c.in_ok-walked.ensures.walked in
     let here = label-fails schema q labels c.walk.new.labels c.walk.new.labels c.args.number c.args.answers.now p c.in-Failed.field-0 below in
-    subst (λ (w : Walked). IsLabelWalked schema q labels c.args.number c.args.answers.now p c.walk.new.labels w) (sym (c.raised.ensures ∙ ap (λ (w : Walked). raised w 0) c.in-Failed.is)) here
+    subst (λ (w : Walked). IsLabelWalked schema q labels c.args.number c.args.answers.now p c.walk.new.labels w) (sym (c.raised.ensures ∙ ap (λ (w : Walked). raised_walk w 0) c.in-Failed.is)) here
 
 pub walk_label-end-requires-clause-new : goal.walk_label-end-requires-clause-new
 walk_label-end-requires-clause-new t c =
@@ -52,9 +52,9 @@ walk_sides-returns-in-Failed-clause-walked t c =
     let z = proof_of c.args.no.now in
     let path = c.args.path.now in
     let after = c.walk_side.new.labels in
-    let yes_side = walked-at schema q labels labels y _ (answered path c.args.test true) after _ (Failed c.in-Failed.field-0) refl refl c.in-Failed.is c.in_ok-first.ensures.walked in
+    let yes_side = walked-at schema q labels labels y _ (path_with path c.args.test true) after _ (Failed c.in-Failed.field-0) refl refl c.in-Failed.is c.in_ok-first.ensures.walked in
     let here = first-fails schema q labels c.args.test y z path c.requires.open after after c.in-Failed.field-0 yes_side in
-    subst (λ (w : Walked). IsWalked schema q labels (split c.args.test y z) path after w) (sym (c.raised.ensures ∙ ap (λ (w : Walked). raised w 0) c.in-Failed.is)) here
+    subst (λ (w : Walked). IsWalked schema q labels (split c.args.test y z) path after w) (sym (c.raised.ensures ∙ ap (λ (w : Walked). raised_walk w 0) c.in-Failed.is)) here
 
 pub walk_sides-returns-in_ok-second-in-Closed-clause-walked : goal.walk_sides-returns-in_ok-second-in-Closed-clause-walked
 walk_sides-returns-in_ok-second-in-Closed-clause-walked t c =
@@ -66,7 +66,7 @@ walk_sides-returns-in_ok-second-in-Closed-clause-walked t c =
     let path = c.args.path.now in
     let middle = c.walk_side.new.labels in
     let after = c.walk_side-in-Closed.new.labels in
-    let yes_side = walked-at schema q labels labels y _ (answered path c.args.test true) middle _ (Closed c.in-Closed.nodes) refl refl c.in-Closed.is c.in_ok-first.ensures.walked in
-    let no_side = walked-at schema q middle middle z _ (answered path c.args.test false) after _ c.in_ok-second-in-Closed.second refl (ap (λ p. answered p c.args.test false) c.in_ok-first.ensures.path) refl c.in_ok-second-in-Closed.ensures.walked in
+    let yes_side = walked-at schema q labels labels y _ (path_with path c.args.test true) middle _ (Closed c.in-Closed.nodes) refl refl c.in-Closed.is c.in_ok-first.ensures.walked in
+    let no_side = walked-at schema q middle middle z _ (path_with path c.args.test false) after _ c.in_ok-second-in-Closed.second refl (ap (λ p. path_with p c.args.test false) c.in_ok-first.ensures.path) refl c.in_ok-second-in-Closed.ensures.walked in
     let here = second schema q labels c.args.test y z path c.requires.open middle after c.in-Closed.nodes c.in_ok-second-in-Closed.second yes_side no_side in
     subst (λ (w : Walked). IsWalked schema q labels (split c.args.test y z) path after w) (sym c.raised-in-Closed.ensures) here

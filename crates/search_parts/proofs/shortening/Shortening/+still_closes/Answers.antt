@@ -1,7 +1,7 @@
 use Rattle.std.proofs.Common.{ℕ, Bool, List, true, false, IfOk, IsSome, IsTrue, All, ◌↔◌, refl, subst}
 use Rattle.std.proofs.lemmas.Result.{IfOk-from_err}
 use Rattle.formula_tree.specs.Answers.{Answers, answer_of}
-use Rattle.formula_tree.specs.Runs.{answered}
+use Rattle.formula_tree.specs.Runs.{path_with}
 use Rattle.refute_check.specs.Proofs.{proof_of}
 use Rattle.search_parts.specs.Shortening.{IsStillClosed}
 use Rattle.search_parts.proofs.Fewer.{not-some, sides-all, still-label, still-slot}
@@ -15,8 +15,8 @@ sides-returns-clause-still t c =
     let y = proof_of c.args.yes.now in
     let z = proof_of c.args.no.now in
     let new = not-some (answer_of path n) c.is_answered.result c.if-is_answered.false c.is_answered.ensures in
-    let first = subst (λ (b : Bool). IsStillClosed s y (answered path n true) b) c.if-not-branch.false c.in_ok-side.ensures.still in
-    let second = subst (λ (q : Answers). IfOk c.side-2.result (IsStillClosed s z (answered q n false))) c.in_ok-side.ensures.path c.side-2.ensures.still in
+    let first = subst (λ (b : Bool). IsStillClosed s y (path_with path n true) b) c.if-not-branch.false c.in_ok-side.ensures.still in
+    let second = subst (λ (q : Answers). IfOk c.side-2.result (IsStillClosed s z (path_with q n false))) c.in_ok-side.ensures.path c.side-2.ensures.still in
     sides-all s n y z path new c.side-2.result first second
 
 pub still_closes-returns-in-BySlot-clause-still : goal.still_closes-returns-in-BySlot-clause-still
