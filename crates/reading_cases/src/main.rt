@@ -4,7 +4,8 @@
 //! `words LIST` is a JSON list of the words after the program's name; what they ask is printed, or `usage`.
 //!
 //! `set FILE` prints the first fault of a file as a set: its code, the numbers of its document and its
-//! statement, and its element as JSON text; `none` where it has none. `schema FILE` prints the code and the
+//! statement, and its element as JSON text; `none` where it has none. `shown FILE` prints the set that was read,
+//! or the fault without quotes. `schema FILE` prints the code and the
 //! element of a schema file's first fault, or `none`.
 //!
 //! `inferred FIRST SECOND SCHEMA` has three files with tabs between them; an empty third file stands for the
@@ -22,10 +23,13 @@
 #![tactic(auto)]
 
 mod certificates;
+mod conditions;
 mod inferred;
 mod policies;
 mod requests;
 mod schemas;
+mod showing;
+mod shown;
 mod texts;
 mod words;
 
@@ -35,6 +39,7 @@ use line_expansion::expand;
 use policies::set_answer;
 use requests::request_answer;
 use schemas::schema_answer;
+use shown::shown_answer;
 use std::alloc::Global;
 use std::io;
 use std::io::{ErrorKind, Write};
@@ -45,6 +50,7 @@ fn answer_to(alloc: Global, line: &str) -> io::Result<String> {
     match word {
         "words" => words_answer(alloc, rest),
         "set" => Ok(set_answer(alloc, rest)?),
+        "shown" => Ok(shown_answer(alloc, rest)?),
         "schema" => Ok(schema_answer(alloc, rest)?),
         "inferred" => Ok(inferred_answer(alloc, rest)?),
         "request" => Ok(request_answer(alloc, rest)?),

@@ -28,7 +28,7 @@ impl Draw {
 
     /// One of the words.
     pub fn word(&mut self, words: &[&'static str]) -> &'static str
-        requires some { 0 < length words.now }
+        requires nonempty { 0 < length words.now }
         requires few { length words.now < 2 ^ 32 }
     {
         words[self.below(words.len() as u32) as usize]

@@ -1,4 +1,0 @@
-use Rattle.slot_cases.proofs.stated.Goals as goal
-
-pub stated_of-requires-clause-slot : goal.stated_of-requires-clause-slot
-stated_of-requires-clause-slot c = c.in_ok-slot.ensures c.in_ok-schema.schema
