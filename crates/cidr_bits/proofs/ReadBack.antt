@@ -6,7 +6,7 @@ use Rattle.std.proofs.lemmas.Nat.{shr_split, div_below, div-add-mod'}
 use Rattle.std.proofs.NetLemmas.Texts.{IsDotted-ipv4_text}
 use Rattle.cidr_bits.specs.declared.address.Address.{Address}
 use Rattle.cidr_bits.specs.declared.address.Address.TheVariants.{V4, V6}
-use Rattle.cidr_bits.specs.Numbers.{number, width, cleared, IsAddress}
+use Rattle.cidr_bits.specs.Numbers.{number, width, network_address, IsAddress}
 use Rattle.cidr_bits.specs.Forms.{IsAddressText, IsLengthText, IsBlockText}
 use Rattle.cidr_bits.specs.Texts.{last_digits, address_text, block_text}
 use Rattle.cidr_bits.specs.Laws.{OneBlock, AddressReadBack, BlockReadBack}
@@ -58,7 +58,7 @@ pub address_read_back : AddressReadBack
 address_read_back a (Ok b) fits read = ap Ok (one_address (address_text a) b a read (spells a fits))
 address_read_back a (Err e) fits read = absurd (read a (spells a fits))
 
-pub uncleared : (a : Address) (prefix : ℕ) → number a % 2 ^ (width a - prefix) ≡ 0 → a ≡ cleared a prefix
+pub uncleared : (a : Address) (prefix : ℕ) → number a % 2 ^ (width a - prefix) ≡ 0 → a ≡ network_address a prefix
 uncleared (V4 n) prefix clear = let whole = shr_split n (32 - prefix) in ap V4 (omega (arith, whole))
 uncleared (V6 n) prefix clear = let whole = shr_split n (128 - prefix) in ap V6 (omega (arith, whole))
 
@@ -115,7 +115,7 @@ one_block text a b p q h k =
     let address : h.address ≡ k.address = one_address h.address_text h.address k.address h.is_address (subst (λ t. IsAddressText t k.address) (sym parts.0) k.is_address) in
     let other : IsLengthText (width h.address) h.length_text q = subst (λ t. IsLengthText (width h.address) t q) (sym parts.1) (subst (λ w. IsLengthText w k.length_text q) (sym (ap width address)) k.is_length) in
     let prefix = same_length _ p q h.length_text (width_small h.address) h.is_length other in
-    (h.first_is ∙ ap (λ c. cleared c p) address ∙ ap (cleared k.address) prefix ∙ sym k.first_is, prefix)
+    (h.first_is ∙ ap (λ c. network_address c p) address ∙ ap (network_address k.address) prefix ∙ sym k.first_is, prefix)
 
 pub block_read_back : BlockReadBack
 block_read_back block (Ok b) fits read =

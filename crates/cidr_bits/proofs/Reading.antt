@@ -20,7 +20,7 @@ use Rattle.std.specs.declared.net.ip_addr.IpAddr.{IpAddr}
 use Rattle.std.specs.declared.net.ip_addr.IpAddr.TheVariants as Ip
 use Rattle.cidr_bits.specs.declared.address.Address.{Address}
 use Rattle.cidr_bits.specs.declared.address.Address.TheVariants.{V4, V6}
-use Rattle.cidr_bits.specs.Numbers.{width, cleared}
+use Rattle.cidr_bits.specs.Numbers.{width, network_address}
 use Rattle.cidr_bits.specs.Forms.{IsAddressText, IsBlockText, IsPlain}
 
 -- std's reader misses no address
@@ -125,7 +125,7 @@ one_address text (V6 m) (V6 n) h k =
     ap V6 (h.2 ∙ ap (number_from_digits 65536) groups ∙ sym k.2)
 
 -- a block without a prefix length
-pub whole_block : (text : List ℕ) (a first : Address) (bits prefix : ℕ) → IsAddressText text a → first ≡ cleared a bits → prefix ≡ bits → bits ≡ width a → IsBlockText text first prefix
+pub whole_block : (text : List ℕ) (a first : Address) (bits prefix : ℕ) → IsAddressText text a → first ≡ network_address a bits → prefix ≡ bits → bits ≡ width a → IsBlockText text first prefix
 whole_block text a first bits prefix h first_is prefix_is all = record {
   address_text = text;
   length_text = [];
@@ -133,11 +133,11 @@ whole_block text a first bits prefix h first_is prefix_is all = record {
   spelled = sym (append-nil text);
   is_address = h;
   is_length = inl (refl, prefix_is ∙ all);
-  first_is = first_is ∙ ap (cleared a) (sym prefix_is);
+  first_is = first_is ∙ ap (network_address a) (sym prefix_is);
 }
 
 -- and with one, split at the first `/`
-pub parts_block : (text front length : List ℕ) (a first : Address) (read prefix : ℕ) → text ≡ front ++ (47 ∷ length) → IsAddressText front a → length ≡ decimal read → read ≤ width a → first ≡ cleared a read → prefix ≡ read → IsBlockText text first prefix
+pub parts_block : (text front length : List ℕ) (a first : Address) (read prefix : ℕ) → text ≡ front ++ (47 ∷ length) → IsAddressText front a → length ≡ decimal read → read ≤ width a → first ≡ network_address a read → prefix ≡ read → IsBlockText text first prefix
 parts_block text front length a first read prefix split h written fits first_is prefix_is = record {
   address_text = front;
   length_text = 47 ∷ length;
@@ -145,7 +145,7 @@ parts_block text front length a first read prefix split h written fits first_is 
   spelled = split;
   is_address = h;
   is_length = inr (ap (λ t. 47 ∷ t) (written ∙ ap decimal (sym prefix_is)), omega arith);
-  first_is = first_is ∙ ap (cleared a) (sym prefix_is);
+  first_is = first_is ∙ ap (network_address a) (sym prefix_is);
 }
 
 -- the parts of the text of a block with `/`

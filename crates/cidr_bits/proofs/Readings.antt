@@ -18,11 +18,11 @@ use Rattle.cidr_bits.specs.declared.address.Address.{Address}
 use Rattle.cidr_bits.specs.declared.address.Address.TheVariants.{V4, V6}
 use Rattle.cidr_bits.specs.declared.address.BadAddress.{BadAddress}
 use Rattle.cidr_bits.specs.declared.block.Block.{Block}
-use Rattle.cidr_bits.specs.Numbers.{IsAddress, width, cleared}
+use Rattle.cidr_bits.specs.Numbers.{IsAddress, width, network_address}
 use Rattle.cidr_bits.specs.Texts.{address_text}
 use Rattle.cidr_bits.specs.Blocks.{block_around}
 use Rattle.cidr_bits.specs.Forms.{IsAddressText, IsLengthText, IsBlockText, ReadsBlock}
-use Rattle.cidr_bits.specs.Readings.{alone, to_end, of_octets, of_groups, address_of, before_slash, from_slash, prefix_written, length_of, block_of, block_spelled}
+use Rattle.cidr_bits.specs.Readings.{whole_reading, to_end, of_octets, of_groups, address_of, before_slash, from_slash, prefix_written, length_of, block_of, block_spelled}
 use Rattle.cidr_bits.specs.Laws.{AddressOfIsTheForm, BlockOfIsTheForm}
 use Rattle.cidr_bits.proofs.Around.{block_is_around_its_first}
 use Rattle.cidr_bits.proofs.Reading.{NotSlash, address_not_slash}
@@ -32,7 +32,7 @@ none_where : {A : Type 0} (o : Option A) → ((x : A) → o ≡ Some x → ⊥) 
 none_where None h = refl
 none_where (Some x) h = absurd (h x refl)
 
-end_back : (read rest numbers : List ℕ) → alone read rest ≡ Some numbers → (read ≡ numbers) × (rest ≡ [])
+end_back : (read rest numbers : List ℕ) → whole_reading read rest ≡ Some numbers → (read ≡ numbers) × (rest ≡ [])
 end_back read [] numbers h = (same_Some _ _ h, refl)
 end_back read (c ∷ rest) numbers h = absurd (cc)
 
@@ -145,18 +145,18 @@ block_forth text first prefix h =
     let back = ap from_slash h.spelled ∙ apart.1 in
     let address = ap address_of front ∙ address_forth h.address_text h.address h.is_address in
     let length = ap (length_of (width h.address)) back ∙ length_forth (width h.address) prefix h.length_text (width_small h.address) h.is_length in
-    ap (option_and_then (λ a. option_map (λ p. (cleared a p, p)) (length_of (width a) (from_slash text)))) address
-    ∙ ap (option_map (λ p. (cleared h.address p, p))) length
+    ap (option_and_then (λ a. option_map (λ p. (network_address a p, p)) (length_of (width a) (from_slash text)))) address
+    ∙ ap (option_map (λ p. (network_address h.address p, p))) length
     ∙ ap (λ a. Some (a, prefix)) (sym h.first_is)
 
 block_back : (text : List ℕ) (first : Address) (prefix : ℕ) → block_of text ≡ Some (first, prefix) → IsBlockText text first prefix
 unfolding block_of
 block_back text first prefix h =
-    and_then_some (λ a. option_map (λ p. (cleared a p, p)) (length_of (width a) (from_slash text))) (address_of (before_slash text)) (first, prefix) h
+    and_then_some (λ a. option_map (λ p. (network_address a p, p)) (length_of (width a) (from_slash text))) (address_of (before_slash text)) (first, prefix) h
     λ a address more.
-    map_some (λ p. (cleared a p, p)) (length_of (width a) (from_slash text)) (first, prefix) more
+    map_some (λ p. (network_address a p, p)) (length_of (width a) (from_slash text)) (first, prefix) more
     λ p length pair.
-    let first_is : cleared a p ≡ first = ap (λ q. q.0) pair in
+    let first_is : network_address a p ≡ first = ap (λ q. q.0) pair in
     let prefix_is : p ≡ prefix = ap (λ q. q.1) pair in
     record {
       address_text = before_slash text;
@@ -165,7 +165,7 @@ block_back text first prefix h =
       spelled = split_whole text;
       is_address = address_back _ a address;
       is_length = length_back (width a) prefix (from_slash text) (begins_at_slash text) (length ∙ ap Some prefix_is);
-      first_is = sym first_is ∙ ap (cleared a) prefix_is;
+      first_is = sym first_is ∙ ap (network_address a) prefix_is;
     }
 
 pub block_of_is_the_form : BlockOfIsTheForm

@@ -3,7 +3,7 @@ use Rattle.std.specs.Prelude.{◌≡◌, ℕ, ◌-◌, ◌^◌, ◌≤◌, min, 
 use Rattle.cidr_bits.specs.declared.address.Address.{Address}
 use Rattle.cidr_bits.specs.declared.address.Address.TheVariants.{V4}
 use Rattle.cidr_bits.specs.declared.block.Block.{Block}
-use Rattle.cidr_bits.specs.Numbers.{width, number, cleared, lies_in}
+use Rattle.cidr_bits.specs.Numbers.{width, number, network_address, lies_in}
 use Rattle.cidr_bits.specs.Cleared.{fits-cleared, number-cleared}
 
 -- how many addresses the block has
@@ -28,7 +28,7 @@ pub record IsGreatest (block : Block) (greatest : Address) : Type 0 where
 -- address alone
 abbrev pub block_around : Address → ℕ → Block
 block_around a prefix = record {
-  first = cleared a (min prefix (width a));
+  first = network_address a (min prefix (width a));
   prefix = min prefix (width a);
   fits = fits-cleared a prefix;
   clear = number-cleared a (min prefix (width a));

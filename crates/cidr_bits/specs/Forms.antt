@@ -6,7 +6,7 @@ use Rattle.cidr_bits.specs.declared.address.Address.{Address}
 use Rattle.cidr_bits.specs.declared.address.Address.TheVariants.{V4, V6}
 use Rattle.cidr_bits.specs.declared.address.BadAddress.{BadAddress}
 use Rattle.cidr_bits.specs.declared.block.Block.{Block}
-use Rattle.cidr_bits.specs.Numbers.{width, cleared}
+use Rattle.cidr_bits.specs.Numbers.{width, network_address}
 
 -- The text spells the address. An IPv4 address is four decimal numbers below 256 without leading zeros, joined by points: its
 -- four octets. An IPv6 address is eight groups of one to four hex digits, joined by colons: its eight numbers of 16 bits; one
@@ -31,7 +31,7 @@ pub record IsBlockText (text : List ℕ) (first : Address) (prefix : ℕ) : Type
   pub spelled : text ≡ address_text ++ length_text
   pub is_address : IsAddressText address_text address
   pub is_length : IsLengthText (width address) length_text prefix
-  pub first_is : first ≡ cleared address prefix
+  pub first_is : first ≡ network_address address prefix
 
 -- the answer is the address that the text spells, and the error exactly where it spells none
 abbrev pub ReadsAddress : List ℕ → Result Address BadAddress → Type 0

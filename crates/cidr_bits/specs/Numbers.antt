@@ -33,6 +33,6 @@ abbrev pub lies_in : Address → ℕ → Address → Bool
 lies_in first prefix a = same_family first a && (first_bits a prefix == first_bits first prefix)
 
 -- the address with each bit after the first `prefix` ones set to zero
-abbrev pub cleared : Address → ℕ → Address
-cleared (V4 n) prefix = V4 (n / 2 ^ (32 - prefix) * 2 ^ (32 - prefix))
-cleared (V6 n) prefix = V6 (n / 2 ^ (128 - prefix) * 2 ^ (128 - prefix))
+abbrev pub network_address : Address → ℕ → Address
+network_address (V4 n) prefix = V4 (n / 2 ^ (32 - prefix) * 2 ^ (32 - prefix))
+network_address (V6 n) prefix = V6 (n / 2 ^ (128 - prefix) * 2 ^ (128 - prefix))

@@ -8,17 +8,17 @@ use Rattle.std.specs.Net.Reader.{read_ipv4, read_ipv6}
 use Rattle.cidr_bits.specs.declared.address.Address.{Address}
 use Rattle.cidr_bits.specs.declared.address.Address.TheVariants.{V4, V6}
 use Rattle.cidr_bits.specs.declared.block.Block.{Block}
-use Rattle.cidr_bits.specs.Numbers.{width, cleared}
+use Rattle.cidr_bits.specs.Numbers.{width, network_address}
 use Rattle.cidr_bits.specs.Blocks.{block_around}
 
 -- the numbers that a reader read, where nothing stands behind them
-abbrev pub alone : List ℕ → List ℕ → Option (List ℕ)
-alone numbers [] = Some numbers
-alone numbers (c ∷ rest) = None
+abbrev pub whole_reading : List ℕ → List ℕ → Option (List ℕ)
+whole_reading numbers [] = Some numbers
+whole_reading numbers (c ∷ rest) = None
 
 abbrev pub to_end : Option (List ℕ × List ℕ) → Option (List ℕ)
 to_end None = None
-to_end (Some read) = alone read.0 read.1
+to_end (Some read) = whole_reading read.0 read.1
 
 -- the address of each family, from its octets or its groups
 abbrev pub of_octets : List ℕ → Address
@@ -52,7 +52,7 @@ length_of bits (slash ∷ digits) = prefix_written bits digits (digits_value 10 
 -- the first address and the prefix length of the block that the text stands for
 unfoldable pub block_of : List ℕ → Option (Address × ℕ)
 block_of text = option_and_then
-    (λ address. option_map (λ prefix. (cleared address prefix, prefix)) (length_of (width address) (from_slash text)))
+    (λ address. option_map (λ prefix. (network_address address prefix, prefix)) (length_of (width address) (from_slash text)))
     (address_of (before_slash text))
 
 -- the block that the text stands for

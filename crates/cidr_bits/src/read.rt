@@ -3,7 +3,7 @@ ghost use Rattle.std.specs.Prelude.{◌≡◌, ◌+◌, ◌-◌, ◌*◌, ◌/�
 ghost use Rattle.std.specs.Result.{result_ok};
 ghost use Rattle.std.specs.Int.Digits.{number_from_digits};
 ghost use Rattle.std.specs.Net.Addr.{ipv4_octets, ipv6_segments};
-ghost use Rattle.cidr_bits.specs.Numbers.{width, cleared};
+ghost use Rattle.cidr_bits.specs.Numbers.{width, network_address};
 ghost use Rattle.cidr_bits.specs.Forms.{IsPlain, ReadsAddress, ReadsBlock, ReadsWhole, ReadsLength};
 ghost use Rattle.cidr_bits.specs.Readings.{address_of, block_spelled};
 
@@ -78,7 +78,7 @@ fn read_whole(text: &str) -> Result<Block, BadAddress>
 // The block of this prefix length that the address lies in.
 fn block_at(address: Address, prefix: u8) -> Block
     requires { prefix ≤ width address }
-    ensures first { result.first ≡ cleared address prefix }
+    ensures first { result.first ≡ network_address address prefix }
     ensures prefix { result.prefix ≡ prefix }
 {
     let first = cleared_address(address, prefix);
@@ -88,7 +88,7 @@ fn block_at(address: Address, prefix: u8) -> Block
 // The address with each bit after the first `prefix` ones set to zero.
 fn cleared_address(address: Address, prefix: u8) -> Address
     requires { prefix ≤ width address }
-    ensures { result ≡ cleared address prefix }
+    ensures { result ≡ network_address address prefix }
 {
     match address {
         Address::V4(number) => Address::V4(clear_last(number as u128, 32 - prefix) as u32),

@@ -72,19 +72,19 @@ pub record SummaryCheck : Type 0 where
 
 -- what is asked: one of the commands
 pub data Asked : Type 0 where
-  a_comparison : Comparing → Asked
-  a_check : Checking → Asked
+  CompareCommand : Comparing → Asked
+  CheckCommand : Checking → Asked
   -- the findings, and whether a certificate is asked for
-  a_summary : Summarising → Bool → Asked
-  an_evaluation : Evaluating → Asked
+  SummaryCommand : Summarising → Bool → Asked
+  EvalCommand : Evaluating → Asked
   -- the comparisons and the summary of two sets of so many keys
-  a_load : ℕ → Asked
-  a_use_question : UseQuestion → Asked
+  LoadCommand : ℕ → Asked
+  IdleCommand : UseQuestion → Asked
   -- the findings outside a zone, and the name of the zone's file
-  a_reach : Summarising → List ℕ → Asked
+  ReachCommand : Summarising → List ℕ → Asked
   -- the findings that a policy is written from
-  an_emission : Summarising → Asked
-  a_summary_check : SummaryCheck → Asked
+  EmitCommand : Summarising → Asked
+  CheckSummaryCommand : SummaryCheck → Asked
 
 -- ---- the same, of owned names
 
@@ -146,21 +146,21 @@ summary_check_in c = record {
 }
 
 abbrev pub asked_in : Command → Asked
-asked_in (Compare c) = a_comparison (comparing_in c)
-asked_in (Check c) = a_check (checking_in c)
-asked_in (Summary s) = a_summary (summarising_in s.summary) s.certified
-asked_in (Eval e) = an_evaluation (evaluating_in e)
-asked_in (Load keys) = a_load keys
-asked_in (Idle u) = a_use_question (use_question_in u)
-asked_in (Reach r) = a_reach (summarising_in r.summary) (string_bytes r.zone)
-asked_in (Emit s) = an_emission (summarising_in s)
-asked_in (CheckSummary c) = a_summary_check (summary_check_in c)
+asked_in (Compare c) = CompareCommand (comparing_in c)
+asked_in (Check c) = CheckCommand (checking_in c)
+asked_in (Summary s) = SummaryCommand (summarising_in s.summary) s.certified
+asked_in (Eval e) = EvalCommand (evaluating_in e)
+asked_in (Load keys) = LoadCommand keys
+asked_in (Idle u) = IdleCommand (use_question_in u)
+asked_in (Reach r) = ReachCommand (summarising_in r.summary) (string_bytes r.zone)
+asked_in (Emit s) = EmitCommand (summarising_in s)
+asked_in (CheckSummary c) = CheckSummaryCommand (summary_check_in c)
 
 -- ---- the dimensions of findings
 
 -- the name with its ASCII letters lowered
-abbrev pub lowered : Text → Text
-lowered name = map to_ascii_lowercase name
+abbrev pub lower_case : Text → Text
+lower_case name = map to_ascii_lowercase name
 
 -- the text is one of these
 abbrev pub is_one_of : Text → List Text → Bool
@@ -173,7 +173,7 @@ are_distinct (text ∷ texts) = not (is_one_of text texts) && are_distinct texts
 
 -- at most four names, none of which is another one but for the case of ASCII letters
 abbrev pub are_dimensions : List Text → Bool
-are_dimensions names = not (nat_lt MOST_DIMENSIONS (length names)) && are_distinct (map lowered names)
+are_dimensions names = not (nat_lt MOST_DIMENSIONS (length names)) && are_distinct (map lower_case names)
 
 -- ---- ranges
 
@@ -243,7 +243,7 @@ pair_names rows = record {
 }
 
 abbrev pub comparison_of : List Row → Asked
-comparison_of rows = a_comparison (record {
+comparison_of rows = CompareCommand (record {
   names = pair_names rows;
   splits = number_or DEFAULT_SPLITS (codes "splits") rows;
   states = number_or DEFAULT_STATES (codes "states") rows;
@@ -251,7 +251,7 @@ comparison_of rows = a_comparison (record {
 })
 
 abbrev pub check_of : List Row → Asked
-check_of rows = a_check (record { names = pair_names rows; proof = name_at (codes "proof") rows })
+check_of rows = CheckCommand (record { names = pair_names rows; proof = name_at (codes "proof") rows })
 
 abbrev pub summarising_of : List Row → Summarising
 summarising_of rows = record {
@@ -268,10 +268,10 @@ abbrev pub findings_asked : List Row → Option Summarising
 findings_asked rows = if are_dimensions (names_at (codes "dimension") rows) then Some (summarising_of rows) else None
 
 abbrev pub summary_of : List Row → Option Asked
-summary_of rows = option_map (λ s. a_summary s (has_flag (codes "proof") rows)) (findings_asked rows)
+summary_of rows = option_map (λ s. SummaryCommand s (has_flag (codes "proof") rows)) (findings_asked rows)
 
 abbrev pub evaluation_of : List Row → Asked
-evaluation_of rows = an_evaluation (record {
+evaluation_of rows = EvalCommand (record {
   set = name_at (codes "set") rows;
   request = name_at (codes "request") rows;
   schema = first_of (codes "schema") rows;
@@ -279,10 +279,10 @@ evaluation_of rows = an_evaluation (record {
 
 -- the number has to be taken: where `clap` finds no fault it is there
 abbrev pub load_of : List Row → Asked
-load_of rows = a_load (number_or 1 (codes "keys") rows)
+load_of rows = LoadCommand (number_or 1 (codes "keys") rows)
 
 abbrev pub use_question_of : List Row → Asked
-use_question_of rows = a_use_question (record {
+use_question_of rows = IdleCommand (record {
   set = name_at (codes "set") rows;
   schema = first_of (codes "schema") rows;
   splits = number_or DEFAULT_SPLITS (codes "splits") rows;
@@ -291,10 +291,10 @@ use_question_of rows = a_use_question (record {
 })
 
 abbrev pub reach_of : List Row → Option Asked
-reach_of rows = option_map (λ s. a_reach s (name_at (codes "zone") rows)) (findings_asked rows)
+reach_of rows = option_map (λ s. ReachCommand s (name_at (codes "zone") rows)) (findings_asked rows)
 
 abbrev pub emission_of : List Row → Option Asked
-emission_of rows = option_map an_emission (findings_asked rows)
+emission_of rows = option_map EmitCommand (findings_asked rows)
 
 abbrev pub summary_checking_of : List Row → SummaryCheck
 summary_checking_of rows = record {
@@ -308,7 +308,7 @@ summary_checking_of rows = record {
 -- a check of a summary, unless there are too many dimensions or one stands twice
 abbrev pub summary_check_of : List Row → Option Asked
 summary_check_of rows =
-    if are_dimensions (names_at (codes "dimension") rows) then Some (a_summary_check (summary_checking_of rows)) else None
+    if are_dimensions (names_at (codes "dimension") rows) then Some (CheckSummaryCommand (summary_checking_of rows)) else None
 
 -- ---- the table of the commands
 
@@ -358,8 +358,8 @@ command_of word = find (λ e. bytes_eq e.form.top.name word) commands
 
 -- what the matches ask, unless there is a fault
 abbrev pub asked_unless : Kinds → Option Asked → Option Asked
-asked_unless [] asked = asked
-asked_unless (kind ∷ kinds) asked = None
+asked_unless [] asked_by_words = asked_by_words
+asked_unless (kind ∷ kinds) asked_by_words = None
 
 -- what the words ask of a command, as `clap` reads them: it passes over the first, the command's name
 abbrev pub asked_of : NamedCommand → List Text → Option Asked
@@ -367,9 +367,9 @@ asked_of e words = asked_unless (fault_of e.form words) (e.asks (matches_of e.fo
 
 -- what the words ask, or none where the first is missing or names no command, where `clap` refuses the others, or where they ask
 -- for findings by too many dimensions or by one twice
-abbrev pub asked : List Text → Option Asked
-asked [] = None
-asked (word ∷ words) = option_and_then (λ e. asked_of e (word ∷ words)) (command_of word)
+abbrev pub asked_by_words : List Text → Option Asked
+asked_by_words [] = None
+asked_by_words (word ∷ words) = option_and_then (λ e. asked_of e (word ∷ words)) (command_of word)
 
 abbrev pub asked_by : {Z : Type 0} → List (String Z) → Option Asked
-asked_by words = asked (texts_in words)
+asked_by words = asked_by_words (texts_in words)

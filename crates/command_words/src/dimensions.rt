@@ -1,6 +1,6 @@
 //! The dimensions that findings are asked by.
 ghost use Rattle.std.specs.Prelude.{◌≡◌, map, IfOk};
-ghost use Rattle.command_words.specs.Asked.{are_dimensions, are_distinct, is_one_of, lowered, texts_in};
+ghost use Rattle.command_words.specs.Asked.{are_dimensions, are_distinct, is_one_of, lower_case, texts_in};
 
 use crate::limits::MOST_DIMENSIONS;
 use plain_lists::NoMemory;
@@ -8,7 +8,7 @@ use std::alloc::Global;
 
 // The names with their ASCII letters lowered.
 fn lowered(alloc: Global, names: &[String]) -> Result<Vec<String>, NoMemory>
-    ensures { IfOk result (λ all. texts_in all.items ≡ map lowered (texts_in names.now)) }
+    ensures { IfOk result (λ all. texts_in all.items ≡ map lower_case (texts_in names.now)) }
 {
     let mut all = Vec::new(alloc);
     for name in names {

@@ -2,7 +2,7 @@
 ghost use Rattle.std.specs.Prelude.{◌≡◌, ◌≤◌, codes, IfOk, IfSome, option_and_then, option_map};
 ghost use Rattle.clap.specs.Words.{found_of, rows_of};
 ghost use Rattle.command_words.specs.Asked.{HasNumbersInRange, IsInRange};
-ghost use Rattle.command_words.specs.Asked.{a_check, a_comparison, a_load, an_evaluation};
+ghost use Rattle.command_words.specs.Asked.{CheckCommand, CompareCommand, LoadCommand, EvalCommand};
 ghost use Rattle.command_words.specs.Asked.{asked_by, asked_in, asked_of, check_of, checking_in};
 ghost use Rattle.command_words.specs.Asked.{command_of, comparing_in, comparison_of};
 ghost use Rattle.command_words.specs.Asked.{evaluating_in, evaluation_of, load_of, names_in, pair_names};
@@ -35,7 +35,7 @@ fn names_in(alloc: Global, matches: &ArgMatches) -> Result<FileNames, NoMemory>
 fn comparison_in(alloc: Global, matches: &ArgMatches) -> Result<CompareArguments, NoMemory>
     requires splits { HasNumberUpTo (found_of matches.now) (codes "splits") MOST_SPLITS }
     requires states { HasNumberUpTo (found_of matches.now) (codes "states") MOST_STATES }
-    ensures value { IfOk result (λ c. a_comparison (comparing_in c)
+    ensures value { IfOk result (λ c. CompareCommand (comparing_in c)
         ≡ comparison_of (rows_of (found_of matches.now))) }
     ensures within { IfOk result HasNumbersInRange }
 {
@@ -50,7 +50,7 @@ fn comparison_in(alloc: Global, matches: &ArgMatches) -> Result<CompareArguments
 // What the matches of `check` ask.
 fn check_in(alloc: Global, matches: &ArgMatches) -> Result<CheckArguments, NoMemory>
     ensures { IfOk result
-        (λ c. a_check (checking_in c) ≡ check_of (rows_of (found_of matches.now))) }
+        (λ c. CheckCommand (checking_in c) ≡ check_of (rows_of (found_of matches.now))) }
 {
     Ok(CheckArguments {
         names: names_in(alloc, matches)?,
@@ -60,7 +60,7 @@ fn check_in(alloc: Global, matches: &ArgMatches) -> Result<CheckArguments, NoMem
 
 // What the matches of `eval` ask.
 fn evaluation_in(alloc: Global, matches: &ArgMatches) -> Result<EvalArguments, NoMemory>
-    ensures { IfOk result (λ e. an_evaluation (evaluating_in e)
+    ensures { IfOk result (λ e. EvalCommand (evaluating_in e)
         ≡ evaluation_of (rows_of (found_of matches.now))) }
 {
     Ok(EvalArguments {
@@ -73,7 +73,7 @@ fn evaluation_in(alloc: Global, matches: &ArgMatches) -> Result<EvalArguments, N
 // The number of keys in the matches of `load`.
 fn load_in(matches: &ArgMatches) -> u32
     requires { HasNumberUpTo (found_of matches.now) (codes "keys") MOST_KEYS }
-    ensures value { a_load result ≡ load_of (rows_of (found_of matches.now)) }
+    ensures value { LoadCommand result ≡ load_of (rows_of (found_of matches.now)) }
     ensures within { (1 ≤ result) × (result ≤ MOST_KEYS) }
 {
     number_or(matches, "keys", MOST_KEYS, 1)

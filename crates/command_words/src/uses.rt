@@ -1,7 +1,7 @@
 //! The words of the command on the uses of statements, read.
 ghost use Rattle.std.specs.Prelude.{◌≡◌, codes, IfOk};
 ghost use Rattle.clap.specs.Words.{found_of, rows_of};
-ghost use Rattle.command_words.specs.Asked.{HasUseNumbersInRange, a_use_question, use_question_in, use_question_of};
+ghost use Rattle.command_words.specs.Asked.{HasUseNumbersInRange, IdleCommand, use_question_in, use_question_of};
 ghost use Rattle.command_words.specs.Parsing.{HasNumberUpTo};
 
 use crate::asked::IdleArguments;
@@ -18,7 +18,7 @@ pub(crate) fn use_question_in(
 ) -> Result<IdleArguments, NoMemory>
     requires splits { HasNumberUpTo (found_of matches.now) (codes "splits") MOST_SPLITS }
     requires states { HasNumberUpTo (found_of matches.now) (codes "states") MOST_STATES }
-    ensures value { IfOk result (λ u. a_use_question (use_question_in u)
+    ensures value { IfOk result (λ u. IdleCommand (use_question_in u)
         ≡ use_question_of (rows_of (found_of matches.now))) }
     ensures within { IfOk result HasUseNumbersInRange }
 {

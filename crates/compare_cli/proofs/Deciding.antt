@@ -1,7 +1,7 @@
 -- What is printed has a status of a text, and over accepted files without faults one of an answer of the command.
 use Rattle.std.proofs.Common.{◌≡◌, ◌⊎◌, ◌∙◌, ℕ, List, [], Bool, true, false, Option, None, Some, ap, inl, inr, refl, subst, sym}
-use Rattle.command_words.specs.Asked.{Asked, Summarising, a_check, a_comparison, a_load, a_reach, a_summary, a_summary_check}
-use Rattle.command_words.specs.Asked.{a_use_question, an_emission, an_evaluation}
+use Rattle.command_words.specs.Asked.{Asked, Summarising, CheckCommand, CompareCommand, LoadCommand, ReachCommand, SummaryCommand, CheckSummaryCommand}
+use Rattle.command_words.specs.Asked.{IdleCommand, EmitCommand, EvalCommand}
 use Rattle.pol_outside.specs.Faults.{Rose}
 use Rattle.pol_outside.specs.Folder.{Files}
 use Rattle.run_files.specs.declared.printed.Printed.{Printed}
@@ -21,7 +21,7 @@ use Rattle.reach_answers.specs.ReachPrinted.{ReachContents, reach_contents}
 use Rattle.reach_answers.proofs.Laws.{reach_of_text, reaches_decide}
 use Rattle.emit_answers.proofs.Laws.{emit_of_text, emits_decide}
 use Rattle.cover_answers.proofs.Laws.{certified_summaries_decide, certified_summary_of_text, summary_check_of_text, summary_checks_decide}
-use Rattle.compare_cli.specs.Commands.{CheckContents, IsSummaryTold, MayPrint, IsPrinted, checked_bytes, compared_bytes, evaluated_bytes}
+use Rattle.compare_cli.specs.Commands.{CheckContents, IsSummaryPrintedFrom, MayPrint, IsPrinted, checked_bytes, compared_bytes, evaluated_bytes}
 use Rattle.compare_cli.specs.Commands.{SummaryCheckContents, one_set_bytes, named_files, reached_bytes, summary_checked_bytes}
 use Rattle.compare_cli.specs.Complete.{IsAccepted, IsAcceptedBy, IsDecided, IsSummaryFor}
 
@@ -30,20 +30,20 @@ use Rattle.compare_cli.specs.Complete.{IsAccepted, IsAcceptedBy, IsDecided, IsSu
 with_status : (p : Printed) (s : Status) → IsOfText s → p.status ≡ s → IsOfText p.status
 with_status p s of is = subst IsOfText (sym is) of
 
-summarised_of_text : (s : Summarising) (certified : Bool) (c : SetContents) (p : Printed) → IsSummaryTold s certified c p → IsOfText p.status
+summarised_of_text : (s : Summarising) (certified : Bool) (c : SetContents) (p : Printed) → IsSummaryPrintedFrom s certified c p → IsOfText p.status
 summarised_of_text s true c p v = certified_summary_of_text s c p v
 summarised_of_text s false c p v = summary_of_text s c p v
 
 may_of_text : (asked : Asked) (r : Reading) (p : Printed) → MayPrint asked r p → IsOfText p.status
-may_of_text (a_comparison c) r p v = comparison_of_text c v.contents p v.holds
-may_of_text (a_check c) r p v = check_of_text v.contents.proof v.contents.sets p v.holds
-may_of_text (a_summary s certified) r p v = summarised_of_text s certified v.contents p v.holds
-may_of_text (an_evaluation e) r p v = evaluation_of_text v.contents p v.holds
-may_of_text (a_load keys) r p v = with_status p status.Holds tt v.told.1
-may_of_text (a_use_question u) r p v = idle_of_text u v.contents p v.holds
-may_of_text (a_reach s zone) r p v = reach_of_text s v.contents p v.holds
-may_of_text (an_emission s) r p v = emit_of_text s v.contents p v.holds
-may_of_text (a_summary_check k) r p v = summary_check_of_text k v.contents.proof v.contents.set p v.holds
+may_of_text (CompareCommand c) r p v = comparison_of_text c v.contents p v.holds
+may_of_text (CheckCommand c) r p v = check_of_text v.contents.proof v.contents.sets p v.holds
+may_of_text (SummaryCommand s certified) r p v = summarised_of_text s certified v.contents p v.holds
+may_of_text (EvalCommand e) r p v = evaluation_of_text v.contents p v.holds
+may_of_text (LoadCommand keys) r p v = with_status p status.Holds tt v.prints.1
+may_of_text (IdleCommand u) r p v = idle_of_text u v.contents p v.holds
+may_of_text (ReachCommand s zone) r p v = reach_of_text s v.contents p v.holds
+may_of_text (EmitCommand s) r p v = emit_of_text s v.contents p v.holds
+may_of_text (CheckSummaryCommand k) r p v = summary_check_of_text k v.contents.proof v.contents.set p v.holds
 
 pub printed_of_text : (asked : Option Asked) (r : Reading) (p : Printed) → IsPrinted asked r p → IsOfText p.status
 printed_of_text None r p v = with_status p status.Usage tt v.0.1
@@ -144,48 +144,48 @@ one_of_two P a b at_a at_b s (inl is) = subst P (sym is) at_a
 one_of_two P a b at_a at_b s (inr is) = subst P (sym is) at_b
 
 summarised_decides : (s : Summarising) (certified : Bool) (c : SetContents) (p : Printed) → IsSummaryFor s certified c
-    → IsSummaryTold s certified c p → p.status ≡ status.Holds
+    → IsSummaryPrintedFrom s certified c p → p.status ≡ status.Holds
 summarised_decides s true c p accepted v = certified_summaries_decide s c p accepted v
 summarised_decides s false c p accepted v = summaries_decide s c p accepted v
 
 module _ (files : Files) (p : Printed) where
   may_decide : (asked : Asked) (r : Reading) → r.held ≡ Some files → IsAcceptedBy (Some files) asked → MayPrint asked r p → IsDecided (Some asked) p.status
-  may_decide (a_comparison c) r held d v =
-      let both = both_of files (named_files (a_comparison c)) compared_bytes compared_once _ _ r.held held d v in
-      one_of_two (IsDecided (Some (a_comparison c))) status.Holds status.Fails tt tt p.status (comparisons_decide c both.contents p both.one both.other)
-  may_decide (a_check c) r held d v =
-      let both = both_of files (named_files (a_check c)) checked_bytes checked_once _ _ r.held held d v in
-      one_of_two (IsDecided (Some (a_check c))) status.Holds status.BadProof tt tt p.status (checks_decide both.contents.proof both.contents.sets p both.one both.other)
-  may_decide (a_summary s certified) r held d v =
-      let both = both_of files (named_files (a_summary s certified)) one_set_bytes one_set_once _ _ r.held held d v in
-      subst (IsDecided (Some (a_summary s certified))) (sym (summarised_decides s certified both.contents p both.one both.other)) tt
-  may_decide (an_evaluation e) r held d v =
-      let both = both_of files (named_files (an_evaluation e)) evaluated_bytes evaluated_once _ _ r.held held d v in
-      one_of_two (IsDecided (Some (an_evaluation e))) status.Holds status.Fails tt tt p.status (evaluations_decide both.contents p both.one both.other)
-  may_decide (a_load keys) r held d v = subst (IsDecided (Some (a_load keys))) (sym v.told.1) tt
-  may_decide (a_use_question u) r held d v =
-      let both = both_of files (named_files (a_use_question u)) one_set_bytes one_set_once _ _ r.held held d v in
-      one_of_two (IsDecided (Some (a_use_question u))) status.Holds status.Fails tt tt p.status (uses_decide u both.contents p both.one both.other)
-  may_decide (a_reach s zone) r held d v =
-      let both = both_of files (named_files (a_reach s zone)) reached_bytes reached_once _ _ r.held held d v in
-      one_of_two (IsDecided (Some (a_reach s zone))) status.Holds status.Fails tt tt p.status (reaches_decide s both.contents p both.one both.other)
-  may_decide (an_emission s) r held d v =
-      let both = both_of files (named_files (an_emission s)) one_set_bytes one_set_once _ _ r.held held d v in
-      subst (IsDecided (Some (an_emission s))) (sym (emits_decide s both.contents p both.one both.other)) tt
-  may_decide (a_summary_check k) r held d v =
-      let both = both_of files (named_files (a_summary_check k)) summary_checked_bytes summary_checked_once _ _ r.held held d v in
-      one_of_two (IsDecided (Some (a_summary_check k))) status.Holds status.BadProof tt tt p.status (summary_checks_decide k both.contents.proof both.contents.set p both.one both.other)
+  may_decide (CompareCommand c) r held d v =
+      let both = both_of files (named_files (CompareCommand c)) compared_bytes compared_once _ _ r.held held d v in
+      one_of_two (IsDecided (Some (CompareCommand c))) status.Holds status.Fails tt tt p.status (comparisons_decide c both.contents p both.one both.other)
+  may_decide (CheckCommand c) r held d v =
+      let both = both_of files (named_files (CheckCommand c)) checked_bytes checked_once _ _ r.held held d v in
+      one_of_two (IsDecided (Some (CheckCommand c))) status.Holds status.BadProof tt tt p.status (checks_decide both.contents.proof both.contents.sets p both.one both.other)
+  may_decide (SummaryCommand s certified) r held d v =
+      let both = both_of files (named_files (SummaryCommand s certified)) one_set_bytes one_set_once _ _ r.held held d v in
+      subst (IsDecided (Some (SummaryCommand s certified))) (sym (summarised_decides s certified both.contents p both.one both.other)) tt
+  may_decide (EvalCommand e) r held d v =
+      let both = both_of files (named_files (EvalCommand e)) evaluated_bytes evaluated_once _ _ r.held held d v in
+      one_of_two (IsDecided (Some (EvalCommand e))) status.Holds status.Fails tt tt p.status (evaluations_decide both.contents p both.one both.other)
+  may_decide (LoadCommand keys) r held d v = subst (IsDecided (Some (LoadCommand keys))) (sym v.prints.1) tt
+  may_decide (IdleCommand u) r held d v =
+      let both = both_of files (named_files (IdleCommand u)) one_set_bytes one_set_once _ _ r.held held d v in
+      one_of_two (IsDecided (Some (IdleCommand u))) status.Holds status.Fails tt tt p.status (uses_decide u both.contents p both.one both.other)
+  may_decide (ReachCommand s zone) r held d v =
+      let both = both_of files (named_files (ReachCommand s zone)) reached_bytes reached_once _ _ r.held held d v in
+      one_of_two (IsDecided (Some (ReachCommand s zone))) status.Holds status.Fails tt tt p.status (reaches_decide s both.contents p both.one both.other)
+  may_decide (EmitCommand s) r held d v =
+      let both = both_of files (named_files (EmitCommand s)) one_set_bytes one_set_once _ _ r.held held d v in
+      subst (IsDecided (Some (EmitCommand s))) (sym (emits_decide s both.contents p both.one both.other)) tt
+  may_decide (CheckSummaryCommand k) r held d v =
+      let both = both_of files (named_files (CheckSummaryCommand k)) summary_checked_bytes summary_checked_once _ _ r.held held d v in
+      one_of_two (IsDecided (Some (CheckSummaryCommand k))) status.Holds status.BadProof tt tt p.status (summary_checks_decide k both.contents.proof both.contents.set p both.one both.other)
 
   fails_not : (asked : Asked) (r : Reading) → r.held ≡ Some files → IsAcceptedBy (Some files) asked → ¬ Rose r.faults_before r.faults → FilesFail (named_files asked) r p → ⊥
-  fails_not (a_comparison c) r held d calm failing = none_fails r files (named_files (a_comparison c)) (compared_bytes d.contents) p held d.read calm failing
-  fails_not (a_check c) r held d calm failing = none_fails r files (named_files (a_check c)) (checked_bytes d.contents) p held d.read calm failing
-  fails_not (a_summary s certified) r held d calm failing = none_fails r files (named_files (a_summary s certified)) (one_set_bytes d.contents) p held d.read calm failing
-  fails_not (an_evaluation e) r held d calm failing = none_fails r files (named_files (an_evaluation e)) (evaluated_bytes d.contents) p held d.read calm failing
-  fails_not (a_load keys) r held d calm failing = none_fails r files [] [] p held tt calm failing
-  fails_not (a_use_question u) r held d calm failing = none_fails r files (named_files (a_use_question u)) (one_set_bytes d.contents) p held d.read calm failing
-  fails_not (a_reach s zone) r held d calm failing = none_fails r files (named_files (a_reach s zone)) (reached_bytes d.contents) p held d.read calm failing
-  fails_not (an_emission s) r held d calm failing = none_fails r files (named_files (an_emission s)) (one_set_bytes d.contents) p held d.read calm failing
-  fails_not (a_summary_check k) r held d calm failing = none_fails r files (named_files (a_summary_check k)) (summary_checked_bytes d.contents) p held d.read calm failing
+  fails_not (CompareCommand c) r held d calm failing = none_fails r files (named_files (CompareCommand c)) (compared_bytes d.contents) p held d.read calm failing
+  fails_not (CheckCommand c) r held d calm failing = none_fails r files (named_files (CheckCommand c)) (checked_bytes d.contents) p held d.read calm failing
+  fails_not (SummaryCommand s certified) r held d calm failing = none_fails r files (named_files (SummaryCommand s certified)) (one_set_bytes d.contents) p held d.read calm failing
+  fails_not (EvalCommand e) r held d calm failing = none_fails r files (named_files (EvalCommand e)) (evaluated_bytes d.contents) p held d.read calm failing
+  fails_not (LoadCommand keys) r held d calm failing = none_fails r files [] [] p held tt calm failing
+  fails_not (IdleCommand u) r held d calm failing = none_fails r files (named_files (IdleCommand u)) (one_set_bytes d.contents) p held d.read calm failing
+  fails_not (ReachCommand s zone) r held d calm failing = none_fails r files (named_files (ReachCommand s zone)) (reached_bytes d.contents) p held d.read calm failing
+  fails_not (EmitCommand s) r held d calm failing = none_fails r files (named_files (EmitCommand s)) (one_set_bytes d.contents) p held d.read calm failing
+  fails_not (CheckSummaryCommand k) r held d calm failing = none_fails r files (named_files (CheckSummaryCommand k)) (summary_checked_bytes d.contents) p held d.read calm failing
 
 held_decides : (held : Option Files) (asked : Asked) (r : Reading) (p : Printed) → r.held ≡ held → IsPrinted (Some asked) r p → IsAccepted held (Some asked) → ¬ Rose r.faults_before r.faults → IsDecided (Some asked) p.status
 held_decides None asked r p is may accepted calm = absurd accepted

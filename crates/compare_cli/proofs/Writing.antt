@@ -1,8 +1,8 @@
 -- How the writing of what is printed ends says what the run promises.
 use Rattle.std.proofs.Common.{◌≡◌, Option, Some, None, subst, sym}
 use Rattle.std.specs.Prelude.{string_bytes}
-use Rattle.command_words.specs.Asked.{Asked, a_check, a_comparison, a_load, a_reach, a_summary, a_summary_check, a_use_question}
-use Rattle.command_words.specs.Asked.{an_emission, an_evaluation}
+use Rattle.command_words.specs.Asked.{Asked, CheckCommand, CompareCommand, LoadCommand, ReachCommand, SummaryCommand, CheckSummaryCommand, IdleCommand}
+use Rattle.command_words.specs.Asked.{EmitCommand, EvalCommand}
 use Rattle.pol_outside.specs.Faults.{Rose}
 use Rattle.pol_outside.specs.Sink.{Appends}
 use Rattle.run_files.specs.declared.printed.Printed.{Printed}
@@ -63,15 +63,15 @@ usage_only asked r w p s may ends none =
 -- want of memory ends any run
 pub without_memory : (asked : Option Asked) → IsDecided asked NoMemory
 without_memory None = tt
-without_memory (Some (a_comparison c)) = tt
-without_memory (Some (a_check c)) = tt
-without_memory (Some (a_summary s certified)) = tt
-without_memory (Some (an_evaluation e)) = tt
-without_memory (Some (a_load keys)) = tt
-without_memory (Some (a_use_question u)) = tt
-without_memory (Some (a_reach s zone)) = tt
-without_memory (Some (an_emission s)) = tt
-without_memory (Some (a_summary_check k)) = tt
+without_memory (Some (CompareCommand c)) = tt
+without_memory (Some (CheckCommand c)) = tt
+without_memory (Some (SummaryCommand s certified)) = tt
+without_memory (Some (EvalCommand e)) = tt
+without_memory (Some (LoadCommand keys)) = tt
+without_memory (Some (IdleCommand u)) = tt
+without_memory (Some (ReachCommand s zone)) = tt
+without_memory (Some (EmitCommand s)) = tt
+without_memory (Some (CheckSummaryCommand k)) = tt
 
 pub decided : (asked : Option Asked) (r : Reading) (w : Writing) (p : Printed) (s : Status) → IsPrinted asked r p → IsWritten p w s
     → IsAccepted r.held asked → ¬ Rose r.faults_before r.faults → ¬ Rose w.faults_before w.faults → IsDecided asked s

@@ -1,12 +1,12 @@
 -- What may be printed, by what the arguments ask and what the folder holds.
 use Rattle.std.specs.Prelude.{◌⊎◌, ℕ, List, [], ◌∷◌, ◌++◌, Bool, true, false, Option, Some, None, ⊤, codes}
-use Rattle.command_words.specs.Asked.{Asked, Summarising, a_check, a_comparison, a_load, a_reach, a_summary, a_summary_check}
-use Rattle.command_words.specs.Asked.{a_use_question, an_emission, an_evaluation}
+use Rattle.command_words.specs.Asked.{Asked, Summarising, CheckCommand, CompareCommand, LoadCommand, ReachCommand, SummaryCommand, CheckSummaryCommand}
+use Rattle.command_words.specs.Asked.{IdleCommand, EmitCommand, EvalCommand}
 use Rattle.run_files.specs.declared.printed.Printed.{Printed}
 use Rattle.run_files.specs.declared.role.Role.TheVariants.{First, Second, Proof, Zone}
 use Rattle.run_files.specs.declared.role.Role.TheVariants.{Set as set_file, Schema as schema_file, Request as request_file}
 use Rattle.run_files.specs.declared.status.Status.TheVariants.{Usage}
-use Rattle.run_files.specs.Printing.{Tells}
+use Rattle.run_files.specs.Printing.{PrintsText}
 use Rattle.run_files.specs.Readings.{FileName, FilesFail, IsCalm, OfReadFiles, Reading, file, if_given, if_named}
 use Rattle.run_sets.specs.Pairs.{Contents}
 use Rattle.pair_answers.specs.Printed.{IsCheckPrinted, IsComparisonPrinted}
@@ -24,16 +24,16 @@ use Rattle.compare_cli.specs.Loaded.{IsLoadPrinted}
 
 -- the files that a command names, in the order of its line, the schema last where one is named
 abbrev pub named_files : Asked → List FileName
-named_files (a_comparison c) = file First c.names.first ∷ file Second c.names.second ∷ if_named schema_file c.names.schema
-named_files (a_check c) =
+named_files (CompareCommand c) = file First c.names.first ∷ file Second c.names.second ∷ if_named schema_file c.names.schema
+named_files (CheckCommand c) =
     file First c.names.first ∷ file Second c.names.second ∷ file Proof c.proof ∷ if_named schema_file c.names.schema
-named_files (a_summary s certified) = file set_file s.set ∷ if_named schema_file s.schema
-named_files (an_evaluation e) = file set_file e.set ∷ file request_file e.request ∷ if_named schema_file e.schema
-named_files (a_load keys) = []
-named_files (a_use_question u) = file set_file u.set ∷ if_named schema_file u.schema
-named_files (a_reach s zone) = file set_file s.set ∷ file Zone zone ∷ if_named schema_file s.schema
-named_files (an_emission s) = file set_file s.set ∷ if_named schema_file s.schema
-named_files (a_summary_check k) = file set_file k.set ∷ file Proof k.proof ∷ if_named schema_file k.schema
+named_files (SummaryCommand s certified) = file set_file s.set ∷ if_named schema_file s.schema
+named_files (EvalCommand e) = file set_file e.set ∷ file request_file e.request ∷ if_named schema_file e.schema
+named_files (LoadCommand keys) = []
+named_files (IdleCommand u) = file set_file u.set ∷ if_named schema_file u.schema
+named_files (ReachCommand s zone) = file set_file s.set ∷ file Zone zone ∷ if_named schema_file s.schema
+named_files (EmitCommand s) = file set_file s.set ∷ if_named schema_file s.schema
+named_files (CheckSummaryCommand k) = file set_file k.set ∷ file Proof k.proof ∷ if_named schema_file k.schema
 
 -- the bytes of a check's files: of the two sets and the schema, and of the certificate
 pub record CheckContents : Type 0 where
@@ -67,23 +67,23 @@ summary_checked_bytes c = c.set.set ∷ c.proof ∷ if_given c.set.schema
 -- ---- what may be printed
 
 -- to a summary: with a certificate behind it, where one is asked for
-abbrev pub IsSummaryTold : Summarising → Bool → SetContents → Printed → Type 0
-IsSummaryTold s true c p = IsCertifiedSummaryPrinted s c p
-IsSummaryTold s false c p = IsSummaryPrinted s c p
+abbrev pub IsSummaryPrintedFrom : Summarising → Bool → SetContents → Printed → Type 0
+IsSummaryPrintedFrom s true c p = IsCertifiedSummaryPrinted s c p
+IsSummaryPrintedFrom s false c p = IsSummaryPrinted s c p
 
 -- once the files of a command were read: what the command may print of their bytes
 abbrev pub MayPrint : Asked → Reading → Printed → Type 0
-MayPrint (a_comparison c) r p = OfReadFiles r.held (named_files (a_comparison c)) compared_bytes (λ f. IsComparisonPrinted c f p)
-MayPrint (a_check c) r p = OfReadFiles r.held (named_files (a_check c)) checked_bytes (λ f. IsCheckPrinted f.proof f.sets p)
-MayPrint (a_summary s certified) r p =
-    OfReadFiles r.held (named_files (a_summary s certified)) one_set_bytes (λ f. IsSummaryTold s certified f p)
-MayPrint (an_evaluation e) r p = OfReadFiles r.held (named_files (an_evaluation e)) evaluated_bytes (λ f. IsEvaluationPrinted f p)
-MayPrint (a_load keys) r p = IsLoadPrinted keys p
-MayPrint (a_use_question u) r p = OfReadFiles r.held (named_files (a_use_question u)) one_set_bytes (λ f. IsIdlePrinted u f p)
-MayPrint (a_reach s zone) r p = OfReadFiles r.held (named_files (a_reach s zone)) reached_bytes (λ f. IsReachPrinted s f p)
-MayPrint (an_emission s) r p = OfReadFiles r.held (named_files (an_emission s)) one_set_bytes (λ f. IsEmitPrinted s f p)
-MayPrint (a_summary_check k) r p =
-    OfReadFiles r.held (named_files (a_summary_check k)) summary_checked_bytes (λ f. IsSummaryCheckPrinted k f.proof f.set p)
+MayPrint (CompareCommand c) r p = OfReadFiles r.held (named_files (CompareCommand c)) compared_bytes (λ f. IsComparisonPrinted c f p)
+MayPrint (CheckCommand c) r p = OfReadFiles r.held (named_files (CheckCommand c)) checked_bytes (λ f. IsCheckPrinted f.proof f.sets p)
+MayPrint (SummaryCommand s certified) r p =
+    OfReadFiles r.held (named_files (SummaryCommand s certified)) one_set_bytes (λ f. IsSummaryPrintedFrom s certified f p)
+MayPrint (EvalCommand e) r p = OfReadFiles r.held (named_files (EvalCommand e)) evaluated_bytes (λ f. IsEvaluationPrinted f p)
+MayPrint (LoadCommand keys) r p = IsLoadPrinted keys p
+MayPrint (IdleCommand u) r p = OfReadFiles r.held (named_files (IdleCommand u)) one_set_bytes (λ f. IsIdlePrinted u f p)
+MayPrint (ReachCommand s zone) r p = OfReadFiles r.held (named_files (ReachCommand s zone)) reached_bytes (λ f. IsReachPrinted s f p)
+MayPrint (EmitCommand s) r p = OfReadFiles r.held (named_files (EmitCommand s)) one_set_bytes (λ f. IsEmitPrinted s f p)
+MayPrint (CheckSummaryCommand k) r p =
+    OfReadFiles r.held (named_files (CheckSummaryCommand k)) summary_checked_bytes (λ f. IsSummaryCheckPrinted k f.proof f.set p)
 
 -- the line that says how the program is called
 abbrev pub usage_line : List ℕ
@@ -94,11 +94,11 @@ usage_line =
 -- the usage line, exactly where the arguments ask for nothing; what is printed of the first file that fails; or what the command may
 -- print, and the name of the folder's last fault is as it was
 abbrev pub IsPrinted : Option Asked → Reading → Printed → Type 0
-IsPrinted None r p = Tells usage_line Usage p × IsCalm r
+IsPrinted None r p = PrintsText usage_line Usage p × IsCalm r
 IsPrinted (Some asked) r p = FilesFail (named_files asked) r p ⊎ (MayPrint asked r p × IsCalm r)
 
 -- the arguments name no file: they ask for nothing, or for a load
 abbrev pub NameNoFile : Option Asked → Type 0
 NameNoFile None = ⊤
-NameNoFile (Some (a_load keys)) = ⊤
+NameNoFile (Some (LoadCommand keys)) = ⊤
 NameNoFile (Some _) = ⊥

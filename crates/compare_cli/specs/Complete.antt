@@ -1,7 +1,7 @@
 -- When an answer of the command must come.
 use Rattle.std.specs.Prelude.{Bool, true, false, Option, Some, None, ⊤}
-use Rattle.command_words.specs.Asked.{Asked, Summarising, a_check, a_comparison, a_load, a_reach, a_summary, a_summary_check}
-use Rattle.command_words.specs.Asked.{a_use_question, an_emission, an_evaluation}
+use Rattle.command_words.specs.Asked.{Asked, Summarising, CheckCommand, CompareCommand, LoadCommand, ReachCommand, SummaryCommand, CheckSummaryCommand}
+use Rattle.command_words.specs.Asked.{IdleCommand, EmitCommand, EvalCommand}
 use Rattle.pol_outside.specs.Folder.{Files}
 use Rattle.run_files.specs.declared.status.Status.{Status}
 use Rattle.run_files.specs.declared.status.Status.TheVariants.{Holds, Fails, NoMemory, BadProof}
@@ -27,18 +27,18 @@ IsSummaryFor s false c = IsSummaryAccepted s c
 
 -- the names are those of files that are accepted
 abbrev pub IsAcceptedBy : Option Files → Asked → Type 0
-IsAcceptedBy held (a_comparison c) =
-    OfReadFiles held (named_files (a_comparison c)) compared_bytes (λ f. OfPair f (IsDecidable (budgets_of c)))
-IsAcceptedBy held (a_check c) = OfReadFiles held (named_files (a_check c)) checked_bytes (λ f. OfPair f.sets IsQueriable)
-IsAcceptedBy held (a_summary s certified) =
-    OfReadFiles held (named_files (a_summary s certified)) one_set_bytes (IsSummaryFor s certified)
-IsAcceptedBy held (an_evaluation e) = OfReadFiles held (named_files (an_evaluation e)) evaluated_bytes IsEvaluable
-IsAcceptedBy held (a_load keys) = ⊤
-IsAcceptedBy held (a_use_question u) = OfReadFiles held (named_files (a_use_question u)) one_set_bytes (IsIdleAccepted u)
-IsAcceptedBy held (a_reach s zone) = OfReadFiles held (named_files (a_reach s zone)) reached_bytes (IsReachAccepted s)
-IsAcceptedBy held (an_emission s) = OfReadFiles held (named_files (an_emission s)) one_set_bytes (IsEmitAccepted s)
-IsAcceptedBy held (a_summary_check k) =
-    OfReadFiles held (named_files (a_summary_check k)) summary_checked_bytes (λ f. OfOneSet f.set.set f.set.schema (IsJudgeable k.dimensions k.states f.proof))
+IsAcceptedBy held (CompareCommand c) =
+    OfReadFiles held (named_files (CompareCommand c)) compared_bytes (λ f. OfPair f (IsDecidable (budgets_of c)))
+IsAcceptedBy held (CheckCommand c) = OfReadFiles held (named_files (CheckCommand c)) checked_bytes (λ f. OfPair f.sets IsQueriable)
+IsAcceptedBy held (SummaryCommand s certified) =
+    OfReadFiles held (named_files (SummaryCommand s certified)) one_set_bytes (IsSummaryFor s certified)
+IsAcceptedBy held (EvalCommand e) = OfReadFiles held (named_files (EvalCommand e)) evaluated_bytes IsEvaluable
+IsAcceptedBy held (LoadCommand keys) = ⊤
+IsAcceptedBy held (IdleCommand u) = OfReadFiles held (named_files (IdleCommand u)) one_set_bytes (IsIdleAccepted u)
+IsAcceptedBy held (ReachCommand s zone) = OfReadFiles held (named_files (ReachCommand s zone)) reached_bytes (IsReachAccepted s)
+IsAcceptedBy held (EmitCommand s) = OfReadFiles held (named_files (EmitCommand s)) one_set_bytes (IsEmitAccepted s)
+IsAcceptedBy held (CheckSummaryCommand k) =
+    OfReadFiles held (named_files (CheckSummaryCommand k)) summary_checked_bytes (λ f. OfOneSet f.set.set f.set.schema (IsJudgeable k.dimensions k.states f.proof))
 
 -- the folder tells what it holds, and the arguments name files that are accepted
 abbrev pub IsAccepted : Option Files → Option Asked → Type 0
@@ -48,20 +48,20 @@ IsAccepted (Some files) (Some asked) = IsAcceptedBy (Some files) asked
 
 -- the run ended with an answer of the command, or for want of memory
 abbrev pub IsDecided : Option Asked → Status → Type 0
-IsDecided (Some (a_comparison c)) Holds = ⊤
-IsDecided (Some (a_comparison c)) Fails = ⊤
-IsDecided (Some (a_check c)) Holds = ⊤
-IsDecided (Some (a_check c)) BadProof = ⊤
-IsDecided (Some (a_summary s certified)) Holds = ⊤
-IsDecided (Some (an_evaluation e)) Holds = ⊤
-IsDecided (Some (an_evaluation e)) Fails = ⊤
-IsDecided (Some (a_load keys)) Holds = ⊤
-IsDecided (Some (a_use_question u)) Holds = ⊤
-IsDecided (Some (a_use_question u)) Fails = ⊤
-IsDecided (Some (a_reach s zone)) Holds = ⊤
-IsDecided (Some (a_reach s zone)) Fails = ⊤
-IsDecided (Some (an_emission s)) Holds = ⊤
-IsDecided (Some (a_summary_check k)) Holds = ⊤
-IsDecided (Some (a_summary_check k)) BadProof = ⊤
+IsDecided (Some (CompareCommand c)) Holds = ⊤
+IsDecided (Some (CompareCommand c)) Fails = ⊤
+IsDecided (Some (CheckCommand c)) Holds = ⊤
+IsDecided (Some (CheckCommand c)) BadProof = ⊤
+IsDecided (Some (SummaryCommand s certified)) Holds = ⊤
+IsDecided (Some (EvalCommand e)) Holds = ⊤
+IsDecided (Some (EvalCommand e)) Fails = ⊤
+IsDecided (Some (LoadCommand keys)) Holds = ⊤
+IsDecided (Some (IdleCommand u)) Holds = ⊤
+IsDecided (Some (IdleCommand u)) Fails = ⊤
+IsDecided (Some (ReachCommand s zone)) Holds = ⊤
+IsDecided (Some (ReachCommand s zone)) Fails = ⊤
+IsDecided (Some (EmitCommand s)) Holds = ⊤
+IsDecided (Some (CheckSummaryCommand k)) Holds = ⊤
+IsDecided (Some (CheckSummaryCommand k)) BadProof = ⊤
 IsDecided asked NoMemory = ⊤
 IsDecided _ _ = ⊥

@@ -10,7 +10,7 @@ use Rattle.tree_search.specs.declared.outcome.Budgets.{Budgets}
 use Rattle.std.specs.declared.alloc.Global.{Global}
 use Rattle.run_files.specs.declared.printed.Printed.{Printed}
 use Rattle.run_files.specs.declared.status.Status.TheVariants.{Holds}
-use Rattle.run_files.specs.Printing.{Tells}
+use Rattle.run_files.specs.Printing.{PrintsText}
 use Rattle.run_sets.specs.OneSets.{IsNoOneRun, OfSetRun}
 use Rattle.run_sets.specs.Pairs.{IsNoRun, OfRun}
 use Rattle.run_sets.specs.Refusals.{IsRefusedBy}
@@ -81,4 +81,4 @@ load_text lines =
 pub record IsLoadPrinted (keys : ℕ) (p : Printed) : Type 0 where
   pub lines : LoadLines
   pub loaded : IsLoaded keys lines
-  pub told : Tells (load_text lines) Holds p
+  pub prints : PrintsText (load_text lines) Holds p

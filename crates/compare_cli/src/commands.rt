@@ -1,7 +1,7 @@
 //! What each command prints. Its files are read in the order of its line, the schema last.
 ghost use Rattle.std.specs.Prelude.{◌≡◌, ◌≤◌, Some, string_bytes};
 ghost use Rattle.command_words.specs.Asked.{AreFindingsInRange, HasUseNumbersInRange, IsInRange, IsSummaryCheckInRange};
-ghost use Rattle.command_words.specs.Asked.{a_check, a_comparison, a_reach, a_summary, a_summary_check, a_use_question, an_emission, an_evaluation};
+ghost use Rattle.command_words.specs.Asked.{CheckCommand, CompareCommand, ReachCommand, SummaryCommand, CheckSummaryCommand, IdleCommand, EmitCommand, EvalCommand};
 ghost use Rattle.command_words.specs.Asked.{asked_in, checking_in, comparing_in, evaluating_in, summarising_in, summary_check_in, use_question_in};
 ghost use Rattle.run_files.specs.Printing.{IfPrinted};
 ghost use Rattle.run_files.specs.Readings.{reading_of};
@@ -32,7 +32,8 @@ fn comparison<F: Folder>(
 ) -> Result<Printed, EarlyEnd>
     requires splits { 1 ≤ arguments.now.splits }
     requires states { 1 ≤ arguments.now.states }
-    ensures prints { IfPrinted result (IsPrinted (Some (a_comparison (comparing_in arguments.now)))
+    ensures prints { IfPrinted result
+        (IsPrinted (Some (CompareCommand (comparing_in arguments.now)))
         (reading_of F.held F.faults F.last_fault folder.old folder.new)) }
     ensures held { F.held folder.new ≡ F.held folder.old }
     ensures later { F.faults folder.old ≤ F.faults folder.new }
@@ -55,7 +56,7 @@ fn proof_check<F: Folder>(
     folder: &mut F,
     arguments: &CheckArguments,
 ) -> Result<Printed, EarlyEnd>
-    ensures prints { IfPrinted result (IsPrinted (Some (a_check (checking_in arguments.now)))
+    ensures prints { IfPrinted result (IsPrinted (Some (CheckCommand (checking_in arguments.now)))
         (reading_of F.held F.faults F.last_fault folder.old folder.new)) }
     ensures held { F.held folder.new ≡ F.held folder.old }
     ensures later { F.faults folder.old ≤ F.faults folder.new }
@@ -81,7 +82,7 @@ fn summary<F: Folder>(
 ) -> Result<Printed, EarlyEnd>
     requires { AreFindingsInRange arguments.now.summary }
     ensures prints { IfPrinted result (IsPrinted
-        (Some (a_summary (summarising_in arguments.now.summary) arguments.now.certified))
+        (Some (SummaryCommand (summarising_in arguments.now.summary) arguments.now.certified))
         (reading_of F.held F.faults F.last_fault folder.old folder.new)) }
     ensures held { F.held folder.new ≡ F.held folder.old }
     ensures later { F.faults folder.old ≤ F.faults folder.new }
@@ -103,7 +104,7 @@ fn evaluation<F: Folder>(
     arguments: &EvalArguments,
 ) -> Result<Printed, EarlyEnd>
     ensures prints { IfPrinted result (IsPrinted
-        (Some (an_evaluation (evaluating_in arguments.now)))
+        (Some (EvalCommand (evaluating_in arguments.now)))
         (reading_of F.held F.faults F.last_fault folder.old folder.new)) }
     ensures held { F.held folder.new ≡ F.held folder.old }
     ensures later { F.faults folder.old ≤ F.faults folder.new }
@@ -132,7 +133,7 @@ fn idle<F: Folder>(
 ) -> Result<Printed, EarlyEnd>
     requires { HasUseNumbersInRange arguments.now }
     ensures prints { IfPrinted result (IsPrinted
-        (Some (a_use_question (use_question_in arguments.now)))
+        (Some (IdleCommand (use_question_in arguments.now)))
         (reading_of F.held F.faults F.last_fault folder.old folder.new)) }
     ensures held { F.held folder.new ≡ F.held folder.old }
     ensures later { F.faults folder.old ≤ F.faults folder.new }
@@ -154,7 +155,8 @@ fn reach<F: Folder>(
 ) -> Result<Printed, EarlyEnd>
     requires { AreFindingsInRange arguments.now.summary }
     ensures prints { IfPrinted result (IsPrinted
-        (Some (a_reach (summarising_in arguments.now.summary) (string_bytes arguments.now.zone)))
+        (Some (ReachCommand (summarising_in arguments.now.summary)
+        (string_bytes arguments.now.zone)))
         (reading_of F.held F.faults F.last_fault folder.old folder.new)) }
     ensures held { F.held folder.new ≡ F.held folder.old }
     ensures later { F.faults folder.old ≤ F.faults folder.new }
@@ -178,7 +180,7 @@ fn emission<F: Folder>(
     arguments: &FindingArguments,
 ) -> Result<Printed, EarlyEnd>
     requires { AreFindingsInRange arguments.now }
-    ensures prints { IfPrinted result (IsPrinted (Some (an_emission (summarising_in arguments.now)))
+    ensures prints { IfPrinted result (IsPrinted (Some (EmitCommand (summarising_in arguments.now)))
         (reading_of F.held F.faults F.last_fault folder.old folder.new)) }
     ensures held { F.held folder.new ≡ F.held folder.old }
     ensures later { F.faults folder.old ≤ F.faults folder.new }
@@ -200,7 +202,7 @@ fn summary_check<F: Folder>(
 ) -> Result<Printed, EarlyEnd>
     requires { IsSummaryCheckInRange arguments.now }
     ensures prints { IfPrinted result (IsPrinted
-        (Some (a_summary_check (summary_check_in arguments.now)))
+        (Some (CheckSummaryCommand (summary_check_in arguments.now)))
         (reading_of F.held F.faults F.last_fault folder.old folder.new)) }
     ensures held { F.held folder.new ≡ F.held folder.old }
     ensures later { F.faults folder.old ≤ F.faults folder.new }

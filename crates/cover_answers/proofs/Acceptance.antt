@@ -15,10 +15,10 @@ use Rattle.policy_model.specs.declared.request.Request.{Request}
 use Rattle.policy_model.specs.declared.schema.Schema.{Schema}
 use Rattle.policy_model.specs.declared.set.PolicySet.{PolicySet}
 use Rattle.policy_model.specs.declared.test.Test.{Test}
-use Rattle.proof_text.specs.Faults.{fault_behind}
+use Rattle.proof_text.specs.Faults.{fault_after}
 use Rattle.proof_text.specs.Laws.{ClosingProofsAreSmall, ClosingProofsHaveNoFaultBehind, IsSmall, OneProofForEachText, limits_of}
-use Rattle.proof_text.specs.LineForms.{bytes_behind, ended_lines}
-use Rattle.proof_text.specs.Spelling.{spell}
+use Rattle.proof_text.specs.LineForms.{bytes_after, ended_lines}
+use Rattle.proof_text.specs.Spelling.{certificate_text}
 use Rattle.proof_text.specs.declared.fault.ProofFault.{ProofFault}
 use Rattle.proof_text.specs.declared.limits.TheConstants.{MOST_NUMBER, MOST_PROOF_BYTES}
 use Rattle.proof_text.proofs.Ended.{behind_again}
@@ -43,7 +43,7 @@ use Rattle.summary_search.specs.declared.outcome.Outcome.{Outcome}
 use Rattle.summary_search.specs.declared.outcome.Outcome.TheVariants as outcome
 use Rattle.run_files.specs.declared.printed.Printed.{Printed}
 use Rattle.run_files.specs.declared.status.Status.TheVariants as status
-use Rattle.run_files.specs.Printing.{Tells}
+use Rattle.run_files.specs.Printing.{PrintsText}
 use Rattle.run_sets.specs.declared.one_set.OneSet.{OneSet}
 use Rattle.run_sets.specs.declared.refusal.Refusal.{Refusal}
 use Rattle.run_sets.specs.OneSets.{OfOneSet, OfSetRun, one_of, SetContents}
@@ -52,7 +52,7 @@ use Rattle.run_sets.proofs.Laws.{no_one_fails, of_same_set}
 use Rattle.finding_answers.specs.declared.answer.Found.{Found}
 use Rattle.finding_answers.specs.Dimensions.{NameSlots, dimension_slots}
 use Rattle.finding_answers.specs.FindingTexts.{found_text}
-use Rattle.finding_answers.specs.Found.{IsFoundOf, IsNotFound, IsNotSummarised, TellsUnfound}
+use Rattle.finding_answers.specs.Found.{IsFoundOf, IsNotFound, IsNotSummarised, PrintsUnfound}
 use Rattle.finding_answers.specs.Laws.{PrintedRequestsAreReadAgain}
 use Rattle.finding_answers.specs.Printed.{limits_in}
 use Rattle.run_sets.specs.ClosedQueries.{FailsAll}
@@ -71,7 +71,7 @@ use Rattle.cover_answers.proofs.Trees.{few-enough, one-list, same-tree}
 
 -- ---- what ends a summary early doesn't hold
 
-unfound-not : (names : List (List ℕ)) (limits : Limits) (o : Outcome) (p : Printed) → TellsUnfound names limits o p → p.status ≡ status.Holds → ⊥
+unfound-not : (names : List (List ℕ)) (limits : Limits) (o : Outcome) (p : Printed) → PrintsUnfound names limits o p → p.status ≡ status.Holds → ⊥
 unfound-not names limits (outcome.Found strata summary) p told holds = told
 unfound-not names limits (outcome.TooManyPredicates d) p told holds = let refused = told.1 in absurd (cc)
 unfound-not names limits (outcome.Wide s texts) p told holds = let undecided = told.1 in absurd (cc)
@@ -84,23 +84,23 @@ refused-not Q p (r, is, told) holds = let refused = told.1 in absurd (cc)
 
 summarised-not : (names : List (List ℕ)) (limits : Limits) (one : OneSet) (p : Printed) → IsNotSummarised names limits one p → p.status ≡ status.Holds → ⊥
 summarised-not names limits one p (inl past) holds = refused-not _ p past holds
-summarised-not names limits one p (inr un) holds = unfound-not names limits un.came p un.told holds
+summarised-not names limits one p (inr un) holds = unfound-not names limits un.came p un.prints holds
 
 found-not : (names : List (List ℕ)) (limits : Limits) (one : OneSet) (p : Printed) → IsNotFound names limits one p → p.status ≡ status.Holds → ⊥
-found-not names limits one p (inl unknown) holds = let refused = unknown.told.1 in absurd (cc)
+found-not names limits one p (inl unknown) holds = let refused = unknown.prints.1 in absurd (cc)
 found-not names limits one p (inr known) holds = summarised-not names limits one p known.1 holds
 
 -- a certificate of the cover of what was found is printed
 record Certifies (limits : Limits) (one : OneSet) (found : Found) (p : Printed) : Type 0 where
   text : List ℕ
   of : OfCover one.schema one.set found.strata.dimensions (findings_of found.summary) (λ q. CertifiesCover one.schema q text)
-  told : string_bytes p.text ≡ found_text found ++ text
+  prints : string_bytes p.text ≡ found_text found ++ text
 
 certifies : (limits : Limits) (one : OneSet) (found : Found) (p : Printed) → IsCoverSaid limits one found p → p.status ≡ status.Holds → Certifies limits one found p
 certifies limits one found p (large_query large told) holds = let refused = told.1 in absurd (cc)
 certifies limits one found p (short_of_splits of told) holds = let undecided = told.1 in absurd (cc)
 certifies limits one found p (short_of_states of told) holds = let undecided = told.1 in absurd (cc)
-certifies limits one found p (with_certificate {text = text} of told) holds = record { text = text; of = of; told = told.0 }
+certifies limits one found p (with_certificate {text = text} of told) holds = record { text = text; of = of; prints = told.0 }
 
 -- ---- covers of the same findings
 
@@ -117,7 +117,7 @@ module _ (schema : Schema) (set : PolicySet) (ds : List Stratum) (fs : List (Lis
       (subst (λ (ts : List Test). FailsAt schema ts (asked_tree r) at_first p [] node) (sym cover-tests) fails)
 
   fault-too : (n : ℕ) (bytes : List ℕ) → fault_of_cover schema q n bytes ≡ fault_of_cover schema r n bytes
-  fault-too n bytes = ap (λ (ts : List Test). fault_behind (limits_of ts schema.version) n bytes) cover-tests
+  fault-too n bytes = ap (λ (ts : List Test). fault_after (limits_of ts schema.version) n bytes) cover-tests
 
 cover-small : (schema : Schema) (set : PolicySet) (ds : List Stratum) (fs : List (List ℕ)) (q : Query) → IsCoverQuery (set_plan schema set) ds fs q → CoverIsTooLarge schema set ds fs → ⊥
 cover-small schema set ds fs q is large = few-enough (tests_in (cover_plan (set_plan schema set) ds fs)) q.tests is.tests is.few large
@@ -126,7 +126,7 @@ cover-small schema set ds fs q is large = few-enough (tests_in (cover_plan (set_
 
 record Reads (schema : Schema) (q : Query) (front : ℕ) (bytes : List ℕ) (proof : Proof) : Type 0 where
   faultless : fault_of_cover schema q front bytes ≡ None
-  spelled : bytes_behind front bytes ≡ spell schema.version proof
+  spelled : bytes_after front bytes ≡ certificate_text schema.version proof
 
 module _ (none : ClosingProofsHaveNoFaultBehind) (limits : Limits) (one : OneSet) (found : Found) (p : Printed) (by : Certifies limits one found p) (few : length found.summary ≤ MOST_FINDINGS) (short : length (string_bytes p.text) ≤ MOST_PROOF_BYTES) where
   abbrev Ds : List Stratum
@@ -135,8 +135,8 @@ module _ (none : ClosingProofsHaveNoFaultBehind) (limits : Limits) (one : OneSet
   abbrev Holds : CertifiesCover one.schema by.of.query by.text
   Holds = by.of.holds
 
-  whole : string_bytes p.text ≡ ended_lines (head_contents Ds found.summary) ++ spell one.schema.version Holds.proof
-  whole = by.told ∙ ap (λ (t : List ℕ). t ++ by.text) (head-text found) ∙ ap (λ (t : List ℕ). ended_lines (head_contents Ds found.summary) ++ t) Holds.spelled
+  whole : string_bytes p.text ≡ ended_lines (head_contents Ds found.summary) ++ certificate_text one.schema.version Holds.proof
+  whole = by.prints ∙ ap (λ (t : List ℕ). t ++ by.text) (head-text found) ∙ ap (λ (t : List ℕ). ended_lines (head_contents Ds found.summary) ++ t) Holds.spelled
 
   reads : Reads one.schema by.of.query (head_lines found.summary) (string_bytes p.text) Holds.proof
   reads =
@@ -145,16 +145,16 @@ module _ (none : ClosingProofsHaveNoFaultBehind) (limits : Limits) (one : OneSet
       let q = by.of.query in
       let version = one.schema.version in
       let small = by.of.is.few in
-      let text = ended_lines contents ++ spell version Holds.proof in
+      let text = ended_lines contents ++ certificate_text version Holds.proof in
       let fits : length text ≤ MOST_PROOF_BYTES = subst (λ (bs : List ℕ). length bs ≤ MOST_PROOF_BYTES) whole short in
-      let faultless : fault_behind (limits_of q.tests version) (length contents) text ≡ None =
+      let faultless : fault_after (limits_of q.tests version) (length contents) text ≡ None =
       none one.schema q.tests (asked_tree q) version Holds.proof contents Holds.closes Holds.nests Holds.small (omega arith) Holds.version unbroken fits in
       record {
         faultless =
             ap (fault_of_cover one.schema q (head_lines found.summary)) whole ∙ ap (λ (n : ℕ). fault_of_cover one.schema q n text) (sym (head-count Ds found.summary)) ∙ faultless;
         spelled =
-            ap (bytes_behind (head_lines found.summary)) whole ∙ ap (λ (n : ℕ). bytes_behind n text) (sym (head-count Ds found.summary)) ∙
-            behind_again contents (spell version Holds.proof) unbroken;
+            ap (bytes_after (head_lines found.summary)) whole ∙ ap (λ (n : ℕ). bytes_after n text) (sym (head-count Ds found.summary)) ∙
+            behind_again contents (certificate_text version Holds.proof) unbroken;
       }
 
 -- ---- it is accepted
@@ -186,29 +186,29 @@ module _ (none : ClosingProofsHaveNoFaultBehind) (sizes : ClosingProofsAreSmall)
       let c = by.of.holds in
       let cover = by.of.is in
       let tests = cover.few in
-      let text = spell one.schema.version c.proof in
+      let text = certificate_text one.schema.version c.proof in
       let size : length text ≤ MOST_PROOF_BYTES =
-      omega (arith, short, ap length by.told, ap length c.spelled, length-append (found_text found) by.text) in
+      omega (arith, short, ap length by.prints, ap length c.spelled, length-append (found_text found) by.text) in
       sizes one.schema by.of.query.tests (asked_tree by.of.query) one.schema.version c.proof text c.closes c.small (omega arith) c.version (inl refl) size
 
   no-failing_node : (line : ℕ) → OfCover one.schema one.set found.strata.dimensions Of (λ q. FailsBehindAt one.schema q (head_lines found.summary) (string_bytes p.text) line) → ⊥
   no-failing_node line of =
       let at = of.holds in
       let c = by.of.holds in
-      let spelled : spell one.schema.version at.proof ≡ spell one.schema.version c.proof = sym at.spelled ∙ read-again.spelled in
-      let same : at.proof ≡ c.proof = law one.schema.version (spell one.schema.version c.proof) at.proof c.proof at.small closing-small (inl (sym spelled)) (inl refl) in
+      let spelled : certificate_text one.schema.version at.proof ≡ certificate_text one.schema.version c.proof = sym at.spelled ∙ read-again.spelled in
+      let same : at.proof ≡ c.proof = law one.schema.version (certificate_text one.schema.version c.proof) at.proof c.proof at.small closing-small (inl (sym spelled)) (inl refl) in
       let there : FailsAll one.schema by.of.query at.proof at.node = fails-too one.schema one.set found.strata.dimensions Of by.of.query of.query by.of.is of.is at.proof at.node at.fails in
       let moved : FailsAll one.schema by.of.query c.proof at.node = subst (λ (x : Proof). FailsAll one.schema by.of.query x at.node) same there in
       fails-not-closes one.schema by.of.query.tests (asked_tree by.of.query) at_first c.proof [] at.node moved c.closes
 
-  list-accepted : (q : Printed) → IsListJudged one found.strata.dimensions (string_bytes p.text) found.summary q → Tells accepted_line status.Holds q
+  list-accepted : (q : Printed) → IsListJudged one found.strata.dimensions (string_bytes p.text) found.summary q → PrintsText accepted_line status.Holds q
   list-accepted q (large_cover large told) = absurd (cover-small one.schema one.set found.strata.dimensions Of by.of.query by.of.is large)
   list-accepted q (bad_certificate {fault = fault} of told) = absurd (no-fault fault of)
   list-accepted q (failing_pair {place = place} of first told) = absurd (no-failing place first)
   list-accepted q (failing_node {line = line} stands_too of told) = absurd (no-failing_node line of)
   list-accepted q (all_holds of certified_by told) = told
 
-  judged-accepted : AreTextsApart found.strata.dimensions → IsHead one.schema found.strata.dimensions (string_bytes p.text) found.summary → (q : Printed) → IsJudged one found.strata.dimensions (string_bytes p.text) q → Tells accepted_line status.Holds q
+  judged-accepted : AreTextsApart found.strata.dimensions → IsHead one.schema found.strata.dimensions (string_bytes p.text) found.summary → (q : Printed) → IsJudged one found.strata.dimensions (string_bytes p.text) q → PrintsText accepted_line status.Holds q
   judged-accepted apart head q (inl bad) = absurd (no-head_fault one.schema found.strata.dimensions (string_bytes p.text) found.summary bad.fault head bad.is)
   judged-accepted apart head q (inr of) =
       let same : of.pairs ≡ found.summary = one-head one.schema found.strata.dimensions apart (string_bytes p.text) of.pairs found.summary of.is head in
@@ -235,7 +235,7 @@ pub record CitedLaws : Type 0 where
   pub equal : SummaryVerdictsAreEqual
 
 set-accepted : CitedLaws → (names : List (List ℕ)) (limits : Limits) (states : ℕ) (bytes : List ℕ) (one : OneSet) (p q : Printed) → set_from bytes ≡ Ok one.set → limits.findings ≤ MOST_FINDINGS → AreNarrow names states one → p.status ≡ status.Holds → length (string_bytes p.text) ≤ MOST_PROOF_BYTES →
-    IsSetCertified names limits one p → IsSetChecked names states (string_bytes p.text) one q → Tells accepted_line status.Holds q
+    IsSetCertified names limits one p → IsSetChecked names states (string_bytes p.text) one q → PrintsText accepted_line status.Holds q
 set-accepted laws names limits states bytes one p q stands few narrow holds short (inl not) checked = absurd (found-not names limits one p not holds)
 set-accepted laws names limits states bytes one p q stands few narrow holds short (inr printed) (inl not) =
     let is = printed.is in
@@ -250,7 +250,7 @@ set-accepted laws names limits states bytes one p q stands few narrow holds shor
     let same : of.strata ≡ found.strata = strata-too laws.determined names one is.query of.query found.strata of.strata is.made.query of.is.made.query is.strata.are of.is.within.are in
     let judged : IsJudged one found.strata.dimensions (string_bytes p.text) q = subst (λ (x : Strata). IsJudged one x.dimensions (string_bytes p.text) q) same of.holds in
     let apart : AreTextsApart found.strata.dimensions = laws.apart one.schema found.strata (record { bytes = bytes; set = one.set; stands = stands; base = is.query; made = is.made }) in
-    let head = printed-head one.schema found by.text (string_bytes p.text) small (found_have_findings names limits one found is) (laws.again names limits one found is) by.told in
+    let head = printed-head one.schema found by.text (string_bytes p.text) small (found_have_findings names limits one found is) (laws.again names limits one found is) by.prints in
     judged-accepted laws.none laws.sizes laws.law laws.stand laws.equal names limits one found p is by small short apart head q judged
 
 pub printed_summaries_are_accepted : CitedLaws → PrintedSummariesAreAccepted

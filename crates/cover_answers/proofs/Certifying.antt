@@ -12,7 +12,7 @@ use Rattle.policy_model.specs.declared.schema.Schema.{Schema}
 use Rattle.policy_model.specs.declared.set.PolicySet.{PolicySet}
 use Rattle.policy_model.specs.declared.test.Slot.{Slot}
 use Rattle.policy_model.specs.declared.test.Test.{Test}
-use Rattle.proof_text.specs.Spelling.{spell}
+use Rattle.proof_text.specs.Spelling.{certificate_text}
 use Rattle.refute_check.specs.Closing.{at_first}
 use Rattle.refute_check.specs.Proofs.{Proof}
 use Rattle.strata.specs.declared.stratum.Strata.{Strata}
@@ -30,7 +30,7 @@ use Rattle.tree_search.specs.Decisions.{IsRefutation, IsWide, MeetsQuery, NeedMo
 use Rattle.tree_search.specs.declared.outcome.Wide as search_wide
 use Rattle.run_files.specs.declared.printed.Printed.{Printed}
 use Rattle.run_files.specs.declared.status.Status.TheVariants.{Holds, Refused, Undecided}
-use Rattle.run_files.specs.Printing.{Tells}
+use Rattle.run_files.specs.Printing.{PrintsText}
 use Rattle.run_sets.specs.declared.one_set.OneSet.{OneSet}
 use Rattle.finding_answers.specs.declared.answer.Found.{Found}
 use Rattle.finding_answers.specs.FindingTexts.{found_text}
@@ -57,7 +57,7 @@ made-too schema set q r strata made is =
     record {
       sound = made.sound;
       fits = made.fits;
-      some = made.some;
+      has_request = made.has_request;
       query = is;
       slots = made.slots;
       differ = made.differ;
@@ -75,10 +75,10 @@ module _ (limits : Limits) (one : OneSet) (base : Query) (found : Found) (q : Qu
       let out = (cover.left_out one.schema one.set made r met.meets.0 met.valid met.meets.1).0 met.meets.2 in
       out.outside (law one.schema one.set found.strata found.summary (record { base = base; made = made; is = is }) r met.valid out.allowed)
 
-  pub splits-said : NeedMore one.schema q [] limits.splits → (p : Printed) → Tells (cover_splits_line limits.splits) Undecided p → IsCoverSaid limits one found p
+  pub splits-said : NeedMore one.schema q [] limits.splits → (p : Printed) → PrintsText (cover_splits_line limits.splits) Undecided p → IsCoverSaid limits one found p
   splits-said more p told = short_of_splits (cover-of one base found.strata (findings_of found.summary) q (λ r. NeedMore one.schema r [] limits.splits) made cover more) told
 
-  pub states-said : (w : search_wide.Wide) → IsWide one.schema q at_first limits.splits limits.states [] w → (p : Printed) → Tells (cover_states_line limits.states w.slot) Undecided p → IsCoverSaid limits one found p
+  pub states-said : (w : search_wide.Wide) → IsWide one.schema q at_first limits.splits limits.states [] w → (p : Printed) → PrintsText (cover_states_line limits.states w.slot) Undecided p → IsCoverSaid limits one found p
   states-said w is p told =
       let v : asked.Wide = record { path = w.path; slot = w.slot; texts = w.texts } in
       short_of_states {w = v}
@@ -86,13 +86,13 @@ module _ (limits : Limits) (one : OneSet) (base : Query) (found : Found) (q : Qu
       (record { node = is.node; not_no = is.not_no; asked = is.asked; texts = is.texts }))
       told
 
-  pub certified-said : (proof : Proof) → IsRefutation one.schema q limits.splits proof → (text : String Global) → IsCertifiedText found one.schema.version proof text → (p : Printed) → Tells (string_bytes text) Holds p → IsCoverSaid limits one found p
+  pub certified-said : (proof : Proof) → IsRefutation one.schema q limits.splits proof → (text : String Global) → IsCertifiedText found one.schema.version proof text → (p : Printed) → PrintsText (string_bytes text) Holds p → IsCoverSaid limits one found p
   certified-said proof is text written p told =
       let asks = cover.plan (set_plan one.schema one.set) made.query in
       let few = asks.few in
       let nests = is.nests in
-      with_certificate {text = spell one.schema.version proof}
-      (cover-of one base found.strata (findings_of found.summary) q (λ r. CertifiesCover one.schema r (spell one.schema.version proof)) made cover
+      with_certificate {text = certificate_text one.schema.version proof}
+      (cover-of one base found.strata (findings_of found.summary) q (λ r. CertifiesCover one.schema r (certificate_text one.schema.version proof)) made cover
       (record {
         proof = proof;
         spelled = refl;
@@ -105,4 +105,4 @@ module _ (limits : Limits) (one : OneSet) (base : Query) (found : Found) (q : Qu
       (told.0 ∙ written.is, told.1)
 
   pub large-said : (p : Printed) → IsLargePrinted base found.strata (findings_of found.summary) p → IsCoverSaid limits one found p
-  large-said p large = large_query (large.large (set_plan one.schema one.set) made.query) large.told
+  large-said p large = large_query (large.large (set_plan one.schema one.set) made.query) large.prints

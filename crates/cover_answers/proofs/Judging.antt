@@ -23,7 +23,7 @@ use Rattle.findings.specs.StandingSummaries.{IsSummaryVerdict, JudgesSummary, Su
 use Rattle.findings.specs.Summaries.{findings_of}
 use Rattle.findings.specs.declared.standing.SummaryVerdict.{SummaryVerdict}
 use Rattle.findings.specs.declared.standing.SummaryVerdict.TheVariants.{Stands, Fails}
-use Rattle.proof_text.specs.Faults.{fault_behind}
+use Rattle.proof_text.specs.Faults.{fault_after}
 use Rattle.proof_text.specs.Laws.{limits_of}
 use Rattle.proof_text.specs.LineForms.{lines_before, lines_of}
 use Rattle.proof_text.specs.Reads.{HasFewNodes, IsProofReadBehind, IsReadBehind}
@@ -33,7 +33,7 @@ use Rattle.proof_text.specs.declared.fault.ProofFault.{ProofFault}
 use Rattle.proof_text.specs.declared.read.ReadProof.{ReadProof}
 use Rattle.run_files.specs.declared.printed.Printed.{Printed}
 use Rattle.run_files.specs.declared.status.Status.TheVariants.{Holds, Refused, BadProof}
-use Rattle.run_files.specs.Printing.{Tells}
+use Rattle.run_files.specs.Printing.{PrintsText}
 use Rattle.run_sets.specs.declared.one_set.OneSet.{OneSet}
 use Rattle.cover_answers.specs.CoverProofs.{ClosesBehind, FailsBehindAt, IsLargePrinted, LeaveNobodyOut, OfCover, fault_of_cover}
 use Rattle.run_sets.specs.ClosedQueries.{ClosesAll}
@@ -79,10 +79,10 @@ certificate-read schema q pairs bytes tests line read has at count is few = reco
 }
 
 pub certificate-bad : (schema : Schema) (q : Query) (pairs : List (List ℕ × Request)) (bytes : List ℕ) (tests line : ℕ) (fault : ProofFault) → HasHeadLines bytes pairs → line ≡ 2 * length pairs + 2 → tests ≡ length q.tests →
-    fault_behind (record { tests = tests; version = schema.version }) (lines_before line bytes) bytes ≡ Some fault → fault_of_cover schema q (head_lines pairs) bytes ≡ Some fault
+    fault_after (record { tests = tests; version = schema.version }) (lines_before line bytes) bytes ≡ Some fault → fault_of_cover schema q (head_lines pairs) bytes ≡ Some fault
 certificate-bad schema q pairs bytes tests line fault has at count is =
-    subst (λ (n : ℕ). fault_behind (limits_of q.tests schema.version) n bytes ≡ Some fault) (front-is bytes pairs line has at)
-    (subst (λ (n : ℕ). fault_behind (record { tests = n; version = schema.version }) (lines_before line bytes) bytes ≡ Some fault) count is)
+    subst (λ (n : ℕ). fault_after (limits_of q.tests schema.version) n bytes ≡ Some fault) (front-is bytes pairs line has at)
+    (subst (λ (n : ℕ). fault_after (record { tests = n; version = schema.version }) (lines_before line bytes) bytes ≡ Some fault) count is)
 
 -- ---- covers
 
@@ -108,11 +108,11 @@ nobody-out law one base strata fs q read made findings cover closes =
 
 module _ (one : OneSet) (base : Query) (strata : Strata) (pairs : List (List ℕ × Request)) (q : Query) (read : ReadProof) (p : Printed) (made : AreMadeFor one.schema one.set base strata) (cover : IsCoverOf base strata (findings_of pairs) q) where
   -- of a list that doesn't stand
-  pub judged-failing : (place line : ℕ) (verdict : SummaryVerdict) → JudgesSummary one.schema base strata pairs verdict → verdict ≡ Fails place → line ≡ 2 * place + 2 → Tells (not_summary_line line) BadProof p → IsReadJudged one strata.dimensions pairs q read p
+  pub judged-failing : (place line : ℕ) (verdict : SummaryVerdict) → JudgesSummary one.schema base strata pairs verdict → verdict ≡ Fails place → line ≡ 2 * place + 2 → PrintsText (not_summary_line line) BadProof p → IsReadJudged one strata.dimensions pairs q read p
   judged-failing place line verdict judged fails at told bytes is =
       let first : IsSummaryVerdict one.schema one.set strata.dimensions pairs (Fails place) = subst (IsSummaryVerdict one.schema one.set strata.dimensions pairs) fails (judged one.set made) in
       failing_pair (cover-of one base strata (findings_of pairs) q (λ r. fault_of_cover one.schema r (head_lines pairs) bytes ≡ None) made cover is.faultless)
-      first (subst (λ (n : ℕ). Tells (not_summary_line n) BadProof p) at told)
+      first (subst (λ (n : ℕ). PrintsText (not_summary_line n) BadProof p) at told)
 
   -- of one that stands
   pub judged-standing : ClosedCoversLeaveNobodyOut → All (IsFinding strata.dimensions) (findings_of pairs) → (verdict : SummaryVerdict) → JudgesSummary one.schema base strata pairs verdict → verdict ≡ Stands → IsClosingPrinted one.schema q read p → IsReadJudged one strata.dimensions pairs q read p
@@ -141,11 +141,11 @@ module _ (one : OneSet) (base : Query) (strata : Strata) (pairs : List (List ℕ
 -- of a certificate with a fault
 pub judged-bad : (one : OneSet) (base : Query) (strata : Strata) (pairs : List (List ℕ × Request)) (q : Query) (p : Printed) → AreMadeFor one.schema one.set base strata → IsCoverOf base strata (findings_of pairs) q → (bytes : List ℕ) → IsBadCertificatePrinted one.schema q pairs bytes p → IsListJudged one strata.dimensions bytes pairs p
 judged-bad one base strata pairs q p made cover bytes bad =
-    bad_certificate {fault = bad.fault} (cover-of one base strata (findings_of pairs) q (λ r. fault_of_cover one.schema r (head_lines pairs) bytes ≡ Some bad.fault) made cover bad.is) bad.told
+    bad_certificate {fault = bad.fault} (cover-of one base strata (findings_of pairs) q (λ r. fault_of_cover one.schema r (head_lines pairs) bytes ≡ Some bad.fault) made cover bad.is) bad.prints
 
 -- of a cover whose query has too many tests
 pub judged-large : (one : OneSet) (base : Query) (strata : Strata) (pairs : List (List ℕ × Request)) (p : Printed) (bytes : List ℕ) → AreMadeFor one.schema one.set base strata → IsLargePrinted base strata (findings_of pairs) p → IsListJudged one strata.dimensions bytes pairs p
-judged-large one base strata pairs p bytes made large = large_cover (large.large (set_plan one.schema one.set) made.query) large.told
+judged-large one base strata pairs p bytes made large = large_cover (large.large (set_plan one.schema one.set) made.query) large.prints
 
 -- a pair that fails is one of them
 pub failing-within : (one : OneSet) (base : Query) (strata : Strata) (pairs : List (List ℕ × Request)) (place : ℕ) (verdict : SummaryVerdict) → AreMadeFor one.schema one.set base strata → JudgesSummary one.schema base strata pairs verdict → verdict ≡ Fails place → place < length pairs

@@ -37,7 +37,7 @@ use Rattle.cover_answers.specs.Certified.{IsCertifiedSummaryPrinted, IsCoverSaid
 use Rattle.cover_answers.specs.CoverProofs.{CoverIsTooLarge}
 use Rattle.cover_answers.specs.Decides.{AreNarrow, CertifiedSummariesDecide, FitsCover, IsCertifiable, IsJudgeable, NameFew, SummaryChecksDecide}
 use Rattle.cover_answers.specs.Judged.{IsJudged, IsListJudged, IsSetChecked, IsSummaryCheckPrinted, all_holds, bad_certificate, failing_node, failing_pair, large_cover}
-use Rattle.cover_answers.specs.Made.{IsNotMade, IsUnmade, TellsUnmade}
+use Rattle.cover_answers.specs.Made.{IsNotMade, IsUnmade, PrintsUnmade}
 
 -- ---- statuses
 
@@ -62,15 +62,15 @@ pub certified_summary_of_text : (s : Summarising) (c : SetContents) (p : Printed
 certified_summary_of_text s c p (inl none) = refusal_with _ p none
 certified_summary_of_text s c p (inr of) = set_with s.dimensions (limits_in s) _ p of.holds.holds
 
-unmade_with : (names : List (List ℕ)) (states : ℕ) (fault : StrataFault) (p : Printed) → TellsUnmade names states fault p → IsOfText p.status
+unmade_with : (names : List (List ℕ)) (states : ℕ) (fault : StrataFault) (p : Printed) → PrintsUnmade names states fault p → IsOfText p.status
 unmade_with names states (cause.TooManyPredicates d) p told = with_status p status.Refused tt told.1
 unmade_with names states (cause.Wide s texts) p told = with_status p status.Undecided tt told.1
 unmade_with names states cause.NoMemory p told = absurd told
 
 not_made_with : (names : List (List ℕ)) (states : ℕ) (one : OneSet) (p : Printed) → IsNotMade names states one p → IsOfText p.status
-not_made_with names states one p (inl unknown) = with_status p status.Refused tt unknown.told.1
+not_made_with names states one p (inl unknown) = with_status p status.Refused tt unknown.prints.1
 not_made_with names states one p (inr (known, inl past)) = refusal_with _ p past
-not_made_with names states one p (inr (known, inr un)) = unmade_with names states un.fault p un.told
+not_made_with names states one p (inr (known, inr un)) = unmade_with names states un.fault p un.prints
 
 list_with : (one : OneSet) (ds : List Stratum) (bytes : List ℕ) (pairs : List (List ℕ × Request)) (p : Printed) → IsListJudged one ds bytes pairs p → IsOfText p.status
 list_with one ds bytes pairs p (large_cover large told) = with_status p status.Refused tt told.1
@@ -80,7 +80,7 @@ list_with one ds bytes pairs p (failing_node stands of told) = with_status p sta
 list_with one ds bytes pairs p (all_holds of by told) = with_status p status.Holds tt told.1
 
 judged_with : (one : OneSet) (ds : List Stratum) (bytes : List ℕ) (p : Printed) → IsJudged one ds bytes p → IsOfText p.status
-judged_with one ds bytes p (inl bad) = with_status p status.BadProof tt bad.told.1
+judged_with one ds bytes p (inl bad) = with_status p status.BadProof tt bad.prints.1
 judged_with one ds bytes p (inr of) = list_with one ds bytes of.pairs p of.holds
 
 checked_with : (names : List (List ℕ)) (states : ℕ) (bytes : List ℕ) (one : OneSet) (p : Printed) → IsSetChecked names states bytes one p → IsOfText p.status
@@ -133,7 +133,7 @@ many_fails q slots d few first = all_at (λ (s : Slot). ¬ NamesTooMany q.tests 
 
 module _ (names : List (List ℕ)) (states : ℕ) (one : OneSet) (p : Printed) where
   -- where few predicates are named of each dimension, and narrow ones, strata are made
-  pub unmade_fails : NameFew names one → AreNarrow names states one → (q : Query) → IsQuery (set_plan one.schema one.set) q → (fault : StrataFault) → AreStrataOf one.schema states q (dimension_slots names) (Err fault) → TellsUnmade names states fault p → ⊥
+  pub unmade_fails : NameFew names one → AreNarrow names states one → (q : Query) → IsQuery (set_plan one.schema one.set) q → (fault : StrataFault) → AreStrataOf one.schema states q (dimension_slots names) (Err fault) → PrintsUnmade names states fault p → ⊥
   unmade_fails few narrow q is (cause.TooManyPredicates d) why told = many_fails q (dimension_slots names) d (few q is) why
   unmade_fails few narrow q is (cause.Wide s texts) why told = narrow q is s texts why.0 why.2
   unmade_fails few narrow q is cause.NoMemory why told = told
@@ -148,7 +148,7 @@ module _ (names : List (List ℕ)) (states : ℕ) (one : OneSet) (p : Printed) w
   pub not_made_fails : NameSlots one.schema names → ¬ HasTooMany [] (tests_in (set_plan one.schema one.set)) → ¬ HasTooManyPieces (set_plan one.schema one.set) → NameFew names one → AreNarrow names states one → IsNotMade names states one p → ⊥
   not_made_fails known tests pieces few narrow (inl unknown) = unknown_fails one.schema names unknown.element known unknown.first
   not_made_fails known tests pieces few narrow (inr (also, inl (r, past, told))) = not_past tests pieces r past
-  not_made_fails known tests pieces few narrow (inr (also, inr un)) = unmade_fails few narrow un.query un.is un.fault un.cause un.told
+  not_made_fails known tests pieces few narrow (inr (also, inr un)) = unmade_fails few narrow un.query un.is un.fault un.cause un.prints
 
   list_decides : (ds : List Stratum) (bytes : List ℕ) (pairs : List (List ℕ × Request)) → ¬ CoverIsTooLarge one.schema one.set ds (findings_of pairs) → IsListJudged one ds bytes pairs p → (p.status ≡ status.Holds) ⊎ (p.status ≡ status.BadProof)
   list_decides ds bytes pairs small (large_cover large told) = absurd (small large)
@@ -160,7 +160,7 @@ module _ (names : List (List ℕ)) (states : ℕ) (one : OneSet) (p : Printed) w
   set_judged : (bytes : List ℕ) → IsJudgeable names states bytes one → IsSetChecked names states bytes one p → (p.status ≡ status.Holds) ⊎ (p.status ≡ status.BadProof)
   set_judged bytes d (inl none) = absurd (not_made_fails d.known d.tests d.pieces d.few d.narrow none)
   set_judged bytes d (inr of) = elim of.holds [
-    | inl bad ↦ inr bad.told.1
+    | inl bad ↦ inr bad.prints.1
     | inr head ↦ list_decides of.strata.dimensions bytes head.pairs (d.covers of.query of.strata head.pairs of.is head.is) head.holds
   ]
 

@@ -4,7 +4,7 @@ use Rattle.std.specs.declared.alloc.Global.{Global}
 use Rattle.command_words.specs.Asked.{Summarising}
 use Rattle.refute_check.specs.Proofs.{Proof}
 use Rattle.proof_text.specs.Laws.{HoldsSmallNumbers}
-use Rattle.proof_text.specs.Spelling.{spell}
+use Rattle.proof_text.specs.Spelling.{certificate_text}
 use Rattle.proof_text.specs.declared.limits.TheConstants.{MOST_NUMBER}
 use Rattle.findings.specs.Answers.{StatesFail}
 use Rattle.findings.specs.Summaries.{findings_of}
@@ -13,7 +13,7 @@ use Rattle.summary_search.specs.declared.outcome.Limits.{Limits}
 use Rattle.tree_search.specs.Decisions.{NeedMore}
 use Rattle.run_files.specs.declared.printed.Printed.{Printed}
 use Rattle.run_files.specs.declared.status.Status.TheVariants.{Holds, Refused, Undecided}
-use Rattle.run_files.specs.Printing.{Tells}
+use Rattle.run_files.specs.Printing.{PrintsText}
 use Rattle.run_sets.specs.declared.one_set.OneSet.{OneSet}
 use Rattle.run_sets.specs.OneSets.{IsNoOneSet, OfOneSet, SetContents}
 use Rattle.run_sets.specs.Refusals.{IsRefusedBy}
@@ -29,18 +29,18 @@ use Rattle.cover_answers.specs.CoverTexts.{cover_splits_line, cover_states_line,
 -- outside its findings
 pub data IsCoverSaid (limits : Limits) (one : OneSet) (found : Found) (p : Printed) : Type 0 where
   large_query : CoverIsTooLarge one.schema one.set found.strata.dimensions (findings_of found.summary) →
-      Tells cover_tests_line Refused p → IsCoverSaid limits one found p
+      PrintsText cover_tests_line Refused p → IsCoverSaid limits one found p
   short_of_splits :
       OfCover one.schema one.set found.strata.dimensions (findings_of found.summary)
       (λ q. NeedMore one.schema q [] limits.splits) →
-      Tells (cover_splits_line limits.splits) Undecided p → IsCoverSaid limits one found p
+      PrintsText (cover_splits_line limits.splits) Undecided p → IsCoverSaid limits one found p
   short_of_states : {w : Wide} →
       OfCover one.schema one.set found.strata.dimensions (findings_of found.summary)
       (λ q. StatesFail one.schema q limits.states w) →
-      Tells (cover_states_line limits.states w.slot) Undecided p → IsCoverSaid limits one found p
+      PrintsText (cover_states_line limits.states w.slot) Undecided p → IsCoverSaid limits one found p
   with_certificate : {text : List ℕ} →
       OfCover one.schema one.set found.strata.dimensions (findings_of found.summary) (λ q. CertifiesCover one.schema q text) →
-      Tells (found_text found ++ text) Holds p → IsCoverSaid limits one found p
+      PrintsText (found_text found ++ text) Holds p → IsCoverSaid limits one found p
 
 -- what was found of a set, of which this is printed
 pub record IsCoverPrinted (names : List (List ℕ)) (limits : Limits) (one : OneSet) (p : Printed) : Type 0 where
@@ -62,6 +62,6 @@ IsCertifiedSummaryPrinted s c p =
 
 -- the text of a summary, and behind it the certificate of a refutation, whose numbers are such as the program can hold
 pub record IsCertifiedText (found : Found) (version : ℕ) (proof : Proof) (text : String Global) : Type 0 where
-  pub is : string_bytes text ≡ found_text found ++ spell version proof
+  pub is : string_bytes text ≡ found_text found ++ certificate_text version proof
   pub small : HoldsSmallNumbers proof
   pub version_small : version ≤ MOST_NUMBER

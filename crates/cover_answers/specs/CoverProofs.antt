@@ -17,15 +17,15 @@ use Rattle.strata.specs.declared.stratum.Strata.{Strata}
 use Rattle.strata.specs.declared.stratum.Stratum.{Stratum}
 use Rattle.findings.specs.CoverQueries.{CoverHasTooMany, IsCoverQuery, cover_plan}
 use Rattle.findings.specs.Findings.{LiesInFinding}
-use Rattle.proof_text.specs.Faults.{fault_behind}
+use Rattle.proof_text.specs.Faults.{fault_after}
 use Rattle.proof_text.specs.Laws.{HoldsSmallNumbers, IsSmall, limits_of}
-use Rattle.proof_text.specs.LineForms.{bytes_behind}
-use Rattle.proof_text.specs.Spelling.{spell, starts}
+use Rattle.proof_text.specs.LineForms.{bytes_after}
+use Rattle.proof_text.specs.Spelling.{certificate_text, node_line_numbers}
 use Rattle.proof_text.specs.declared.fault.ProofFault.{ProofFault}
 use Rattle.proof_text.specs.declared.limits.TheConstants.{MOST_NESTING, MOST_NUMBER}
 use Rattle.run_files.specs.declared.printed.Printed.{Printed}
 use Rattle.run_files.specs.declared.status.Status.TheVariants.{Refused}
-use Rattle.run_files.specs.Printing.{Tells}
+use Rattle.run_files.specs.Printing.{PrintsText}
 use Rattle.run_sets.specs.ClosedQueries.{ClosesAll, FailsAll}
 use Rattle.cover_answers.specs.CoverTexts.{cover_tests_line}
 
@@ -49,14 +49,14 @@ LeaveNobodyOut schema set ds fs = (r : Request) → IsValid schema r → Allows 
 
 -- the first fault of a certificate for the query behind so many lines, in the format of the schema's version
 abbrev pub fault_of_cover : Schema → Query → ℕ → List ℕ → Option ProofFault
-fault_of_cover schema q front bytes = fault_behind (limits_of q.tests schema.version) front bytes
+fault_of_cover schema q front bytes = fault_after (limits_of q.tests schema.version) front bytes
 
 -- behind so many lines the file has no fault, and the refutation that stands there closes the query. The text is that of no other, since
 -- its numbers are small
 pub record ClosesBehind (schema : Schema) (q : Query) (front : ℕ) (bytes : List ℕ) : Type 0 where
   pub faultless : fault_of_cover schema q front bytes ≡ None
   pub proof : Proof
-  pub spelled : bytes_behind front bytes ≡ spell schema.version proof
+  pub spelled : bytes_after front bytes ≡ certificate_text schema.version proof
   pub small : IsSmall schema.version proof
   pub closes : ClosesAll schema q proof
 
@@ -64,18 +64,18 @@ pub record ClosesBehind (schema : Schema) (q : Query) (front : ℕ) (bytes : Lis
 pub record FailsBehindAt (schema : Schema) (q : Query) (front : ℕ) (bytes : List ℕ) (line : ℕ) : Type 0 where
   pub faultless : fault_of_cover schema q front bytes ≡ None
   pub proof : Proof
-  pub spelled : bytes_behind front bytes ≡ spell schema.version proof
+  pub spelled : bytes_after front bytes ≡ certificate_text schema.version proof
   pub small : IsSmall schema.version proof
   pub node : ℕ
   pub fails : FailsAll schema q proof node
-  pub line_is : slice_get (starts (front + 2) proof) node ≡ Some line
+  pub line_is : slice_get (node_line_numbers (front + 2) proof) node ≡ Some line
 
 -- ---- a certificate that is printed
 
 -- the text is the certificate of a trimmed refutation that closes the query, within what a certificate may hold
 pub record CertifiesCover (schema : Schema) (q : Query) (text : List ℕ) : Type 0 where
   pub proof : Proof
-  pub spelled : text ≡ spell schema.version proof
+  pub spelled : text ≡ certificate_text schema.version proof
   pub closes : ClosesAll schema q proof
   pub trimmed : IsTrimmed schema q.tests (asked_tree q) proof
   pub nests : depth proof ≤ MOST_NESTING
@@ -87,4 +87,4 @@ pub record CertifiesCover (schema : Schema) (q : Query) (text : List ℕ) : Type
 -- the line on the query of the cover is printed, which has more than 1,000 tests whichever set the base is of
 pub record IsLargePrinted (base : Query) (strata : Strata) (fs : List (List ℕ)) (p : Printed) : Type 0 where
   pub large : CoverHasTooMany base strata.dimensions fs
-  pub told : Tells cover_tests_line Refused p
+  pub prints : PrintsText cover_tests_line Refused p

@@ -19,7 +19,7 @@ use Rattle.summary_search.specs.declared.outcome.Limits.{Limits}
 use Rattle.tree_search.specs.Decisions.{NeedMore}
 use Rattle.run_files.specs.declared.printed.Printed.{Printed}
 use Rattle.run_files.specs.declared.status.Status.TheVariants.{Holds, BadProof}
-use Rattle.run_files.specs.Printing.{Tells}
+use Rattle.run_files.specs.Printing.{PrintsText}
 use Rattle.run_sets.specs.declared.one_set.OneSet.{OneSet}
 use Rattle.run_sets.specs.OneSets.{OfOneSet, SetContents}
 use Rattle.finding_answers.specs.declared.answer.Found.{Found}
@@ -93,4 +93,4 @@ PrintedSummariesAreAccepted =
     (s : Summarising) (asked : SummaryCheck) (c : SetContents) (printed checked : Printed) →
     s.findings ≤ MOST_FINDINGS → asked.dimensions ≡ s.dimensions → OfOneSet c.set c.schema (AreNarrow asked.dimensions asked.states) →
     IsCertifiedSummaryPrinted s c printed → printed.status ≡ Holds → length (string_bytes printed.text) ≤ MOST_PROOF_BYTES →
-    IsSummaryCheckPrinted asked (string_bytes printed.text) c checked → Tells accepted_line Holds checked
+    IsSummaryCheckPrinted asked (string_bytes printed.text) c checked → PrintsText accepted_line Holds checked

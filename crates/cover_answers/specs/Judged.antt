@@ -16,7 +16,7 @@ use Rattle.proof_text.specs.Reads.{HasFewNodes, IsReadBehind}
 use Rattle.proof_text.specs.declared.read.ReadProof.{ReadProof}
 use Rattle.run_files.specs.declared.printed.Printed.{Printed}
 use Rattle.run_files.specs.declared.status.Status.TheVariants.{Holds, Refused, BadProof}
-use Rattle.run_files.specs.Printing.{Tells}
+use Rattle.run_files.specs.Printing.{PrintsText}
 use Rattle.run_sets.specs.declared.one_set.OneSet.{OneSet}
 use Rattle.run_sets.specs.OneSets.{IsNoOneSet, OfOneSet, SetContents}
 use Rattle.run_sets.specs.Refusals.{IsRefusedBy}
@@ -37,26 +37,26 @@ pub record IsCertifiedBy (one : OneSet) (ds : List Stratum) (pairs : List (List 
 -- tests; the first fault of the certificate; the line of the first finding that keeps the list from standing for the set; the line of the
 -- first node that fails; or that the list is accepted. Each comes only where none before it does
 pub data IsListJudged (one : OneSet) (ds : List Stratum) (bytes : List ℕ) (pairs : List (List ℕ × Request)) (p : Printed) : Type 0 where
-  large_cover : CoverIsTooLarge one.schema one.set ds (findings_of pairs) → Tells cover_tests_line Refused p →
+  large_cover : CoverIsTooLarge one.schema one.set ds (findings_of pairs) → PrintsText cover_tests_line Refused p →
       IsListJudged one ds bytes pairs p
   bad_certificate : {fault : ProofFault} →
       OfCover one.schema one.set ds (findings_of pairs) (λ q. fault_of_cover one.schema q (head_lines pairs) bytes ≡ Some fault) →
-      Tells (proof_fault_text fault) BadProof p → IsListJudged one ds bytes pairs p
+      PrintsText (proof_fault_text fault) BadProof p → IsListJudged one ds bytes pairs p
   failing_pair : {place : ℕ} →
       OfCover one.schema one.set ds (findings_of pairs) (λ q. fault_of_cover one.schema q (head_lines pairs) bytes ≡ None) →
-      IsFirstFailing one.schema one.set ds pairs place → Tells (not_summary_line (2 * place + 2)) BadProof p →
+      IsFirstFailing one.schema one.set ds pairs place → PrintsText (not_summary_line (2 * place + 2)) BadProof p →
       IsListJudged one ds bytes pairs p
   failing_node : {line : ℕ} → SummaryStands one.schema one.set ds pairs →
       OfCover one.schema one.set ds (findings_of pairs) (λ q. FailsBehindAt one.schema q (head_lines pairs) bytes line) →
-      Tells (not_closing_line line) BadProof p → IsListJudged one ds bytes pairs p
+      PrintsText (not_closing_line line) BadProof p → IsListJudged one ds bytes pairs p
   all_holds : OfCover one.schema one.set ds (findings_of pairs) (λ q. ClosesBehind one.schema q (head_lines pairs) bytes) →
-      IsCertifiedBy one ds pairs → Tells accepted_line Holds p → IsListJudged one ds bytes pairs p
+      IsCertifiedBy one ds pairs → PrintsText accepted_line Holds p → IsListJudged one ds bytes pairs p
 
 -- the first line of the head that fails is printed
 pub record IsBadHeadPrinted (one : OneSet) (ds : List Stratum) (bytes : List ℕ) (p : Printed) : Type 0 where
   pub fault : HeadFault
   pub is : IsHeadFault one.schema ds bytes fault
-  pub told : Tells (head_fault_text fault) BadProof p
+  pub prints : PrintsText (head_fault_text fault) BadProof p
 
 -- of the pairs of the head this holds
 pub record OfHead (one : OneSet) (ds : List Stratum) (bytes : List ℕ) (P : List (List ℕ × Request) → Type 0) : Type 0 where
@@ -83,16 +83,16 @@ IsSummaryCheckPrinted asked bytes c p =
 -- the refutation that was read closes the query, and that is printed, or the line of its first node that fails
 abbrev pub IsClosingPrinted : Schema → Query → ReadProof → Printed → Type 0
 IsClosingPrinted schema q read p =
-    (ClosesAll schema q (proof_of read.refutation.value) × Tells accepted_line Holds p)
+    (ClosesAll schema q (proof_of read.refutation.value) × PrintsText accepted_line Holds p)
     ⊎ ((node : ℕ) × (line : ℕ) × FailsAll schema q (proof_of read.refutation.value) node × (slice_get read.lines node ≡ Some line)
-    × Tells (not_closing_line line) BadProof p)
+    × PrintsText (not_closing_line line) BadProof p)
 
 -- the first fault of the certificate behind the lines of pairs is printed
 pub record IsBadCertificatePrinted (schema : Schema) (q : Query) (pairs : List (List ℕ × Request)) (bytes : List ℕ) (p : Printed)
     : Type 0 where
   pub fault : ProofFault
   pub is : fault_of_cover schema q (head_lines pairs) bytes ≡ Some fault
-  pub told : Tells (proof_fault_text fault) BadProof p
+  pub prints : PrintsText (proof_fault_text fault) BadProof p
 
 -- the certificate behind the lines of pairs was read
 pub record IsCertificateRead (schema : Schema) (q : Query) (pairs : List (List ℕ × Request)) (bytes : List ℕ) (read : ReadProof)

@@ -12,7 +12,7 @@ use Rattle.strata.specs.Causes.{AreStrataOf}
 use Rattle.summary_search.specs.Outcomes.{AreStrataWithin}
 use Rattle.run_files.specs.declared.printed.Printed.{Printed}
 use Rattle.run_files.specs.declared.status.Status.TheVariants.{Refused, Undecided}
-use Rattle.run_files.specs.Printing.{Tells}
+use Rattle.run_files.specs.Printing.{PrintsText}
 use Rattle.run_sets.specs.declared.one_set.OneSet.{OneSet}
 use Rattle.run_sets.specs.declared.shortage.Shortage.TheVariants.{States}
 use Rattle.run_sets.specs.Parts.{shortage_text}
@@ -39,10 +39,10 @@ pub record OfMade (names : List (List ℕ)) (one : OneSet) (P : List Stratum →
 
 -- the line on why there are none: a dimension of which too many predicates are named is refused, and a number of states that is too small
 -- for two predicates leaves them unmade
-abbrev pub TellsUnmade : List (List ℕ) → ℕ → StrataFault → Printed → Type 0
-TellsUnmade names states (TooManyPredicates d) p = Tells (too_many_line (chars (get_or names d []))) Refused p
-TellsUnmade names states (Wide s texts) p = Tells (shortage_text (States states s)) Undecided p
-TellsUnmade names states NoMemory p = ⊥
+abbrev pub PrintsUnmade : List (List ℕ) → ℕ → StrataFault → Printed → Type 0
+PrintsUnmade names states (TooManyPredicates d) p = PrintsText (too_many_line (chars (get_or names d []))) Refused p
+PrintsUnmade names states (Wide s texts) p = PrintsText (shortage_text (States states s)) Undecided p
+PrintsUnmade names states NoMemory p = ⊥
 
 -- the strata of a query of the set aren't made, for which this is the cause, and its line is printed
 pub record IsUnmade (names : List (List ℕ)) (states : ℕ) (one : OneSet) (p : Printed) : Type 0 where
@@ -50,7 +50,7 @@ pub record IsUnmade (names : List (List ℕ)) (states : ℕ) (one : OneSet) (p :
   pub is : IsQuery (set_plan one.schema one.set) query
   pub fault : StrataFault
   pub cause : AreStrataOf one.schema states query (dimension_slots names) (Err fault)
-  pub told : TellsUnmade names states fault p
+  pub prints : PrintsUnmade names states fault p
 
 -- the first name of no dimension; or the limit that the query of the set is past, or why there are no strata
 abbrev pub IsNotMade : List (List ℕ) → ℕ → OneSet → Printed → Type 0

@@ -3,7 +3,7 @@ ghost use Rattle.std.specs.Prelude.{◌≡◌, ◌≤◌, true};
 ghost use Rattle.command_words.specs.Asked.{are_dimensions, texts_in};
 ghost use Rattle.run_files.specs.Printing.{IfAnswered, OrAnswered};
 ghost use Rattle.run_sets.specs.OneSets.{FitsItsSchema};
-ghost use Rattle.cover_answers.specs.Made.{HasDimension, IsMade, IsNotMade, TellsUnmade};
+ghost use Rattle.cover_answers.specs.Made.{HasDimension, IsMade, IsNotMade, PrintsUnmade};
 
 use finding_answers::{ended, query_of, slots_of, too_many_line};
 use policy_compile::Query;
@@ -23,7 +23,7 @@ pub(crate) struct Made {
 // What is printed where there are no strata.
 fn unmade(alloc: Global, names: &[String], states: u32, fault: StrataFault) -> EarlyEnd
     requires { HasDimension (texts_in names.now) fault }
-    ensures { IfAnswered result (TellsUnmade (texts_in names.now) states fault) }
+    ensures { IfAnswered result (PrintsUnmade (texts_in names.now) states fault) }
 {
     match fault {
         StrataFault::TooManyPredicates(dimension) => {

@@ -16,7 +16,7 @@ use Rattle.summary_search.specs.declared.outcome.Limits.{Limits}
 use Rattle.read_predicates.specs.Laws.{AreMadeFromFile}
 use Rattle.run_files.specs.declared.printed.Printed.{Printed}
 use Rattle.run_files.specs.declared.status.Status.TheVariants.{Holds, Refused}
-use Rattle.run_files.specs.Printing.{Tells}
+use Rattle.run_files.specs.Printing.{PrintsText}
 use Rattle.run_sets.specs.declared.one_set.OneSet.{OneSet}
 use Rattle.run_sets.specs.OneSets.{IsOneSetOf, OfSet, OfSetRun, one_of}
 use Rattle.finding_answers.specs.declared.answer.Found.{Found}
@@ -28,17 +28,17 @@ use Rattle.emit_answers.specs.EmitPrinted.{HasNoPolicy, HasPolicy, IsOfFile, IsP
 count : (found : Found) → length (findings_of found.summary) ≡ length found.summary
 count found = length-map found.summary (λ (p : List ℕ × Request). p.0)
 
-pub policy-printed : (schema : Schema) (found : Found) (text : String Global) → IsEmitted schema found.strata.dimensions (findings_of found.summary) (Ok text) → IsReadAsEmitted schema found.strata (findings_of found.summary) (string_bytes text) → (p : Printed) → Tells (string_bytes text) Holds p → IsPolicyPrinted schema found p
+pub policy-printed : (schema : Schema) (found : Found) (text : String Global) → IsEmitted schema found.strata.dimensions (findings_of found.summary) (Ok text) → IsReadAsEmitted schema found.strata (findings_of found.summary) (string_bytes text) → (p : Printed) → PrintsText (string_bytes text) Holds p → IsPolicyPrinted schema found p
 policy-printed schema found text is read p told = inr (record {
   few = subst (λ (n : ℕ). n ≤ MOST_STATEMENTS) (count found) is.0;
-  told = subst (λ (t : List ℕ). Tells t Holds p) is.1 told;
+  prints = subst (λ (t : List ℕ). PrintsText t Holds p) is.1 told;
   read = subst (IsReadAsEmitted schema found.strata (findings_of found.summary)) is.1 read;
 })
 
-pub none-printed : (schema : Schema) (found : Found) → IsEmitted schema found.strata.dimensions (findings_of found.summary) (Err TooManyStatements) → (p : Printed) → Tells many_findings_line Refused p → IsPolicyPrinted schema found p
+pub none-printed : (schema : Schema) (found : Found) → IsEmitted schema found.strata.dimensions (findings_of found.summary) (Err TooManyStatements) → (p : Printed) → PrintsText many_findings_line Refused p → IsPolicyPrinted schema found p
 none-printed schema found many p told = inl (record {
   many = subst (λ (n : ℕ). MOST_STATEMENTS < n) (count found) many;
-  told = told;
+  prints = told;
 })
 
 -- ---- what the policy says
@@ -62,7 +62,7 @@ module _ (covers : SummariesCover) (allow : EmittedSetsAllowFindings) (known : E
   has-policy names limits named one found is of p (inl many) = inl many
   has-policy names limits named one found is of p (inr text) = inr (record {
     few = text.few;
-    told = text.told;
+    prints = text.prints;
     says = says-findings names limits named one found is of text.read;
   })
 

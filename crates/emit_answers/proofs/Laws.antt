@@ -28,8 +28,8 @@ refusal_with : (Q : Refusal → Type 0) (p : Printed) → IsRefusedBy Q p → Is
 refusal_with Q p (r, is, told) = with_status p status.Refused tt told.1
 
 emits_with : (named : Schema) (one : OneSet) (found : Found) (p : Printed) → HasNoPolicy found p ⊎ HasPolicy named one found p → IsOfText p.status
-emits_with named one found p (inl none) = with_status p status.Refused tt none.told.1
-emits_with named one found p (inr policy) = with_status p status.Holds tt policy.told.1
+emits_with named one found p (inl none) = with_status p status.Refused tt none.prints.1
+emits_with named one found p (inr policy) = with_status p status.Holds tt policy.prints.1
 
 set_with : (names : List (List ℕ)) (limits : Limits) (named : Schema) (one : OneSet) (p : Printed) → IsSetEmitted names limits named one p → IsOfText p.status
 set_with names limits named one p (inl none) = not_found_of_text names limits one p none
@@ -43,7 +43,7 @@ emit_of_text e c p (inr of) = set_with e.dimensions (limits_in e) of.named _ p o
 
 policy_decides : (named : Schema) (one : OneSet) (found : Found) (p : Printed) → length found.summary ≤ MOST_STATEMENTS → HasNoPolicy found p ⊎ HasPolicy named one found p → p.status ≡ status.Holds
 policy_decides named one found p few (inl none) = let many = none.many in absurd (omega arith)
-policy_decides named one found p few (inr policy) = policy.told.1
+policy_decides named one found p few (inr policy) = policy.prints.1
 
 set_decides : (names : List (List ℕ)) (limits : Limits) (named : Schema) (one : OneSet) (p : Printed) → IsEmittable names limits one → IsSetEmitted names limits named one p → p.status ≡ status.Holds
 set_decides names limits named one p d (inl none) = absurd (summarisable_sets_are_found names limits one p d.summarisable none)

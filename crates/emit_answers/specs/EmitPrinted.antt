@@ -17,7 +17,7 @@ use Rattle.summary_search.specs.declared.outcome.Limits.{Limits}
 use Rattle.run_files.specs.declared.printed.EarlyEnd.{EarlyEnd}
 use Rattle.run_files.specs.declared.printed.Printed.{Printed}
 use Rattle.run_files.specs.declared.status.Status.TheVariants.{Holds, Refused}
-use Rattle.run_files.specs.Printing.{IfPrinted, Tells}
+use Rattle.run_files.specs.Printing.{IfPrinted, PrintsText}
 use Rattle.run_sets.specs.declared.one_set.OneSet.{OneSet}
 use Rattle.run_sets.specs.OneSets.{IsNoOneSet, OfSet, OfSetRun, SetContents}
 use Rattle.run_sets.specs.Refusals.{IsRefusedBy}
@@ -55,12 +55,12 @@ policy_of schema found = policy_text schema found.strata.dimensions (findings_of
 -- what was found has more findings than statements may stand in a set, and so has no policy
 pub record HasNoPolicy (found : Found) (p : Printed) : Type 0 where
   pub many : MOST_STATEMENTS < length found.summary
-  pub told : Tells many_findings_line Refused p
+  pub prints : PrintsText many_findings_line Refused p
 
 -- its policy is printed, and says what was found
 pub record HasPolicy (named : Schema) (one : OneSet) (found : Found) (p : Printed) : Type 0 where
   pub few : length found.summary ≤ MOST_STATEMENTS
-  pub told : Tells (policy_of one.schema found) Holds p
+  pub prints : PrintsText (policy_of one.schema found) Holds p
   pub says : SaysFindings named one found (policy_of one.schema found)
 
 -- of a set with findings: that there are too many, or their policy
@@ -85,7 +85,7 @@ IsEmitPrinted e c p =
 -- the strata are those of a set that a file stands for
 pub record HasPolicyText (schema : Schema) (found : Found) (p : Printed) : Type 0 where
   pub few : length found.summary ≤ MOST_STATEMENTS
-  pub told : Tells (policy_of schema found) Holds p
+  pub prints : PrintsText (policy_of schema found) Holds p
   pub read : IsReadAsEmitted schema found.strata (findings_of found.summary) (policy_of schema found)
 
 abbrev pub IsPolicyPrinted : Schema → Found → Printed → Type 0

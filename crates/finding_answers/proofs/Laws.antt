@@ -31,7 +31,7 @@ use Rattle.run_sets.proofs.Laws.{no_one_fails, of_same_set}
 use Rattle.finding_answers.specs.declared.answer.Found.{Found}
 use Rattle.finding_answers.specs.Complete.{FitsLimits, IsSummarisable, SummariesDecide, SummarisableSetsAreFound}
 use Rattle.finding_answers.specs.Dimensions.{IsFirstUnknown, NameSlots, NamesSlot, dimension_slots}
-use Rattle.finding_answers.specs.Found.{HaveFindings, IsFoundOf, IsNotFound, IsNotSummarised, TellsUnfound}
+use Rattle.finding_answers.specs.Found.{HaveFindings, IsFoundOf, IsNotFound, IsNotSummarised, PrintsUnfound}
 use Rattle.run_sets.specs.PastLimits.{IsSetPastLimit}
 use Rattle.finding_answers.specs.Printed.{IsSetPrinted, IsSummaryPrinted, limits_in}
 use Rattle.finding_answers.proofs.Naming.{names-askable}
@@ -55,7 +55,7 @@ found_have_findings names limits one found is = summary-findings one.schema one.
 with_status : (p : Printed) (s : Status) → IsOfText s → p.status ≡ s → IsOfText p.status
 with_status p s of is = subst IsOfText (sym is) of
 
-unfound_with : (names : List (List ℕ)) (limits : Limits) (o : Outcome) (p : Printed) → TellsUnfound names limits o p → IsOfText p.status
+unfound_with : (names : List (List ℕ)) (limits : Limits) (o : Outcome) (p : Printed) → PrintsUnfound names limits o p → IsOfText p.status
 unfound_with names limits (outcome.Found strata summary) p told = absurd told
 unfound_with names limits (outcome.TooManyPredicates d) p told = with_status p status.Refused tt told.1
 unfound_with names limits (outcome.Wide s texts) p told = with_status p status.Undecided tt told.1
@@ -68,15 +68,15 @@ refusal_with Q p (r, is, told) = with_status p status.Refused tt told.1
 
 not_summarised_with : (names : List (List ℕ)) (limits : Limits) (one : OneSet) (p : Printed) → IsNotSummarised names limits one p → IsOfText p.status
 not_summarised_with names limits one p (inl past) = refusal_with _ p past
-not_summarised_with names limits one p (inr un) = unfound_with names limits un.came p un.told
+not_summarised_with names limits one p (inr un) = unfound_with names limits un.came p un.prints
 
 pub not_found_of_text : (names : List (List ℕ)) (limits : Limits) (one : OneSet) (p : Printed) → IsNotFound names limits one p → IsOfText p.status
-not_found_of_text names limits one p (inl unknown) = with_status p status.Refused tt unknown.told.1
+not_found_of_text names limits one p (inl unknown) = with_status p status.Refused tt unknown.prints.1
 not_found_of_text names limits one p (inr known) = not_summarised_with names limits one p known.1
 
 set_with : (names : List (List ℕ)) (limits : Limits) (one : OneSet) (p : Printed) → IsSetPrinted names limits one p → IsOfText p.status
 set_with names limits one p (inl none) = not_found_of_text names limits one p none
-set_with names limits one p (inr found) = with_status p status.Holds tt found.told.1
+set_with names limits one p (inr found) = with_status p status.Holds tt found.prints.1
 
 pub summary_of_text : (s : Summarising) (c : SetContents) (p : Printed) → IsSummaryPrinted s c p → IsOfText p.status
 summary_of_text s c p (inl none) = refusal_with _ p none
@@ -104,7 +104,7 @@ many_fails q slots d few first =
 
 module _ (names : List (List ℕ)) (limits : Limits) (one : OneSet) (p : Printed) where
   -- within the limits the summary comes to no other outcome
-  unfound_fails : (q : Query) → FitsLimits names limits one.schema one.set q → (o : Outcome) → IsSummaryOutcome one.schema one.set q (dimension_slots names) limits o → TellsUnfound names limits o p → ⊥
+  unfound_fails : (q : Query) → FitsLimits names limits one.schema one.set q → (o : Outcome) → IsSummaryOutcome one.schema one.set q (dimension_slots names) limits o → PrintsUnfound names limits o p → ⊥
   unfound_fails q fits (outcome.Found strata summary) comes told = told
   unfound_fails q fits (outcome.TooManyPredicates d) comes told = many_fails q (dimension_slots names) d fits.few comes
   unfound_fails q fits (outcome.Wide s texts) comes told = fits.narrow s texts comes.0 comes.2
@@ -121,7 +121,7 @@ module _ (names : List (List ℕ)) (limits : Limits) (one : OneSet) (p : Printed
 
   not_summarised_fails : IsSummarisable names limits one → IsNotSummarised names limits one p → ⊥
   not_summarised_fails d (inl (r, past, told)) = not_past d r past
-  not_summarised_fails d (inr un) = unfound_fails un.is.query (d.fits un.is.query un.is.is) un.came un.is.comes un.told
+  not_summarised_fails d (inr un) = unfound_fails un.is.query (d.fits un.is.query un.is.is) un.came un.is.comes un.prints
 
   not_found_fails : IsSummarisable names limits one → IsNotFound names limits one p → ⊥
   not_found_fails d (inl unknown) = unknown_fails one.schema names unknown.element d.known unknown.first
@@ -129,7 +129,7 @@ module _ (names : List (List ℕ)) (limits : Limits) (one : OneSet) (p : Printed
 
   set_decides : IsSummarisable names limits one → IsSetPrinted names limits one p → p.status ≡ status.Holds
   set_decides d (inl none) = absurd (not_found_fails d none)
-  set_decides d (inr found) = found.told.1
+  set_decides d (inr found) = found.prints.1
 
 pub summarisable_sets_are_found : SummarisableSetsAreFound
 summarisable_sets_are_found names limits one p d none = not_found_fails names limits one p d none

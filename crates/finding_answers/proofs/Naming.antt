@@ -11,7 +11,7 @@ use Rattle.std.proofs.lemmas.Slice.Eq.{bytes_eq-Decides}
 use Rattle.std.proofs.lemmas.Str.{encodes-chars}
 use Rattle.std.proofs.lemmas.Str.Ascii.{lowercase_ascii, lowercase_is}
 use lib.Utf8.{encode}
-use Rattle.command_words.specs.Asked.{are_dimensions, are_distinct, is_one_of, lowered, texts_in}
+use Rattle.command_words.specs.Asked.{are_dimensions, are_distinct, is_one_of, lower_case, texts_in}
 use Rattle.command_words.specs.declared.limits.TheConstants.{MOST_DIMENSIONS}
 use Rattle.policy_model.specs.declared.schema.Schema.{Schema}
 use Rattle.policy_model.specs.declared.test.Slot.{Slot}
@@ -123,10 +123,10 @@ lower-all (c ∷ cs) =
     ∙ ap (λ (bs : List ℕ). encode (to_ascii_lowercase c) ++ bs) (lower-all cs)
 
 -- texts whose names of keys are the same are the same but for the case of letters
-same-letters : (a b : List ℕ) → IsUtf8 a → IsUtf8 b → folded_name a ≡ folded_name b → lowered a ≡ lowered b
+same-letters : (a b : List ℕ) → IsUtf8 a → IsUtf8 b → folded_name a ≡ folded_name b → lower_case a ≡ lower_case b
 same-letters a b first second same =
-    let one : lowered a ≡ encode_utf8_all (folded_name a) = ap lowered (sym (encodes-chars a first)) ∙ lower-all (chars a) in
-    let other : lowered b ≡ encode_utf8_all (folded_name b) = ap lowered (sym (encodes-chars b second)) ∙ lower-all (chars b) in
+    let one : lower_case a ≡ encode_utf8_all (folded_name a) = ap lower_case (sym (encodes-chars a first)) ∙ lower-all (chars a) in
+    let other : lower_case b ≡ encode_utf8_all (folded_name b) = ap lower_case (sym (encodes-chars b second)) ∙ lower-all (chars b) in
     one ∙ ap encode_utf8_all same ∙ sym other
 
 -- ---- names and slots
@@ -150,10 +150,10 @@ named : (w : List ℕ) → IsNamed w (Key (folded_name w)) (dimension_slot w)
 named w = named-by w (Key (folded_name w)) (bytes_eq w (codes "principal")) (bytes_eq w (codes "action")) (bytes_eq w (codes "resource")) refl refl refl
 
 -- names of one slot are the same but for the case of letters
-same-slot : (a b : List ℕ) → IsUtf8 a → IsUtf8 b → (s t : Slot) → s ≡ t → IsNamed a (Key (folded_name a)) s → IsNamed b (Key (folded_name b)) t → lowered a ≡ lowered b
-same-slot a b u v s t e (inl x) (inl y) = ap lowered (x.0 ∙ sym y.0)
-same-slot a b u v s t e (inr (inl x)) (inr (inl y)) = ap lowered (x.0 ∙ sym y.0)
-same-slot a b u v s t e (inr (inr (inl x))) (inr (inr (inl y))) = ap lowered (x.0 ∙ sym y.0)
+same-slot : (a b : List ℕ) → IsUtf8 a → IsUtf8 b → (s t : Slot) → s ≡ t → IsNamed a (Key (folded_name a)) s → IsNamed b (Key (folded_name b)) t → lower_case a ≡ lower_case b
+same-slot a b u v s t e (inl x) (inl y) = ap lower_case (x.0 ∙ sym y.0)
+same-slot a b u v s t e (inr (inl x)) (inr (inl y)) = ap lower_case (x.0 ∙ sym y.0)
+same-slot a b u v s t e (inr (inr (inl x))) (inr (inr (inl y))) = ap lower_case (x.0 ∙ sym y.0)
 same-slot a b u v s t e (inr (inr (inr x))) (inr (inr (inr y))) =
     let keys : Key (folded_name a) ≡ Key (folded_name b) = sym x ∙ e ∙ y in
     let same : folded_name a ≡ folded_name b = cc in
@@ -203,7 +203,7 @@ module _ (names : List (List ℕ)) (dimensions : are_dimensions names ≡ true) 
   -- the slots of dimensions are at most four
   few-slots : length (dimension_slots names) ≤ 4
   few-slots =
-      let few : length names ≤ 4 = at-most (length names) (and-left (not (nat_lt MOST_DIMENSIONS (length names))) (are_distinct (map lowered names)) dimensions) in
+      let few : length names ≤ 4 = at-most (length names) (and-left (not (nat_lt MOST_DIMENSIONS (length names))) (are_distinct (map lower_case names)) dimensions) in
       subst (λ (n : ℕ). n ≤ 4) (sym (length-map names dimension_slot)) few
 
   -- and they differ
@@ -215,10 +215,10 @@ module _ (names : List (List ℕ)) (dimensions : are_dimensions names ≡ true) 
       let b : List ℕ = get_or names j [] in
       let one : get_or (dimension_slots names) i d ≡ dimension_slot a = get_or-map dimension_slot names i [] d before in
       let other : get_or (dimension_slots names) j d ≡ dimension_slot b = get_or-map dimension_slot names j [] d inside in
-      let equal : lowered a ≡ lowered b = same-slot a b (texts i [] before) (texts j [] inside) (dimension_slot a) (dimension_slot b) (sym one ∙ same ∙ other) (named a) (named b) in
-      let low_one : get_or (map lowered names) i [] ≡ lowered a = get_or-map lowered names i [] [] before in
-      let low_other : get_or (map lowered names) j [] ≡ lowered b = get_or-map lowered names j [] [] inside in
-      distinct-at (map lowered names) (and-right (not (nat_lt MOST_DIMENSIONS (length names))) (are_distinct (map lowered names)) dimensions) i j low (subst (λ (n : ℕ). j < n) (sym (length-map names lowered)) inside) (low_one ∙ equal ∙ sym low_other)
+      let equal : lower_case a ≡ lower_case b = same-slot a b (texts i [] before) (texts j [] inside) (dimension_slot a) (dimension_slot b) (sym one ∙ same ∙ other) (named a) (named b) in
+      let low_one : get_or (map lower_case names) i [] ≡ lower_case a = get_or-map lower_case names i [] [] before in
+      let low_other : get_or (map lower_case names) j [] ≡ lower_case b = get_or-map lower_case names j [] [] inside in
+      distinct-at (map lower_case names) (and-right (not (nat_lt MOST_DIMENSIONS (length names))) (are_distinct (map lower_case names)) dimensions) i j low (subst (λ (n : ℕ). j < n) (sym (length-map names lower_case)) inside) (low_one ∙ equal ∙ sym low_other)
 
   -- so a summary by known ones may be asked for
   pub names-askable : (schema : Schema) → SchemaIsSound schema → NameSlots schema names → All IsUtf8 names → AreAskable schema (dimension_slots names)

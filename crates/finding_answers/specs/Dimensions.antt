@@ -8,7 +8,7 @@ use Rattle.request_schema.specs.BuiltIn.{folded_name}
 use Rattle.slot_theory.specs.Slots.{SlotIsIn}
 use Rattle.run_files.specs.declared.printed.Printed.{Printed}
 use Rattle.run_files.specs.declared.status.Status.TheVariants.{Refused}
-use Rattle.run_files.specs.Printing.{Tells}
+use Rattle.run_files.specs.Printing.{PrintsText}
 use Rattle.finding_answers.specs.FindingTexts.{unknown_line}
 
 -- the slot of a name: the principal, the action and the resource have these very names, and any other is that of a key, whose ASCII
@@ -48,4 +48,4 @@ AreSlotsOf schema names slots = NameSlots schema names × (slots ≡ dimension_s
 pub record IsUnknownPrinted (schema : Schema) (names : List (List ℕ)) (p : Printed) : Type 0 where
   pub element : List ℕ
   pub first : IsFirstUnknown schema names element
-  pub told : Tells (unknown_line element) Refused p
+  pub prints : PrintsText (unknown_line element) Refused p

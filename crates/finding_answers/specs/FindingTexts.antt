@@ -9,7 +9,7 @@ use Rattle.policy_model.specs.declared.test.Slot.{Slot}
 use Rattle.request_json.specs.RequestTexts.{request_text}
 use Rattle.run_files.specs.declared.printed.EarlyEnd.{EarlyEnd}
 use Rattle.run_files.specs.declared.status.Status.{Status}
-use Rattle.run_files.specs.Printing.{IfAnswered, Tells}
+use Rattle.run_files.specs.Printing.{IfAnswered, PrintsText}
 use Rattle.run_sets.specs.Parts.{element_text, slot_word}
 use Rattle.strata.specs.declared.stratum.Stratum.{Stratum}
 use Rattle.finding_answers.specs.declared.answer.Found.{Found}
@@ -51,7 +51,7 @@ states_line n s finding = codes "undecided: states " ++ decimal n ++ states_end 
 -- a text, where there was memory for it, ends a command with the status
 abbrev pub EndsWith : Result (String Global) AllocError → Status → EarlyEnd → Type 0
 EndsWith text status e =
-    (line : List ℕ) → IfOk text (λ s. string_bytes s ≡ line) → IfAnswered e (Tells line status)
+    (line : List ℕ) → IfOk text (λ s. string_bytes s ≡ line) → IfAnswered e (PrintsText line status)
 
 -- ---- summaries
 

@@ -22,7 +22,7 @@ use Rattle.summary_search.specs.declared.outcome.Outcome.{Outcome}
 use Rattle.summary_search.specs.declared.outcome.Outcome.TheVariants as outcome
 use Rattle.run_files.specs.declared.printed.Printed.{Printed}
 use Rattle.run_files.specs.declared.status.Status.TheVariants.{Refused, Undecided}
-use Rattle.run_files.specs.Printing.{Tells}
+use Rattle.run_files.specs.Printing.{PrintsText}
 use Rattle.run_sets.specs.declared.one_set.OneSet.{OneSet}
 use Rattle.run_sets.specs.declared.refusal.Refusal.{Refusal}
 use Rattle.run_sets.specs.declared.refusal.Refusal.TheVariants.{TooManyTests, TooManyPieces}
@@ -65,21 +65,21 @@ pub record IsSetOutcome (slots : List Slot) (limits : Limits) (one : OneSet) (ca
 
 -- the line on an outcome other than a summary: a dimension of which too many predicates are named is refused, and a limit that is too
 -- small leaves the summary undecided
-abbrev pub TellsUnfound : List (List ℕ) → Limits → Outcome → Printed → Type 0
-TellsUnfound names limits (outcome.Found strata summary) p = ⊥
-TellsUnfound names limits (outcome.TooManyPredicates d) p = Tells (too_many_line (chars (get_or names d []))) Refused p
-TellsUnfound names limits (outcome.Wide s texts) p = Tells (shortage_text (States limits.states s)) Undecided p
-TellsUnfound names limits outcome.OutOfFindings p = Tells (findings_line limits.findings) Undecided p
-TellsUnfound names limits (outcome.OutOfSplits strata f) p =
-    Tells (splits_line limits.splits (finding_text strata.dimensions f)) Undecided p
-TellsUnfound names limits (outcome.OutOfStates strata f w) p =
-    Tells (states_line limits.states w.slot (finding_text strata.dimensions f)) Undecided p
+abbrev pub PrintsUnfound : List (List ℕ) → Limits → Outcome → Printed → Type 0
+PrintsUnfound names limits (outcome.Found strata summary) p = ⊥
+PrintsUnfound names limits (outcome.TooManyPredicates d) p = PrintsText (too_many_line (chars (get_or names d []))) Refused p
+PrintsUnfound names limits (outcome.Wide s texts) p = PrintsText (shortage_text (States limits.states s)) Undecided p
+PrintsUnfound names limits outcome.OutOfFindings p = PrintsText (findings_line limits.findings) Undecided p
+PrintsUnfound names limits (outcome.OutOfSplits strata f) p =
+    PrintsText (splits_line limits.splits (finding_text strata.dimensions f)) Undecided p
+PrintsUnfound names limits (outcome.OutOfStates strata f w) p =
+    PrintsText (states_line limits.states w.slot (finding_text strata.dimensions f)) Undecided p
 
 -- the summary of the set comes to another outcome, whose line is printed
 pub record IsUnfound (names : List (List ℕ)) (limits : Limits) (one : OneSet) (p : Printed) : Type 0 where
   pub came : Outcome
   pub is : IsSetOutcome (dimension_slots names) limits one came
-  pub told : TellsUnfound names limits came p
+  pub prints : PrintsUnfound names limits came p
 
 -- of a set whose schema has each dimension: the limit that its query is past, or the line on the outcome
 abbrev pub IsNotSummarised : List (List ℕ) → Limits → OneSet → Printed → Type 0

@@ -4,7 +4,7 @@ use Rattle.command_words.specs.Asked.{Summarising}
 use Rattle.summary_search.specs.declared.outcome.Limits.{Limits}
 use Rattle.run_files.specs.declared.printed.Printed.{Printed}
 use Rattle.run_files.specs.declared.status.Status.TheVariants.{Holds}
-use Rattle.run_files.specs.Printing.{Tells}
+use Rattle.run_files.specs.Printing.{PrintsText}
 use Rattle.run_sets.specs.declared.one_set.OneSet.{OneSet}
 use Rattle.run_sets.specs.OneSets.{IsNoOneSet, OfOneSet, SetContents}
 use Rattle.run_sets.specs.Refusals.{IsRefusedBy}
@@ -16,7 +16,7 @@ use Rattle.finding_answers.specs.Found.{IsFoundOf, IsNotFound}
 pub record IsFoundPrinted (names : List (List ℕ)) (limits : Limits) (one : OneSet) (p : Printed) : Type 0 where
   pub found : Found
   pub is : IsFoundOf names limits one found
-  pub told : Tells (found_text found) Holds p
+  pub prints : PrintsText (found_text found) Holds p
 
 -- of a set under the schema of its run: why it isn't summarised, or its summary
 abbrev pub IsSetPrinted : List (List ℕ) → Limits → OneSet → Printed → Type 0

@@ -2,7 +2,7 @@
 ghost use Rattle.std.specs.Prelude.{◌≡◌, ◌<◌, [], IfOk, get_or, length, string_bytes};
 ghost use Rattle.std.specs.Str.{chars};
 ghost use Rattle.command_words.specs.Asked.{texts_in};
-ghost use Rattle.run_files.specs.Printing.{IfAnswered, Tells};
+ghost use Rattle.run_files.specs.Printing.{IfAnswered, PrintsText};
 ghost use Rattle.run_files.specs.declared.status.Status.TheVariants.{Refused};
 ghost use Rattle.run_sets.specs.Parts.{element_text};
 ghost use Rattle.findings.specs.Findings.{IsFinding};
@@ -38,7 +38,7 @@ fn unknown_line(alloc: Global, name: &str) -> Result<String, AllocError>
 
 /// What is printed of a dimension that isn't known.
 pub fn unknown(alloc: Global, name: &str) -> EarlyEnd
-    ensures { IfAnswered result (Tells (unknown_line (chars name.now)) Refused) }
+    ensures { IfAnswered result (PrintsText (unknown_line (chars name.now)) Refused) }
 {
     ended(unknown_line(alloc, name), Status::Refused)
 }

@@ -7,7 +7,7 @@ ghost use Rattle.summary_search.specs.Outcomes.{AreAskable, AreInRange};
 ghost use Rattle.run_files.specs.Printing.{OrAnswered};
 ghost use Rattle.run_sets.specs.OneSets.{FitsItsSchema};
 ghost use Rattle.run_sets.specs.Refusals.{IsRefusedBy};
-ghost use Rattle.finding_answers.specs.Found.{AreWellKept, HasTexts, IsFoundIn, IsFoundOf, IsNotFound, IsSetOutcome, TellsUnfound};
+ghost use Rattle.finding_answers.specs.Found.{AreWellKept, HasTexts, IsFoundIn, IsFoundOf, IsNotFound, IsSetOutcome, PrintsUnfound};
 ghost use Rattle.run_sets.specs.PastLimits.{IsSetPastLimit};
 
 use crate::answer::Found;
@@ -70,7 +70,7 @@ fn found_in(
 ) -> Result<Found, EarlyEnd>
     requires { HasTexts (texts_in names.now) outcome }
     ensures { OrAnswered result (IsFoundIn outcome)
-        (TellsUnfound (texts_in names.now) limits outcome) }
+        (PrintsUnfound (texts_in names.now) limits outcome) }
 {
     match outcome {
         Outcome::Found(strata, summary) => {

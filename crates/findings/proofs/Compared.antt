@@ -18,7 +18,7 @@ use Rattle.strata.specs.declared.stratum.Stratum.{Stratum}
 use Rattle.strata.specs.Covers.{IsBelowAt}
 use Rattle.strata.specs.Strata.{AnswersOrderOf, IsStratum}
 use Rattle.findings.specs.Findings.{IsFiner, IsFinding}
-use Rattle.findings.specs.Judging.{IsApartFromFirst, IsComparedWith, OfOrder, TellsCompared, TellsComparedWith, TellsFiner}
+use Rattle.findings.specs.Judging.{IsApartFromFirst, IsComparedWith, OfOrder, DecidesCompared, DecidesComparedWith, DecidesFiner}
 use Rattle.findings.specs.StandingSummaries.{AreComparable}
 use Rattle.findings.specs.Steps.{predicate_number_at}
 use Rattle.findings.specs.Summaries.{findings_of}
@@ -70,7 +70,7 @@ below-told schema tests ds f g j n m d b are is_f is_g at own other told =
 
 -- ---- comparable
 
-pub compared-equal : (strata : Strata) (f g : List ℕ) (b : Bool) → b ≡ pointwise nat_eq f g → b ≡ true → TellsCompared strata f g false
+pub compared-equal : (strata : Strata) (f g : List ℕ) (b : Bool) → b ≡ pointwise nat_eq f g → b ≡ true → DecidesCompared strata f g false
 compared-equal strata f g b is equal schema tests are =
     let same : f ≡ g = (pointwise_decides Decides-eqb f g).0 (sym is ∙ equal) in (
       λ e. absurd (cc),
@@ -80,13 +80,13 @@ compared-equal strata f g b is equal schema tests are =
 differ-told : (f g : List ℕ) (b : Bool) → b ≡ pointwise nat_eq f g → b ≡ false → f ≢ g
 differ-told f g b is unequal same = let yes_ : pointwise nat_eq f g ≡ true = (pointwise_decides Decides-eqb f g).1 same in absurd (cc)
 
-pub compared-finer : (strata : Strata) (f g : List ℕ) (b finer : Bool) → b ≡ pointwise nat_eq f g → b ≡ false → finer ≡ true → TellsFiner strata f g finer → TellsCompared strata f g finer
+pub compared-finer : (strata : Strata) (f g : List ℕ) (b finer : Bool) → b ≡ pointwise nat_eq f g → b ≡ false → finer ≡ true → DecidesFiner strata f g finer → DecidesCompared strata f g finer
 compared-finer strata f g b finer is unequal holds told schema tests are = (
   λ e. inl ((told schema tests are).0 holds, differ-told f g b is unequal),
   λ compared. holds,
 )
 
-pub compared-above : (strata : Strata) (f g : List ℕ) (b finer up : Bool) → b ≡ pointwise nat_eq f g → b ≡ false → finer ≡ false → TellsFiner strata f g finer → TellsFiner strata g f up → TellsCompared strata f g up
+pub compared-above : (strata : Strata) (f g : List ℕ) (b finer up : Bool) → b ≡ pointwise nat_eq f g → b ≡ false → finer ≡ false → DecidesFiner strata f g finer → DecidesFiner strata g f up → DecidesCompared strata f g up
 compared-above strata f g b finer up is unequal fails told upper schema tests are = (
   λ e. inr ((upper schema tests are).0 e, λ same. differ-told f g b is unequal (sym same)),
   λ compared. elim compared [
@@ -132,13 +132,13 @@ any-compared schema ds f pairs some =
 
 -- ---- a pair of the list
 
-pub compared-here : (strata : Strata) (f : List ℕ) (pairs : Pairs) (i : ℕ) (p : List ℕ × Request) (b : Bool) → slice_get pairs i ≡ Some p → TellsCompared strata f p.0 b → b ≡ true → TellsComparedWith strata f pairs true
+pub compared-here : (strata : Strata) (f : List ℕ) (pairs : Pairs) (i : ℕ) (p : List ℕ × Request) (b : Bool) → slice_get pairs i ≡ Some p → DecidesCompared strata f p.0 b → b ≡ true → DecidesComparedWith strata f pairs true
 compared-here strata f pairs i p b at told holds schema tests are = (
   λ e. record { index = i; other = p; at = at; compared = (told schema tests are).0 holds },
   λ h. refl,
 )
 
-pub apart-next : (strata : Strata) (f : List ℕ) (pairs : Pairs) (i : ℕ) (p : List ℕ × Request) (b : Bool) → slice_get pairs i ≡ Some p → TellsCompared strata f p.0 b → b ≡ false → OfOrder strata (λ schema. IsApartFromFirst schema strata.dimensions f pairs i) →
+pub apart-next : (strata : Strata) (f : List ℕ) (pairs : Pairs) (i : ℕ) (p : List ℕ × Request) (b : Bool) → slice_get pairs i ≡ Some p → DecidesCompared strata f p.0 b → b ≡ false → OfOrder strata (λ schema. IsApartFromFirst schema strata.dimensions f pairs i) →
     OfOrder strata (λ schema. IsApartFromFirst schema strata.dimensions f pairs (i + 1))
 apart-next strata f pairs i p b at told fails before schema tests are j q less there compared = elim (cases_lt j i) [
   | inl lower ↦ before schema tests are j q lower there compared
@@ -150,7 +150,7 @@ apart-next strata f pairs i p b at told fails before schema tests are j q less t
       absurd (cc))
 ]
 
-pub apart-all : (strata : Strata) (f : List ℕ) (pairs : Pairs) (i : ℕ) → length pairs ≤ i → OfOrder strata (λ schema. IsApartFromFirst schema strata.dimensions f pairs i) → TellsComparedWith strata f pairs false
+pub apart-all : (strata : Strata) (f : List ℕ) (pairs : Pairs) (i : ℕ) → length pairs ≤ i → OfOrder strata (λ schema. IsApartFromFirst schema strata.dimensions f pairs i) → DecidesComparedWith strata f pairs false
 apart-all strata f pairs i past apart schema tests are = (
   λ e. absurd (cc),
   λ has. (

@@ -31,7 +31,7 @@ use Rattle.findings.specs.Answers.{AnswersQuery}
 use Rattle.findings.specs.Asked.{AsksBase, IsAsked}
 use Rattle.findings.specs.CoverQueries.{inside_plan, lies_plan}
 use Rattle.findings.specs.Findings.{HasNobody, IsFinding}
-use Rattle.findings.specs.Nobody.{IsAllowedInside, IsInsideAsked, IsInsideQuery, IsPartedBy, KeepInhabited, TellsNobody, allowed_inside_plan}
+use Rattle.findings.specs.Nobody.{IsAllowedInside, IsInsideAsked, IsInsideQuery, IsPartedBy, KeepInhabited, ShowsNobody, allowed_inside_plan}
 use Rattle.findings.specs.Queries.{AreMadeUnder}
 use Rattle.findings.specs.Steps.{AddUnder}
 use Rattle.findings.proofs.Covered.{all-asked, each-lies-suit}
@@ -90,7 +90,7 @@ inside-query law base strata fs are tests q asked is few = record {
 }
 
 -- where nobody meets the query, nobody is allowed anything in any of the findings
-pub told-nobody : (schema : Schema) (base : Query) (strata : Strata) (fs : List (List ℕ)) (q : Query) (splits states : ℕ) (answer : Asked) → IsInsideQuery base strata fs q → AnswersQuery schema splits states q answer → TellsNobody schema base strata fs answer
+pub told-nobody : (schema : Schema) (base : Query) (strata : Strata) (fs : List (List ℕ)) (q : Query) (splits states : ℕ) (answer : Asked) → IsInsideQuery base strata fs q → AnswersQuery schema splits states q answer → ShowsNobody schema base strata fs answer
 told-nobody schema base strata fs q splits states answer query says is set made k d within r valid allowed lies =
     let none : NoneMeets schema q.tests (asked_tree q) [] = subst (AnswersQuery schema splits states q) is says in
     let there = Contains-get_or fs k d within in
@@ -105,7 +105,7 @@ told-nobody schema base strata fs q splits states answer query says is set made 
 pub all-kept : (schema : Schema) (base : Query) (strata : Strata) (fs : List (List ℕ)) → KeepInhabited schema base strata fs fs
 all-kept schema base strata fs set made = record { only = λ f h. h; others = λ f h. inl h }
 
-pub marked-kept : (schema : Schema) (base : Query) (strata : Strata) (fs : List (List ℕ)) (parts : List (List ℕ) × List (List ℕ)) (answer : Asked) → IsPartedBy fs parts → TellsNobody schema base strata parts.0 answer → answer ≡ asked.Nobody → KeepInhabited schema base strata fs parts.1
+pub marked-kept : (schema : Schema) (base : Query) (strata : Strata) (fs : List (List ℕ)) (parts : List (List ℕ) × List (List ℕ)) (answer : Asked) → IsPartedBy fs parts → ShowsNobody schema base strata parts.0 answer → answer ≡ asked.Nobody → KeepInhabited schema base strata fs parts.1
 marked-kept schema base strata fs parts answer parted tells is set made = record {
   only = parted.second;
   others = λ f h. elim (parted.either f h) [

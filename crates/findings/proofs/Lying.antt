@@ -12,7 +12,7 @@ use Rattle.strata.specs.declared.stratum.Stratum.{Stratum}
 use Rattle.strata.specs.Covers.{predicate_at}
 use Rattle.strata.specs.Predicates.{MeetsPredicate}
 use Rattle.findings.specs.Findings.{IsFinding, LiesInFinding}
-use Rattle.findings.specs.Judging.{TellsAllowed, TellsOwn}
+use Rattle.findings.specs.Judging.{DecidesAllowed, DecidesOwn}
 use Rattle.findings.specs.Queries.{numbers_below}
 use Rattle.findings.specs.Steps.{MeetsFiner, MeetsOneOf, predicate_number_at}
 use Rattle.findings.proofs.Made.{made-steps}
@@ -82,13 +82,13 @@ none-below r d numbers items is none meets =
 -- ---- own requests
 
 module _ (schema : Schema) (base : Query) (strata : Strata) (f : List ℕ) (is : IsFinding strata.dimensions f) (r : Request) where
-  pub own-invalid : ¬ IsValid schema r → TellsOwn schema base strata f r false
+  pub own-invalid : ¬ IsValid schema r → DecidesOwn schema base strata f r false
   own-invalid wrong set made = (λ e. absurd (cc), λ own. absurd (wrong own.valid))
 
-  pub own-outside : ¬ LiesInFinding r strata.dimensions f → TellsOwn schema base strata f r false
+  pub own-outside : ¬ LiesInFinding r strata.dimensions f → DecidesOwn schema base strata f r false
   own-outside outside set made = (λ e. absurd (cc), λ own. absurd (outside own.lies))
 
-  pub own-finer : LiesInFinding r strata.dimensions f → MeetsFiner r strata.dimensions f → TellsOwn schema base strata f r false
+  pub own-finer : LiesInFinding r strata.dimensions f → MeetsFiner r strata.dimensions f → DecidesOwn schema base strata f r false
   own-finer lies meets set made = (
     λ e. absurd (cc),
     λ own. (
@@ -97,7 +97,7 @@ module _ (schema : Schema) (base : Query) (strata : Strata) (f : List ℕ) (is :
         absurd (own.no_finer lower.finer (under-finding schema strata.dimensions steps lower.finer f lower.under is) (under-finer schema strata.dimensions steps lower.finer f lower.under) lower.lies)),
   )
 
-  pub own-allowed : (b : Bool) → IsValid schema r → LiesInFinding r strata.dimensions f → ¬ MeetsFiner r strata.dimensions f → TellsAllowed base r b → TellsOwn schema base strata f r b
+  pub own-allowed : (b : Bool) → IsValid schema r → LiesInFinding r strata.dimensions f → ¬ MeetsFiner r strata.dimensions f → DecidesAllowed base r b → DecidesOwn schema base strata f r b
   own-allowed b valid lies none told set made =
       let allowed = told schema set made.fits made.query valid in
       let steps = made-steps schema set base strata made in (

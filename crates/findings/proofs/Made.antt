@@ -76,7 +76,7 @@ all-suit schema tests suit (d ∷ ds) are = (suits-at schema tests d suit (All-h
 
 module _ (schema : Schema) (set : PolicySet) (base : Query) (strata : Strata) (made : AreMadeFor schema set base strata) where
   pub made-steps : AllHaveSteps schema strata.dimensions
-  made-steps = all-have-steps schema base.tests made.some strata.dimensions made.are.each
+  made-steps = all-have-steps schema base.tests made.has_request strata.dimensions made.are.each
 
   pub made-numbered : AreNumberedBelow strata.dimensions
   made-numbered = all-numbered schema base.tests strata.dimensions made.are.each (subst (λ (slots : List Slot). All (λ s. ¬ NamesTooMany base.tests s) slots) (sym made.are.on) made.named)

@@ -16,7 +16,7 @@ use Rattle.strata.specs.Strata.{AnswersOrderOf, IsStratum}
 use Rattle.findings.specs.declared.blocks.Side.{Side}
 use Rattle.findings.specs.declared.blocks.Side.TheVariants.{Lower, Upper}
 use Rattle.findings.specs.Findings.{IsFiner, IsFinding}
-use Rattle.findings.specs.Judging.{AreBlockWords, AreSideBits, AreSideWords, HasWords, IsOnSide, IsBitSet, IsBitSetInEach, KeepsBits, TellsComparedWith, TellsSide, TellsSome, number_word}
+use Rattle.findings.specs.Judging.{AreBlockWords, AreSideBits, AreSideWords, HasWords, IsOnSide, IsBitSet, IsBitSetInEach, KeepsBits, DecidesComparedWith, DecidesSide, ShowsCommonBit, number_word}
 use Rattle.findings.specs.Steps.{predicate_number_at}
 use Rattle.findings.specs.Summaries.{findings_of}
 use Rattle.findings.proofs.Compared.{finding-of, finer-read, stratum-at}
@@ -47,11 +47,11 @@ zero-unset word n set empty = let zero_bit : bit_at word n ≡ 0 = ap (λ (x : �
 
 -- ---- sides
 
-pub side-lower : (d : Stratum) (side : Side) (one other : ℕ) (b : Bool) → side ≡ Lower → AnswersOrderOf d one other b → TellsSide d side one other b
-side-lower d side one other b is told = subst (λ (s : Side). TellsSide d s one other b) (sym is) told
+pub side-lower : (d : Stratum) (side : Side) (one other : ℕ) (b : Bool) → side ≡ Lower → AnswersOrderOf d one other b → DecidesSide d side one other b
+side-lower d side one other b is told = subst (λ (s : Side). DecidesSide d s one other b) (sym is) told
 
-pub side-upper : (d : Stratum) (side : Side) (one other : ℕ) (b : Bool) → side ≡ Upper → AnswersOrderOf d other one b → TellsSide d side one other b
-side-upper d side one other b is told = subst (λ (s : Side). TellsSide d s one other b) (sym is) told
+pub side-upper : (d : Stratum) (side : Side) (one other : ℕ) (b : Bool) → side ≡ Upper → AnswersOrderOf d other one b → DecidesSide d side one other b
+side-upper d side one other b is told = subst (λ (s : Side). DecidesSide d s one other b) (sym is) told
 
 -- ---- the word of a number
 
@@ -59,7 +59,7 @@ pub bits-none : (d : Stratum) (i : ℕ) (pairs : Pairs) (side : Side) (number wo
 bits-none d i pairs side number word schema tests is j q less at on = absurd (omega (arith, less))
 
 pub bits-next : (d : Stratum) (i : ℕ) (pairs : Pairs) (side : Side) (n number old new own : ℕ) (b : Bool) → AreSideBits d i pairs side n number old → KeepsBits old new → (IsTrue b → IsBitSet new n) →
-    TellsSide d side own number b → ((p : List ℕ × Request) → slice_get pairs n ≡ Some p → own ≡ predicate_number_at p.0 i) → AreSideBits d i pairs side (n + 1) number new
+    DecidesSide d side own number b → ((p : List ℕ × Request) → slice_get pairs n ≡ Some p → own ≡ predicate_number_at p.0 i) → AreSideBits d i pairs side (n + 1) number new
 bits-next d i pairs side n number old new own b before kept set told own_is schema tests is j q less at on = elim (cases_lt j n) [
   | inl lower ↦ kept j (before schema tests is j q lower at on)
   | inr upper ↦ (
@@ -155,7 +155,7 @@ some-next words f i old new own before says is bit within each =
     let second = subst (λ (w : ℕ). IsBitSet w bit) (sym says) (each i (omega arith)) in
     subst (λ (w : ℕ). IsBitSet w bit) (sym is) (and-set old own bit first second)
 
-pub none-found : (words : List (List ℕ)) (f : List ℕ) (n word : ℕ) → n ≡ length f → ((bit : ℕ) → bit < 64 → IsBitSetInEach words f n bit → IsBitSet word bit) → word ≡ 0 → TellsSome words f false
+pub none-found : (words : List (List ℕ)) (f : List ℕ) (n word : ℕ) → n ≡ length f → ((bit : ℕ) → bit < 64 → IsBitSetInEach words f n bit → IsBitSet word bit) → word ≡ 0 → ShowsCommonBit words f false
 none-found words f n word whole set empty bit within each = absurd (zero-unset word bit (set bit within (λ i less. each i (omega (arith, less, whole)))) empty)
 
 -- two items at one place
@@ -219,7 +219,7 @@ module _ (strata : Strata) (f : List ℕ) (is_f : IsFinding strata.dimensions f)
 
   -- where no bit is set in all words of either side, the finding is compared with none of the block
   pub none-in-block : (lower upper : List (List ℕ)) → length block ≤ 64 → AreBlockWords strata block Lower (length strata.dimensions) lower → AreBlockWords strata block Upper (length strata.dimensions) upper →
-      ((bit : ℕ) → bit < 64 → IsBitSetInEach lower f (length f) bit → ⊥) → ((bit : ℕ) → bit < 64 → IsBitSetInEach upper f (length f) bit → ⊥) → TellsComparedWith strata f block false
+      ((bit : ℕ) → bit < 64 → IsBitSetInEach lower f (length f) bit → ⊥) → ((bit : ℕ) → bit < 64 → IsBitSetInEach upper f (length f) bit → ⊥) → DecidesComparedWith strata f block false
   none-in-block lower upper few are_lower are_upper none_lower none_upper schema tests strata_are = (
     λ e. absurd (cc),
     λ has. (

@@ -66,7 +66,7 @@ module _ (schema : Schema) (tests : List Test) (d : Stratum) (is : IsStratum sch
       let first = any-first schema tests d request is in
       let every : predicate_at d.predicates 0 ≡ Every = ap (λ (ps : List Predicate). predicate_at ps 0) first.1 in
       record {
-        some = (let long : length d.predicates ≡ suc (length first.0) = ap length first.1 in omega (arith, long));
+        nonempty = (let long : length d.predicates ≡ suc (length first.0) = ap length first.1 in omega (arith, long));
         top = λ i. subst (λ (p : Predicate). IsBelow schema d.slot (predicate_at d.predicates i) p) (sym every) (λ r valid meets. tt);
         equal = λ i j lower upper below above. stratum-differ schema tests d i j is lower upper below above;
         every = λ r. subst (λ (p : Predicate). MeetsPredicate d.slot p r) (sym every) tt;

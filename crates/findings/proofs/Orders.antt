@@ -28,7 +28,7 @@ pub record HasRightAbove (schema : Schema) (d : Stratum) (i j : ℕ) : Type 0 wh
 
 -- what is used of the order of a dimension
 pub record HasSteps (schema : Schema) (d : Stratum) : Type 0 where
-  pub some : 0 < length d.predicates
+  pub nonempty : 0 < length d.predicates
   pub top : (i : ℕ) → IsBelowAt schema d.slot d.predicates i 0
   pub equal : (i j : ℕ) → i < length d.predicates → j < length d.predicates → IsBelowAt schema d.slot d.predicates i j → IsBelowAt schema d.slot d.predicates j i → i ≡ j
   pub every : (r : Request) → MeetsPredicate d.slot (predicate_at d.predicates 0) r
@@ -234,7 +234,7 @@ ranks-fall schema (d ∷ ds) steps (n ∷ f) (m ∷ g) is_f is_g strict = elim (
 
 pub zeros-finding : (schema : Schema) (ds : List Stratum) → AllHaveSteps schema ds → IsFinding ds (first_finding ds)
 zeros-finding schema [] steps = tt
-zeros-finding schema (d ∷ ds) steps = (steps.0.some, zeros-finding schema ds steps.1)
+zeros-finding schema (d ∷ ds) steps = (steps.0.nonempty, zeros-finding schema ds steps.1)
 
 pub zeros-above : (schema : Schema) (ds : List Stratum) → AllHaveSteps schema ds → (f : List ℕ) → IsFiner schema ds f (first_finding ds)
 zeros-above schema [] steps f = tt

@@ -17,7 +17,7 @@ use Rattle.policy_compile.specs.Numbering.{AreNumbered, Collects, IsNumbered, ag
 use Rattle.policy_compile.specs.Plans.{Plan, Plans, all, ask, more, none, not, of_plans, one_of, tests_in, tests_in_each, yes}
 use Rattle.findings.specs.Asked.{AreAsked, AreNumbersOf, AsksBase, HasTestNumber, IsAsked}
 use Rattle.findings.specs.Queries.{plan_or_yes}
-use Rattle.findings.specs.Renumbering.{renumbered, renumbered_each}
+use Rattle.findings.specs.Renumbering.{renumbered_tree, renumbered_each}
 use Rattle.std.proofs.Common.{rules}
 
 -- ---- lists of tests
@@ -171,7 +171,7 @@ asked-next a b c ps p before mid after t first second grows =
 -- ---- the base
 
 mutual
-  renumber-numbered : (old new tests : List Test) (numbers : List ℕ) → AreNumbersOf old new tests numbers → (p : Plan) (t : Tree) → IsNumbered tests p t → IsNumbered new p (renumbered numbers t)
+  renumber-numbered : (old new tests : List Test) (numbers : List ℕ) → AreNumbersOf old new tests numbers → (p : Plan) (t : Tree) → IsNumbered tests p t → IsNumbered new p (renumbered_tree numbers t)
   renumber-numbered old new tests numbers is yes tree.yes numbered_yes = numbered_yes
   renumber-numbered old new tests numbers is (ask u) (tree.test n) (numbered_ask at) = numbered_ask (is.each n u at)
   renumber-numbered old new tests numbers is (not p) (tree.not t) (numbered_not h) = numbered_not (renumber-numbered old new tests numbers is p t h)
@@ -209,7 +209,7 @@ mutual
   renumber-all old new tests numbers is none (tree.more t ts) x = elim x [ ]
   renumber-all old new tests numbers is (more p ps) tree.none x = elim x [ ]
 
-pub base-asked : (old new : List Test) (base : Query) (numbers : List ℕ) (f : Rc Formula Global) → AreNumbersOf old new base.tests numbers → tree_of f.value ≡ renumbered numbers (tree_of base.formula.value) → AsksBase old new base f
+pub base-asked : (old new : List Test) (base : Query) (numbers : List ℕ) (f : Rc Formula Global) → AreNumbersOf old new base.tests numbers → tree_of f.value ≡ renumbered_tree numbers (tree_of base.formula.value) → AsksBase old new base f
 base-asked old new base numbers f is same allowed query = record {
   collects = reads-again (tests_in allowed) base.tests old new query.tests is.collects;
   numbered = subst (IsNumbered new allowed) (sym same) (renumber-numbered old new base.tests numbers is allowed (tree_of base.formula.value) query.tree);

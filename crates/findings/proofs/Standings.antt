@@ -20,7 +20,7 @@ use Rattle.strata.specs.declared.stratum.Stratum.{Stratum}
 use Rattle.findings.specs.declared.standing.SummaryVerdict.{SummaryVerdict}
 use Rattle.findings.specs.declared.standing.SummaryVerdict.TheVariants.{Stands, Fails}
 use Rattle.findings.specs.Findings.{IsOwn, IsStrictlyFiner}
-use Rattle.findings.specs.Judging.{FailsAlone, IsComparedWith, IsFirstAlone, IsFirstCompared, IsFirstInBlock, OfOrder, Rises, StandAlone, StandsAlone, TellsAlone, TellsComparedWith, TellsOwn, verdict_at}
+use Rattle.findings.specs.Judging.{FailsAlone, IsComparedWith, IsFirstAlone, IsFirstCompared, IsFirstInBlock, OfOrder, Rises, StandAlone, StandsAlone, DecidesAlone, DecidesComparedWith, DecidesOwn, verdict_at}
 use Rattle.findings.specs.Queries.{AreMadeFor}
 use Rattle.findings.specs.StandingSummaries.{HasFault, IsFailingPair, IsFirstFailing, IsSummaryVerdict, JudgesSummary, SummaryStands}
 use Rattle.findings.specs.Summaries.{findings_of}
@@ -201,7 +201,7 @@ blocks-next strata pairs block most start count old new is before found = record
 -- ---- one block
 
 pub block-here : (strata : Strata) (pairs block : Pairs) (most i : ℕ) (p : List ℕ × Request) (b : Bool) → i < most → slice_get pairs i ≡ Some p →
-    OfOrder strata (λ schema. (j : ℕ) (q : List ℕ × Request) → j < i → slice_get pairs j ≡ Some q → ¬ IsComparedWith schema strata.dimensions q.0 block) → TellsComparedWith strata p.0 block b → b ≡ true → IsFirstInBlock strata pairs block most i
+    OfOrder strata (λ schema. (j : ℕ) (q : List ℕ × Request) → j < i → slice_get pairs j ≡ Some q → ¬ IsComparedWith schema strata.dimensions q.0 block) → DecidesComparedWith strata p.0 block b → b ≡ true → IsFirstInBlock strata pairs block most i
 block-here strata pairs block most i p b less at before told holds = record {
   within = omega (arith, less);
   before = before;
@@ -209,7 +209,7 @@ block-here strata pairs block most i p b less at before told holds = record {
 }
 
 pub block-next : (strata : Strata) (pairs block : Pairs) (i : ℕ) (p : List ℕ × Request) (b : Bool) → slice_get pairs i ≡ Some p →
-    OfOrder strata (λ schema. (j : ℕ) (q : List ℕ × Request) → j < i → slice_get pairs j ≡ Some q → ¬ IsComparedWith schema strata.dimensions q.0 block) → TellsComparedWith strata p.0 block b → b ≡ false →
+    OfOrder strata (λ schema. (j : ℕ) (q : List ℕ × Request) → j < i → slice_get pairs j ≡ Some q → ¬ IsComparedWith schema strata.dimensions q.0 block) → DecidesComparedWith strata p.0 block b → b ≡ false →
     OfOrder strata (λ schema. (j : ℕ) (q : List ℕ × Request) → j < i + 1 → slice_get pairs j ≡ Some q → ¬ IsComparedWith schema strata.dimensions q.0 block)
 block-next strata pairs block i p b at before told fails schema tests are j q less there compared = elim (cases_lt j i) [
   | inl lower ↦ before schema tests are j q lower there compared
@@ -272,11 +272,11 @@ rises-told pairs i k before here false next at own told = λ p there. record {
 }
 
 module _ (schema : Schema) (base : Query) (strata : Strata) (pairs : Pairs) (i : ℕ) where
-  pub alone-falls : (b : Bool) → b ≡ false → Rises pairs i b → TellsAlone schema base strata pairs i false
+  pub alone-falls : (b : Bool) → b ≡ false → Rises pairs i b → DecidesAlone schema base strata pairs i false
   alone-falls true e told set p made at = absurd (cc)
   alone-falls false e told set p made at = inr (told p at)
 
-  pub alone-own : (b own : Bool) (here there : List ℕ × Request) → b ≡ true → Rises pairs i b → slice_get pairs i ≡ Some here → slice_get pairs i ≡ Some there → TellsOwn schema base strata here.0 there.1 own → TellsAlone schema base strata pairs i own
+  pub alone-own : (b own : Bool) (here there : List ℕ × Request) → b ≡ true → Rises pairs i b → slice_get pairs i ≡ Some here → slice_get pairs i ≡ Some there → DecidesOwn schema base strata here.0 there.1 own → DecidesAlone schema base strata pairs i own
   alone-own false own here there e told at again is = absurd (cc)
   alone-own true true here there e told at again is = λ set p made found.
       let first = same-pair pairs i here p at found in
@@ -294,11 +294,11 @@ module _ (schema : Schema) (base : Query) (strata : Strata) (pairs : Pairs) (i :
       let bad : false ≡ true = (is set made).1 same in
       absurd (cc)))
 
-  pub alone-here : (b : Bool) → i < length pairs → StandAlone schema base strata pairs i → TellsAlone schema base strata pairs i b → b ≡ false → IsFirstAlone schema base strata pairs i
+  pub alone-here : (b : Bool) → i < length pairs → StandAlone schema base strata pairs i → DecidesAlone schema base strata pairs i b → b ≡ false → IsFirstAlone schema base strata pairs i
   alone-here true less before told e = absurd (cc)
   alone-here false less before told e = record { within = omega (arith, less); before = before; here = λ set p made at. told set p made at }
 
-  pub alone-next : (b : Bool) → StandAlone schema base strata pairs i → TellsAlone schema base strata pairs i b → b ≡ true → StandAlone schema base strata pairs (i + 1)
+  pub alone-next : (b : Bool) → StandAlone schema base strata pairs i → DecidesAlone schema base strata pairs i b → b ≡ true → StandAlone schema base strata pairs (i + 1)
   alone-next false before told e = absurd (cc)
   alone-next true before told e = λ set j p made less at. elim (cases_lt j i) [
     | inl lower ↦ before set j p made lower at

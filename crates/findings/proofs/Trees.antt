@@ -10,7 +10,7 @@ use Rattle.formula_tree.specs.declared.formula.Formula.{Formula, the_lemmas}
 use Rattle.formula_tree.specs.declared.formula.Formula.TheVariants.{All, Not, OneOf, Test}
 use Rattle.formula_tree.specs.Trees.{Tree, Trees, all, more, no, none, not, of_list, one_of, test, tree_of, trees_of, yes}
 use Rattle.formula_tree.specs.Values.{AreBelow, EachBelow}
-use Rattle.findings.specs.Renumbering.{renumbered, renumbered_each}
+use Rattle.findings.specs.Renumbering.{renumbered_tree, renumbered_each}
 
 pub tree-Test : (n : ℕ) → tree_of (Test n) ≡ test n
 tree-Test n = search (rules, the_lemmas)
@@ -91,11 +91,11 @@ listed-more : (ts : List Tree) (t : Tree) → of_list (ts ++ t ∷ []) ≡ one_m
 listed-more [] t = refl
 listed-more (x ∷ xs) t = ap (more x) (listed-more xs t)
 
-each-more : (numbers : List ℕ) (ts : List Tree) (t : Tree) → renumbered_each numbers (of_list (ts ++ t ∷ [])) ≡ one_more (renumbered_each numbers (of_list ts)) (renumbered numbers t)
+each-more : (numbers : List ℕ) (ts : List Tree) (t : Tree) → renumbered_each numbers (of_list (ts ++ t ∷ [])) ≡ one_more (renumbered_each numbers (of_list ts)) (renumbered_tree numbers t)
 each-more numbers [] t = refl
-each-more numbers (x ∷ xs) t = ap (more (renumbered numbers x)) (each-more numbers xs t)
+each-more numbers (x ∷ xs) t = ap (more (renumbered_tree numbers x)) (each-more numbers xs t)
 
-pub each-next : (numbers : List ℕ) (ts : List Tree) (i : ℕ) (t new : Tree) (before after : List Tree) → Some t ≡ slice_get ts i → of_list before ≡ renumbered_each numbers (of_list (take i ts)) → new ≡ renumbered numbers t → after ≡ before ++ new ∷ [] →
+pub each-next : (numbers : List ℕ) (ts : List Tree) (i : ℕ) (t new : Tree) (before after : List Tree) → Some t ≡ slice_get ts i → of_list before ≡ renumbered_each numbers (of_list (take i ts)) → new ≡ renumbered_tree numbers t → after ≡ before ++ new ∷ [] →
     of_list after ≡ renumbered_each numbers (of_list (take (i + 1) ts))
 each-next numbers ts i t new before after e was is grows =
     ap of_list grows ∙ listed-more before new ∙ ap (λ (xs : Trees). one_more xs new) was ∙ ap (one_more (renumbered_each numbers (of_list (take i ts)))) is ∙ sym (each-more numbers (take i ts) t) ∙

@@ -43,13 +43,13 @@ pub record OfFindingQuery (schema : Schema) (set : PolicySet) (ds : List Stratum
   pub holds : P query
 
 -- whose the finding is: a request of its own; that it has none; or that a number is too small for its query
-abbrev pub TellsWhose : Schema → PolicySet → List Stratum → (splits states : ℕ) → List ℕ → Asked → Type 0
-TellsWhose schema set ds splits states f (asked.Met r) = IsOwn schema set ds f r
-TellsWhose schema set ds splits states f asked.Nobody = ¬ IsIrreducible schema set ds f
-TellsWhose schema set ds splits states f asked.OutOfSplits = OfFindingQuery schema set ds f (λ q. SplitsFail schema q splits)
-TellsWhose schema set ds splits states f (asked.OutOfStates w) = OfFindingQuery schema set ds f (λ q. StatesFail schema q states w)
+abbrev pub DecidesWhose : Schema → PolicySet → List Stratum → (splits states : ℕ) → List ℕ → Asked → Type 0
+DecidesWhose schema set ds splits states f (asked.Met r) = IsOwn schema set ds f r
+DecidesWhose schema set ds splits states f asked.Nobody = ¬ IsIrreducible schema set ds f
+DecidesWhose schema set ds splits states f asked.OutOfSplits = OfFindingQuery schema set ds f (λ q. SplitsFail schema q splits)
+DecidesWhose schema set ds splits states f (asked.OutOfStates w) = OfFindingQuery schema set ds f (λ q. StatesFail schema q states w)
 
 -- of whichever set the strata are
 abbrev pub IsOwnAnswered : Schema → (splits states : ℕ) → Query → Strata → List ℕ → Asked → Type 0
 IsOwnAnswered schema splits states base strata f answer =
-    (set : PolicySet) → AreMadeFor schema set base strata → TellsWhose schema set strata.dimensions splits states f answer
+    (set : PolicySet) → AreMadeFor schema set base strata → DecidesWhose schema set strata.dimensions splits states f answer

@@ -37,31 +37,31 @@ pub record AreAnswersOf (r : Request) (tests : List Test) (answers : List Bool) 
   pub says : AnswersAs (nth_answer answers) r tests
 
 -- whether the set, of whichever the query is, allows the valid request
-abbrev pub TellsAllowed : Query → Request → Bool → Type 0
-TellsAllowed base r b =
+abbrev pub DecidesAllowed : Query → Request → Bool → Type 0
+DecidesAllowed base r b =
     (schema : Schema) (set : PolicySet) → SchemaFits schema set → IsQuery (set_plan schema set) base → IsValid schema r →
     (IsTrue b ↔ Allows schema set r)
 
 -- whether the request is the finding's own, for whichever set the strata are
-abbrev pub TellsOwn : Schema → Query → Strata → List ℕ → Request → Bool → Type 0
-TellsOwn schema base strata f r b =
+abbrev pub DecidesOwn : Schema → Query → Strata → List ℕ → Request → Bool → Type 0
+DecidesOwn schema base strata f r b =
     (set : PolicySet) → AreMadeFor schema set base strata → (IsTrue b ↔ IsOwn schema set strata.dimensions f r)
 
 -- under whichever schema the request is valid
-abbrev pub TellsOwnIfValid : Query → Strata → List ℕ → Request → Bool → Type 0
-TellsOwnIfValid base strata f r b = (schema : Schema) → IsValid schema r → TellsOwn schema base strata f r b
+abbrev pub DecidesOwnIfValid : Query → Strata → List ℕ → Request → Bool → Type 0
+DecidesOwnIfValid base strata f r b = (schema : Schema) → IsValid schema r → DecidesOwn schema base strata f r b
 
 -- a fact on the order of the strata, under whichever schema and of whichever tests they are
 abbrev pub OfOrder : Strata → (Schema → Type 0) → Type 0
 OfOrder strata P = (schema : Schema) (tests : List Test) → All (IsStratum schema tests) strata.dimensions → P schema
 
 -- whether the one finding is finer than the other, or the same
-abbrev pub TellsFiner : Strata → List ℕ → List ℕ → Bool → Type 0
-TellsFiner strata f g b = OfOrder strata (λ schema. IsTrue b ↔ IsFiner schema strata.dimensions f g)
+abbrev pub DecidesFiner : Strata → List ℕ → List ℕ → Bool → Type 0
+DecidesFiner strata f g b = OfOrder strata (λ schema. IsTrue b ↔ IsFiner schema strata.dimensions f g)
 
 -- whether one of the two is strictly finer than the other
-abbrev pub TellsCompared : Strata → List ℕ → List ℕ → Bool → Type 0
-TellsCompared strata f g b = OfOrder strata (λ schema. IsTrue b ↔ AreComparable schema strata.dimensions f g)
+abbrev pub DecidesCompared : Strata → List ℕ → List ℕ → Bool → Type 0
+DecidesCompared strata f g b = OfOrder strata (λ schema. IsTrue b ↔ AreComparable schema strata.dimensions f g)
 
 -- the finding of some pair is strictly finer than this one, or strictly above it
 pub record IsComparedWith (schema : Schema) (ds : List Stratum) (f : List ℕ) (pairs : List (List ℕ × Request)) : Type 0 where
@@ -71,8 +71,8 @@ pub record IsComparedWith (schema : Schema) (ds : List Stratum) (f : List ℕ) (
   pub compared : AreComparable schema ds f other.0
 
 -- whether there is such a pair
-abbrev pub TellsComparedWith : Strata → List ℕ → List (List ℕ × Request) → Bool → Type 0
-TellsComparedWith strata f pairs b = OfOrder strata (λ schema. IsTrue b ↔ IsComparedWith schema strata.dimensions f pairs)
+abbrev pub DecidesComparedWith : Strata → List ℕ → List (List ℕ × Request) → Bool → Type 0
+DecidesComparedWith strata f pairs b = OfOrder strata (λ schema. IsTrue b ↔ IsComparedWith schema strata.dimensions f pairs)
 
 -- the finding rises above that of the pair before this index, where there is one
 abbrev pub RisesAbove : List (List ℕ × Request) → ℕ → List ℕ → Type 0
@@ -96,8 +96,8 @@ abbrev pub FailsAlone : Schema → PolicySet → List Stratum → List (List ℕ
 FailsAlone schema set ds pairs i p = (¬ IsOwn schema set ds p.0 p.1) ⊎ DoesNotRise pairs i p.0
 
 -- whether the pair of this index stands alone, for whichever set the strata are
-abbrev pub TellsAlone : Schema → Query → Strata → List (List ℕ × Request) → ℕ → Bool → Type 0
-TellsAlone schema base strata pairs i b =
+abbrev pub DecidesAlone : Schema → Query → Strata → List (List ℕ × Request) → ℕ → Bool → Type 0
+DecidesAlone schema base strata pairs i b =
     (set : PolicySet) (p : List ℕ × Request) → AreMadeFor schema set base strata → slice_get pairs i ≡ Some p →
     MatchBool b (StandsAlone schema set strata.dimensions pairs i p) (FailsAlone schema set strata.dimensions pairs i p)
 
@@ -147,8 +147,8 @@ IsOnSide schema d Lower one other = IsBelowIn schema d one other
 IsOnSide schema d Upper one other = IsBelowIn schema d other one
 
 -- whether it does
-abbrev pub TellsSide : Stratum → Side → ℕ → ℕ → Bool → Type 0
-TellsSide d side one other b =
+abbrev pub DecidesSide : Stratum → Side → ℕ → ℕ → Bool → Type 0
+DecidesSide d side one other b =
     (schema : Schema) (tests : List Test) → IsStratum schema tests d → (IsTrue b ↔ IsOnSide schema d side one other)
 
 -- the bit of this number is set
@@ -199,5 +199,5 @@ abbrev pub HasWords : List (List ℕ) → List ℕ → Type 0
 HasWords words f = (i : ℕ) → i < length f → HasWordAt words f i
 
 -- it is told where some bit is set in the words of all numbers
-abbrev pub TellsSome : List (List ℕ) → List ℕ → Bool → Type 0
-TellsSome words f b = (bit : ℕ) → bit < 64 → IsBitSetInEach words f (length f) bit → IsTrue b
+abbrev pub ShowsCommonBit : List (List ℕ) → List ℕ → Bool → Type 0
+ShowsCommonBit words f b = (bit : ℕ) → bit < 64 → IsBitSetInEach words f (length f) bit → IsTrue b

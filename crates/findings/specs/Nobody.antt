@@ -48,8 +48,8 @@ pub record IsInsideQuery (base : Query) (strata : Strata) (fs : List (List ℕ))
   pub askable : IsAskableFor base strata q
 
 -- of whichever set the base is, nobody is allowed anything in any of the findings where that is the answer
-abbrev pub TellsNobody : Schema → Query → Strata → List (List ℕ) → Asked → Type 0
-TellsNobody schema base strata fs answer =
+abbrev pub ShowsNobody : Schema → Query → Strata → List (List ℕ) → Asked → Type 0
+ShowsNobody schema base strata fs answer =
     answer ≡ asked.Nobody → (set : PolicySet) → AreMadeFor schema set base strata →
     All (HasNobody schema set strata.dimensions) fs
 

@@ -62,7 +62,7 @@ pub record IsFindingQuery (allowed : Plan) (ds : List Stratum) (f : List ℕ) (q
 pub record AreMadeFor (schema : Schema) (set : PolicySet) (base : Query) (strata : Strata) : Type 0 where
   pub sound : SchemaIsSound schema
   pub fits : SchemaFits schema set
-  pub some : HasValidRequest schema
+  pub has_request : HasValidRequest schema
   pub query : IsQuery (set_plan schema set) base
   pub slots : List Slot
   pub differ : AllPairs (λ s t. s ≢ t) slots

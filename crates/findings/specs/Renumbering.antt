@@ -4,14 +4,14 @@ use Rattle.formula_tree.specs.Trees.{Tree, Trees, all, more, no, none, not, one_
 
 -- the tree with the number of each test replaced by the one at its index
 abbrev mutual
-  pub renumbered : List ℕ → Tree → Tree
-  renumbered numbers yes = yes
-  renumbered numbers no = no
-  renumbered numbers (test n) = test (slice_index numbers n)
-  renumbered numbers (not t) = not (renumbered numbers t)
-  renumbered numbers (all ts) = all (renumbered_each numbers ts)
-  renumbered numbers (one_of ts) = one_of (renumbered_each numbers ts)
+  pub renumbered_tree : List ℕ → Tree → Tree
+  renumbered_tree numbers yes = yes
+  renumbered_tree numbers no = no
+  renumbered_tree numbers (test n) = test (slice_index numbers n)
+  renumbered_tree numbers (not t) = not (renumbered_tree numbers t)
+  renumbered_tree numbers (all ts) = all (renumbered_each numbers ts)
+  renumbered_tree numbers (one_of ts) = one_of (renumbered_each numbers ts)
 
   pub renumbered_each : List ℕ → Trees → Trees
   renumbered_each numbers none = none
-  renumbered_each numbers (more t ts) = more (renumbered numbers t) (renumbered_each numbers ts)
+  renumbered_each numbers (more t ts) = more (renumbered_tree numbers t) (renumbered_each numbers ts)

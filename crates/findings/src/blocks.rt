@@ -3,7 +3,7 @@
 ghost use Rattle.std.specs.Prelude.{◌≤◌, ◌<◌, ◌≡◌, ◌*◌, ◌/◌, All, IfOk, IsTrue, drop, length, take};
 ghost use Rattle.findings.specs.declared.blocks.Side.TheVariants.{Lower, Upper};
 ghost use Rattle.findings.specs.Findings.{IsFinding};
-ghost use Rattle.findings.specs.Judging.{AreSideBits, AreSideWords, AreWordsOf, HasWordAt, HasWords, IsFirstCompared, IsFirstInBlock, IsBitSet, KeepsBits, TellsComparedWith, TellsSide, TellsSome, number_word};
+ghost use Rattle.findings.specs.Judging.{AreSideBits, AreSideWords, AreWordsOf, HasWordAt, HasWords, IsFirstCompared, IsFirstInBlock, IsBitSet, KeepsBits, DecidesComparedWith, DecidesSide, ShowsCommonBit, number_word};
 ghost use Rattle.findings.specs.Summaries.{findings_of};
 
 use crate::order::is_compared_with;
@@ -31,7 +31,7 @@ pub(crate) enum Side {
 
 // Whether the predicate of the one number stands on this side of that of the other.
 fn is_on_side(stratum: &Stratum, side: Side, one: usize, other: usize) -> bool
-    ensures { TellsSide stratum.now side one other result }
+    ensures { DecidesSide stratum.now side one other result }
 {
     match side {
         Side::Lower => stratum.is_below(one, other),
@@ -118,7 +118,7 @@ fn number_word(words: &List<WordList>, finding: &Finding, i: usize) -> u64
 // Whether some bit is set in the words of all numbers of the finding.
 fn has_some(words: &List<WordList>, finding: &Finding) -> bool
     requires { HasWords words.now finding.now }
-    ensures { TellsSome words.now finding.now result }
+    ensures { ShowsCommonBit words.now finding.now result }
 {
     let mut word = u64::MAX;
     'dimensions: for i in 0..finding.len() {
@@ -143,7 +143,7 @@ fn is_compared_in(
     requires few { length block.now ≤ 64 }
     requires lower { AreWordsOf strata.now block.now Lower lower.now }
     requires upper { AreWordsOf strata.now block.now Upper upper.now }
-    ensures { TellsComparedWith strata.now finding.now block.now result }
+    ensures { DecidesComparedWith strata.now finding.now block.now result }
 {
     if has_some(lower, finding) {
         return is_compared_with(strata, finding, block);

@@ -2,7 +2,7 @@
 ghost use Rattle.std.specs.Prelude.{◌≡◌, IfOk, length};
 ghost use Rattle.formula_tree.specs.Trees.{children_of, tree_of};
 ghost use Rattle.formula_tree.specs.Values.{AreBelow, EachBelow, each_holds, holds, some_holds};
-ghost use Rattle.findings.specs.Judging.{AreAnswersOf, TellsAllowed, nth_answer};
+ghost use Rattle.findings.specs.Judging.{AreAnswersOf, DecidesAllowed, nth_answer};
 
 use formula_tree::{Branches, Formula};
 use plain_lists::NoMemory;
@@ -74,7 +74,7 @@ fn some_holds_by(answers: &[bool], branches: &Branches) -> bool
 /// Whether the set whose query is `base` allows the valid request. Each test is asked once.
 pub(crate) fn is_allowed(alloc: Global, base: &Query, request: &Request) -> Result<bool, NoMemory>
     requires { AreBelow (length base.now.tests) (tree_of base.now.formula.value) }
-    ensures { IfOk result (TellsAllowed base.now request.now) }
+    ensures { IfOk result (DecidesAllowed base.now request.now) }
 {
     let answers = answers_of(alloc, base.tests.as_slice(), request)?;
     Ok(holds_by(answers.as_slice(), &base.formula))

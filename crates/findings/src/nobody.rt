@@ -2,7 +2,7 @@
 ghost use Rattle.std.specs.Prelude.{◌≡◌, [], All, IfOk};
 ghost use Rattle.formula_tree.specs.Trees.{tree_of};
 ghost use Rattle.findings.specs.Findings.{IsFinding};
-ghost use Rattle.findings.specs.Nobody.{IsInsideAsked, IsInsideQuery, TellsNobody};
+ghost use Rattle.findings.specs.Nobody.{IsInsideAsked, IsInsideQuery, ShowsNobody};
 ghost use Rattle.findings.specs.Queries.{AreMade, AreMadeUnder};
 
 use crate::cover::lies_in_some;
@@ -66,7 +66,7 @@ pub(crate) fn ask_inside<D: Decide>(
     requires made { AreMadeUnder (D.schema asks.old) base.now strata.now }
     requires findings { All (IsFinding strata.now.dimensions) findings.now }
     ensures nobody { IfOk result
-        (TellsNobody (D.schema asks.old) base.now strata.now findings.now) }
+        (ShowsNobody (D.schema asks.old) base.now strata.now findings.now) }
     ensures schema { D.schema asks.new ≡ D.schema asks.old }
     ensures splits { D.splits asks.new ≡ D.splits asks.old }
     ensures states { D.states asks.new ≡ D.states asks.old }

@@ -3,7 +3,7 @@ ghost use Rattle.std.specs.Prelude.{◌≡◌, ◌<◌, ◌^◌, [], IfOk, OnOk,
 ghost use Rattle.formula_tree.specs.Trees.{children_of, tree_of, trees_of};
 ghost use Rattle.formula_tree.specs.Values.{AreBelow, EachBelow};
 ghost use Rattle.findings.specs.Findings.{IsFinding};
-ghost use Rattle.findings.specs.Renumbering.{renumbered, renumbered_each};
+ghost use Rattle.findings.specs.Renumbering.{renumbered_tree, renumbered_each};
 
 use crate::outcome::Finding;
 use crate::reading::{dimension_at, predicate_number_at};
@@ -28,7 +28,7 @@ pub(crate) struct Numbering {
 #[cycle(renumber)]
 fn renumber(alloc: Global, numbers: &[u32], formula: &Formula) -> Result<Formula, NoMemory>
     requires { AreBelow (length numbers.now) (tree_of formula.now) }
-    ensures { IfOk result (λ f. tree_of f ≡ renumbered numbers.now (tree_of formula.now)) }
+    ensures { IfOk result (λ f. tree_of f ≡ renumbered_tree numbers.now (tree_of formula.now)) }
 {
     match formula {
         Formula::Yes => Ok(Formula::Yes),

@@ -4,7 +4,7 @@ ghost use Rattle.std.specs.Cmp.Lexicographic.{slice_cmp};
 ghost use Rattle.std.specs.Ordering.{nat_cmp};
 ghost use Rattle.std.specs.declared.cmp.Ordering.TheVariants.{Less};
 ghost use Rattle.findings.specs.Findings.{IsFinding};
-ghost use Rattle.findings.specs.Judging.{TellsCompared, TellsComparedWith, TellsFiner};
+ghost use Rattle.findings.specs.Judging.{DecidesCompared, DecidesComparedWith, DecidesFiner};
 ghost use Rattle.findings.specs.Summaries.{findings_of};
 
 use crate::outcome::Finding;
@@ -23,7 +23,7 @@ pub(crate) fn is_before(one: &Finding, other: &Finding) -> bool
 fn is_finer(strata: &Strata, one: &Finding, other: &Finding) -> bool
     requires one { IsFinding strata.now.dimensions one.now }
     requires other { IsFinding strata.now.dimensions other.now }
-    ensures { TellsFiner strata.now one.now other.now result }
+    ensures { DecidesFiner strata.now one.now other.now result }
 {
     'dimensions: for i in 0..one.len() {
         let number = predicate_number_at(one, i) as usize;
@@ -39,7 +39,7 @@ fn is_finer(strata: &Strata, one: &Finding, other: &Finding) -> bool
 fn is_compared(strata: &Strata, one: &Finding, other: &Finding) -> bool
     requires one { IsFinding strata.now.dimensions one.now }
     requires other { IsFinding strata.now.dimensions other.now }
-    ensures { TellsCompared strata.now one.now other.now result }
+    ensures { DecidesCompared strata.now one.now other.now result }
 {
     if one == other {
         return false;
@@ -55,7 +55,7 @@ pub(crate) fn is_compared_with(
 ) -> bool
     requires finding { IsFinding strata.now.dimensions finding.now }
     requires pairs { All (IsFinding strata.now.dimensions) (findings_of pairs.now) }
-    ensures { TellsComparedWith strata.now finding.now pairs.now result }
+    ensures { DecidesComparedWith strata.now finding.now pairs.now result }
 {
     'pairs: for pair in pairs {
         if is_compared(strata, finding, &pair.0) {

@@ -4,7 +4,7 @@ ghost use Rattle.policy_model.specs.Conds.{CondMeets};
 ghost use Rattle.strata.specs.Covers.{predicate_at};
 ghost use Rattle.strata.specs.Predicates.{MeetsPredicate};
 ghost use Rattle.findings.specs.Findings.{IsFinding, LiesInFinding};
-ghost use Rattle.findings.specs.Judging.{TellsOwn, TellsOwnIfValid};
+ghost use Rattle.findings.specs.Judging.{DecidesOwn, DecidesOwnIfValid};
 ghost use Rattle.findings.specs.Queries.{AreMade, AreMadeUnder, numbers_below};
 ghost use Rattle.findings.specs.Steps.{AreNumberedBelow, IsNumberedBelow, MeetsFiner, MeetsOneOf};
 
@@ -107,7 +107,7 @@ pub(crate) fn is_own_if_valid(
 ) -> Result<bool, NoMemory>
     requires made { AreMade base.now strata.now }
     requires finding { IsFinding strata.now.dimensions finding.now }
-    ensures { IfOk result (TellsOwnIfValid base.now strata.now finding.now request.now) }
+    ensures { IfOk result (DecidesOwnIfValid base.now strata.now finding.now request.now) }
 {
     if !lies_in(strata, finding, request) {
         return Ok(false);
@@ -132,7 +132,7 @@ pub(crate) fn is_own(
     requires made { AreMadeUnder schema.now base.now strata.now }
     requires finding { IsFinding strata.now.dimensions finding.now }
     ensures { IfOk result
-        (TellsOwn schema.now base.now strata.now finding.now request.now) }
+        (DecidesOwn schema.now base.now strata.now finding.now request.now) }
 {
     if !valid(schema, request) {
         return Ok(false);

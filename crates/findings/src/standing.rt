@@ -1,7 +1,7 @@
 //! Whether a list of findings with requests stands for a set.
 ghost use Rattle.std.specs.Prelude.{◌<◌, ◌≤◌, ◌^◌, ◌≡◌, All, IfOk, length};
 ghost use Rattle.findings.specs.Findings.{IsFinding};
-ghost use Rattle.findings.specs.Judging.{IsFirstAlone, Rises, TellsAlone, verdict_at};
+ghost use Rattle.findings.specs.Judging.{IsFirstAlone, Rises, DecidesAlone, verdict_at};
 ghost use Rattle.findings.specs.Queries.{AreMadeUnder};
 ghost use Rattle.findings.specs.StandingSummaries.{JudgesSummary};
 ghost use Rattle.findings.specs.Summaries.{findings_of};
@@ -49,7 +49,7 @@ fn stands_alone(
     requires made { AreMadeUnder schema.now base.now strata.now }
     requires findings { All (IsFinding strata.now.dimensions) (findings_of pairs.now) }
     requires within { i < length pairs.now }
-    ensures { IfOk result (TellsAlone schema.now base.now strata.now pairs.now i) }
+    ensures { IfOk result (DecidesAlone schema.now base.now strata.now pairs.now i) }
 {
     if !rises(pairs, i) {
         return Ok(false);

@@ -5,7 +5,7 @@ use Rattle.formula_tree.specs.declared.value.Three.{Three}
 use Rattle.formula_tree.specs.declared.value.Three.TheVariants.{Yes, No, Unknown}
 use Rattle.formula_tree.specs.Answers.{Answers, answer_of, Contained, Completes}
 use Rattle.formula_tree.specs.Trees.{Tree, Trees, yes, no, test, not, all, one_of, none, more}
-use Rattle.formula_tree.specs.Values.{answer_value, swapped, both, either, value, value_of_all, value_of_some, holds, each_holds, some_holds}
+use Rattle.formula_tree.specs.Values.{answer_value, kleene_not, kleene_and, kleene_or, value, value_of_all, value_of_some, holds, each_holds, some_holds}
 
 -- the value says what the truth is, where it says anything
 abbrev pub Says : Three → Bool → Type 0
@@ -18,7 +18,7 @@ says-test None b h = tt
 says-test (Some true) b h = h true refl
 says-test (Some false) b h = h false refl
 
-says-swapped : (a : Three) (b : Bool) → Says a b → Says (swapped a) (opposite b)
+says-swapped : (a : Three) (b : Bool) → Says a b → Says (kleene_not a) (opposite b)
 says-swapped Yes b h = rw h refl
 says-swapped No b h = rw h refl
 says-swapped Unknown b h = tt
@@ -31,14 +31,14 @@ or-true : (x : Bool) → (x || true) ≡ true
 or-true true = refl
 or-true false = refl
 
-says-both : (a b : Three) (x y : Bool) → Says a x → Says b y → Says (both a b) (x && y)
+says-both : (a b : Three) (x y : Bool) → Says a x → Says b y → Says (kleene_and a b) (x && y)
 says-both No b x y h k = rw h refl
 says-both Yes b x y h k = rw h k
 says-both Unknown No x y h k = rw k (and-false x)
 says-both Unknown Yes x y h k = tt
 says-both Unknown Unknown x y h k = tt
 
-says-either : (a b : Three) (x y : Bool) → Says a x → Says b y → Says (either a b) (x || y)
+says-either : (a b : Three) (x y : Bool) → Says a x → Says b y → Says (kleene_or a b) (x || y)
 says-either Yes b x y h k = rw h refl
 says-either No b x y h k = rw h k
 says-either Unknown Yes x y h k = rw k (or-true x)
@@ -73,29 +73,29 @@ keeps-test None b h = tt
 keeps-test (Some true) b h = rw (h true refl) refl
 keeps-test (Some false) b h = rw (h false refl) refl
 
-keeps-swapped : (a b : Three) → Keeps a b → Keeps (swapped a) (swapped b)
+keeps-swapped : (a b : Three) → Keeps a b → Keeps (kleene_not a) (kleene_not b)
 keeps-swapped Yes b h = rw h refl
 keeps-swapped No b h = rw h refl
 keeps-swapped Unknown b h = tt
 
-both-no : (c : Three) → both c No ≡ No
+both-no : (c : Three) → kleene_and c No ≡ No
 both-no Yes = refl
 both-no No = refl
 both-no Unknown = refl
 
-either-yes : (c : Three) → either c Yes ≡ Yes
+either-yes : (c : Three) → kleene_or c Yes ≡ Yes
 either-yes Yes = refl
 either-yes No = refl
 either-yes Unknown = refl
 
-keeps-both : (a b c d : Three) → Keeps a c → Keeps b d → Keeps (both a b) (both c d)
+keeps-both : (a b c d : Three) → Keeps a c → Keeps b d → Keeps (kleene_and a b) (kleene_and c d)
 keeps-both No b c d h k = rw h refl
 keeps-both Yes b c d h k = rw h k
 keeps-both Unknown No c d h k = rw k (both-no c)
 keeps-both Unknown Yes c d h k = tt
 keeps-both Unknown Unknown c d h k = tt
 
-keeps-either : (a b c d : Three) → Keeps a c → Keeps b d → Keeps (either a b) (either c d)
+keeps-either : (a b c d : Three) → Keeps a c → Keeps b d → Keeps (kleene_or a b) (kleene_or c d)
 keeps-either Yes b c d h k = rw h refl
 keeps-either No b c d h k = rw h k
 keeps-either Unknown Yes c d h k = rw k (either-yes c)

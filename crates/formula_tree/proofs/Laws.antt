@@ -1,7 +1,7 @@
 -- The lemmas on paths, values and runs that crates above cite.
 use Rattle.std.proofs.Common.{◌≡◌, ◌≢◌, ℕ, ◌<◌, suc, [], ◌∷◌, ◌++◌, Bool, true, false, Some, None, ◌⊎◌}
 use Rattle.formula_tree.specs.Answers.{Answers, answer_of, Completes, Contained}
-use Rattle.formula_tree.specs.Runs.{answered, Run, unanswered}
+use Rattle.formula_tree.specs.Runs.{path_with, Run, unanswered_count}
 use Rattle.formula_tree.specs.Trees.{Tree}
 use Rattle.formula_tree.specs.Values.{holds, pick, value}
 use Rattle.formula_tree.specs.declared.value.Three.TheVariants.{Yes, No, Unknown}
@@ -51,11 +51,11 @@ pub same_run : (possible : Answers → Type 0) (tree : Tree) (p : Answers) (b c 
 same_run = runs.same_run
 
 -- one more answer leaves one open test less
-pub unanswered-more : (path : Answers) (n : ℕ) (b : Bool) (t : ℕ) → n < t → answer_of path n ≡ None → unanswered path t ≡ suc (unanswered (answered path n b) t)
+pub unanswered-more : (path : Answers) (n : ℕ) (b : Bool) (t : ℕ) → n < t → answer_of path n ≡ None → unanswered_count path t ≡ suc (unanswered_count (path_with path n b) t)
 unanswered-more = runs.unanswered-more
 
 -- the empty path leaves every test open
-pub unanswered-start : (t : ℕ) → unanswered [] t ≡ t
+pub unanswered-start : (t : ℕ) → unanswered_count [] t ≡ t
 unanswered-start = runs.unanswered-start
 
 -- a longer path keeps the value yes
@@ -67,13 +67,13 @@ pub keeps-no : (few many : Answers) (t : Tree) → Contained few many → value 
 keeps-no = values.keeps-no
 
 -- a path is contained in itself with one more answer
-pub contained-answered : (path : Answers) (n : ℕ) (b : Bool) → Contained path (answered path n b)
+pub contained-answered : (path : Answers) (n : ℕ) (b : Bool) → Contained path (path_with path n b)
 contained-answered = runs.contained-answered
 
 -- a path that gains an answer that the longer one has stays contained in it
-pub contained-by : (few many : Answers) (n : ℕ) (b : Bool) → Contained few many → answer_of few n ≡ None → answer_of many n ≡ Some b → Contained (answered few n b) many
+pub contained-by : (few many : Answers) (n : ℕ) (b : Bool) → Contained few many → answer_of few n ≡ None → answer_of many n ≡ Some b → Contained (path_with few n b) many
 contained-by = runs.contained-by
 
 -- and so does a path where both gain the same answer
-pub contained-both : (few many : Answers) (n : ℕ) (b : Bool) → Contained few many → answer_of few n ≡ None → answer_of many n ≡ None → Contained (answered few n b) (answered many n b)
+pub contained-both : (few many : Answers) (n : ℕ) (b : Bool) → Contained few many → answer_of few n ≡ None → answer_of many n ≡ None → Contained (path_with few n b) (path_with many n b)
 contained-both = runs.contained-both

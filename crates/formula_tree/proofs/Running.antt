@@ -3,61 +3,61 @@ use Rattle.std.proofs.Common.{◌≡◌, ◌≢◌, ℕ, zero, suc, ◌+◌, ◌
 use Rattle.std.proofs.lemmas.Nat.{pow_pos}
 use Rattle.std.proofs.Math.Nat.{pow-succ'}
 use Rattle.formula_tree.specs.Answers.{Answers, answer_of, Contained}
-use Rattle.formula_tree.specs.Runs.{answered, Run, no_by_value, no_by_path, yes_by_value, yes_side, no_side, NeedsMore, unanswered, CanBeMet, IsHarderAlong, CanGoOn}
+use Rattle.formula_tree.specs.Runs.{path_with, Run, no_by_value, no_by_path, yes_by_value, yes_side, no_side, NeedsMore, unanswered_count, CanBeMet, IsHarderAlong, CanGoOn}
 use Rattle.formula_tree.specs.Trees.{Tree}
 use Rattle.formula_tree.specs.Values.{AreBelow, value, pick}
 use Rattle.formula_tree.specs.declared.value.Three.{Three}
 use Rattle.formula_tree.specs.declared.value.Three.TheVariants.{Yes, No, Unknown}
 use Rattle.formula_tree.specs.declared.value.Looked.{Looked}
 use Rattle.formula_tree.specs.declared.value.Looked.TheVariants as looks
-use Rattle.formula_tree.specs.Looks.{value_in, pick_in, looked}
+use Rattle.formula_tree.specs.Looks.{value_in, pick_in, look_of_tree}
 use Rattle.formula_tree.proofs.AnswerLists.{answer_of-more, answer_of-besides, answer_of-last, cases_eq}
 use Rattle.formula_tree.proofs.Keeping.{keeps-yes, keeps-no}
 use Rattle.formula_tree.proofs.Looking.{value_is, pick_is, pick-unknown, pick-unanswered, pick-within}
 
 -- ---- the open tests of a path
 
-unanswered-same : (path : Answers) (n : ℕ) (b : Bool) (t : ℕ) → t ≤ n → unanswered (answered path n b) t ≡ unanswered path t
+unanswered-same : (path : Answers) (n : ℕ) (b : Bool) (t : ℕ) → t ≤ n → unanswered_count (path_with path n b) t ≡ unanswered_count path t
 unanswered-same path n b zero h = refl
 unanswered-same path n b (suc t) h =
     let ne : t ≢ n = omega arith in
     rw (answer_of-besides path n b t ne, unanswered-same path n b t (omega arith)) refl
 
-pub unanswered-more : (path : Answers) (n : ℕ) (b : Bool) (t : ℕ) → n < t → answer_of path n ≡ None → unanswered path t ≡ suc (unanswered (answered path n b) t)
+pub unanswered-more : (path : Answers) (n : ℕ) (b : Bool) (t : ℕ) → n < t → answer_of path n ≡ None → unanswered_count path t ≡ suc (unanswered_count (path_with path n b) t)
 unanswered-more path n b zero h new = absurd (omega arith)
 unanswered-more path n b (suc t) h new =
     elim (cases_eq t n) [
       | inl e ↦
           let old : answer_of path t ≡ None = rw e new in
-          let now : answer_of (answered path n b) t ≡ Some b = rw e (answer_of-last path n b new) in
+          let now : answer_of (path_with path n b) t ≡ Some b = rw e (answer_of-last path n b new) in
           rw (old, now, unanswered-same path n b t (omega arith)) (omega arith)
       | inr ne ↦
           let less = unanswered-more path n b t (omega arith) new in
           rw (answer_of-besides path n b t ne) (omega arith)
     ]
 
-pub unanswered-start : (t : ℕ) → unanswered [] t ≡ t
+pub unanswered-start : (t : ℕ) → unanswered_count [] t ≡ t
 unanswered-start zero = refl
 unanswered-start (suc t) = omega (arith, unanswered-start t)
 
 -- ---- paths that contain one another
 
-pub contained-answered : (path : Answers) (n : ℕ) (b : Bool) → Contained path (answered path n b)
+pub contained-answered : (path : Answers) (n : ℕ) (b : Bool) → Contained path (path_with path n b)
 contained-answered path n b m c h = answer_of-more path ((n, b) ∷ []) m c h
 
-pub contained-by : (few many : Answers) (n : ℕ) (b : Bool) → Contained few many → answer_of few n ≡ None → answer_of many n ≡ Some b → Contained (answered few n b) many
+pub contained-by : (few many : Answers) (n : ℕ) (b : Bool) → Contained few many → answer_of few n ≡ None → answer_of many n ≡ Some b → Contained (path_with few n b) many
 contained-by few many n b c new old m d h =
     elim (cases_eq m n) [
-      | inl e ↦ let last : answer_of (answered few n b) m ≡ Some b = rw e (answer_of-last few n b new) in rw e (old ∙ sym last ∙ h)
+      | inl e ↦ let last : answer_of (path_with few n b) m ≡ Some b = rw e (answer_of-last few n b new) in rw e (old ∙ sym last ∙ h)
       | inr ne ↦ c m d (sym (answer_of-besides few n b m ne) ∙ h)
     ]
 
-pub contained-both : (few many : Answers) (n : ℕ) (b : Bool) → Contained few many → answer_of few n ≡ None → answer_of many n ≡ None → Contained (answered few n b) (answered many n b)
+pub contained-both : (few many : Answers) (n : ℕ) (b : Bool) → Contained few many → answer_of few n ≡ None → answer_of many n ≡ None → Contained (path_with few n b) (path_with many n b)
 contained-both few many n b c new new2 m d h =
     elim (cases_eq m n) [
       | inl e ↦
-          let first : answer_of (answered few n b) m ≡ Some b = rw e (answer_of-last few n b new) in
-          let second : answer_of (answered many n b) m ≡ Some b = rw e (answer_of-last many n b new2) in
+          let first : answer_of (path_with few n b) m ≡ Some b = rw e (answer_of-last few n b new) in
+          let second : answer_of (path_with many n b) m ≡ Some b = rw e (answer_of-last many n b new2) in
           second ∙ sym first ∙ h
       | inr ne ↦ answer_of-besides many n b m ne ∙ c m d (sym (answer_of-besides few n b m ne) ∙ h)
     ]
@@ -108,14 +108,14 @@ module _ (possible : Answers → Type 0) (tree : Tree) where
   same_run p b c n m (yes_side p1 t1 k1 a1 h1 e1 y1 c1) (yes_by_value p2 v2 h2) = let u1 = pick-unknown p tree t1 e1 in absurd (cc)
   same_run p b c n m (yes_side p1 t1 k1 a1 h1 e1 y1 c1) (yes_side p2 t2 k2 a2 h2 e2 y2 c2) =
       let same_test : t1 ≡ t2 = cc in
-      let y : R (answered p t2 true) true k1 = subst (λ (x : ℕ). R (answered p x true) true k1) same_test y1 in
-      let first = same_run (answered p t2 true) true true k1 k2 y y2 in
+      let y : R (path_with p t2 true) true k1 = subst (λ (x : ℕ). R (path_with p x true) true k1) same_test y1 in
+      let first = same_run (path_with p t2 true) true true k1 k2 y y2 in
       let count = first.1 in
       (refl, omega arith)
   same_run p b c n m (yes_side p1 t1 k1 a1 h1 e1 y1 c1) (no_side p2 t2 end2 k2 m2 a2 h2 e2 y2 z2 c2) =
       let same_test : t1 ≡ t2 = cc in
-      let y : R (answered p t2 true) true k1 = subst (λ (x : ℕ). R (answered p x true) true k1) same_test y1 in
-      let first = same_run (answered p t2 true) true false k1 k2 y y2 in
+      let y : R (path_with p t2 true) true k1 = subst (λ (x : ℕ). R (path_with p x true) true k1) same_test y1 in
+      let first = same_run (path_with p t2 true) true false k1 k2 y y2 in
       let bad = first.0 in
       absurd (cc)
   same_run p b c n m (no_side p1 t1 end1 k1 m1 a1 h1 e1 y1 z1 c1) (no_by_value p2 v2) = let u1 = pick-unknown p tree t1 e1 in absurd (cc)
@@ -123,45 +123,45 @@ module _ (possible : Answers → Type 0) (tree : Tree) where
   same_run p b c n m (no_side p1 t1 end1 k1 m1 a1 h1 e1 y1 z1 c1) (yes_by_value p2 v2 h2) = let u1 = pick-unknown p tree t1 e1 in absurd (cc)
   same_run p b c n m (no_side p1 t1 end1 k1 m1 a1 h1 e1 y1 z1 c1) (yes_side p2 t2 k2 a2 h2 e2 y2 c2) =
       let same_test : t1 ≡ t2 = cc in
-      let y : R (answered p t2 true) false k1 = subst (λ (x : ℕ). R (answered p x true) false k1) same_test y1 in
-      let first = same_run (answered p t2 true) false true k1 k2 y y2 in
+      let y : R (path_with p t2 true) false k1 = subst (λ (x : ℕ). R (path_with p x true) false k1) same_test y1 in
+      let first = same_run (path_with p t2 true) false true k1 k2 y y2 in
       let bad = first.0 in
       absurd (cc)
   same_run p b c n m (no_side p1 t1 end1 k1 m1 a1 h1 e1 y1 z1 c1) (no_side p2 t2 end2 k2 m2 a2 h2 e2 y2 z2 c2) =
       let same_test : t1 ≡ t2 = cc in
-      let y : R (answered p t2 true) false k1 = subst (λ (x : ℕ). R (answered p x true) false k1) same_test y1 in
-      let first = same_run (answered p t2 true) false false k1 k2 y y2 in
-      let z : R (answered p t2 false) b m1 = subst (λ (x : ℕ). R (answered p x false) b m1) same_test z1 in
-      let second = same_run (answered p t2 false) b c m1 m2 z z2 in
+      let y : R (path_with p t2 true) false k1 = subst (λ (x : ℕ). R (path_with p x true) false k1) same_test y1 in
+      let first = same_run (path_with p t2 true) false false k1 k2 y y2 in
+      let z : R (path_with p t2 false) b m1 = subst (λ (x : ℕ). R (path_with p x false) b m1) same_test z1 in
+      let second = same_run (path_with p t2 false) b c m1 m2 z z2 in
       let count = first.1 in
       let more = second.1 in
       (second.0, omega arith)
 
-  pub bounded : (t : ℕ) → AreBelow t tree → (p : Answers) (b : Bool) (n : ℕ) → R p b n → n < 2 ^ unanswered p t
-  bounded t h p b n (no_by_value p1 v1) = power (unanswered p t)
-  bounded t h p b n (no_by_path p1 x1) = power (unanswered p t)
-  bounded t h p b n (yes_by_value p1 v1 h1) = power (unanswered p t)
+  pub bounded : (t : ℕ) → AreBelow t tree → (p : Answers) (b : Bool) (n : ℕ) → R p b n → n < 2 ^ unanswered_count p t
+  bounded t h p b n (no_by_value p1 v1) = power (unanswered_count p t)
+  bounded t h p b n (no_by_path p1 x1) = power (unanswered_count p t)
+  bounded t h p b n (yes_by_value p1 v1 h1) = power (unanswered_count p t)
   bounded t h p b n (yes_side p1 t1 k1 a1 h1 e1 y1 c1) =
       let less = unanswered-more p t1 true t (pick-within t p tree t1 h e1) (pick-unanswered p tree t1 e1) in
-      let first = bounded t h (answered p t1 true) true k1 y1 in
-      rw less (twice (unanswered (answered p t1 true) t) k1 0 n first (power (unanswered (answered p t1 true) t)) (omega arith))
+      let first = bounded t h (path_with p t1 true) true k1 y1 in
+      rw less (twice (unanswered_count (path_with p t1 true) t) k1 0 n first (power (unanswered_count (path_with p t1 true) t)) (omega arith))
   bounded t h p b n (no_side p1 t1 end1 k1 m1 a1 h1 e1 y1 z1 c1) =
       let less = unanswered-more p t1 true t (pick-within t p tree t1 h e1) (pick-unanswered p tree t1 e1) in
       let also = unanswered-more p t1 false t (pick-within t p tree t1 h e1) (pick-unanswered p tree t1 e1) in
-      let same : unanswered (answered p t1 false) t ≡ unanswered (answered p t1 true) t = omega arith in
-      let first = bounded t h (answered p t1 true) false k1 y1 in
-      let second : m1 < 2 ^ unanswered (answered p t1 true) t = rw same at (bounded t h (answered p t1 false) b m1 z1) in
-      rw less (twice (unanswered (answered p t1 true) t) k1 m1 n first second c1)
+      let same : unanswered_count (path_with p t1 false) t ≡ unanswered_count (path_with p t1 true) t = omega arith in
+      let first = bounded t h (path_with p t1 true) false k1 y1 in
+      let second : m1 < 2 ^ unanswered_count (path_with p t1 true) t = rw same at (bounded t h (path_with p t1 false) b m1 z1) in
+      rw less (twice (unanswered_count (path_with p t1 true) t) k1 m1 n first second c1)
 
-  widened : (p : Answers) (t : ℕ) (a : Bool) → CanBeMet possible tree (answered p t a) → CanBeMet possible tree p
+  widened : (p : Answers) (t : ℕ) (a : Bool) → CanBeMet possible tree (path_with p t a) → CanBeMet possible tree p
   widened p t a (longer, c, v, h) = (longer, λ m d k. c m d (contained-answered p t a m d k), v, h)
 
   pub found : (p : Answers) (b : Bool) (n : ℕ) → R p b n → b ≡ true → CanBeMet possible tree p
   found p b n (no_by_value p1 v1) e = absurd (cc)
   found p b n (no_by_path p1 x1) e = absurd (cc)
   found p b n (yes_by_value p1 v1 h1) e = (p, λ m c h. h, v1, h1)
-  found p b n (yes_side p1 t1 k1 a1 h1 e1 y1 c1) e = widened p t1 true (found (answered p t1 true) true k1 y1 refl)
-  found p b n (no_side p1 t1 end1 k1 m1 a1 h1 e1 y1 z1 c1) e = widened p t1 false (found (answered p t1 false) b m1 z1 e)
+  found p b n (yes_side p1 t1 k1 a1 h1 e1 y1 c1) e = widened p t1 true (found (path_with p t1 true) true k1 y1 refl)
+  found p b n (no_side p1 t1 end1 k1 m1 a1 h1 e1 y1 z1 c1) e = widened p t1 false (found (path_with p t1 false) b m1 z1 e)
 
   pub lost : IsHarderAlong possible → CanGoOn possible → (p : Answers) (b : Bool) (n : ℕ) → R p b n → b ≡ false → CanBeMet possible tree p → ⊥
   lost harder goes p b n (no_by_value p1 v1) e (longer, c, v, h) = let no = keeps-no p longer tree c v1 in absurd (cc)
@@ -171,14 +171,14 @@ module _ (possible : Answers → Type 0) (tree : Tree) where
   lost harder goes p b n (no_side p1 t1 end1 k1 m1 a1 h1 e1 y1 z1 c1) e (longer, c, v, h) =
       let new = pick-unanswered p tree t1 e1 in
       elim (cases_answer (answer_of longer t1)) [
-        | inl is_yes ↦ lost harder goes (answered p t1 true) false k1 y1 refl (longer, contained-by p longer t1 true c new is_yes, v, h)
-        | inr (inl is_no) ↦ lost harder goes (answered p t1 false) b m1 z1 e (longer, contained-by p longer t1 false c new is_no, v, h)
+        | inl is_yes ↦ lost harder goes (path_with p t1 true) false k1 y1 refl (longer, contained-by p longer t1 true c new is_yes, v, h)
+        | inr (inl is_no) ↦ lost harder goes (path_with p t1 false) b m1 z1 e (longer, contained-by p longer t1 false c new is_no, v, h)
         | inr (inr is_open) ↦
             elim (goes longer t1 h is_open) [
-              | inl g ↦ lost harder goes (answered p t1 true) false k1 y1 refl
-                  (answered longer t1 true, contained-both p longer t1 true c new is_open, keeps-yes longer (answered longer t1 true) tree (contained-answered longer t1 true) v, g)
-              | inr g ↦ lost harder goes (answered p t1 false) b m1 z1 e
-                  (answered longer t1 false, contained-both p longer t1 false c new is_open, keeps-yes longer (answered longer t1 false) tree (contained-answered longer t1 false) v, g)
+              | inl g ↦ lost harder goes (path_with p t1 true) false k1 y1 refl
+                  (path_with longer t1 true, contained-both p longer t1 true c new is_open, keeps-yes longer (path_with longer t1 true) tree (contained-answered longer t1 true) v, g)
+              | inr g ↦ lost harder goes (path_with p t1 false) b m1 z1 e
+                  (path_with longer t1 false, contained-both p longer t1 false c new is_open, keeps-yes longer (path_with longer t1 false) tree (contained-answered longer t1 false) v, g)
             ]
       ]
 
@@ -202,15 +202,15 @@ looked-unknown looks.No e = absurd (cc)
 looked-unknown (looks.Unknown n) e = (n, refl)
 
 some-pick : (p : Answers) (tree : Tree) → value p tree ≡ Unknown → (n : ℕ) × (pick p tree ≡ Some n)
-some-pick p tree e = let (n, is) = looked-unknown (looked p tree) (value_is p tree ∙ e) in (n, sym (pick_is p tree) ∙ is)
+some-pick p tree e = let (n, is) = looked-unknown (look_of_tree p tree) (value_is p tree ∙ e) in (n, sym (pick_is p tree) ∙ is)
 
 module _ (possible : Answers → Type 0) (tree : Tree) (p : Answers) (n : ℕ) (ok : possible p) (is : pick p tree ≡ Some n) where
-  after : ((k : ℕ) → Run possible tree (answered p n true) false k → ⊥) → ((b : Bool) (m : ℕ) → Run possible tree p b m → ⊥) → (b : Bool) (k : ℕ) → Run possible tree (answered p n true) b k → ⊥
+  after : ((k : ℕ) → Run possible tree (path_with p n true) false k → ⊥) → ((b : Bool) (m : ℕ) → Run possible tree p b m → ⊥) → (b : Bool) (k : ℕ) → Run possible tree (path_with p n true) b k → ⊥
   after unmet none true k y = none true (k + 1) (yes_side p n k (k + 1) ok is y refl)
   after unmet none false k y = unmet k y
 
 module _ (possible : Answers → Type 0) (tree : Tree) (t : ℕ) (h : AreBelow t tree) where
-  pub some-run : (u : ℕ) (p : Answers) → unanswered p t ≡ u → ((b : Bool) (n : ℕ) → Run possible tree p b n → ⊥) → ⊥
+  pub some-run : (u : ℕ) (p : Answers) → unanswered_count p t ≡ u → ((b : Bool) (n : ℕ) → Run possible tree p b n → ⊥) → ⊥
   some-run zero p e none =
       elim (cases_value (value p tree)) [
         | inl v ↦ none false 0 (no_by_path p (λ ok. none true 0 (yes_by_value p v ok)))
@@ -228,11 +228,11 @@ module _ (possible : Answers → Type 0) (tree : Tree) (t : ℕ) (h : AreBelow t
             let (n, is) = some-pick p tree v in
             let less = unanswered-more p n true t (pick-within t p tree n h is) (pick-unanswered p tree n is) in
             let also = unanswered-more p n false t (pick-within t p tree n h is) (pick-unanswered p tree n is) in
-            let yes_left : unanswered (answered p n true) t ≡ u = omega arith in
-            let no_left : unanswered (answered p n false) t ≡ u = omega arith in
+            let yes_left : unanswered_count (path_with p n true) t ≡ u = omega arith in
+            let no_left : unanswered_count (path_with p n false) t ≡ u = omega arith in
             none false 0 (no_by_path p (λ ok.
-            some-run u (answered p n true) yes_left (after possible tree p n ok is
-            (λ k y. some-run u (answered p n false) no_left (λ c m z. none c (k + m + 1) (no_side p n c k m (k + m + 1) ok is y z refl)))
+            some-run u (path_with p n true) yes_left (after possible tree p n ok is
+            (λ k y. some-run u (path_with p n false) no_left (λ c m z. none c (k + m + 1) (no_side p n c k m (k + m + 1) ok is y z refl)))
             none)))
       ]
 

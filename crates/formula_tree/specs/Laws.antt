@@ -2,7 +2,7 @@
 use Rattle.std.specs.Prelude.{◌≡◌, ◌<◌, ◌≤◌, ◌+◌, ◌^◌, ℕ, Bool, true, false, []}
 use Rattle.formula_tree.specs.declared.value.Three.{Three}
 use Rattle.formula_tree.specs.Answers.{Answers, Completes, Contained}
-use Rattle.formula_tree.specs.Runs.{CanBeMet, NeedsMore, Run, unanswered}
+use Rattle.formula_tree.specs.Runs.{CanBeMet, NeedsMore, Run, unanswered_count}
 use Rattle.formula_tree.specs.Trees.{Tree}
 use Rattle.formula_tree.specs.Values.{AreBelow, holds, value}
 
@@ -23,7 +23,7 @@ RunsAgree possible = (tree : Tree) (path : Answers) (first second : Bool) (n m :
 -- a run from a path splits less often than there are answers to the tests that the path leaves open
 abbrev pub RunsFitOpenTests : (Answers → Type 0) → Type 0
 RunsFitOpenTests possible = (tree : Tree) (t : ℕ) (path : Answers) (end : Bool) (n : ℕ) →
-    AreBelow t tree → Run possible tree path end n → n < 2 ^ unanswered path t
+    AreBelow t tree → Run possible tree path end n → n < 2 ^ unanswered_count path t
 
 -- a run from the start splits less often than there are answers to the tests
 abbrev pub RunsFitTests : (Answers → Type 0) → Type 0

@@ -17,45 +17,45 @@ pick_in Yes = None
 pick_in No = None
 pick_in (Unknown n) = Some n
 
-abbrev pub turned : Looked → Looked
-turned Yes = No
-turned No = Yes
-turned (Unknown n) = Unknown n
+abbrev pub look_of_not : Looked → Looked
+look_of_not Yes = No
+look_of_not No = Yes
+look_of_not (Unknown n) = Unknown n
 
 -- of two branches that all must hold, the first that isn't yes, unless one is no
-abbrev pub least : Looked → Looked → Looked
-least No b = No
-least Yes b = b
-least (Unknown n) No = No
-least (Unknown n) Yes = Unknown n
-least (Unknown n) (Unknown m) = Unknown n
+abbrev pub look_of_both : Looked → Looked → Looked
+look_of_both No b = No
+look_of_both Yes b = b
+look_of_both (Unknown n) No = No
+look_of_both (Unknown n) Yes = Unknown n
+look_of_both (Unknown n) (Unknown m) = Unknown n
 
 -- of two branches of which one must hold, the first that isn't no, unless one is yes
-abbrev pub most : Looked → Looked → Looked
-most Yes b = Yes
-most No b = b
-most (Unknown n) Yes = Yes
-most (Unknown n) No = Unknown n
-most (Unknown n) (Unknown m) = Unknown n
+abbrev pub look_of_either : Looked → Looked → Looked
+look_of_either Yes b = Yes
+look_of_either No b = b
+look_of_either (Unknown n) Yes = Yes
+look_of_either (Unknown n) No = Unknown n
+look_of_either (Unknown n) (Unknown m) = Unknown n
 
-abbrev pub looked_at_test : Option Bool → ℕ → Looked
-looked_at_test None n = Unknown n
-looked_at_test (Some true) n = Yes
-looked_at_test (Some false) n = No
+abbrev pub look_of_test : Option Bool → ℕ → Looked
+look_of_test None n = Unknown n
+look_of_test (Some true) n = Yes
+look_of_test (Some false) n = No
 
 abbrev mutual
-  pub looked : Answers → Tree → Looked
-  looked path yes = Yes
-  looked path no = No
-  looked path (test n) = looked_at_test (answer_of path n) n
-  looked path (not t) = turned (looked path t)
-  looked path (all ts) = looked_at_all path ts
-  looked path (one_of ts) = looked_at_some path ts
+  pub look_of_tree : Answers → Tree → Looked
+  look_of_tree path yes = Yes
+  look_of_tree path no = No
+  look_of_tree path (test n) = look_of_test (answer_of path n) n
+  look_of_tree path (not t) = look_of_not (look_of_tree path t)
+  look_of_tree path (all ts) = look_of_all path ts
+  look_of_tree path (one_of ts) = look_of_some path ts
 
-  pub looked_at_all : Answers → Trees → Looked
-  looked_at_all path none = Yes
-  looked_at_all path (more t ts) = least (looked path t) (looked_at_all path ts)
+  pub look_of_all : Answers → Trees → Looked
+  look_of_all path none = Yes
+  look_of_all path (more t ts) = look_of_both (look_of_tree path t) (look_of_all path ts)
 
-  pub looked_at_some : Answers → Trees → Looked
-  looked_at_some path none = No
-  looked_at_some path (more t ts) = most (looked path t) (looked_at_some path ts)
+  pub look_of_some : Answers → Trees → Looked
+  look_of_some path none = No
+  look_of_some path (more t ts) = look_of_either (look_of_tree path t) (look_of_some path ts)

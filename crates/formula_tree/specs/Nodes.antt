@@ -1,7 +1,7 @@
 -- The nodes of a plain run.
 use Rattle.std.specs.Prelude.{◌≡◌, ℕ, true, false, Some}
 use Rattle.formula_tree.specs.Answers.{Answers}
-use Rattle.formula_tree.specs.Runs.{Run, answered}
+use Rattle.formula_tree.specs.Runs.{Run, path_with}
 use Rattle.formula_tree.specs.Trees.{Tree}
 use Rattle.formula_tree.specs.Values.{pick}
 
@@ -14,7 +14,7 @@ EndsWithNone possible tree path = (k : ℕ) → ¬ Run possible tree path true k
 pub data IsNode (possible : Answers → Type 0) (tree : Tree) : Answers → Answers → Type 0 where
   at_start : (path : Answers) → IsNode possible tree path path
   in_yes : (path node : Answers) (n : ℕ) → possible path → pick path tree ≡ Some n →
-      IsNode possible tree (answered path n true) node → IsNode possible tree path node
+      IsNode possible tree (path_with path n true) node → IsNode possible tree path node
   in_no : (path node : Answers) (n : ℕ) → possible path → pick path tree ≡ Some n →
-      EndsWithNone possible tree (answered path n true) → IsNode possible tree (answered path n false) node →
+      EndsWithNone possible tree (path_with path n true) → IsNode possible tree (path_with path n false) node →
       IsNode possible tree path node

@@ -6,8 +6,8 @@ use Rattle.formula_tree.specs.Trees.{Tree}
 use Rattle.formula_tree.specs.Values.{value, pick}
 
 -- the path with one more answer
-abbrev pub answered : Answers → ℕ → Bool → Answers
-answered path n b = path ++ (n, b) ∷ []
+abbrev pub path_with : Answers → ℕ → Bool → Answers
+path_with path n b = path ++ (n, b) ∷ []
 
 -- The run from a path, where `possible` says which paths can be met: it ends with a path that can be met and makes the
 -- tree yes where the Bool is true, and without one where it is false, after so many splits.
@@ -20,10 +20,10 @@ pub data Run (possible : Answers → Type 0) (tree : Tree) : Answers → Bool �
   yes_by_value : (path : Answers) → value path tree ≡ Yes → possible path → Run possible tree path true 0
   -- a split whose yes side ends with one: its no side isn't run
   yes_side : (path : Answers) (n k all : ℕ) → possible path → pick path tree ≡ Some n →
-      Run possible tree (answered path n true) true k → all ≡ k + 1 → Run possible tree path true all
+      Run possible tree (path_with path n true) true k → all ≡ k + 1 → Run possible tree path true all
   -- a split whose yes side ends without one: its no side says how it ends
   no_side : (path : Answers) (n : ℕ) (end : Bool) (k m all : ℕ) → possible path → pick path tree ≡ Some n →
-      Run possible tree (answered path n true) false k → Run possible tree (answered path n false) end m →
+      Run possible tree (path_with path n true) false k → Run possible tree (path_with path n false) end m →
       all ≡ k + m + 1 → Run possible tree path end all
 
 -- the run from the path needs more splits than the number
@@ -35,9 +35,9 @@ abbrev pub one_if_none : Option Bool → ℕ
 one_if_none None = 1
 one_if_none (Some b) = 0
 
-abbrev pub unanswered : Answers → ℕ → ℕ
-unanswered path zero = 0
-unanswered path (suc t) = one_if_none (answer_of path t) + unanswered path t
+abbrev pub unanswered_count : Answers → ℕ → ℕ
+unanswered_count path zero = 0
+unanswered_count path (suc t) = one_if_none (answer_of path t) + unanswered_count path t
 
 -- some possible path that contains the answers makes the tree yes
 abbrev pub CanBeMet : (Answers → Type 0) → Tree → Answers → Type 0
@@ -50,4 +50,4 @@ IsHarderAlong possible = (few many : Answers) → Contained few many → possibl
 -- a path that can be met can be met with one of the two answers to any further test
 abbrev pub CanGoOn : (Answers → Type 0) → Type 0
 CanGoOn possible = (path : Answers) (n : ℕ) → possible path → answer_of path n ≡ None →
-    possible (answered path n true) ⊎ possible (answered path n false)
+    possible (path_with path n true) ⊎ possible (path_with path n false)

@@ -32,45 +32,45 @@ answer_value None = Unknown
 answer_value (Some true) = Yes
 answer_value (Some false) = No
 
-abbrev pub swapped : Three → Three
-swapped Yes = No
-swapped No = Yes
-swapped Unknown = Unknown
+abbrev pub kleene_not : Three → Three
+kleene_not Yes = No
+kleene_not No = Yes
+kleene_not Unknown = Unknown
 
 -- no where one is no, yes where both are yes
-abbrev pub both : Three → Three → Three
-both No b = No
-both Yes b = b
-both Unknown No = No
-both Unknown Yes = Unknown
-both Unknown Unknown = Unknown
+abbrev pub kleene_and : Three → Three → Three
+kleene_and No b = No
+kleene_and Yes b = b
+kleene_and Unknown No = No
+kleene_and Unknown Yes = Unknown
+kleene_and Unknown Unknown = Unknown
 
 -- yes where one is yes, no where both are no
-abbrev pub either : Three → Three → Three
-either Yes b = Yes
-either No b = b
-either Unknown Yes = Yes
-either Unknown No = Unknown
-either Unknown Unknown = Unknown
+abbrev pub kleene_or : Three → Three → Three
+kleene_or Yes b = Yes
+kleene_or No b = b
+kleene_or Unknown Yes = Yes
+kleene_or Unknown No = Unknown
+kleene_or Unknown Unknown = Unknown
 
 abbrev mutual
   pub value : Answers → Tree → Three
   value path yes = Yes
   value path no = No
   value path (test n) = answer_value (answer_of path n)
-  value path (not t) = swapped (value path t)
+  value path (not t) = kleene_not (value path t)
   value path (all ts) = value_of_all path ts
   value path (one_of ts) = value_of_some path ts
 
   -- no where a branch is no, yes where all are yes
   pub value_of_all : Answers → Trees → Three
   value_of_all path none = Yes
-  value_of_all path (more t ts) = both (value path t) (value_of_all path ts)
+  value_of_all path (more t ts) = kleene_and (value path t) (value_of_all path ts)
 
   -- yes where a branch is yes, no where all are no
   pub value_of_some : Answers → Trees → Three
   value_of_some path none = No
-  value_of_some path (more t ts) = either (value path t) (value_of_some path ts)
+  value_of_some path (more t ts) = kleene_or (value path t) (value_of_some path ts)
 
 -- ---- the test that an unknown tree waits for
 

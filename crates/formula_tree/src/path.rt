@@ -91,7 +91,7 @@ impl Path {
     /// Takes the last answer away, and gives it; none where the path is empty.
     pub fn pop(&mut self) -> Option<(u32, bool)>
         ensures last { self.old ≡ self.new ++ option_to_list result }
-        ensures some { IsSome result ↔ (0 < length self.old) }
+        ensures nonempty { IsSome result ↔ (0 < length self.old) }
     {
         let last = self.pairs.pop();
         if let Some((test, _)) = last {

@@ -3,7 +3,7 @@
 ghost use Rattle.std.specs.Prelude.{◌≡◌, ◌↔◌, None, IsSome, IfSome, true, false};
 ghost use Rattle.formula_tree.specs.Answers.{answer_of};
 ghost use Rattle.formula_tree.specs.Laws.{IsTruth, StaysAlong};
-ghost use Rattle.formula_tree.specs.Looks.{least, looked, looked_at_all, looked_at_some, most, pick_in, turned, value_in};
+ghost use Rattle.formula_tree.specs.Looks.{look_of_both, look_of_tree, look_of_all, look_of_some, look_of_either, pick_in, look_of_not, value_in};
 ghost use Rattle.formula_tree.specs.Trees.{children_of, tree_of};
 ghost use Rattle.formula_tree.specs.Values.{IsWithin, pick, value};
 
@@ -46,7 +46,7 @@ fn pick_in(looked: Looked) -> Option<u32>
 }
 
 fn turned(looked: Looked) -> Looked
-    ensures { result ≡ turned looked }
+    ensures { result ≡ look_of_not looked }
 {
     match looked {
         Looked::Yes => Looked::No,
@@ -56,7 +56,7 @@ fn turned(looked: Looked) -> Looked
 }
 
 fn least(first: Looked, second: Looked) -> Looked
-    ensures { result ≡ least first second }
+    ensures { result ≡ look_of_both first second }
 {
     match (first, second) {
         (Looked::No, _) | (_, Looked::No) => Looked::No,
@@ -66,7 +66,7 @@ fn least(first: Looked, second: Looked) -> Looked
 }
 
 fn most(first: Looked, second: Looked) -> Looked
-    ensures { result ≡ most first second }
+    ensures { result ≡ look_of_either first second }
 {
     match (first, second) {
         (Looked::Yes, _) | (_, Looked::Yes) => Looked::Yes,
@@ -77,7 +77,7 @@ fn most(first: Looked, second: Looked) -> Looked
 
 #[cycle(look)]
 fn look(formula: &Formula, path: &Path) -> Looked
-    ensures { result ≡ looked path.now (tree_of formula.now) }
+    ensures { result ≡ look_of_tree path.now (tree_of formula.now) }
 {
     match formula {
         Formula::Yes => Looked::Yes,
@@ -95,7 +95,7 @@ fn look(formula: &Formula, path: &Path) -> Looked
 
 #[cycle(look)]
 fn look_at_all(branches: &Branches, path: &Path) -> Looked
-    ensures { result ≡ looked_at_all path.now (children_of branches.now) }
+    ensures { result ≡ look_of_all path.now (children_of branches.now) }
 {
     let mut all = Looked::Yes;
     'all: for branch in &branches.items {
@@ -110,7 +110,7 @@ fn look_at_all(branches: &Branches, path: &Path) -> Looked
 
 #[cycle(look)]
 fn look_at_some(branches: &Branches, path: &Path) -> Looked
-    ensures { result ≡ looked_at_some path.now (children_of branches.now) }
+    ensures { result ≡ look_of_some path.now (children_of branches.now) }
 {
     let mut some = Looked::No;
     'some: for branch in &branches.items {

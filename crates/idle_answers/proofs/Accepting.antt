@@ -9,8 +9,8 @@ use Rattle.policy_compile.specs.declared.outcome.Query.{Query}
 use Rattle.policy_compile.specs.Queries.{IsQuery}
 use Rattle.policy_compile.specs.Sets.{query_plan}
 use Rattle.proof_text.specs.declared.limits.TheConstants.{MOST_PROOF_BYTES}
-use Rattle.run_sets.specs.Pairs.{paired}
-use Rattle.set_questions.specs.Idle.{IsIdle, without}
+use Rattle.run_sets.specs.Pairs.{pair_of_sets}
+use Rattle.set_questions.specs.Idle.{IsIdle, without_statement}
 use Rattle.pair_answers.specs.declared.answer.CheckAnswer.TheVariants.{Accepted}
 use Rattle.pair_answers.specs.Certified.{ClosesBy}
 use Rattle.pair_answers.specs.Decided.{IsChecked}
@@ -25,8 +25,8 @@ closes_by schema q text short by =
 
 -- the query of the pair in this order, by the statement's effect
 accepted_by : (schema : Schema) (set : PolicySet) (name : StatementName) (text : List ℕ) (allow : Bool) (q : Query) → HasValidRequest schema → IsIdle schema set name
-    → IsQuery (if allow then query_plan schema set (without set name) else query_plan schema (without set name) set) q → ClosesBy schema q text
-    → IsChecked text (if allow then paired schema set (without set name) else paired schema (without set name) set) Accepted
+    → IsQuery (if allow then query_plan schema set (without_statement set name) else query_plan schema (without_statement set name) set) q → ClosesBy schema q text
+    → IsChecked text (if allow then pair_of_sets schema set (without_statement set name) else pair_of_sets schema (without_statement set name) set) Accepted
 accepted_by schema set name text true q some idle is closes = (record { query = q; is = is; holds = closes }, (λ r valid allowed. (idle r valid).0 allowed, some))
 accepted_by schema set name text false q some idle is closes = (record { query = q; is = is; holds = closes }, (λ r valid allowed. (idle r valid).1 allowed, some))
 

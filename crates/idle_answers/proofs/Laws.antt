@@ -42,7 +42,7 @@ refused_of_text Q p (r, is, told) = with_status p status.Refused tt told.1
 set_of_text : (certified : Bool) (budgets : Budgets) (one : OneSet) (p : Printed) → AreUsesPrinted certified budgets one p → IsOfText p.status
 set_of_text certified budgets one p (inl past) = refused_of_text (IsSetPastLimit one.schema one.set) p past
 set_of_text certified budgets one p (inr says) =
-    with_status p (uses_status says.answers) (uses_of_text (list_any is_undecided says.answers) (list_any is_idle says.answers)) says.told.1
+    with_status p (uses_status says.answers) (uses_of_text (list_any is_undecided says.answers) (list_any is_idle says.answers)) says.prints.1
 
 -- what is printed has a status that a text has
 pub idle_of_text : (u : UseQuestion) (c : SetContents) (p : Printed) → IsIdlePrinted u c p → IsOfText p.status
@@ -87,7 +87,7 @@ uses_decide_of : (certified : Bool) (budgets : Budgets) (one : OneSet) (p : Prin
 uses_decide_of certified budgets one p d (inl (r, past, told)) = absurd (not_past one budgets d r past)
 uses_decide_of certified budgets one p d (inr says) =
     decided_status (list_any is_undecided says.answers) (list_any is_idle says.answers)
-    (none_undecided certified budgets one (named_set one.set) says.answers d.fits says.are) p.status says.told.1
+    (none_undecided certified budgets one (named_set one.set) says.answers d.fits says.are) p.status says.prints.1
 
 -- files whose statements fit the budgets are decided
 pub uses_decide : UsesDecide

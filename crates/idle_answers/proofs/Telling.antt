@@ -13,7 +13,7 @@ use Rattle.set_questions.specs.Idle.{IsNameIn}
 use Rattle.tree_search.specs.declared.outcome.Budgets.{Budgets}
 use Rattle.idle_answers.specs.declared.answer.UseAnswer.{UseAnswer}
 use Rattle.idle_answers.specs.declared.printing.Told.{Told}
-use Rattle.idle_answers.specs.Telling.{AddsUse, AreUsesTold, TellsNext}
+use Rattle.idle_answers.specs.Telling.{AddsUse, AreUsesWritten, AddsNextUse}
 use Rattle.idle_answers.specs.UseAnswers.{IsUseAnswer, IsUseAnswerAt}
 use Rattle.idle_answers.specs.UseTexts.{is_idle, is_undecided, statement_start, statements_line, use_lines, use_text}
 
@@ -67,8 +67,8 @@ name_there set names k d is within =
     (there.0, found.0, there.1, there.2, found.3)
 
 told_more : (certified : Bool) (budgets : Budgets) (one : OneSet) (ns : List Named) (n : Named) (a : UseAnswer) (before after : Told)
-    → AreUsesTold certified budgets one ns before → IsUseAnswer certified budgets one n a → AddsUse n.0 a before after
-    → AreUsesTold certified budgets one (ns ++ n ∷ []) after
+    → AreUsesWritten certified budgets one ns before → IsUseAnswer certified budgets one n a → AddsUse n.0 a before after
+    → AreUsesWritten certified budgets one (ns ++ n ∷ []) after
 told_more certified budgets one ns n a before after h is adds =
     let R : Named → UseAnswer → Type 0 = IsUseAnswer certified budgets one in
     let count : List ℕ = statements_line (length (named_set one.set)) in
@@ -86,12 +86,12 @@ told_more certified budgets one ns n a before after h is adds =
 
 -- what is said of one more statement of the set
 pub told_next : (certified : Bool) (budgets : Budgets) (one : OneSet) (names : List StatementName) (k : ℕ) (d : StatementName) (before after : Told)
-    → names ≡ map (λ n. n.0) (named_set one.set) → k < length names → AreUsesTold certified budgets one (take k (named_set one.set)) before
-    → TellsNext certified budgets one (get_or names k d) before after → AreUsesTold certified budgets one (take (k + 1) (named_set one.set)) after
+    → names ≡ map (λ n. n.0) (named_set one.set) → k < length names → AreUsesWritten certified budgets one (take k (named_set one.set)) before
+    → AddsNextUse certified budgets one (get_or names k d) before after → AreUsesWritten certified budgets one (take (k + 1) (named_set one.set)) after
 told_next certified budgets one names k d before after is within h next =
     let found = named_at (named_set one.set) names k d is within in
     let n : Named = found.0 in
     let here : IsUseAnswerAt certified budgets one n.0 next.answer = subst (λ (m : StatementName). IsUseAnswerAt certified budgets one m next.answer) (sym found.3) next.is in
     let added : AddsUse n.0 next.answer before after = subst (λ (m : StatementName). AddsUse m next.answer before after) (sym found.3) next.adds in
-    subst (λ (l : List Named). AreUsesTold certified budgets one l after) (sym found.1)
+    subst (λ (l : List Named). AreUsesWritten certified budgets one l after) (sym found.1)
     (told_more certified budgets one (take k (named_set one.set)) n next.answer before after h (here n.1 found.2) added)

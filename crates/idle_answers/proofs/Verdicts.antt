@@ -13,13 +13,13 @@ use Rattle.policy_compile.specs.Sets.{query_plan}
 use Rattle.policy_difference.specs.Apartness.{ApartStatementsSayNothing, AskTheSamePair, IsSmallerPair}
 use Rattle.policy_difference.specs.Differences.{IsDifference, SharedStatementsAddNothing}
 use Rattle.proof_text.specs.Laws.{ClosingProofsAreSmall, ClosingProofsHaveNoFault, HoldsSmallNumbers}
-use Rattle.proof_text.specs.Spelling.{spell}
+use Rattle.proof_text.specs.Spelling.{certificate_text}
 use Rattle.proof_text.specs.declared.limits.TheConstants.{MOST_NUMBER}
 use Rattle.refute_check.specs.Proofs.{Proof, proof_of}
 use Rattle.run_sets.specs.declared.one_set.OneSet.{OneSet}
 use Rattle.run_sets.specs.OneSets.{FitsItsSchema}
-use Rattle.set_questions.specs.Idle.{IsIdle, IsNameIn, OfNamed, without}
-use Rattle.set_questions.specs.Laws.{SmallerQuestionsTell, TellsUse, WithoutStaysSound}
+use Rattle.set_questions.specs.Idle.{IsIdle, IsNameIn, OfNamed, without_statement}
+use Rattle.set_questions.specs.Laws.{SmallerQuestionsTell, DecidesUse, WithoutStaysSound}
 use Rattle.set_questions.specs.Narrowing.{IsNarrowed, IsNarrowedChange, NarrowedPairsAskTheSame}
 use Rattle.set_questions.specs.Settling.{RefutesQuery, SettlesQuery}
 use Rattle.set_questions.specs.Uses.{IsUseAt, IsUseOf, OfChange}
@@ -34,7 +34,7 @@ use Rattle.tree_search.specs.declared.outcome.Decided.TheVariants as decided
 use Rattle.tree_search.specs.Decisions.{IsDecision}
 use Rattle.idle_answers.specs.declared.answer.UseAnswer.{UseAnswer}
 use Rattle.idle_answers.specs.declared.answer.UseAnswer.TheVariants as answer
-use Rattle.idle_answers.specs.Deciding.{IsAskedFor, IsIdleAnswer, IsPairWithoutApart, IsSettledVerdict, IsSmallerFor, IsToldUse, IsUseVerdict, settled_of}
+use Rattle.idle_answers.specs.Deciding.{IsAskedFor, IsIdleAnswer, IsPairWithoutApart, IsSettledVerdict, IsSmallerFor, IsAnswerToUse, IsUseVerdict, settled_of}
 use Rattle.idle_answers.specs.UseAnswers.{CertifiesChange, IsUseAnswer, IsUseAnswerAt}
 
 -- what is decided of a query settles it
@@ -58,11 +58,11 @@ is_smaller one name asked q fitting (s, there, pair) is = (s, asked, record { fi
 
 -- what is left and the set without the statement, both maybe without what is apart
 pub difference_asks : SharedStatementsAddNothing → ApartStatementsSayNothing → WithoutStaysSound → (one : OneSet) (name : StatementName) (left : PolicySet) (asked : AskedPair)
-    → FitsItsSchema one → IsNameIn one.set name → OfNamed one.set name (λ s. s.allow ≡ true) → IsDifference one.set (without one.set name) left
-    → IsPairWithoutApart left (without one.set name) asked → IsAskedFor one name asked
+    → FitsItsSchema one → IsNameIn one.set name → OfNamed one.set name (λ s. s.allow ≡ true) → IsDifference one.set (without_statement one.set name) left
+    → IsPairWithoutApart left (without_statement one.set name) asked → IsAskedFor one name asked
 difference_asks shared apart stays one name left asked fitting named allow difference may =
     let there = there_is one name named in
-    let part = without one.set name in
+    let part = without_statement one.set name in
     let fits = (stays one.set name).fits in
     let adds = shared one.set part left difference in
     let smaller : IsSmallerPair one.set part asked.less asked.rest = apart one.set part left asked.less asked.rest adds.0 adds.1 may.0 may.1 in (
@@ -76,20 +76,20 @@ difference_asks shared apart stays one name left asked fitting named allow diffe
     )
 
 -- the sets in the order of the change query, by the effect
-pub narrowed_allow : (set : PolicySet) (name : StatementName) (t : Statement) (part : PolicySet) → OfNamed set name (λ s. t ≡ s) → part ≡ without set name → t.allow ≡ true
+pub narrowed_allow : (set : PolicySet) (name : StatementName) (t : Statement) (part : PolicySet) → OfNamed set name (λ s. t ≡ s) → part ≡ without_statement set name → t.allow ≡ true
     → (o : Option AskedPair) → IfSome o (IsNarrowed t set part) → IfSome o (λ asked. OfNamed set name (λ s. IsNarrowedChange set name s asked))
 narrowed_allow set name t part is same allow None n = tt
 narrowed_allow set name t part is same allow (Some asked) n = λ s there.
     subst (λ (x : Statement). IsNarrowedChange set name x asked) (is s there)
-    (subst (λ (b : Bool). MatchBool b (IsNarrowed t set (without set name) asked) (IsNarrowed t (without set name) set asked)) (sym allow)
+    (subst (λ (b : Bool). MatchBool b (IsNarrowed t set (without_statement set name) asked) (IsNarrowed t (without_statement set name) set asked)) (sym allow)
     (subst (λ (p : PolicySet). IsNarrowed t set p asked) same n))
 
-pub narrowed_deny : (set : PolicySet) (name : StatementName) (t : Statement) (part : PolicySet) → OfNamed set name (λ s. t ≡ s) → part ≡ without set name → t.allow ≡ false
+pub narrowed_deny : (set : PolicySet) (name : StatementName) (t : Statement) (part : PolicySet) → OfNamed set name (λ s. t ≡ s) → part ≡ without_statement set name → t.allow ≡ false
     → (o : Option AskedPair) → IfSome o (IsNarrowed t part set) → IfSome o (λ asked. OfNamed set name (λ s. IsNarrowedChange set name s asked))
 narrowed_deny set name t part is same deny None n = tt
 narrowed_deny set name t part is same deny (Some asked) n = λ s there.
     subst (λ (x : Statement). IsNarrowedChange set name x asked) (is s there)
-    (subst (λ (b : Bool). MatchBool b (IsNarrowed t set (without set name) asked) (IsNarrowed t (without set name) set asked)) (sym deny)
+    (subst (λ (b : Bool). MatchBool b (IsNarrowed t set (without_statement set name) asked) (IsNarrowed t (without_statement set name) set asked)) (sym deny)
     (subst (λ (p : PolicySet). IsNarrowed t p set asked) same n))
 
 -- what can apply with the statement
@@ -103,7 +103,7 @@ pub smaller_askable : SmallerQuestionsTell → (one : OneSet) (name : StatementN
     → QueryIsAskable one.schema q
 smaller_askable law one name q fitting (s, asked, question) = (law one.schema one.set (name, s) asked q question).askable fitting.sound
 
-verdict_if_tells : (one : OneSet) (name : StatementName) (q : Query) (splits states : ℕ) → TellsUse one.schema one.set name q
+verdict_if_tells : (one : OneSet) (name : StatementName) (q : Query) (splits states : ℕ) → DecidesUse one.schema one.set name q
     → (st : Settled) → SettlesQuery one.schema splits states q st → (o : Option UseAnswer) → IsSettledVerdict st o → IfSome o (IsUseVerdict one name)
 verdict_if_tells one name q splits states tells (settled.Nobody r) h o v =
     subst (λ (x : Option UseAnswer). IfSome x (IsUseVerdict one name)) (sym v) (tells.idle (proof_of r.value) h.closes)
@@ -128,7 +128,7 @@ answer_if_verdict one name budgets _ v = absurd v
 
 -- the certificate of a refutation of the change query is read again
 certifies : ClosingProofsAreSmall → ClosingProofsHaveNoFault → (schema : Schema) (set : PolicySet) (named : Named) (p : Proof) (text : List ℕ)
-    → schema.version ≤ MOST_NUMBER → text ≡ spell schema.version p → HoldsSmallNumbers p → OfChange schema set named (λ q. RefutesQuery schema q p)
+    → schema.version ≤ MOST_NUMBER → text ≡ certificate_text schema.version p → HoldsSmallNumbers p → OfChange schema set named (λ q. RefutesQuery schema q p)
     → OfChange schema set named (CertifiesChange schema text)
 certifies sizes law schema set named p text version spelled small of = record {
   query = of.query;
@@ -156,7 +156,7 @@ idle_if_refuted sizes law certified budgets one named p idle of (answer.Proved t
 idle_if_refuted sizes law certified budgets one named p idle of _ v = absurd v
 
 answer_of_use : ClosingProofsAreSmall → ClosingProofsHaveNoFault → (certified : Bool) (budgets : Budgets) (one : OneSet) (named : Named) (u : Use)
-    → IsUseOf one.schema budgets.splits budgets.states one.set named u → (a : UseAnswer) → IsToldUse certified one.schema.version budgets u a
+    → IsUseOf one.schema budgets.splits budgets.states one.set named u → (a : UseAnswer) → IsAnswerToUse certified one.schema.version budgets u a
     → IsUseAnswer certified budgets one named a
 answer_of_use sizes law certified budgets one named (use_of.Used q) h a v = subst (λ (x : UseAnswer). IsUseAnswer certified budgets one named x) (sym v.0) (v.1, h)
 answer_of_use sizes law certified budgets one named (use_of.Idle r) h a v = idle_if_refuted sizes law certified budgets one named (proof_of r.value) h.0 h.1 a v
@@ -167,6 +167,6 @@ answer_of_use sizes law certified budgets one named (use_of.OutOfStates w) h a v
 
 -- what is told of the use of a statement answers on it
 pub answer_if_told : ClosingProofsAreSmall → ClosingProofsHaveNoFault → (certified : Bool) (budgets : Budgets) (one : OneSet) (name : StatementName) (u : Use)
-    → IsUseAt one.schema budgets.splits budgets.states one.set name u → (a : UseAnswer) → IsToldUse certified one.schema.version budgets u a
+    → IsUseAt one.schema budgets.splits budgets.states one.set name u → (a : UseAnswer) → IsAnswerToUse certified one.schema.version budgets u a
     → IsUseAnswerAt certified budgets one name a
 answer_if_told sizes law certified budgets one name u h a v = λ s there. answer_of_use sizes law certified budgets one (name, s) u (h s there) a v

@@ -8,7 +8,7 @@ use Rattle.policy_model.specs.Requests.{IsWellKept}
 use Rattle.policy_model.specs.StatementNames.{named_set}
 use Rattle.policy_difference.specs.Apartness.{MayBeWithoutApart}
 use Rattle.proof_text.specs.Laws.{HoldsSmallNumbers}
-use Rattle.proof_text.specs.Spelling.{spell}
+use Rattle.proof_text.specs.Spelling.{certificate_text}
 use Rattle.proof_text.specs.declared.limits.TheConstants.{MOST_NUMBER}
 use Rattle.refute_check.specs.Proofs.{Proof, proof_of}
 use Rattle.run_sets.specs.declared.one_set.OneSet.{OneSet}
@@ -37,15 +37,15 @@ settled_of (decided.OutOfStates w) = settled.OutOfStates (record { path = w.path
 abbrev pub IsIdleAnswer : Bool → ℕ → Proof → UseAnswer → Type 0
 IsIdleAnswer certified version proof Idle = certified ≡ false
 IsIdleAnswer certified version proof (Proved text) =
-    (certified ≡ true) × (string_bytes text ≡ spell version proof) × HoldsSmallNumbers proof × (version ≤ MOST_NUMBER)
+    (certified ≡ true) × (string_bytes text ≡ certificate_text version proof) × HoldsSmallNumbers proof × (version ≤ MOST_NUMBER)
 IsIdleAnswer certified version proof _ = ⊥
 
 -- the answer to the use of a statement
-abbrev pub IsToldUse : Bool → ℕ → Budgets → Use → UseAnswer → Type 0
-IsToldUse certified version budgets (use_of.Used q) answer = (answer ≡ Used q) × IsWellKept q
-IsToldUse certified version budgets (use_of.Idle r) answer = IsIdleAnswer certified version (proof_of r.value) answer
-IsToldUse certified version budgets use_of.OutOfSplits answer = answer ≡ Undecided (Splits budgets.splits)
-IsToldUse certified version budgets (use_of.OutOfStates w) answer = answer ≡ Undecided (States budgets.states w.slot)
+abbrev pub IsAnswerToUse : Bool → ℕ → Budgets → Use → UseAnswer → Type 0
+IsAnswerToUse certified version budgets (use_of.Used q) answer = (answer ≡ Used q) × IsWellKept q
+IsAnswerToUse certified version budgets (use_of.Idle r) answer = IsIdleAnswer certified version (proof_of r.value) answer
+IsAnswerToUse certified version budgets use_of.OutOfSplits answer = answer ≡ Undecided (Splits budgets.splits)
+IsAnswerToUse certified version budgets (use_of.OutOfStates w) answer = answer ≡ Undecided (States budgets.states w.slot)
 
 -- what is left of a first set and the second, both maybe without what is apart from the Allow statements that are left
 abbrev pub IsPairWithoutApart : PolicySet → PolicySet → AskedPair → Type 0

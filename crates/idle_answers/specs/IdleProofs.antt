@@ -8,8 +8,8 @@ use Rattle.proof_text.specs.declared.limits.TheConstants.{MOST_PROOF_BYTES}
 use Rattle.request_json.specs.Laws.{RequestIsReadAgain}
 use Rattle.run_sets.specs.declared.one_set.OneSet.{OneSet}
 use Rattle.run_sets.specs.declared.pair.Pair.{Pair}
-use Rattle.run_sets.specs.Pairs.{paired}
-use Rattle.set_questions.specs.Idle.{without}
+use Rattle.run_sets.specs.Pairs.{pair_of_sets}
+use Rattle.set_questions.specs.Idle.{without_statement}
 use Rattle.pair_answers.specs.declared.answer.CheckAnswer.TheVariants.{Accepted}
 use Rattle.pair_answers.specs.Decided.{IsChecked}
 use Rattle.tree_search.specs.declared.outcome.Budgets.{Budgets}
@@ -19,7 +19,7 @@ use Rattle.idle_answers.specs.UseAnswers.{IsUseAnswer}
 -- the pair whose query is the change query of a statement: of an Allow the set and the set without it, of a Deny the other way round
 abbrev pub change_pair : OneSet → Named → Pair
 change_pair one (name, s) =
-    (if s.allow then paired one.schema one.set (without one.set name) else paired one.schema (without one.set name) one.set)
+    (if s.allow then pair_of_sets one.schema one.set (without_statement one.set name) else pair_of_sets one.schema (without_statement one.set name) one.set)
 
 -- where the certificate of an idle statement is printed, a check of its pair answers that it is accepted, as long as it has at most as many
 -- bytes as a certificate may have

@@ -25,13 +25,13 @@ pub record AddsUse (name : StatementName) (answer : UseAnswer) (before after : T
   pub undecided : after.undecided ≡ (before.undecided || is_undecided answer)
 
 -- the line of one more statement with an answer to it
-pub record TellsNext (certified : Bool) (budgets : Budgets) (one : OneSet) (name : StatementName) (before after : Told) : Type 0 where
+pub record AddsNextUse (certified : Bool) (budgets : Budgets) (one : OneSet) (name : StatementName) (before after : Told) : Type 0 where
   pub answer : UseAnswer
   pub is : IsUseAnswerAt certified budgets one name answer
   pub adds : AddsUse name answer before after
 
 -- the count of all, and the lines of these
-pub record AreUsesTold (certified : Bool) (budgets : Budgets) (one : OneSet) (named : List Named) (told : Told) : Type 0 where
+pub record AreUsesWritten (certified : Bool) (budgets : Budgets) (one : OneSet) (named : List Named) (told : Told) : Type 0 where
   pub answers : List UseAnswer
   pub are : AllZip (IsUseAnswer certified budgets one) named answers
   pub text : string_bytes told.text ≡ statements_line (length (named_set one.set)) ++ use_lines named answers

@@ -10,7 +10,7 @@ use Rattle.policy_model.specs.StatementNames.{Named}
 use Rattle.policy_compile.specs.declared.outcome.Query.{Query}
 use Rattle.proof_text.specs.Faults.{proof_fault}
 use Rattle.proof_text.specs.Laws.{IsSmall, limits_of}
-use Rattle.proof_text.specs.Spelling.{spell}
+use Rattle.proof_text.specs.Spelling.{certificate_text}
 use Rattle.proof_text.specs.declared.limits.TheConstants.{MOST_PROOF_BYTES}
 use Rattle.refute_check.specs.Proofs.{Proof}
 use Rattle.run_sets.specs.declared.one_set.OneSet.{OneSet}
@@ -32,7 +32,7 @@ pub record IsCertificateReadAgain (schema : Schema) (q : Query) (proof : Proof) 
 -- as a certificate may have
 pub record CertifiesChange (schema : Schema) (text : List ℕ) (q : Query) : Type 0 where
   pub proof : Proof
-  pub spelled : text ≡ spell schema.version proof
+  pub spelled : text ≡ certificate_text schema.version proof
   pub closes : IsClosedBy schema q proof
   pub readable : length text ≤ MOST_PROOF_BYTES → IsCertificateReadAgain schema q proof text
 

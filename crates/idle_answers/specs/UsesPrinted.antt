@@ -7,7 +7,7 @@ use Rattle.policy_model.specs.StatementNames.{named_set}
 use Rattle.policy_compile.specs.Limits.{IsWithinLimits}
 use Rattle.policy_compile.specs.Sets.{set_plan}
 use Rattle.run_files.specs.declared.printed.Printed.{Printed}
-use Rattle.run_files.specs.Printing.{Tells}
+use Rattle.run_files.specs.Printing.{PrintsText}
 use Rattle.run_sets.specs.declared.one_set.OneSet.{OneSet}
 use Rattle.run_sets.specs.OneSets.{IsNoOneSet, OfOneSet, SetContents}
 use Rattle.run_sets.specs.PastLimits.{IsSetPastLimit}
@@ -19,16 +19,16 @@ use Rattle.idle_answers.specs.UseTexts.{uses_status, uses_text}
 
 -- an answer to each statement of the set, in reading order, by their text and status, which comes only where the set's query is within
 -- its limits, and there are valid requests
-pub record TellsUses (certified : Bool) (budgets : Budgets) (one : OneSet) (p : Printed) : Type 0 where
+pub record PrintsUses (certified : Bool) (budgets : Budgets) (one : OneSet) (p : Printed) : Type 0 where
   pub within : IsWithinLimits (set_plan one.schema one.set)
-  pub some : HasValidRequest one.schema
+  pub has_request : HasValidRequest one.schema
   pub answers : List UseAnswer
   pub are : AllZip (IsUseAnswer certified budgets one) (named_set one.set) answers
-  pub told : Tells (uses_text (named_set one.set) answers) (uses_status answers) p
+  pub prints : PrintsText (uses_text (named_set one.set) answers) (uses_status answers) p
 
 -- of a set under the schema of its run: the limit that its query is past, or what is said of its statements
 abbrev pub AreUsesPrinted : Bool → Budgets → OneSet → Printed → Type 0
-AreUsesPrinted certified budgets one p = IsRefusedBy (IsSetPastLimit one.schema one.set) p ⊎ TellsUses certified budgets one p
+AreUsesPrinted certified budgets one p = IsRefusedBy (IsSetPastLimit one.schema one.set) p ⊎ PrintsUses certified budgets one p
 
 -- the budgets of a question on uses
 abbrev pub use_budgets : UseQuestion → Budgets

@@ -7,7 +7,7 @@ ghost use Rattle.refute_check.specs.Proofs.{proof_of};
 ghost use Rattle.run_sets.specs.OneSets.{FitsItsSchema};
 ghost use Rattle.set_questions.specs.Idle.{IsNameIn, OfNamed};
 ghost use Rattle.set_questions.specs.Narrowing.{IsNarrowedChange};
-ghost use Rattle.idle_answers.specs.Deciding.{IsAskedFor, IsIdleAnswer, IsPairWithoutApart, IsSettledVerdict, IsSmallerFor, IsToldUse, IsUseVerdict};
+ghost use Rattle.idle_answers.specs.Deciding.{IsAskedFor, IsIdleAnswer, IsPairWithoutApart, IsSettledVerdict, IsSmallerFor, IsAnswerToUse, IsUseVerdict};
 ghost use Rattle.idle_answers.specs.UseAnswers.{IsUseAnswerAt};
 
 use crate::answer::UseAnswer;
@@ -53,7 +53,7 @@ fn told_use(
     budgets: Budgets,
     certified: bool,
 ) -> Result<UseAnswer, NoMemory>
-    ensures { IfOk result (IsToldUse certified version budgets told) }
+    ensures { IfOk result (IsAnswerToUse certified version budgets told) }
 {
     match told {
         Use::Used(request) => {

@@ -8,7 +8,7 @@ ghost use Rattle.run_files.specs.Printing.{IfPrinted, OrAnswered};
 ghost use Rattle.run_sets.specs.OneSets.{FitsItsSchema, set_contents};
 ghost use Rattle.run_sets.specs.Refusals.{IsRefusedBy};
 ghost use Rattle.set_questions.specs.Idle.{IsNameIn};
-ghost use Rattle.idle_answers.specs.Telling.{AddsUse, AreUsesTold, IsStarted, TellsNext, told_status};
+ghost use Rattle.idle_answers.specs.Telling.{AddsUse, AreUsesWritten, IsStarted, AddsNextUse, told_status};
 ghost use Rattle.idle_answers.specs.UseTexts.{is_idle, is_undecided};
 ghost use Rattle.run_sets.specs.PastLimits.{IsSetPastLimit};
 ghost use Rattle.idle_answers.specs.UsesPrinted.{AreUsesPrinted, IsIdlePrinted};
@@ -111,7 +111,7 @@ fn tell_next(
     requires within { IsWithinLimits (set_plan one.now.schema one.now.set) }
     requires splits { 1 ≤ budgets.splits }
     requires states { 1 ≤ budgets.states }
-    ensures { OnOk result (TellsNext certified budgets one.now name told.old told.new) }
+    ensures { OnOk result (AddsNextUse certified budgets one.now name told.old told.new) }
 {
     let answer = use_answer(alloc, one, name, budgets, certified)?;
     add_use(alloc, told, name, &answer)
@@ -130,7 +130,7 @@ fn uses_told(
     requires within { IsWithinLimits (set_plan one.now.schema one.now.set) }
     requires splits { 1 ≤ budgets.splits }
     requires states { 1 ≤ budgets.states }
-    ensures { IfOk result (AreUsesTold certified budgets one.now (named_set one.now.set)) }
+    ensures { IfOk result (AreUsesWritten certified budgets one.now (named_set one.now.set)) }
 {
     let mut told = started(alloc, names.len())?;
     'names: for name in names {

@@ -10,7 +10,7 @@ use Rattle.intervals.specs.declared.units.TheConstants.{UNITS}
 use Rattle.intervals.specs.Digits.{is_digits, digits_number, fraction_units, number_of, digit_run}
 use Rattle.intervals.specs.Decimals.{WritesSize, WritesDecimal}
 use Rattle.intervals.specs.Decimals.{whole, with_fraction, unsigned, negated}
-use Rattle.intervals.specs.DecimalTexts.{size_of, tail_of, fraction_of, join_units, decimal_of, has_sign, after_sign, signed}
+use Rattle.intervals.specs.DecimalTexts.{size_of, tail_of, fraction_of, join_units, decimal_of, has_sign, after_sign, signed_number}
 use Rattle.intervals.proofs.Steps.{by_bool, both, same_of, mapped, chained, guarded, only_digits, front_digits, behind_digits}
 
 number_is : (most : ℕ) (text : List ℕ) → is_digits most text ≡ true → number_of most text ≡ Some (digits_number text)
@@ -82,7 +82,7 @@ size_no_sign text units (with_fraction digits fraction t h k e) =
     let P : List ℕ → Type 0 = λ t. (has_sign t ≡ false) × (after_sign t ≡ t) in
     subst P (sym t) (no_sign digits (46 ∷ fraction) h)
 
-forth_of : (text unsigned_text : List ℕ) (negative : Bool) (size : ℕ) → has_sign text ≡ negative → after_sign text ≡ unsigned_text → size_of unsigned_text ≡ Some size → decimal_of text ≡ Some (signed negative size)
+forth_of : (text unsigned_text : List ℕ) (negative : Bool) (size : ℕ) → has_sign text ≡ negative → after_sign text ≡ unsigned_text → size_of unsigned_text ≡ Some size → decimal_of text ≡ Some (signed_number negative size)
 forth_of text unsigned_text negative size e f h = rw (e, f, h) refl
 
 pub decimal_forth : (text : List ℕ) (units : ℤ) → WritesDecimal text units → decimal_of text ≡ Some units
@@ -92,14 +92,14 @@ decimal_forth text units (unsigned size w e) =
 decimal_forth text units (negated unsigned_text size t w e) =
     rw t (forth_of (45 ∷ unsigned_text) unsigned_text true size refl refl (size_forth unsigned_text size w) ∙ ap (λ (z : ℤ). Some z) (sym e))
 
-back_signed : (text unsigned_text : List ℕ) (units : ℤ) → text ≡ 45 ∷ unsigned_text → option_map (signed true) (size_of unsigned_text) ≡ Some units → WritesDecimal text units
+back_signed : (text unsigned_text : List ℕ) (units : ℤ) → text ≡ 45 ∷ unsigned_text → option_map (signed_number true) (size_of unsigned_text) ≡ Some units → WritesDecimal text units
 back_signed text unsigned_text units t h =
-    let m = mapped (signed true) (size_of unsigned_text) units h in
+    let m = mapped (signed_number true) (size_of unsigned_text) units h in
     negated unsigned_text m.0 t (size_back unsigned_text m.0 m.1) (sym m.2)
 
-back_plain : (text : List ℕ) (units : ℤ) → option_map (signed false) (size_of text) ≡ Some units → WritesDecimal text units
+back_plain : (text : List ℕ) (units : ℤ) → option_map (signed_number false) (size_of text) ≡ Some units → WritesDecimal text units
 back_plain text units h =
-    let m = mapped (signed false) (size_of text) units h in
+    let m = mapped (signed_number false) (size_of text) units h in
     unsigned m.0 (size_back text m.0 m.1) (sym m.2)
 
 pub decimal_back : (text : List ℕ) (units : ℤ) → decimal_of text ≡ Some units → WritesDecimal text units

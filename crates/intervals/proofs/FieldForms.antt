@@ -7,9 +7,9 @@ use Rattle.std.proofs.lemmas.Grind.{common_steps}
 use Rattle.std.specs.Char.{is_ascii_digit}
 use Rattle.intervals.specs.Digits.{is_digits, fraction_units, digit_run}
 use Rattle.intervals.specs.DecimalTexts.{fraction_of}
-use Rattle.intervals.specs.Moments.{two, four, units_of_second, WritesMinutes, WritesSeconds, WritesOffset}
+use Rattle.intervals.specs.Moments.{two_digit_text, four_digit_text, units_of_second, WritesMinutes, WritesSeconds, WritesOffset}
 use Rattle.intervals.specs.Moments.{none, whole, with_fraction, utc, east, west}
-use Rattle.intervals.specs.MomentTexts.{two_of, four_of, field_of, minutes_of, clock_of, fraction_behind, behind_second, second_of, seconds_of, at_end, whole_clock, is_mark_alone, begins_with, offset_of}
+use Rattle.intervals.specs.MomentTexts.{two_of, four_of, field_of, minutes_of, clock_of, fraction_after, after_second, second_of, seconds_of, at_end, whole_clock, is_mark_alone, begins_with, offset_of}
 use Rattle.intervals.proofs.Steps.{by_bool, mapped, chained, guarded, both, same_of, only_digits, front_digits, behind_digits}
 
 -- ---- two digits, four digits, and a mark with two digits
@@ -20,7 +20,7 @@ digit_is d h = grind (arith, common_steps)
 two_at : (a b n : ℕ) (rest : List ℕ) → is_ascii_digit a ≡ true → is_ascii_digit b ≡ true → (a - 48) * 10 + (b - 48) ≡ n → two_of (a ∷ b ∷ rest) ≡ Some (n, rest)
 two_at a b n rest h k e = rw (h, k, e) refl
 
-pub two_forth : (n : ℕ) (rest : List ℕ) → n < 100 → two_of (two n ++ rest) ≡ Some (n, rest)
+pub two_forth : (n : ℕ) (rest : List ℕ) → n < 100 → two_of (two_digit_text n ++ rest) ≡ Some (n, rest)
 two_forth n rest h = two_at (48 + n / 10) (48 + n % 10) n rest (digit_is (n / 10) (omega arith)) (digit_is (n % 10) (omega arith)) (omega arith)
 
 -- what was read as n, and what stands behind it
@@ -31,7 +31,7 @@ pub record Read (k : ℕ) (shown text : List ℕ) (n : ℕ) (rest : List ℕ) : 
 pair_back : (a b n : ℕ) → is_ascii_digit a ≡ true → is_ascii_digit b ≡ true → (a - 48) * 10 + (b - 48) ≡ n → (n < 100) × (48 + n / 10 ≡ a) × (48 + n % 10 ≡ b)
 pair_back a b n h k e = (grind (arith, common_steps), grind (arith, common_steps), grind (arith, common_steps))
 
-pub two_back : (text : List ℕ) (n : ℕ) (rest : List ℕ) → two_of text ≡ Some (n, rest) → Read 100 (two n) text n rest
+pub two_back : (text : List ℕ) (n : ℕ) (rest : List ℕ) → two_of text ≡ Some (n, rest) → Read 100 (two_digit_text n) text n rest
 two_back [] n rest h = absurd (cc)
 two_back (a ∷ []) n rest h = absurd (cc)
 two_back (a ∷ b ∷ text) n rest h =
@@ -41,13 +41,13 @@ two_back (a ∷ b ∷ text) n rest h =
     let p = pair_back a b n digits.0 digits.1 parts.0 in
     record { small = p.0; text_is = rw (p.1, p.2, parts.1) refl }
 
-pub four_forth : (n : ℕ) (rest : List ℕ) → n < 10_000 → four_of (four n ++ rest) ≡ Some (n, rest)
+pub four_forth : (n : ℕ) (rest : List ℕ) → n < 10_000 → four_of (four_digit_text n ++ rest) ≡ Some (n, rest)
 unfolding four_of
 four_forth n rest h =
     let again : n / 100 * 100 + n % 100 ≡ n = omega arith in
-    rw (two_forth (n / 100) (two (n % 100) ++ rest) (omega arith), two_forth (n % 100) rest (omega arith)) (ap (λ (v : ℕ). Some (v, rest)) again)
+    rw (two_forth (n / 100) (two_digit_text (n % 100) ++ rest) (omega arith), two_forth (n % 100) rest (omega arith)) (ap (λ (v : ℕ). Some (v, rest)) again)
 
-pub four_back : (text : List ℕ) (n : ℕ) (rest : List ℕ) → four_of text ≡ Some (n, rest) → Read 10_000 (four n) text n rest
+pub four_back : (text : List ℕ) (n : ℕ) (rest : List ℕ) → four_of text ≡ Some (n, rest) → Read 10_000 (four_digit_text n) text n rest
 unfolding four_of
 four_back text n rest h =
     let a = chained _ (two_of text) (n, rest) h in
@@ -60,13 +60,13 @@ four_back text n rest h =
     let y : n % 100 ≡ b.0.0 = omega (arith, low.small) in
     record {
       small = omega (arith, low.small, high.small);
-      text_is = rw (x, y) (high.text_is ∙ ap (λ (t : List ℕ). two a.0.0 ++ t) (low.text_is ∙ ap (λ (t : List ℕ). two b.0.0 ++ t) behind));
+      text_is = rw (x, y) (high.text_is ∙ ap (λ (t : List ℕ). two_digit_text a.0.0 ++ t) (low.text_is ∙ ap (λ (t : List ℕ). two_digit_text b.0.0 ++ t) behind));
     }
 
-pub field_forth : (mark n : ℕ) (rest : List ℕ) → n < 100 → field_of mark (mark ∷ (two n ++ rest)) ≡ Some (n, rest)
+pub field_forth : (mark n : ℕ) (rest : List ℕ) → n < 100 → field_of mark (mark ∷ (two_digit_text n ++ rest)) ≡ Some (n, rest)
 field_forth mark n rest h = rw (eq-eqb mark mark refl) (two_forth n rest h)
 
-pub field_back : (mark : ℕ) (text : List ℕ) (n : ℕ) (rest : List ℕ) → field_of mark text ≡ Some (n, rest) → Read 100 (mark ∷ two n) text n rest
+pub field_back : (mark : ℕ) (text : List ℕ) (n : ℕ) (rest : List ℕ) → field_of mark text ≡ Some (n, rest) → Read 100 (mark ∷ two_digit_text n) text n rest
 field_back mark [] n rest h = absurd (cc)
 field_back mark (c ∷ text) n rest h =
     let g = guarded (c == mark) (two_of text) (n, rest) h in
@@ -81,7 +81,7 @@ minutes_at hour minute minutes rest h k e = rw e (grind (arith, common_steps))
 pub clock_forth : (mark minutes : ℕ) (clock rest : List ℕ) → WritesMinutes clock minutes → clock_of mark (mark ∷ (clock ++ rest)) ≡ Some (minutes, rest)
 unfolding clock_of
 clock_forth mark minutes clock rest w =
-    rw (w.text_is, field_forth mark w.hour (58 ∷ (two w.minute ++ rest)) (omega (arith, w.hour_in)), field_forth 58 w.minute rest (omega (arith, w.minute_in))) (minutes_at w.hour w.minute minutes rest w.hour_in w.minute_in (sym w.minutes_is))
+    rw (w.text_is, field_forth mark w.hour (58 ∷ (two_digit_text w.minute ++ rest)) (omega (arith, w.hour_in)), field_forth 58 w.minute rest (omega (arith, w.minute_in))) (minutes_at w.hour w.minute minutes rest w.hour_in w.minute_in (sym w.minutes_is))
 
 below_of : (n k : ℕ) → nat_lt n k ≡ true → n < k
 below_of n k h = grind (arith, common_steps)
@@ -103,9 +103,9 @@ clock_back mark text n rest h =
     let hour = field_back mark text a.0.0 a.0.1 a.1 in
     let minute = field_back 58 a.0.1 b.0.0 b.0.1 b.1 in
     record {
-      clock = two a.0.0 ++ 58 ∷ two b.0.0;
+      clock = two_digit_text a.0.0 ++ 58 ∷ two_digit_text b.0.0;
       writes = record { hour = a.0.0; minute = b.0.0; text_is = refl; hour_in = below_of _ _ bounds.0; minute_in = below_of _ _ bounds.1; minutes_is = sym parts.0 };
-      text_is = hour.text_is ∙ ap (λ (t : List ℕ). (mark ∷ two a.0.0) ++ t) (minute.text_is ∙ ap (λ (t : List ℕ). (58 ∷ two b.0.0) ++ t) parts.1);
+      text_is = hour.text_is ∙ ap (λ (t : List ℕ). (mark ∷ two_digit_text a.0.0) ++ t) (minute.text_is ∙ ap (λ (t : List ℕ). (58 ∷ two_digit_text b.0.0) ++ t) parts.1);
     }
 
 -- ---- the second
@@ -128,14 +128,14 @@ pub record SecondRead (text : List ℕ) (within : ℕ) (rest : List ℕ) : Type 
   pub writes : WritesSeconds second within
   pub text_is : text ≡ second ++ rest
 
-behind_back : (s : ℕ) (text : List ℕ) (within : ℕ) (rest : List ℕ) → s < 60 → behind_second s text ≡ Some (within, rest) → SecondRead (58 ∷ (two s ++ text)) within rest
+behind_back : (s : ℕ) (text : List ℕ) (within : ℕ) (rest : List ℕ) → s < 60 → after_second s text ≡ Some (within, rest) → SecondRead (58 ∷ (two_digit_text s ++ text)) within rest
 behind_back s [] within rest small h =
     let parts = some_pair_parts _ _ _ _ h in
-    record { second = 58 ∷ two s; writes = whole s refl small (sym parts.0); text_is = ap (λ (t : List ℕ). 58 ∷ (two s ++ t)) parts.1 }
+    record { second = 58 ∷ two_digit_text s; writes = whole s refl small (sym parts.0); text_is = ap (λ (t : List ℕ). 58 ∷ (two_digit_text s ++ t)) parts.1 }
 behind_back s (c ∷ text) within rest small h =
     by_bool (c == 46)
     (λ e.
-    let k : fraction_behind s text ≡ Some (within, rest) = rw e at h in
+    let k : fraction_after s text ≡ Some (within, rest) = rw e at h in
     let m = mapped _ (fraction_of (take (digit_run text) text)) (within, rest) k in
     let g = guarded (is_digits 9 (take (digit_run text) text)) (Some (fraction_units (take (digit_run text) text))) m.0 m.1 in
     let value : s * units_of_second + m.0 ≡ within = ap (λ (p : ℕ × List ℕ). p.0) m.2 in
@@ -143,14 +143,14 @@ behind_back s (c ∷ text) within rest small h =
     let units : fraction_units (take (digit_run text) text) ≡ m.0 = same_Some _ _ g.1 in
     let whole_text : text ≡ take (digit_run text) text ++ rest = sym (take-append-drop (digit_run text) text) ∙ ap (λ (t : List ℕ). take (digit_run text) text ++ t) behind in
     record {
-      second = 58 ∷ (two s ++ 46 ∷ take (digit_run text) text);
+      second = 58 ∷ (two_digit_text s ++ 46 ∷ take (digit_run text) text);
       writes = with_fraction s (take (digit_run text) text) refl small g.0 (sym value ∙ ap (λ (n : ℕ). s * units_of_second + n) (sym units));
-      text_is = ap (λ (b : ℕ). 58 ∷ (two s ++ b ∷ text)) (same_of c 46 e) ∙ ap (λ (t : List ℕ). 58 ∷ (two s ++ 46 ∷ t)) whole_text;
+      text_is = ap (λ (b : ℕ). 58 ∷ (two_digit_text s ++ b ∷ text)) (same_of c 46 e) ∙ ap (λ (t : List ℕ). 58 ∷ (two_digit_text s ++ 46 ∷ t)) whole_text;
     })
     (λ e.
     let k : ◌≡◌ {A = Option (ℕ × List ℕ)} (Some (s * units_of_second, c ∷ text)) (Some (within, rest)) = rw e at h in
     let parts = some_pair_parts _ _ _ _ k in
-    record { second = 58 ∷ two s; writes = whole s refl small (sym parts.0); text_is = ap (λ (t : List ℕ). 58 ∷ (two s ++ t)) parts.1 })
+    record { second = 58 ∷ two_digit_text s; writes = whole s refl small (sym parts.0); text_is = ap (λ (t : List ℕ). 58 ∷ (two_digit_text s ++ t)) parts.1 })
 
 no_second : (text : List ℕ) (within : ℕ) (rest : List ℕ) → ◌≡◌ {A = Option (ℕ × List ℕ)} (Some (0, text)) (Some (within, rest)) → SecondRead text within rest
 no_second text within rest h =
@@ -165,7 +165,7 @@ seconds_back (c ∷ text) within rest h =
     (λ e.
     let k : option_and_then (λ (s : ℕ × List ℕ). second_of s.0 s.1) (two_of text) ≡ Some (within, rest) = rw e at h in
     let a = chained _ (two_of text) (within, rest) k in
-    let g = guarded (nat_lt a.0.0 60) (behind_second a.0.0 a.0.1) (within, rest) a.2 in
+    let g = guarded (nat_lt a.0.0 60) (after_second a.0.0 a.0.1) (within, rest) a.2 in
     let two_read = two_back text a.0.0 a.0.1 a.1 in
     let read = behind_back a.0.0 a.0.1 within rest (below_of _ _ g.0) g.1 in
     let P : List ℕ → Type 0 = λ t. SecondRead t within rest in

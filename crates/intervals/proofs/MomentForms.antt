@@ -8,9 +8,9 @@ use Rattle.std.proofs.lemmas.Grind.{common_steps}
 use Rattle.std.specs.Int.{IsInRange}
 use Rattle.jiff_core.specs.Calendar.{IsCivilDate, days_in_month}
 use Rattle.intervals.specs.Digits.{is_digits, digits_number}
-use Rattle.intervals.specs.Moments.{two, four, midnight, units_of_second, units_of_minute, WritesMinutes, WritesSeconds, WritesOffset, WritesMoment}
+use Rattle.intervals.specs.Moments.{two_digit_text, four_digit_text, midnight, units_of_second, units_of_minute, WritesMinutes, WritesSeconds, WritesOffset, WritesMoment}
 use Rattle.intervals.specs.Moments.{utc, east, west, seconds, month, day, time}
-use Rattle.intervals.specs.MomentTexts.{four_of, field_of, clock_of, seconds_of, offset_of, time_of, is_date, midnight_of, behind_day, behind_month, civil_of, moment_of}
+use Rattle.intervals.specs.MomentTexts.{four_of, field_of, clock_of, seconds_of, offset_of, time_of, is_date, midnight_of, after_day, after_month, civil_of, moment_of}
 use Rattle.intervals.proofs.Steps.{by_bool, mapped, chained, guarded, both}
 use Rattle.intervals.proofs.Dates.{midnight_in}
 use Rattle.intervals.proofs.FieldForms.{four_forth, four_back, field_forth, field_back, clock_forth, clock_back, seconds_at, seconds_back, offset_forth, offset_back}
@@ -38,16 +38,16 @@ unfolding time_of
 time_forth clock second offset minutes within ahead w s o =
     rw (clock_forth 84 minutes clock (second ++ offset) w, seconds_before second offset within ahead s o, offset_forth offset ahead o) refl
 
-in_month_forth : (y m : ℕ) (rest : List ℕ) (units : ℤ) → y < 10_000 → m < 100 → behind_month y m rest ≡ Some units → civil_of (four y ++ 45 ∷ (two m ++ rest)) ≡ Some units
+in_month_forth : (y m : ℕ) (rest : List ℕ) (units : ℤ) → y < 10_000 → m < 100 → after_month y m rest ≡ Some units → civil_of (four_digit_text y ++ 45 ∷ (two_digit_text m ++ rest)) ≡ Some units
 unfolding civil_of
-in_month_forth y m rest units small month_in h = rw (four_forth y (45 ∷ (two m ++ rest)) small, field_forth 45 m rest month_in) h
+in_month_forth y m rest units small month_in h = rw (four_forth y (45 ∷ (two_digit_text m ++ rest)) small, field_forth 45 m rest month_in) h
 
-in_day_forth : (y m d : ℕ) (rest : List ℕ) (units : ℤ) → d < 100 → midnight_of y m d ≡ Some (midnight y m d) → behind_day (midnight y m d) rest ≡ Some units → behind_month y m (45 ∷ (two d ++ rest)) ≡ Some units
+in_day_forth : (y m d : ℕ) (rest : List ℕ) (units : ℤ) → d < 100 → midnight_of y m d ≡ Some (midnight y m d) → after_day (midnight y m d) rest ≡ Some units → after_month y m (45 ∷ (two_digit_text d ++ rest)) ≡ Some units
 in_day_forth y m d rest units day_in e h = rw (field_forth 45 d rest day_in, e) h
 
-civil_forth : (y m d : ℕ) (rest : List ℕ) (units : ℤ) → IsCivilDate (pos y) m d → d < 100 → behind_day (midnight y m d) rest ≡ Some units → civil_of (four y ++ 45 ∷ (two m ++ 45 ∷ (two d ++ rest))) ≡ Some units
+civil_forth : (y m d : ℕ) (rest : List ℕ) (units : ℤ) → IsCivilDate (pos y) m d → d < 100 → after_day (midnight y m d) rest ≡ Some units → civil_of (four_digit_text y ++ 45 ∷ (two_digit_text m ++ 45 ∷ (two_digit_text d ++ rest))) ≡ Some units
 civil_forth y m d rest units date day_in h =
-    in_month_forth y m (45 ∷ (two d ++ rest)) units (year_in y date.0.1) (omega arith) (in_day_forth y m d rest units day_in (midnight_in y m d date.1 date.2) h)
+    in_month_forth y m (45 ∷ (two_digit_text d ++ rest)) units (year_in y date.0.1) (omega arith) (in_day_forth y m d rest units day_in (midnight_in y m d date.1 date.2) h)
 
 day_below : (y : ℤ) (m d : ℕ) → IsInRange 1 (days_in_month y m) d → d < 100
 day_below y m d h = grind (arith, common_steps)
@@ -63,15 +63,15 @@ pub moment_forth : (text : List ℕ) (units : ℤ) → WritesMoment text units �
 unfolding moment_of
 moment_forth text units (seconds h e) = rw (h, e) refl
 moment_forth text units (month y m t date e) =
-    from_civil text units (no_seconds text (four y) (two m) t)
+    from_civil text units (no_seconds text (four_digit_text y) (two_digit_text m) t)
     (rw t (in_month_forth y m [] units (year_in y date.0.1) (omega (arith, date.1)) (midnight_in y m 1 date.1 date.2 ∙ ap (λ (z : ℤ). Some z) (sym e))))
 moment_forth text units (day y m d t date e) =
-    from_civil text units (no_seconds text (four y) (two m ++ 45 ∷ two d) t)
+    from_civil text units (no_seconds text (four_digit_text y) (two_digit_text m ++ 45 ∷ two_digit_text d) t)
     (rw t (civil_forth y m d [] units date (day_below (pos y) m d date.2) (ap (λ (z : ℤ). Some z) (sym e))))
 moment_forth text units (time y m d minutes within ahead clock second offset t date w s o e) =
     let read = time_forth clock second offset minutes within ahead w s o in
     let value = regroup (midnight y m d) (pos (minutes * units_of_minute + within)) (ahead *ℤ pos units_of_minute) in
-    from_civil text units (no_seconds text (four y) (two m ++ 45 ∷ (two d ++ 84 ∷ (clock ++ (second ++ offset)))) t)
+    from_civil text units (no_seconds text (four_digit_text y) (two_digit_text m ++ 45 ∷ (two_digit_text d ++ 84 ∷ (clock ++ (second ++ offset)))) t)
     (rw t (civil_forth y m d (84 ∷ (clock ++ (second ++ offset))) units date (day_below (pos y) m d date.2) (rw read (ap (λ (z : ℤ). Some z) (value ∙ sym e)))))
 
 -- ---- from the computation to the forms
@@ -122,18 +122,18 @@ date_of y m d h e =
     let days = both (nat_le 1 d) (nat_le d (days_in_month (pos y) m)) parts.1 in
     ((omega (arith, ints), omega (arith, ints)), (most_of _ _ months.0, most_of _ _ months.1), (most_of _ _ days.0, most_of _ _ days.1))
 
-day_back : (text : List ℕ) (y m d : ℕ) (rest : List ℕ) (units : ℤ) → text ≡ four y ++ 45 ∷ (two m ++ 45 ∷ (two d ++ rest)) → IsCivilDate (pos y) m d → behind_day (midnight y m d) rest ≡ Some units → WritesMoment text units
+day_back : (text : List ℕ) (y m d : ℕ) (rest : List ℕ) (units : ℤ) → text ≡ four_digit_text y ++ 45 ∷ (two_digit_text m ++ 45 ∷ (two_digit_text d ++ rest)) → IsCivilDate (pos y) m d → after_day (midnight y m d) rest ≡ Some units → WritesMoment text units
 day_back text y m d [] units t date h = day y m d t date (sym (same_Some _ _ h))
 day_back text y m d (c ∷ rest) units t date h =
     let k = mapped _ (time_of (c ∷ rest)) units h in
     let read = time_back (c ∷ rest) k.0 k.1 in
     let value = regroup (midnight y m d) (pos (read.minutes * units_of_minute + read.within)) (read.ahead *ℤ pos units_of_minute) in
     time y m d read.minutes read.within read.ahead read.clock read.second read.offset
-    (t ∙ ap (λ (u : List ℕ). four y ++ 45 ∷ (two m ++ 45 ∷ (two d ++ u))) read.text_is)
+    (t ∙ ap (λ (u : List ℕ). four_digit_text y ++ 45 ∷ (two_digit_text m ++ 45 ∷ (two_digit_text d ++ u))) read.text_is)
     date read.clock_is read.second_is read.offset_is
     (sym k.2 ∙ ap (λ (z : ℤ). midnight y m d +ℤ z) (sym read.units_is) ∙ value)
 
-month_back : (text : List ℕ) (y m : ℕ) (rest : List ℕ) (units : ℤ) → text ≡ four y ++ 45 ∷ (two m ++ rest) → y < 10_000 → behind_month y m rest ≡ Some units → WritesMoment text units
+month_back : (text : List ℕ) (y m : ℕ) (rest : List ℕ) (units : ℤ) → text ≡ four_digit_text y ++ 45 ∷ (two_digit_text m ++ rest) → y < 10_000 → after_month y m rest ≡ Some units → WritesMoment text units
 month_back text y m [] units t small h =
     let g = guarded (is_date y m 1) (Some (midnight y m 1)) units h in
     month y m t (date_of y m 1 small g.0) (sym (same_Some _ _ g.1))
@@ -143,7 +143,7 @@ month_back text y m (c ∷ rest) units t small h =
     let g = guarded (is_date y m a.0.0) (Some (midnight y m a.0.0)) b.0 b.1 in
     let read = field_back 45 (c ∷ rest) a.0.0 a.0.1 a.1 in
     let start : midnight y m a.0.0 ≡ b.0 = same_Some _ _ g.1 in
-    day_back text y m a.0.0 a.0.1 units (t ∙ ap (λ (u : List ℕ). four y ++ 45 ∷ (two m ++ u)) read.text_is) (date_of y m a.0.0 small g.0) (subst (λ (z : ℤ). behind_day z a.0.1 ≡ Some units) (sym start) b.2)
+    day_back text y m a.0.0 a.0.1 units (t ∙ ap (λ (u : List ℕ). four_digit_text y ++ 45 ∷ (two_digit_text m ++ u)) read.text_is) (date_of y m a.0.0 small g.0) (subst (λ (z : ℤ). after_day z a.0.1 ≡ Some units) (sym start) b.2)
 
 civil_back : (text : List ℕ) (units : ℤ) → civil_of text ≡ Some units → WritesMoment text units
 unfolding civil_of
@@ -152,7 +152,7 @@ civil_back text units h =
     let b = chained _ (field_of 45 a.0.1) units a.2 in
     let year = four_back text a.0.0 a.0.1 a.1 in
     let read = field_back 45 a.0.1 b.0.0 b.0.1 b.1 in
-    month_back text a.0.0 b.0.0 b.0.1 units (year.text_is ∙ ap (λ (u : List ℕ). four a.0.0 ++ u) read.text_is) year.small b.2
+    month_back text a.0.0 b.0.0 b.0.1 units (year.text_is ∙ ap (λ (u : List ℕ). four_digit_text a.0.0 ++ u) read.text_is) year.small b.2
 
 pub moment_back : (text : List ℕ) (units : ℤ) → moment_of text ≡ Some units → WritesMoment text units
 unfolding moment_of

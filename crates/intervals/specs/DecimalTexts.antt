@@ -32,12 +32,12 @@ after_sign [] = []
 after_sign (c ∷ text) = (if c == 45 then text else c ∷ text)
 
 -- the number of this size, negative or not
-abbrev pub signed : Bool → ℕ → ℤ
-signed negative size = (if negative then neg_ℤ (pos size) else pos size)
+abbrev pub signed_number : Bool → ℕ → ℤ
+signed_number negative size = (if negative then neg_ℤ (pos size) else pos size)
 
 -- the whole form
 abbrev pub decimal_of : List ℕ → Option ℤ
-decimal_of text = option_map (signed (has_sign text)) (size_of (after_sign text))
+decimal_of text = option_map (signed_number (has_sign text)) (size_of (after_sign text))
 
 -- the digits of n units of 10^-k, from the tenths on, without last zeros
 abbrev pub fraction_digits : ℕ → ℕ → List ℕ

@@ -38,18 +38,18 @@ unfoldable pub clock_of : ℕ → List ℕ → Option (ℕ × List ℕ)
 clock_of mark text = option_and_then (λ h. option_and_then (λ m. minutes_of h.0 m.0 m.1) (field_of 58 h.1)) (field_of mark text)
 
 -- the units of a second, and those of the digits behind its point
-abbrev pub fraction_behind : ℕ → List ℕ → Option (ℕ × List ℕ)
-fraction_behind second text =
+abbrev pub fraction_after : ℕ → List ℕ → Option (ℕ × List ℕ)
+fraction_after second text =
     option_map (λ f. (second * units_of_second + f, drop (digit_run text) text)) (fraction_of (take (digit_run text) text))
 
 -- the units of a second, and of a fraction where a point stands behind it
-abbrev pub behind_second : ℕ → List ℕ → Option (ℕ × List ℕ)
-behind_second second [] = Some (second * units_of_second, [])
-behind_second second (c ∷ rest) = (if c == 46 then fraction_behind second rest else Some (second * units_of_second, c ∷ rest))
+abbrev pub after_second : ℕ → List ℕ → Option (ℕ × List ℕ)
+after_second second [] = Some (second * units_of_second, [])
+after_second second (c ∷ rest) = (if c == 46 then fraction_after second rest else Some (second * units_of_second, c ∷ rest))
 
 -- the same of a second that a minute has
 abbrev pub second_of : ℕ → List ℕ → Option (ℕ × List ℕ)
-second_of second rest = (if nat_lt second 60 then behind_second second rest else None)
+second_of second rest = (if nat_lt second 60 then after_second second rest else None)
 
 -- what may stand behind the minutes
 unfoldable pub seconds_of : List ℕ → Option (ℕ × List ℕ)
@@ -99,18 +99,18 @@ abbrev pub midnight_of : ℕ → ℕ → ℕ → Option ℤ
 midnight_of year month day = (if is_date year month day then Some (midnight year month day) else None)
 
 -- a date and what stands behind it
-abbrev pub behind_day : ℤ → List ℕ → Option ℤ
-behind_day start [] = Some start
-behind_day start (c ∷ rest) = option_map (λ time. start +ℤ time) (time_of (c ∷ rest))
+abbrev pub after_day : ℤ → List ℕ → Option ℤ
+after_day start [] = Some start
+after_day start (c ∷ rest) = option_map (λ time. start +ℤ time) (time_of (c ∷ rest))
 
-abbrev pub behind_month : ℕ → ℕ → List ℕ → Option ℤ
-behind_month year month [] = midnight_of year month 1
-behind_month year month (c ∷ rest) =
-    option_and_then (λ d. option_and_then (λ start. behind_day start d.1) (midnight_of year month d.0)) (field_of 45 (c ∷ rest))
+abbrev pub after_month : ℕ → ℕ → List ℕ → Option ℤ
+after_month year month [] = midnight_of year month 1
+after_month year month (c ∷ rest) =
+    option_and_then (λ d. option_and_then (λ start. after_day start d.1) (midnight_of year month d.0)) (field_of 45 (c ∷ rest))
 
 -- the forms with a date
 unfoldable pub civil_of : List ℕ → Option ℤ
-civil_of text = option_and_then (λ y. option_and_then (λ m. behind_month y.0 m.0 m.1) (field_of 45 y.1)) (four_of text)
+civil_of text = option_and_then (λ y. option_and_then (λ m. after_month y.0 m.0 m.1) (field_of 45 y.1)) (four_of text)
 
 -- all forms
 unfoldable pub moment_of : List ℕ → Option ℤ

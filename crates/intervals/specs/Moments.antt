@@ -8,11 +8,11 @@ use Rattle.intervals.specs.declared.units.TheConstants.{UNITS, UNITS_OF_MINUTE, 
 use Rattle.intervals.specs.Digits.{is_digits, digits_number, fraction_units}
 
 -- a number below 100 in two digits, and one below 10,000 in four
-abbrev pub two : ℕ → List ℕ
-two n = (48 + n / 10) ∷ (48 + n % 10) ∷ []
+abbrev pub two_digit_text : ℕ → List ℕ
+two_digit_text n = (48 + n / 10) ∷ (48 + n % 10) ∷ []
 
-abbrev pub four : ℕ → List ℕ
-four n = two (n / 100) ++ two (n % 100)
+abbrev pub four_digit_text : ℕ → List ℕ
+four_digit_text n = two_digit_text (n / 100) ++ two_digit_text (n % 100)
 
 -- a second, a minute and a day in units of 10^-9 s
 abbrev pub units_of_second : ℕ
@@ -33,7 +33,7 @@ midnight year month day = days_from_civil (pos year) month day *ℤ pos units_of
 pub record WritesMinutes (text : List ℕ) (minutes : ℕ) : Type 0 where
   pub hour : ℕ
   pub minute : ℕ
-  pub text_is : text ≡ two hour ++ 58 ∷ two minute
+  pub text_is : text ≡ two_digit_text hour ++ 58 ∷ two_digit_text minute
   pub hour_in : hour < 24
   pub minute_in : minute < 60
   pub minutes_is : minutes ≡ hour * 60 + minute
@@ -41,8 +41,8 @@ pub record WritesMinutes (text : List ℕ) (minutes : ℕ) : Type 0 where
 -- what may stand behind the minutes of a time of day: nothing, `:ss`, or `:ss`, a point and digits
 pub data WritesSeconds (text : List ℕ) (units : ℕ) : Type 0 where
   none : text ≡ [] → units ≡ 0 → WritesSeconds text units
-  whole : (second : ℕ) → text ≡ 58 ∷ two second → second < 60 → units ≡ second * units_of_second → WritesSeconds text units
-  with_fraction : (second : ℕ) (fraction : List ℕ) → text ≡ 58 ∷ (two second ++ 46 ∷ fraction)
+  whole : (second : ℕ) → text ≡ 58 ∷ two_digit_text second → second < 60 → units ≡ second * units_of_second → WritesSeconds text units
+  with_fraction : (second : ℕ) (fraction : List ℕ) → text ≡ 58 ∷ (two_digit_text second ++ 46 ∷ fraction)
       → second < 60 → is_digits 9 fraction ≡ true → units ≡ second * units_of_second + fraction_units fraction
       → WritesSeconds text units
 
@@ -59,13 +59,13 @@ pub data WritesMoment (text : List ℕ) (units : ℤ) : Type 0 where
   -- seconds
   seconds : is_digits 18 text ≡ true → units ≡ pos (digits_number text * units_of_second) → WritesMoment text units
   -- `YYYY-MM`
-  month : (y m : ℕ) → text ≡ four y ++ 45 ∷ two m → IsCivilDate (pos y) m 1 → units ≡ midnight y m 1 → WritesMoment text units
+  month : (y m : ℕ) → text ≡ four_digit_text y ++ 45 ∷ two_digit_text m → IsCivilDate (pos y) m 1 → units ≡ midnight y m 1 → WritesMoment text units
   -- `YYYY-MM-DD`
-  day : (y m d : ℕ) → text ≡ four y ++ 45 ∷ (two m ++ 45 ∷ two d) → IsCivilDate (pos y) m d → units ≡ midnight y m d
+  day : (y m d : ℕ) → text ≡ four_digit_text y ++ 45 ∷ (two_digit_text m ++ 45 ∷ two_digit_text d) → IsCivilDate (pos y) m d → units ≡ midnight y m d
       → WritesMoment text units
   -- `YYYY-MM-DDThh:mm`, then seconds, then the offset, which is taken off
   time : (y m d minutes within : ℕ) (ahead : ℤ) (clock second offset : List ℕ)
-      → text ≡ four y ++ 45 ∷ (two m ++ 45 ∷ (two d ++ 84 ∷ (clock ++ (second ++ offset)))) → IsCivilDate (pos y) m d
+      → text ≡ four_digit_text y ++ 45 ∷ (two_digit_text m ++ 45 ∷ (two_digit_text d ++ 84 ∷ (clock ++ (second ++ offset)))) → IsCivilDate (pos y) m d
       → WritesMinutes clock minutes → WritesSeconds second within → WritesOffset offset ahead
       → units ≡ ((midnight y m d +ℤ pos (minutes * units_of_minute + within)) -ℤ (ahead *ℤ pos units_of_minute))
       → WritesMoment text units

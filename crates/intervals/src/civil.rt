@@ -2,7 +2,7 @@
 ghost use Rattle.std.specs.Prelude.{◌≡◌, ◌<◌, IfSome, pos, ◌*ℤ◌, unsigned_abs};
 ghost use Rattle.jiff_core.specs.Calendar.{IsEpochDay};
 ghost use Rattle.intervals.specs.Moments.{units_of_day};
-ghost use Rattle.intervals.specs.MomentTexts.{midnight_of, behind_day, behind_month, civil_of};
+ghost use Rattle.intervals.specs.MomentTexts.{midnight_of, after_day, after_month, civil_of};
 
 use crate::clock::time;
 use crate::fields::{field, four_digits};
@@ -24,7 +24,7 @@ pub(crate) fn civil(text: &[u8]) -> Option<i128>
 fn behind_month(year: u16, month: u8, text: &[u8]) -> Option<i128>
     requires year_in { year < 10_000 }
     requires month_in { month < 100 }
-    ensures value { result ≡ behind_month year month text.now }
+    ensures value { result ≡ after_month year month text.now }
     ensures small { IfSome result (λ units. unsigned_abs units < 10_000_000_000_000_000_000_000) }
 {
     match text {
@@ -40,7 +40,7 @@ fn behind_month(year: u16, month: u8, text: &[u8]) -> Option<i128>
 // The first instant of a day and what stands behind its date: nothing, or a time of day.
 fn behind_day(start: i128, text: &[u8]) -> Option<i128>
     requires { unsigned_abs start < 1_000_000_000_000_000_000_000 }
-    ensures value { result ≡ behind_day start text.now }
+    ensures value { result ≡ after_day start text.now }
     ensures small { IfSome result (λ units. unsigned_abs units < 10_000_000_000_000_000_000_000) }
 {
     match text {

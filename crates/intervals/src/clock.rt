@@ -2,7 +2,7 @@
 ghost use Rattle.std.specs.Prelude.{◌≡◌, ◌<◌, IfSome, pos, ◌-ℤ◌, ◌*ℤ◌, unsigned_abs};
 ghost use Rattle.intervals.specs.declared.units.TheConstants.{UNITS_OF_MINUTE};
 ghost use Rattle.intervals.specs.Moments.{units_of_minute};
-ghost use Rattle.intervals.specs.MomentTexts.{read_view, fraction_behind, behind_second, second_of, seconds_of, whole_clock, offset_of, time_of};
+ghost use Rattle.intervals.specs.MomentTexts.{read_view, fraction_after, after_second, second_of, seconds_of, whole_clock, offset_of, time_of};
 
 use crate::digits::{fraction, leading_digits};
 use crate::fields::{clock, two_digits};
@@ -50,7 +50,7 @@ fn seconds(text: &[u8]) -> Option<(u64, &[u8])>
 
 fn behind_second(second: u8, text: &[u8]) -> Option<(u64, &[u8])>
     requires { second < 60 }
-    ensures value { read_view result ≡ behind_second second text.now }
+    ensures value { read_view result ≡ after_second second text.now }
     ensures small { IfSome result (λ p. p.0 < UNITS_OF_MINUTE) }
 {
     let units = u64::from(second) * UNITS;

@@ -3,7 +3,7 @@ ghost use Rattle.std.specs.Prelude.{◌≡◌, ◌<◌, IfOk};
 ghost use Rattle.std.specs.Result.{result_ok};
 ghost use Rattle.std.proofs.Common.{rules};
 ghost use Rattle.intervals.specs.Scaled.{IsScaled, IsOkBelow, size_limit, whole_limit, units_of_whole, whole_units};
-ghost use Rattle.intervals.specs.DecimalTexts.{signed};
+ghost use Rattle.intervals.specs.DecimalTexts.{signed_number};
 
 use crate::units::{SIZE_LIMIT, UNITS, WHOLE_LIMIT};
 use plain_lists::EqualClone;
@@ -53,7 +53,7 @@ impl Scaled {
     /// The number of this many units, or of this many less than none.
     pub(crate) fn of_size(size: u128, negative: bool) -> Scaled
         requires { size < size_limit }
-        ensures { result ≡ signed negative size }
+        ensures { result ≡ signed_number negative size }
     {
         let units = size as i128;
         Scaled {

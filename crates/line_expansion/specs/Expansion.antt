@@ -7,14 +7,14 @@ use Rattle.std.specs.Str.{NoCharPasses}
 use Rattle.std.specs.Str.Parse.{IsNumeral, digits_value, without_leading_plus}
 
 -- the characters `⟦`, `|` and `⟧`
-abbrev pub opening : ℕ
-opening = 10214
+abbrev pub opening_bracket : ℕ
+opening_bracket = 10214
 
-abbrev pub bar : ℕ
-bar = 124
+abbrev pub vertical_bar : ℕ
+vertical_bar = 124
 
-abbrev pub closing : ℕ
-closing = 10215
+abbrev pub closing_bracket : ℕ
+closing_bracket = 10215
 
 -- the text is two texts around the first such character
 pub record IsCutAt (c : ℕ) (text before after : List ℕ) : Type 0 where
@@ -25,15 +25,15 @@ pub record IsCutAt (c : ℕ) (text before after : List ℕ) : Type 0 where
 pub record IsRepeated (group file : List ℕ) : Type 0 where
   pub number : List ℕ
   pub text : List ℕ
-  pub cut : IsCutAt bar group number text
+  pub cut : IsCutAt vertical_bar group number text
   pub is_number : IsNumeral 10 (without_leading_plus number)
   pub times : file ≡ repeat (digits_value 10 (without_leading_plus number)) text
 
 -- the line, written out, is the file
 pub data ExpandsTo : List ℕ → List ℕ → Type 0 where
   -- a line without `⟦` is the file
-  plain : {line : List ℕ} → NoCharPasses (λ d. d == opening) line → ExpandsTo line line
+  plain : {line : List ℕ} → NoCharPasses (λ d. d == opening_bracket) line → ExpandsTo line line
   -- the file begins with what stands before the first `⟦` and then the repeated text
   repeated : {line file before opened group after text rest : List ℕ} →
-      IsCutAt opening line before opened → IsCutAt closing opened group after → IsRepeated group text → ExpandsTo after rest →
+      IsCutAt opening_bracket line before opened → IsCutAt closing_bracket opened group after → IsRepeated group text → ExpandsTo after rest →
       file ≡ before ++ (text ++ rest) → ExpandsTo line file

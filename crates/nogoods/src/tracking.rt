@@ -101,7 +101,7 @@ impl Tracking {
     pub fn pop(&mut self) -> Option<(u32, bool)>
         ensures lists { self.new.lists ≡ self.old.lists }
         ensures last { self.old.path ≡ self.new.path ++ option_to_list result }
-        ensures some { IsSome result ↔ (0 < length self.old.path) }
+        ensures nonempty { IsSome result ↔ (0 < length self.old.path) }
     {
         let last = self.path.pop();
         self.hits.truncate(self.path.len() + 1);

@@ -18,21 +18,21 @@ use Rattle.refute_check.specs.Closing.{Before, FailsAt, at_first, here, in_label
 use Rattle.refute_check.specs.Proofs.{Proof, label, size, split}
 use Rattle.refute_check.proofs.Laws.{fails-not-closes}
 use Rattle.command_words.specs.Asked.{Comparing}
-use Rattle.proof_text.specs.Faults.{proof_fault, skipped}
+use Rattle.proof_text.specs.Faults.{proof_fault, skipped_count}
 use Rattle.proof_text.specs.Laws.{OneProofForEachText, limits_of}
 use Rattle.proof_text.specs.LineForms.{lines_of}
 use Rattle.proof_text.specs.Lines.{verdict_line}
-use Rattle.proof_text.specs.Spelling.{starts}
+use Rattle.proof_text.specs.Spelling.{node_line_numbers}
 use Rattle.proof_text.specs.declared.fault.ProofFault.{ProofFault}
 use Rattle.proof_text.specs.declared.limits.TheConstants.{MOST_PROOF_BYTES}
 use Rattle.run_files.specs.declared.printed.Printed.{Printed}
 use Rattle.run_files.specs.declared.status.Status.TheVariants as status
-use Rattle.run_files.specs.Printing.{Tells}
+use Rattle.run_files.specs.Printing.{PrintsText}
 use Rattle.run_sets.specs.declared.pair.Pair.{Pair}
 use Rattle.run_sets.specs.declared.refusal.Refusal.{Refusal}
 use Rattle.run_sets.specs.declared.refusal.Refusal.TheVariants as refusal
 use Rattle.run_sets.specs.Pairs.{Contents, OfPair, OfRun, pair_of}
-use Rattle.run_sets.specs.Refusals.{TellsRefusal, IsRefusedBy, refusal_text}
+use Rattle.run_sets.specs.Refusals.{PrintsRefusal, IsRefusedBy, refusal_text}
 use Rattle.run_sets.proofs.Laws.{no_pair_fails, of_same}
 use Rattle.pair_answers.specs.declared.answer.CheckAnswer.{CheckAnswer}
 use Rattle.pair_answers.specs.declared.answer.CheckAnswer.TheVariants as answer
@@ -43,7 +43,7 @@ use Rattle.pair_answers.specs.Certified.{ClosesBy, FailsAtLine, HasProofFault, f
 use Rattle.pair_answers.specs.Checks.{ChecksAgree, PrintedProofsAreAccepted, SaysTheSame}
 use Rattle.pair_answers.specs.Comparison.{OfQuery, TooManyPieces, TooManyTests, plan_of}
 use Rattle.pair_answers.specs.Decided.{IsChecked, IsComparison, IsPastLimit}
-use Rattle.pair_answers.specs.Printed.{IsCheckOfPair, IsCheckPrinted, IsComparisonPrinted, IsPairPrinted, TellsCheck, budgets_of}
+use Rattle.pair_answers.specs.Printed.{IsCheckOfPair, IsCheckPrinted, IsComparisonPrinted, IsPairPrinted, PrintsCheck, budgets_of}
 use Rattle.pair_answers.specs.Texts.{check_status, check_text, comparison_status, comparison_text}
 use Rattle.pair_answers.proofs.Comparing.{one_list}
 
@@ -224,9 +224,9 @@ module _ (law : OneProofForEachText) (bytes : List ℕ) (pair : Pair) where
       let moved : FailsAll pair.schema this.query other.proof one.node = subst (λ (p : Proof). FailsAll pair.schema this.query p one.node) proofs one.fails in
       let there : FailsAll pair.schema that.query other.proof one.node = fails-too pair this.query that.query other.proof one.node this.is that.is moved in
       let nodes : one.node ≡ other.node = one-failure pair.schema that.query.tests (asked_tree that.query) at_first other.proof [] one.node other.node there other.fails in
-      let at_k : slice_get (starts (skipped (lines_of bytes) + 2) other.proof) other.node ≡ Some k =
-      subst (λ (n : ℕ). slice_get (starts (skipped (lines_of bytes) + 2) other.proof) n ≡ Some k) nodes
-      (subst (λ (p : Proof). slice_get (starts (skipped (lines_of bytes) + 2) p) one.node ≡ Some k) proofs one.line_is) in
+      let at_k : slice_get (node_line_numbers (skipped_count (lines_of bytes) + 2) other.proof) other.node ≡ Some k =
+      subst (λ (n : ℕ). slice_get (node_line_numbers (skipped_count (lines_of bytes) + 2) other.proof) n ≡ Some k) nodes
+      (subst (λ (p : Proof). slice_get (node_line_numbers (skipped_count (lines_of bytes) + 2) p) one.node ≡ Some k) proofs one.line_is) in
       let at_l = other.line_is in
       cc
 
@@ -253,11 +253,11 @@ module _ (law : OneProofForEachText) (bytes : List ℕ) (pair : Pair) where
 -- ---- what is printed
 
 -- one refusal has one line
-one_refusal : (r s : Refusal) (p q : Printed) → r ≡ s → TellsRefusal r p → TellsRefusal s q → SaysTheSame p q
+one_refusal : (r s : Refusal) (p q : Printed) → r ≡ s → PrintsRefusal r p → PrintsRefusal s q → SaysTheSame p q
 one_refusal r s p q same one other =
     (one.0 ∙ ap (λ (x : Refusal). refusal_text x) same ∙ sym other.0, one.1 ∙ sym other.1)
 
-one_answer : (a b : CheckAnswer) (p q : Printed) → a ≡ b → Tells (check_text a) (check_status a) p → Tells (check_text b) (check_status b) q → SaysTheSame p q
+one_answer : (a b : CheckAnswer) (p q : Printed) → a ≡ b → PrintsText (check_text a) (check_status a) p → PrintsText (check_text b) (check_status b) q → SaysTheSame p q
 one_answer a b p q same one other =
     (one.0 ∙ ap (λ (x : CheckAnswer). check_text x) same ∙ sym other.0, one.1 ∙ ap (λ (x : CheckAnswer). check_status x) same ∙ sym other.1)
 
@@ -267,7 +267,7 @@ query_too bytes pair (answer.BadProof fault) v = (v.query, v.is)
 query_too bytes pair (answer.NotClosing line) v = (v.query, v.is)
 query_too bytes pair answer.Accepted v = (v.0.query, v.0.is)
 
-limit_or_answer : (bytes : List ℕ) (pair : Pair) (p q : Printed) → IsRefusedBy (IsPastLimit pair) p → TellsCheck (IsChecked bytes pair) q → ⊥
+limit_or_answer : (bytes : List ℕ) (pair : Pair) (p q : Printed) → IsRefusedBy (IsPastLimit pair) p → PrintsCheck (IsChecked bytes pair) q → ⊥
 limit_or_answer bytes pair p q (r, past, line) other =
     let of = query_too bytes pair other.answer other.holds in
     within-limits pair of.0 of.1 r past
@@ -280,7 +280,7 @@ checks_agree law bytes pair one other (inr said) (inl past) = absurd (limit_or_a
 checks_agree law bytes pair one other (inr said) (inr said_too) =
     let same : said.answer ≡ said_too.answer =
     agree law bytes pair said.answer said_too.answer (told bytes pair said.answer said.holds) (told bytes pair said_too.answer said_too.holds) in
-    one_answer said.answer said_too.answer one other same said.told said_too.told
+    one_answer said.answer said_too.answer one other same said.prints said_too.prints
 
 -- ---- printed certificates
 
@@ -302,10 +302,10 @@ record Proves (asked : Comparing) (pair : Pair) (p : Printed) : Type 0 where
   printed : string_bytes p.text ≡ verdict_line ++ string_bytes text
 
 module _ (asked : Comparing) (pair : Pair) (p : Printed) (certified : asked.certified ≡ true) (holds : p.status ≡ status.Holds) where
-  refused-not : (r : Refusal) → TellsRefusal r p → ⊥
+  refused-not : (r : Refusal) → PrintsRefusal r p → ⊥
   refused-not r line = let refused = line.1 in cc
 
-  proves-by : (a : ComparisonAnswer) → IsComparison asked.certified (budgets_of asked) pair a → Tells (comparison_text a) (comparison_status a) p → Proves asked pair p
+  proves-by : (a : ComparisonAnswer) → IsComparison asked.certified (budgets_of asked) pair a → PrintsText (comparison_text a) (comparison_status a) p → Proves asked pair p
   proves-by compared.NotMore v told = let plain = v.0 in absurd (cc)
   proves-by (compared.Proved text) v told = record { text = text; proved = v; printed = told.0 ∙ proved_text text }
   proves-by (compared.More q) v told = let fails = told.1 in absurd (cc)
@@ -313,16 +313,16 @@ module _ (asked : Comparing) (pair : Pair) (p : Printed) (certified : asked.cert
 
   proves : IsPairPrinted asked.certified (budgets_of asked) pair p → Proves asked pair p
   proves (inl (r, past, line)) = absurd (refused-not r line)
-  proves (inr said) = proves-by said.answer said.holds said.told
+  proves (inr said) = proves-by said.answer said.holds said.prints
 
 -- a certificate that closes the query is accepted
 module _ (law : OneProofForEachText) (printed : List ℕ) (pair : Pair) (accepts : IsChecked printed pair answer.Accepted) (q : Printed) where
-  accepted-by : TellsCheck (IsChecked printed pair) q → Tells (codes "accepted\n") status.Holds q
+  accepted-by : PrintsCheck (IsChecked printed pair) q → PrintsText (codes "accepted\n") status.Holds q
   accepted-by said =
       let same : said.answer ≡ answer.Accepted = agree law printed pair said.answer answer.Accepted (told printed pair said.answer said.holds) (told printed pair answer.Accepted accepts) in
-      (said.told.0 ∙ ap (λ (x : CheckAnswer). check_text x) same ∙ accepted_text, said.told.1 ∙ ap (λ (x : CheckAnswer). check_status x) same)
+      (said.prints.0 ∙ ap (λ (x : CheckAnswer). check_text x) same ∙ accepted_text, said.prints.1 ∙ ap (λ (x : CheckAnswer). check_status x) same)
 
-  accepted : IsCheckOfPair printed pair q → Tells (codes "accepted\n") status.Holds q
+  accepted : IsCheckOfPair printed pair q → PrintsText (codes "accepted\n") status.Holds q
   accepted (inl (r, past, line)) = absurd (within-limits pair accepts.0.query accepts.0.is r past)
   accepted (inr said) = accepted-by said
 
@@ -334,7 +334,7 @@ module _ (law : OneProofForEachText) (asked : Comparing) (c : Contents) (p q : P
   abbrev Checks : Pair → Type 0
   Checks pair = IsCheckOfPair (string_bytes p.text) pair q
 
-  accepted-pair : (given : OfPair c Says) → Checks (pair_of given.named given.one given.two) → Tells (codes "accepted\n") status.Holds q
+  accepted-pair : (given : OfPair c Says) → Checks (pair_of given.named given.one given.two) → PrintsText (codes "accepted\n") status.Holds q
   accepted-pair given checked =
       let pair : Pair = pair_of given.named given.one given.two in
       let by = proves asked pair p certified holds given.holds.holds in
@@ -343,13 +343,13 @@ module _ (law : OneProofForEachText) (asked : Comparing) (c : Contents) (p q : P
       let closes : ClosesBy pair.schema of.query (string_bytes p.text) = subst (λ (bs : List ℕ). ClosesBy pair.schema of.query bs) (sym by.printed) (of.holds.readable few) in
       accepted law (string_bytes p.text) pair (record { query = of.query; is = of.is; holds = closes }, by.proved.2) q checked
 
-  accepted-files : OfPair c Says → IsCheckPrinted (string_bytes p.text) c q → Tells (codes "accepted\n") status.Holds q
+  accepted-files : OfPair c Says → IsCheckPrinted (string_bytes p.text) c q → PrintsText (codes "accepted\n") status.Holds q
   accepted-files given (inl (r, none, line)) = absurd (no_pair_fails c Says given r none)
   accepted-files given (inr of) =
       let same = of_same c (λ named one two. OfRun named one two Says) (λ named one two. OfRun named one two Checks) given of in
       accepted-pair given same.holds
 
-  accepted-printed : IsComparisonPrinted asked c p → IsCheckPrinted (string_bytes p.text) c q → Tells (codes "accepted\n") status.Holds q
+  accepted-printed : IsComparisonPrinted asked c p → IsCheckPrinted (string_bytes p.text) c q → PrintsText (codes "accepted\n") status.Holds q
   accepted-printed (inl (r, none, line)) checked = let refused = line.1 in absurd (cc)
   accepted-printed (inr given) checked = accepted-files given checked
 

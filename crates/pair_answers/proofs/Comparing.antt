@@ -30,7 +30,7 @@ use Rattle.proof_text.specs.declared.fault.ProofFault.{ProofFault}
 use Rattle.proof_text.specs.Laws.{ClosingProofsAreSmall, ClosingProofsHaveNoFault, HoldsSmallNumbers, limits_of}
 use Rattle.proof_text.specs.Lines.{verdict_line}
 use Rattle.proof_text.specs.Reads.{IsReadFrom, IsProofRead}
-use Rattle.proof_text.specs.Spelling.{IsCertificateOf, spell}
+use Rattle.proof_text.specs.Spelling.{IsCertificateOf, certificate_text}
 use Rattle.proof_text.specs.declared.limits.TheConstants.{MOST_NUMBER}
 use Rattle.proof_text.specs.declared.read.ReadProof.{ReadProof}
 use Rattle.tree_search.specs.declared.outcome.Budgets.{Budgets}
@@ -42,7 +42,7 @@ use Rattle.formula_tree.specs.Trees as tree
 use Rattle.request_json.specs.Laws.{WrittenRequestsAreReadAgain}
 use Rattle.command_words.specs.declared.limits.TheConstants.{MOST_SPLITS}
 use Rattle.run_sets.specs.declared.pair.Pair.{Pair}
-use Rattle.run_sets.specs.Pairs.{IsFitting, paired}
+use Rattle.run_sets.specs.Pairs.{IsFitting, pair_of_sets}
 use Rattle.policy_model.specs.Requests.{IsWellKept}
 use Rattle.pair_answers.specs.declared.answer.CheckAnswer.{CheckAnswer}
 use Rattle.pair_answers.specs.declared.answer.CheckAnswer.TheVariants as check
@@ -81,7 +81,7 @@ witness_if_met written pair q r fitting is valid (total, answers, met) kept =
     record { kept = kept; again = written pair.schema r kept valid; valid = valid; allowed = both.0; refused = both.1 }
 
 -- the certificate of a refutation that closes the query is read again
-certifies : ClosingProofsAreSmall → ClosingProofsHaveNoFault → (pair : Pair) (q : Query) (budgets : Budgets) (p : Proof) (text : List ℕ) → IsQuery (plan_of pair) q → pair.schema.version ≤ MOST_NUMBER → IsRefutation pair.schema q budgets.splits p → text ≡ spell pair.schema.version p → HoldsSmallNumbers p → Certifies pair.schema q text
+certifies : ClosingProofsAreSmall → ClosingProofsHaveNoFault → (pair : Pair) (q : Query) (budgets : Budgets) (p : Proof) (text : List ℕ) → IsQuery (plan_of pair) q → pair.schema.version ≤ MOST_NUMBER → IsRefutation pair.schema q budgets.splits p → text ≡ certificate_text pair.schema.version p → HoldsSmallNumbers p → Certifies pair.schema q text
 certifies sizes law pair q budgets p text is version h spelled small = record {
   proof = p;
   spelled = spelled;
@@ -113,7 +113,7 @@ comparison_if_decided law sizes read written pair some q certified budgets decid
 comparison_if_decided law sizes read written pair some q certified budgets (decided.OutOfStates w) fitting is h a v = subst (λ (x : ComparisonAnswer). IsComparison certified budgets pair x) (sym v) (refl, record { query = q; is = is; path = w.path; node = h.node; not_no = h.not_no; asked = h.asked; wider = (w.texts, h.texts) })
 
 -- a smaller pair fits the schema of the pair
-pub smaller-fits : (pair : Pair) (first second : PolicySet) → IsSmallerPair pair.first pair.second first second → IsFitting pair → IsFitting (paired pair.schema first second)
+pub smaller-fits : (pair : Pair) (first second : PolicySet) → IsSmallerPair pair.first pair.second first second → IsFitting pair → IsFitting (pair_of_sets pair.schema first second)
 smaller-fits pair first second smaller fitting = record {
   sound = fitting.sound;
   first = smaller.first_fits pair.schema fitting.first;
@@ -121,20 +121,20 @@ smaller-fits pair first second smaller fitting = record {
 }
 
 -- what a smaller pair covers the pair covers
-covers-too : (pair : Pair) (first second : PolicySet) → AskTheSamePair pair.first pair.second first second → Covers (paired pair.schema first second) → Covers pair
+covers-too : (pair : Pair) (first second : PolicySet) → AskTheSamePair pair.first pair.second first second → Covers (pair_of_sets pair.schema first second) → Covers pair
 covers-too pair first second same covers r valid allowed = same.covers pair.schema r allowed (covers r valid)
 
 -- a witness of a smaller pair is one of the pair
-witness-too : (pair : Pair) (first second : PolicySet) (r : Request) → AskTheSamePair pair.first pair.second first second → IsWitness (paired pair.schema first second) r → IsWitness pair r
+witness-too : (pair : Pair) (first second : PolicySet) (r : Request) → AskTheSamePair pair.first pair.second first second → IsWitness (pair_of_sets pair.schema first second) r → IsWitness pair r
 witness-too pair first second r same found =
     let only = same.only pair.schema r found.allowed found.refused in
     record { kept = found.kept; again = found.again; valid = found.valid; allowed = only.0; refused = only.1 }
 
-pub verdict_if_decided : ClosedQueriesAreNo → WrittenRequestsAreReadAgain → (pair : Pair) (first second : PolicySet) (q : Query) (budgets : Budgets) (d : Decided) → IsFitting (paired pair.schema first second) → AskTheSamePair pair.first pair.second first second → IsQuery (plan_of (paired pair.schema first second)) q → IsDecision pair.schema q budgets d → (o : Option ComparisonAnswer) → IsVerdictIn d o → IfSome o (IsVerdictOn pair)
+pub verdict_if_decided : ClosedQueriesAreNo → WrittenRequestsAreReadAgain → (pair : Pair) (first second : PolicySet) (q : Query) (budgets : Budgets) (d : Decided) → IsFitting (pair_of_sets pair.schema first second) → AskTheSamePair pair.first pair.second first second → IsQuery (plan_of (pair_of_sets pair.schema first second)) q → IsDecision pair.schema q budgets d → (o : Option ComparisonAnswer) → IsVerdictIn d o → IfSome o (IsVerdictOn pair)
 verdict_if_decided law written pair first second q budgets (decided.Refuted r) fitting same is h o v =
-    subst (λ (x : Option ComparisonAnswer). IfSome x (IsVerdictOn pair)) (sym v) (covers-too pair first second same (covers_if_closed law (paired pair.schema first second) q (proof_of r.value) fitting is h.closes))
+    subst (λ (x : Option ComparisonAnswer). IfSome x (IsVerdictOn pair)) (sym v) (covers-too pair first second same (covers_if_closed law (pair_of_sets pair.schema first second) q (proof_of r.value) fitting is h.closes))
 verdict_if_decided law written pair first second q budgets (decided.Met r) fitting same is h o v =
-    subst (λ (x : Option ComparisonAnswer). IfSome x (IsVerdictOn pair)) (sym v.0) (witness-too pair first second r same (witness_if_met written (paired pair.schema first second) q r fitting is h.valid h.meets v.1))
+    subst (λ (x : Option ComparisonAnswer). IfSome x (IsVerdictOn pair)) (sym v.0) (witness-too pair first second r same (witness_if_met written (pair_of_sets pair.schema first second) q r fitting is h.valid h.meets v.1))
 verdict_if_decided law written pair first second q budgets decided.OutOfSplits fitting same is h o v = subst (λ (x : Option ComparisonAnswer). IfSome x (IsVerdictOn pair)) (sym v) tt
 verdict_if_decided law written pair first second q budgets (decided.OutOfStates w) fitting same is h o v = subst (λ (x : Option ComparisonAnswer). IfSome x (IsVerdictOn pair)) (sym v) tt
 

@@ -4,11 +4,11 @@ use Rattle.policy_compile.specs.declared.outcome.Query.{Query}
 use Rattle.policy_compile.specs.Queries.{asked_tree}
 use Rattle.policy_model.specs.declared.schema.Schema.{Schema}
 use Rattle.refute_check.specs.Proofs.{Proof}
-use Rattle.proof_text.specs.Faults.{proof_fault, skipped}
+use Rattle.proof_text.specs.Faults.{proof_fault, skipped_count}
 use Rattle.proof_text.specs.Laws.{IsSmall, limits_of}
 use Rattle.proof_text.specs.LineForms.{lines_of}
 use Rattle.proof_text.specs.Lines.{verdict_line}
-use Rattle.proof_text.specs.Spelling.{IsCertificateOf, spell, starts}
+use Rattle.proof_text.specs.Spelling.{IsCertificateOf, certificate_text, node_line_numbers}
 use Rattle.proof_text.specs.declared.fault.ProofFault.{ProofFault}
 use Rattle.proof_text.specs.declared.limits.TheConstants.{MOST_PROOF_BYTES}
 use Rattle.search_parts.specs.Trimmed.{IsTrimmed}
@@ -35,7 +35,7 @@ pub record FailsAtLine (schema : Schema) (q : Query) (bytes : List ℕ) (line : 
   pub small : IsSmall schema.version proof
   pub node : ℕ
   pub fails : FailsAll schema q proof node
-  pub line_is : slice_get (starts (skipped (lines_of bytes) + 2) proof) node ≡ Some line
+  pub line_is : slice_get (node_line_numbers (skipped_count (lines_of bytes) + 2) proof) node ≡ Some line
 
 -- the first fault of the file
 abbrev pub HasProofFault : Schema → Query → List ℕ → ProofFault → Type 0
@@ -51,7 +51,7 @@ IsReadable schema q text =
 -- what was written answers `accepted` is a law of its own
 pub record Certifies (schema : Schema) (q : Query) (text : List ℕ) : Type 0 where
   pub proof : Proof
-  pub spelled : text ≡ spell schema.version proof
+  pub spelled : text ≡ certificate_text schema.version proof
   pub closes : ClosesAll schema q proof
   pub trimmed : IsTrimmed schema q.tests (asked_tree q) proof
   pub readable : IsReadable schema q text

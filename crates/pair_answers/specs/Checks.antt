@@ -4,7 +4,7 @@ use Rattle.command_words.specs.Asked.{Comparing}
 use Rattle.proof_text.specs.declared.limits.TheConstants.{MOST_PROOF_BYTES}
 use Rattle.run_files.specs.declared.printed.Printed.{Printed}
 use Rattle.run_files.specs.declared.status.Status.TheVariants.{Holds}
-use Rattle.run_files.specs.Printing.{Tells}
+use Rattle.run_files.specs.Printing.{PrintsText}
 use Rattle.run_sets.specs.declared.pair.Pair.{Pair}
 use Rattle.run_sets.specs.Pairs.{Contents}
 use Rattle.pair_answers.specs.Printed.{IsCheckOfPair, IsCheckPrinted, IsComparisonPrinted}
@@ -24,4 +24,4 @@ abbrev pub PrintedProofsAreAccepted : Type 0
 PrintedProofsAreAccepted = (asked : Comparing) (c : Contents) (compared checked : Printed) →
     asked.certified ≡ true → IsComparisonPrinted asked c compared → compared.status ≡ Holds →
     length (string_bytes compared.text) ≤ MOST_PROOF_BYTES →
-    IsCheckPrinted (string_bytes compared.text) c checked → Tells (codes "accepted\n") Holds checked
+    IsCheckPrinted (string_bytes compared.text) c checked → PrintsText (codes "accepted\n") Holds checked

@@ -3,7 +3,7 @@ use Rattle.std.specs.Prelude.{◌≡◌, ◌≤◌, ℕ, List, slice_get, Bool, 
 use Rattle.policy_compile.specs.declared.outcome.Query.{Query}
 use Rattle.policy_model.specs.declared.schema.Schema.{Schema}
 use Rattle.proof_text.specs.Laws.{HoldsSmallNumbers}
-use Rattle.proof_text.specs.Spelling.{spell}
+use Rattle.proof_text.specs.Spelling.{certificate_text}
 use Rattle.proof_text.specs.declared.limits.TheConstants.{MOST_NUMBER}
 use Rattle.proof_text.specs.declared.read.ReadProof.{ReadProof}
 use Rattle.refute_check.specs.Proofs.{Proof, proof_of}
@@ -48,7 +48,7 @@ IsChecked bytes pair Accepted = OfQuery pair (λ q. ClosesBy pair.schema q bytes
 abbrev pub IsRefutedAnswer : Bool → ℕ → Proof → ComparisonAnswer → Type 0
 IsRefutedAnswer certified version proof NotMore = certified ≡ false
 IsRefutedAnswer certified version proof (Proved text) =
-    (certified ≡ true) × (string_bytes text ≡ spell version proof) × HoldsSmallNumbers proof × (version ≤ MOST_NUMBER)
+    (certified ≡ true) × (string_bytes text ≡ certificate_text version proof) × HoldsSmallNumbers proof × (version ≤ MOST_NUMBER)
 IsRefutedAnswer certified version proof _ = ⊥
 
 -- the answer to what a search decided

@@ -3,7 +3,7 @@ use Rattle.std.specs.Prelude.{◌⊎◌, ℕ, List, Bool}
 use Rattle.command_words.specs.Asked.{Comparing}
 use Rattle.tree_search.specs.declared.outcome.Budgets.{Budgets}
 use Rattle.run_files.specs.declared.printed.Printed.{Printed}
-use Rattle.run_files.specs.Printing.{Tells}
+use Rattle.run_files.specs.Printing.{PrintsText}
 use Rattle.run_sets.specs.declared.pair.Pair.{Pair}
 use Rattle.run_sets.specs.Pairs.{Contents, IsNoPair, OfPair}
 use Rattle.run_sets.specs.Refusals.{IsRefusedBy}
@@ -17,24 +17,24 @@ abbrev pub budgets_of : Comparing → Budgets
 budgets_of c = record { splits = c.splits; states = c.states }
 
 -- an answer of which this holds, by its text and status
-pub record TellsComparison (P : ComparisonAnswer → Type 0) (p : Printed) : Type 0 where
+pub record PrintsComparison (P : ComparisonAnswer → Type 0) (p : Printed) : Type 0 where
   pub answer : ComparisonAnswer
   pub holds : P answer
-  pub told : Tells (comparison_text answer) (comparison_status answer) p
+  pub prints : PrintsText (comparison_text answer) (comparison_status answer) p
 
-pub record TellsCheck (P : CheckAnswer → Type 0) (p : Printed) : Type 0 where
+pub record PrintsCheck (P : CheckAnswer → Type 0) (p : Printed) : Type 0 where
   pub answer : CheckAnswer
   pub holds : P answer
-  pub told : Tells (check_text answer) (check_status answer) p
+  pub prints : PrintsText (check_text answer) (check_status answer) p
 
 -- of a pair: the limit that its query is past, or what a comparison says of it
 abbrev pub IsPairPrinted : Bool → Budgets → Pair → Printed → Type 0
 IsPairPrinted certified budgets pair p =
-    IsRefusedBy (IsPastLimit pair) p ⊎ TellsComparison (IsComparison certified budgets pair) p
+    IsRefusedBy (IsPastLimit pair) p ⊎ PrintsComparison (IsComparison certified budgets pair) p
 
 -- the same of a check
 abbrev pub IsCheckOfPair : List ℕ → Pair → Printed → Type 0
-IsCheckOfPair proof pair p = IsRefusedBy (IsPastLimit pair) p ⊎ TellsCheck (IsChecked proof pair) p
+IsCheckOfPair proof pair p = IsRefusedBy (IsPastLimit pair) p ⊎ PrintsCheck (IsChecked proof pair) p
 
 -- of files: why they stand for no pair, or what is printed of the pair that they stand for
 abbrev pub IsComparisonPrinted : Comparing → Contents → Printed → Type 0

@@ -32,7 +32,7 @@ impl<D: Disk> DiskFolder<D> {
 impl<'a, R: Files> DiskFolder<SystemDisk<'a, R>> {
     /// The folder over the files of a runtime, with no fault yet. It takes no memory.
     pub fn new(files: &'a R) -> DiskFolder<SystemDisk<'a, R>>
-        ensures told { ⟦<DiskFolder<SystemDisk<'a, R>> as Folder>⟧.held result ≡ None }
+        ensures nothing_held { ⟦<DiskFolder<SystemDisk<'a, R>> as Folder>⟧.held result ≡ None }
         ensures faults { ⟦<DiskFolder<SystemDisk<'a, R>> as Folder>⟧.faults result ≡ 0 }
         ensures last_fault { ⟦<DiskFolder<SystemDisk<'a, R>> as Folder>⟧.last_fault result ≡ None }
     {

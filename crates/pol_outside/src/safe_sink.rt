@@ -11,7 +11,7 @@ pub struct SafeSink;
 impl SafeSink {
     /// The sink. It takes no memory.
     pub fn new() -> SafeSink
-        ensures told { ⟦<SafeSink as Sink>⟧.written result ≡ None }
+        ensures nothing_written { ⟦<SafeSink as Sink>⟧.written result ≡ None }
         ensures faults { ⟦<SafeSink as Sink>⟧.faults result ≡ 0 }
     {
         SafeSink

@@ -18,7 +18,7 @@ pub struct SystemDisk<'a, R: Files> {
 impl<'a, R: Files> SystemDisk<'a, R> {
     /// The files of a runtime, with no fault yet. It takes no memory.
     pub fn new(files: &'a R) -> SystemDisk<'a, R>
-        ensures told { ⟦<SystemDisk<'a, R> as Disk>⟧.held result ≡ None }
+        ensures nothing_held { ⟦<SystemDisk<'a, R> as Disk>⟧.held result ≡ None }
         ensures faults { ⟦<SystemDisk<'a, R> as Disk>⟧.faults result ≡ 0 }
     {
         SystemDisk { files, faults: 0 }

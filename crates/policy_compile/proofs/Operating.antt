@@ -15,7 +15,7 @@ use Rattle.policy_model.specs.declared.schema.Schema.{Schema}
 use Rattle.policy_model.specs.declared.value.Kind.{Kind}
 use Rattle.policy_model.specs.declared.value.Value.{Value}
 use Rattle.policy_model.proofs.Laws.{Any-here, Any-later, Any-map, Any-nil, Any-split, has-value-some, meets-some-decided}
-use Rattle.policy_compile.specs.Conditions.{absent, condition_plan, conditions_plan, group_plan, meets_plan, meets_plans, null_plan, null_plans, operator_groups, operator_plan, optional_plans, presence_plan, present, quantified_plan}
+use Rattle.policy_compile.specs.Conditions.{absent_plan, condition_plan, conditions_plan, group_plan, meets_plan, meets_plans, null_plan, null_plans, operator_groups, operator_plan, optional_plans, presence_plan, present_plan, quantified_plan}
 use Rattle.policy_compile.specs.Plans.{PlanHolds, SomeHolds, of_plans, one_of}
 use Rattle.policy_compile.proofs.Grouping.{groups-all}
 use Rattle.policy_compile.proofs.Items.{Any-same, each-items-where, some-items, some-single}
@@ -94,10 +94,10 @@ empty-or-not : (vs : List Value) → ¬ (vs ≢ []) → vs ≡ []
 empty-or-not [] n = refl
 empty-or-not (v ∷ vs) n = absurd (n (λ e. absurd (cc)))
 
-present-holds : (r : Request) (c : Condition) → (PlanHolds r (present c) ↔ (values_at r c.key ≢ []))
+present-holds : (r : Request) (c : Condition) → (PlanHolds r (present_plan c) ↔ (values_at r c.key ≢ []))
 present-holds r c = has-value-some r c.key
 
-absent-holds : (r : Request) (c : Condition) → (PlanHolds r (absent c) ↔ (values_at r c.key ≡ []))
+absent-holds : (r : Request) (c : Condition) → (PlanHolds r (absent_plan c) ↔ (values_at r c.key ≡ []))
 absent-holds r c = (
   λ n. empty-or-not (values_at r c.key) (λ some. n ((present-holds r c).1 some)),
   λ e h. (present-holds r c).0 h e,

@@ -18,7 +18,7 @@ use Rattle.policy_model.specs.declared.test.Test.{Test}
 use Rattle.policy_model.specs.declared.test.Test.TheVariants.{Principal, Action, Resource, Present, SomeMeets, SomeMeetsNone}
 use Rattle.policy_compile.specs.declared.elements.RequestWord.TheVariants as word
 use Rattle.policy_compile.specs.Asked.{ConditionAsks, IsAskedBy}
-use Rattle.policy_compile.specs.Conditions.{absent, condition_plan, conditions_plan, group_plan, meets_plan, meets_plans, null_plan, null_plans, nulls_plans, operator_groups, operator_plan, optional_plans, presence_plan, present, quantified_plan, some_meets_none}
+use Rattle.policy_compile.specs.Conditions.{absent_plan, condition_plan, conditions_plan, group_plan, meets_plan, meets_plans, null_plan, null_plans, nulls_plans, operator_groups, operator_plan, optional_plans, presence_plan, present_plan, quantified_plan, some_meets_none}
 use Rattle.policy_compile.specs.Plans.{Plan, ask, of_plans, one_of, tests_in}
 use Rattle.policy_compile.specs.Sets.{entry_plans, pattern_plans, patterns_plan, principal_plan, resource_plan, some_or_none, statement_plan}
 use Rattle.policy_compile.proofs.Each.{Each, each-items, each-more, each-none, each-one}
@@ -30,7 +30,7 @@ module _ (schema : Schema) (c : Condition) where
   abbrev Own : Test → Type 0
   Own t = ConditionAsks schema t c
 
-  asks-present : Each Own (present c ∷ [])
+  asks-present : Each Own (present_plan c ∷ [])
   asks-present = each-one Own (Present c.key) refl
 
   asks-presence : (is_absent : Bool) → Each Own (presence_plan c is_absent ∷ [])
@@ -73,7 +73,7 @@ module _ (schema : Schema) (c : Condition) where
 
   asks-optional : (optional : Bool) → All Own (tests_in (if optional then one_of (of_plans (optional_plans (kind_at schema c.key) c)) else operator_plan (kind_at schema c.key) c))
   asks-optional true =
-      each-more Own (absent c) (operator_plan (kind_at schema c.key) c ∷ []) asks-present
+      each-more Own (absent_plan c) (operator_plan (kind_at schema c.key) c ∷ []) asks-present
       (each-more Own (operator_plan (kind_at schema c.key) c) [] asks-operator (each-none Own))
   asks-optional false = asks-operator
 

@@ -17,11 +17,11 @@ use Rattle.policy_compile.specs.Plans.{Plan, ask, not, all, one_of, of_plans}
 -- ---- one key of an operator
 
 -- the key has a value, and it has none
-abbrev pub present : Condition → Plan
-present c = ask (Present c.key)
+abbrev pub present_plan : Condition → Plan
+present_plan c = ask (Present c.key)
 
-abbrev pub absent : Condition → Plan
-absent c = not (present c)
+abbrev pub absent_plan : Condition → Plan
+absent_plan c = not (present_plan c)
 
 -- some value of the key meets what a value of the policy asks
 abbrev pub meets_plan : Kind → Condition → Operand → Plan
@@ -50,8 +50,8 @@ quantified_plan ForAny true k c = some_meets_none k c
 
 -- the key is absent, or it isn't
 abbrev pub presence_plan : Condition → Bool → Plan
-presence_plan c true = absent c
-presence_plan c false = present c
+presence_plan c true = absent_plan c
+presence_plan c false = present_plan c
 
 -- a `Null` asks for each of its values whether the key is absent, or whether it isn't
 abbrev pub null_plans : Condition → Operand → List Plan
@@ -71,7 +71,7 @@ operator_plan k c =
 
 -- the key is absent, or the operator holds
 abbrev pub optional_plans : Kind → Condition → List Plan
-optional_plans k c = absent c ∷ operator_plan k c ∷ []
+optional_plans k c = absent_plan c ∷ operator_plan k c ∷ []
 
 -- with `IfExists` the key may be absent
 abbrev pub condition_plan : Schema → Condition → Plan

@@ -1,7 +1,7 @@
 //! The nodes of conditions.
 ghost use Rattle.policy_compile.specs.Building.{IsAdded, IsBuilt};
 ghost use Rattle.policy_compile.specs.Plans.{not, of_plans, one_of};
-ghost use Rattle.policy_compile.specs.Conditions.{absent, condition_plan, conditions_plan, group_plan, group_plans, meets_plan, meets_plans, null_plan, null_plans, nulls_plans, operator_plan, operator_plans, optional_plans, presence_plan, present, quantified_plan, some_meets, some_meets_none};
+ghost use Rattle.policy_compile.specs.Conditions.{absent_plan, condition_plan, conditions_plan, group_plan, group_plans, meets_plan, meets_plans, null_plan, null_plans, nulls_plans, operator_plan, operator_plans, optional_plans, presence_plan, present_plan, quantified_plan, some_meets, some_meets_none};
 
 use crate::builder::Builder;
 use crate::nodes::Node;
@@ -11,13 +11,13 @@ use policy_model::{Condition, Kind, Operand, Quantifier, Schema, Test, cond_of, 
 
 // The key has a value.
 fn present(builder: &mut Builder, condition: &Condition) -> Result<usize, QueryFault>
-    ensures { IsBuilt builder.old builder.new (present condition.now) result }
+    ensures { IsBuilt builder.old builder.new (present_plan condition.now) result }
 {
     builder.ask(Test::Present(condition.key.copy()?))
 }
 
 fn absent(builder: &mut Builder, condition: &Condition) -> Result<usize, QueryFault>
-    ensures { IsBuilt builder.old builder.new (absent condition.now) result }
+    ensures { IsBuilt builder.old builder.new (absent_plan condition.now) result }
 {
     let present = present(builder, condition)?;
     let index = builder.insert(Node::Not(present))?;

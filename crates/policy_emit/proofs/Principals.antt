@@ -54,7 +54,7 @@ kind-utf8 CanonicalUser = IsUtf8-are_ascii (codes "CanonicalUser") refl
 -- an id as files give it: `*` or without wildcards, and neither empty nor too long
 record IsGivenId (id : List ℕ) : Type 0 where
   text : IsText id
-  some : not (nat_le (length id) 0) ≡ true
+  nonempty : not (nat_le (length id) 0) ≡ true
   plain : (is_star_id id || not (has_wildcard id)) ≡ true
   short : length id ≤ MOST_PIECES
 
@@ -65,7 +65,7 @@ module _ (k : PrincipalKind) (id : List ℕ) (given : IsGivenId id) where
   id-passes : (location : _) (name : List ℕ) → first_fault (principal_checks location name (Some (id_data k id))) ≡ None
   id-passes location name =
       if-passes (is_among kind_names (kind_word k)) _ _ (kind-known k)
-      (if-passes _ _ _ (ap (λ (t : List ℕ). not (nat_le (length t) 0)) read ∙ given.some)
+      (if-passes _ _ _ (ap (λ (t : List ℕ). not (nat_le (length t) 0)) read ∙ given.nonempty)
       (if-passes _ _ _ (ap (λ (t : List ℕ). is_star_id t || not (has_wildcard t)) read ∙ given.plain)
       (if-passes _ _ _ (ap (λ (t : List ℕ). nat_le (length t) MOST_PIECES) read ∙ le-leb (length id) MOST_PIECES given.short) refl)))
 
@@ -98,7 +98,7 @@ plain-id true id plain = refl
 plain-id false id plain = ap not plain
 
 given-id : (k : PrincipalKind) (id : List ℕ) → IsReadId k id → IsText id → IsGivenId id
-given-id k id is text = record { text = text; some = some-length id is.some; plain = plain-id (is_star_id id) id is.plain; short = is.short }
+given-id k id is text = record { text = text; nonempty = some-length id is.nonempty; plain = plain-id (is_star_id id) id is.plain; short = is.short }
 
 exact-at : (id : List ℕ) (found : Option (List ℕ)) → account_of id ≡ found → ((account : List ℕ) → ¬ StandsForAccount account id) → account_or_exact id found ≡ Exact Aws id
 exact-at id None is other = refl
@@ -128,7 +128,7 @@ account-some [] is = absurd (omega (arith, is))
 account-some (c ∷ a) is = ap not (none-within (length (c ∷ a)) (omega arith))
 
 given-account : (a : List ℕ) → IsAccount a → IsText a → IsGivenId a
-given-account a is text = record { text = text; some = account-some a is.count; plain = plain-id (is_star_id a) a (digits-plain a is.digits); short = omega (arith, is.count) }
+given-account a is text = record { text = text; nonempty = account-some a is.count; plain = plain-id (is_star_id a) a (digits-plain a is.digits); short = omega (arith, is.count) }
 
 account-again : (a : List ℕ) → IsAccount a → entry_of Aws a ≡ Account a
 account-again a is =
@@ -136,7 +136,7 @@ account-again a is =
     ∙ ap (account_or_exact a) (stands-read a a (by_digits is refl))
 
 star-given : IsGivenId (codes "*")
-star-given = record { text = refl; some = refl; plain = refl; short = omega arith }
+star-given = record { text = refl; nonempty = refl; plain = refl; short = omega arith }
 
 kind-star : (k : PrincipalKind) → k ≢ Aws → entry_of k (codes "*") ≡ Kind k
 kind-star Aws other = absurd (other refl)

@@ -25,7 +25,7 @@ use Rattle.policy_json.specs.declared.statement.TheConstants.{MOST_STATEMENTS}
 use Rattle.policy_json.specs.Conditions.{condition_checks, conditions_of}
 use Rattle.policy_json.specs.Principals.{entries_of, principal_checks}
 use Rattle.policy_json.specs.ReadForms.{IsReadAction, IsReadEntry, IsReadResource}
-use Rattle.policy_json.specs.Statements.{action_checks, actions_of, allows, effect_checks, form_checks, resource_checks, resources_of, statement_checks, statement_of, who_checks, who_of}
+use Rattle.policy_json.specs.Statements.{action_checks, actions_of, has_effect_allow, effect_checks, form_checks, resource_checks, resources_of, statement_checks, statement_of, who_checks, who_of}
 use Rattle.policy_json.specs.Texts.{glob_of, globs_of, matcher_of, patterns_checks}
 use Rattle.policy_emit.specs.Kept.{EntryIsKept}
 use Rattle.policy_emit.specs.Written.{action_data, allow_data, block_data, block_members, entry_data, entry_element, in_file_order, one_item, resource_data}
@@ -125,7 +125,7 @@ module _ (a r : Data) where
   got-condition (Some c) None = refl
   got-condition (Some c) (Some p) = refl
 
-  allowing : (c p : Option Data) → allows (allow_data a c p r) ≡ true
+  allowing : (c p : Option Data) → has_effect_allow (allow_data a c p r) ≡ true
   allowing None None = refl
   allowing None (Some p) = refl
   allowing (Some c) None = refl

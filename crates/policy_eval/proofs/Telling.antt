@@ -11,7 +11,7 @@ use Rattle.policy_model.specs.StatementNames.{Named, name_of, named_documents, n
 use Rattle.policy_eval.specs.declared.outcome.Decider.{Decider}
 use Rattle.policy_eval.specs.declared.outcome.Decider.TheVariants as by
 use Rattle.policy_eval.specs.Deciding.{IsAllowedBy, IsFirstDeciding, NamedDecides, NoneDecides}
-use Rattle.policy_eval.specs.Laws.{TellsWhatIsAllowed}
+use Rattle.policy_eval.specs.Laws.{DecidesWhatIsAllowed}
 use Rattle.policy_eval.proofs.Unique.{none-silent}
 
 -- ---- some item of a list
@@ -137,7 +137,7 @@ module _ (schema : Schema) (set : PolicySet) (r : Request) where
     not_denied_by_guard = not-denied-by-guard by.not_denied;
   }
 
-  pub tells-what-is-allowed : (d : Decider) → TellsWhatIsAllowed schema set r d
+  pub tells-what-is-allowed : (d : Decider) → DecidesWhatIsAllowed schema set r d
   tells-what-is-allowed (by.Statement name) = (denied name, allowed name)
   tells-what-is-allowed by.NoGrant =
       λ lacks allows. None-of (NamedDecides schema true r) (named_grants set) lacks.not_granted (named-documents schema true r 1 set.grants allows.granted)

@@ -17,12 +17,12 @@ DecidersAreEqual =
 
 -- whether the set allows the request, by what decides on it: a Deny statement denies it, an Allow statement of the grants without any
 -- lack allows it, and each lack of one denies it
-abbrev pub TellsWhatIsAllowed : Schema → PolicySet → Request → Decider → Type 0
-TellsWhatIsAllowed schema set r (by.Statement name) =
+abbrev pub DecidesWhatIsAllowed : Schema → PolicySet → Request → Decider → Type 0
+DecidesWhatIsAllowed schema set r (by.Statement name) =
     (IsFirstDeciding schema false r (named_set set) name → ¬ Allows schema set r) × (IsAllowedBy schema set r name → Allows schema set r)
-TellsWhatIsAllowed schema set r by.NoGrant = IsNotGranted schema set r → ¬ Allows schema set r
-TellsWhatIsAllowed schema set r (by.NoGuard g) = IsNotGuarded schema set r g → ¬ Allows schema set r
+DecidesWhatIsAllowed schema set r by.NoGrant = IsNotGranted schema set r → ¬ Allows schema set r
+DecidesWhatIsAllowed schema set r (by.NoGuard g) = IsNotGuarded schema set r g → ¬ Allows schema set r
 
 -- what decides tells whether the set allows the request
 abbrev pub DecidersTellWhatIsAllowed : Type 0
-DecidersTellWhatIsAllowed = (schema : Schema) (set : PolicySet) (r : Request) (d : Decider) → TellsWhatIsAllowed schema set r d
+DecidersTellWhatIsAllowed = (schema : Schema) (set : PolicySet) (r : Request) (d : Decider) → DecidesWhatIsAllowed schema set r d

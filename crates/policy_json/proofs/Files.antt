@@ -7,16 +7,16 @@ use Rattle.policy_json.specs.declared.fault.PolicyFault.{PolicyFault}
 use Rattle.policy_json.specs.declared.fault.PolicyCode.TheVariants.{P1NotJson}
 use Rattle.policy_json.specs.Checks.{fault_at, PolicyAnswer}
 use Rattle.json_shapes.specs.Json.{json_of}
-use Rattle.policy_json.specs.Sets.{IsSetOf, not_json, nowhere, set_checks, set_of, set_or, set_read}
+use Rattle.policy_json.specs.Sets.{IsSetOf, not_json, file_location, set_checks, set_of, set_or, set_read}
 use Rattle.json_shapes.specs.declared.read_error.ReadError.TheVariants.{Refused, NoMemory}
 use Rattle.json_shapes.specs.Checks.{IsReadOf, IsRefusal}
 
-not_json_at : fault_at nowhere P1NotJson [] ≡ not_json
+not_json_at : fault_at file_location P1NotJson [] ≡ not_json
 unfolding chars
 not_json_at = refl
 
 -- a file without a reading is refused
-pub refused_file : (bytes : List ℕ) (e : PolicyAnswer) → json_of bytes ≡ None → IsRefusal (fault_at nowhere P1NotJson []) e → IsSetOf bytes (Err e)
+pub refused_file : (bytes : List ℕ) (e : PolicyAnswer) → json_of bytes ≡ None → IsRefusal (fault_at file_location P1NotJson []) e → IsSetOf bytes (Err e)
 refused_file bytes (Refused fault) none is = ap set_read none ∙ ap (λ (f : PolicyFault). Err f) (sym (is ∙ not_json_at))
 refused_file bytes NoMemory none is = tt
 

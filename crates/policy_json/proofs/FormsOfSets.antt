@@ -27,7 +27,7 @@ use Rattle.policy_json.specs.Documents.{document_checks, document_of, has_escape
 use Rattle.policy_json.specs.Elements.{both_checks}
 use Rattle.policy_json.specs.Principals.{entries_of, principal_checks}
 use Rattle.policy_json.specs.ReadForms.{AreReadDocuments, IsReadAction, IsReadCondition, IsReadEntry, IsReadForm, IsReadResource, IsReadStatement, document_count, statement_total, statements_among}
-use Rattle.policy_json.specs.Sets.{documents_checks, granting, guarded_checks, guards_in, is_guarded, documents_in, list_checks, nowhere, plain_checks, set_checks, set_from, set_of, set_or, set_read, set_with, statement_count}
+use Rattle.policy_json.specs.Sets.{documents_checks, grant_documents, guarded_checks, guards_in, is_guarded, documents_in, list_checks, file_location, plain_checks, set_checks, set_from, set_of, set_or, set_read, set_with, statement_count}
 use Rattle.policy_json.specs.Statements.{action_checks, actions_of, effect_checks, form_checks, resource_checks, resources_of, statement_checks, statement_of, who_checks, who_of}
 use Rattle.policy_json.specs.Texts.{glob_of, globs_of, matcher_of, pattern_checks, patterns_checks}
 use Rattle.policy_json.proofs.FormsOfValues.{action_form, id_form, key_form, resource_form}
@@ -265,7 +265,7 @@ parts_form grants guards few e =
 
 guards_few : (d : Data) → first_fault (guarded_checks d) ≡ None → length (guards_in d) ≤ MOST_GUARDS
 guards_few d e =
-    let at_lists : first_fault (list_checks d) ≡ None = none-rest (name_checks nowhere (codes "Grants" ∷ codes "Guards" ∷ []) d) (list_checks d) e in
+    let at_lists : first_fault (list_checks d) ≡ None = none-rest (name_checks file_location (codes "Grants" ∷ codes "Guards" ∷ []) d) (list_checks d) e in
     leb-true (length (guards_in d)) MOST_GUARDS (third_of (behind (behind (list_checks d))) (none-behind (behind (list_checks d)) (none-behind (list_checks d) at_lists)))
 
 module _ (d : Data) (e : first_fault (set_checks d) ≡ None) where
@@ -278,14 +278,14 @@ module _ (d : Data) (e : first_fault (set_checks d) ≡ None) where
   guarded_form : is_guarded d ≡ true → IsReadForm (set_of d)
   guarded_form is =
       let one : List Data = if is_object d then d ∷ [] else values_in d in
-      let documents : documents_in d ≡ granting d ++ flat_map values_in (guards_in d) = ap (λ b. if b then granting d ++ flat_map values_in (guards_in d) else one) is in
-      let stands : set_of d ≡ set_with (granting d) (guards_in d) = ap (λ b. if b then set_with (granting d) (guards_in d) else set_with (documents_in d) []) is in
+      let documents : documents_in d ≡ grant_documents d ++ flat_map values_in (guards_in d) = ap (λ b. if b then grant_documents d ++ flat_map values_in (guards_in d) else one) is in
+      let stands : set_of d ≡ set_with (grant_documents d) (guards_in d) = ap (λ b. if b then set_with (grant_documents d) (guards_in d) else set_with (documents_in d) []) is in
       let few : length (guards_in d) ≤ MOST_GUARDS = guards_few d (subst (λ b. first_fault (if b then guarded_checks d else plain_checks d) ≡ None) is of_file) in
-      subst IsReadForm (sym stands) (parts_form (granting d) (guards_in d) few (subst (λ (ds : List Data). first_fault (documents_checks 1 0 ds) ≡ None) documents of_documents))
+      subst IsReadForm (sym stands) (parts_form (grant_documents d) (guards_in d) few (subst (λ (ds : List Data). first_fault (documents_checks 1 0 ds) ≡ None) documents of_documents))
 
   plain_form : is_guarded d ≡ false → IsReadForm (set_of d)
   plain_form is =
-      let stands : set_of d ≡ set_with (documents_in d) [] = ap (λ b. if b then set_with (granting d) (guards_in d) else set_with (documents_in d) []) is in
+      let stands : set_of d ≡ set_with (documents_in d) [] = ap (λ b. if b then set_with (grant_documents d) (guards_in d) else set_with (documents_in d) []) is in
       subst IsReadForm (sym stands) (parts_form (documents_in d) [] (omega arith) (subst (λ (ds : List Data). first_fault (documents_checks 1 0 ds) ≡ None) (sym (append-nil (documents_in d))) of_documents))
 
   set_form : IsReadForm (set_of d)

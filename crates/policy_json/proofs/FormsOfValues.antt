@@ -62,12 +62,12 @@ either_form false x y h k = k refl
 
 -- what an id that passes its checks is, where it isn't `*`
 record IsFine (id : List ℕ) : Type 0 where
-  some : id ≢ []
+  nonempty : id ≢ []
   plain : is_star_id id ≡ false → has_wildcard id ≡ false
   short : length id ≤ MOST_PIECES
 
 exact_form : (kind : PrincipalKind) (id : List ℕ) → IsFine id → is_star_id id ≡ false → (kind ≡ Aws → (account : List ℕ) → ¬ StandsForAccount account id) → IsReadId kind id
-exact_form kind id fine other apart = record { some = fine.some; plain = fine.plain other; short = fine.short; no_account = apart }
+exact_form kind id fine other apart = record { nonempty = fine.nonempty; plain = fine.plain other; short = fine.short; no_account = apart }
 
 account_form : (id : List ℕ) → IsFine id → is_star_id id ≡ false → (o : Option (List ℕ)) → account_of id ≡ o → IsReadEntry (account_or_exact id o)
 account_form id fine other None none = exact_form Aws id fine other (λ is account stands. let read = stands-read account id stands in absurd cc)
@@ -83,7 +83,7 @@ pub id_form : (location : Location) (name : List ℕ) (kind : PrincipalKind) (d 
 id_form location name kind d e =
     let id = text_of d in
     let checks = id_checks location name d in
-    entry_form kind id (record { some = not_empty id (front_passes-none checks e); plain = no_wildcard (is_star_id id) (has_wildcard id) (second_of checks e); short = leb-true (length id) MOST_PIECES (third_of checks e) })
+    entry_form kind id (record { nonempty = not_empty id (front_passes-none checks e); plain = no_wildcard (is_star_id id) (has_wildcard id) (second_of checks e); short = leb-true (length id) MOST_PIECES (third_of checks e) })
 
 -- ---- patterns
 

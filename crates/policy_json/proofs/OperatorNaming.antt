@@ -11,15 +11,15 @@ use Rattle.policy_model.specs.Operators.{is_null}
 use Rattle.policy_model.specs.Soundness.{OperatorIsSound}
 use Rattle.policy_json.specs.declared.operator_names.TheConstants.{COMPARING}
 use Rattle.policy_json.specs.OperatorNames.{base_text, operator_of, operator_text, operator_with, operators, quantifier_text, suffix_text}
-use Rattle.policy_json.specs.OperatorParts.{base_named, begins, ends, operator_by_parts, without_prefix, without_suffix}
+use Rattle.policy_json.specs.OperatorParts.{base_named, starts_with, ends_with, operator_by_parts, without_prefix, without_suffix}
 
 -- ---- what is cut off
 
-begins_is : (front text : List ℕ) → begins front text ≡ true → text ≡ front ++ drop (length front) text
+begins_is : (front text : List ℕ) → starts_with front text ≡ true → text ≡ front ++ drop (length front) text
 begins_is front text e =
     sym (take-append-drop (length front) text) ∙ ap (λ (t : List ℕ). t ++ drop (length front) text) ((bytes_eq-Decides (take (length front) text) front).0 e)
 
-ends_is : (end text : List ℕ) → ends end text ≡ true → text ≡ take (length text - length end) text ++ end
+ends_is : (end text : List ℕ) → ends_with end text ≡ true → text ≡ take (length text - length end) text ++ end
 ends_is end text e =
     sym (take-append-drop (length text - length end) text) ∙ ap (λ (t : List ℕ). take (length text - length end) text ++ t) ((bytes_eq-Decides (drop (length text - length end) text) end).0 e)
 
@@ -33,7 +33,7 @@ prefix_cases false true name for_all for_any = for_any refl
 prefix_cases false false name for_all for_any = refl
 
 prefix_is : (name : List ℕ) → name ≡ quantifier_text (without_prefix name).0 ++ (without_prefix name).1
-prefix_is name = prefix_cases (begins (codes "ForAllValues:") name) (begins (codes "ForAnyValue:") name) name (begins_is (codes "ForAllValues:") name) (begins_is (codes "ForAnyValue:") name)
+prefix_is name = prefix_cases (starts_with (codes "ForAllValues:") name) (starts_with (codes "ForAnyValue:") name) name (begins_is (codes "ForAllValues:") name) (begins_is (codes "ForAnyValue:") name)
 
 abbrev cut_suffix : Bool → List ℕ → Bool × List ℕ
 cut_suffix a name = (if a then (true, take (length name - 8) name) else (false, name))
@@ -43,7 +43,7 @@ suffix_cases true name suffix = suffix refl
 suffix_cases false name suffix = sym (append-nil name)
 
 suffix_is : (name : List ℕ) → name ≡ (without_suffix name).1 ++ suffix_text (without_suffix name).0
-suffix_is name = suffix_cases (ends (codes "IfExists") name) name (ends_is (codes "IfExists") name)
+suffix_is name = suffix_cases (ends_with (codes "IfExists") name) name (ends_is (codes "IfExists") name)
 
 -- ---- what is found
 

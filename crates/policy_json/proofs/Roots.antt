@@ -11,7 +11,7 @@ use Rattle.std.specs.List.{list_all}
 use Rattle.wildcard_lang.specs.Text.{IsText}
 use Rattle.policy_model.specs.declared.principal.TheConstants.{ACCOUNT_DIGITS}
 use Rattle.policy_model.proofs.Laws.{behind_colon-is, behind_colon-append, behind_prefix-is}
-use Rattle.policy_model.specs.Principals.{behind_colon, behind_prefix, has_colon}
+use Rattle.policy_model.specs.Principals.{after_colon, after_prefix, has_colon}
 use Rattle.policy_model.specs.Soundness.{IsAccount}
 use Rattle.policy_json.specs.Principals.{IsRootOf, account_before_root, account_of, nonempty_part, is_account, root_account}
 
@@ -98,8 +98,8 @@ nonempty_part-of (c ∷ cs) rest some plain = grind (arith)
 pub root_account-is : (account id : List ℕ) → root_account id ≡ Some account → IsRootOf account id
 root_account-is account id e =
     let root : Step account_before_root _ account = step account_before_root _ account e in
-    let service : Step (behind_prefix (codes "iam::")) _ root.from = step (behind_prefix (codes "iam::")) _ root.from root.before in
-    let colon : Step behind_colon _ service.from = step behind_colon _ service.from service.before in
+    let service : Step (after_prefix (codes "iam::")) _ root.from = step (after_prefix (codes "iam::")) _ root.from root.before in
+    let colon : Step after_colon _ service.from = step after_colon _ service.from service.before in
     let plain : Step nonempty_part _ colon.from = step nonempty_part _ colon.from colon.before in
     let last = before_root root.from account root.found in
     let cut = behind_colon-is colon.from service.from colon.found in
@@ -109,7 +109,7 @@ root_account-is account id e =
     record {
       account_is = last.account_is;
       partition = cut.front;
-      some = nonempty_part-some cut.front service.from colon.from (ap nonempty_part (sym (same ∙ cut.is)) ∙ plain.found);
+      nonempty = nonempty_part-some cut.front service.from colon.from (ap nonempty_part (sym (same ∙ cut.is)) ∙ plain.found);
       plain = cut.plain;
       is = behind_prefix-is (codes "arn:") id plain.from plain.before ∙ ap (λ (t : List ℕ). codes "arn:" ++ t) behind_arn;
     }
@@ -119,7 +119,7 @@ root_account-of account id h =
     let behind_arn = h.partition ++ 58 ∷ (codes "iam::" ++ (account ++ codes ":root")) in
     rw (
       h.is,
-      nonempty_part-of h.partition (codes "iam::" ++ (account ++ codes ":root")) h.some h.plain,
+      nonempty_part-of h.partition (codes "iam::" ++ (account ++ codes ":root")) h.nonempty h.plain,
       behind_colon-append h.partition (codes "iam::" ++ (account ++ codes ":root")) h.plain,
       before_root-of account h.account_is,
     ) refl

@@ -10,22 +10,22 @@ use Rattle.policy_json.specs.declared.operator_names.TheConstants.{COMPARING}
 use Rattle.policy_json.specs.OperatorNames.{base_text, operator_with}
 
 -- the text begins with the front, and ends with the end
-abbrev pub begins : List ℕ → List ℕ → Bool
-begins front text = bytes_eq (take (length front) text) front
+abbrev pub starts_with : List ℕ → List ℕ → Bool
+starts_with front text = bytes_eq (take (length front) text) front
 
-abbrev pub ends : List ℕ → List ℕ → Bool
-ends end text = bytes_eq (drop (length text - length end) text) end
+abbrev pub ends_with : List ℕ → List ℕ → Bool
+ends_with end text = bytes_eq (drop (length text - length end) text) end
 
 -- a name as its prefix and the rest
 abbrev pub without_prefix : List ℕ → Quantifier × List ℕ
 without_prefix name =
-    (if begins (codes "ForAllValues:") name then (ForAll, drop 13 name)
-    else (if begins (codes "ForAnyValue:") name then (ForAny, drop 12 name) else (Plain, name)))
+    (if starts_with (codes "ForAllValues:") name then (ForAll, drop 13 name)
+    else (if starts_with (codes "ForAnyValue:") name then (ForAny, drop 12 name) else (Plain, name)))
 
 -- the rest as whether it has the suffix, and what stands before it
 abbrev pub without_suffix : List ℕ → Bool × List ℕ
 without_suffix name =
-    (if ends (codes "IfExists") name then (true, take (length name - 8) name) else (false, name))
+    (if ends_with (codes "IfExists") name then (true, take (length name - 8) name) else (false, name))
 
 -- the base that is written so, `Null` aside
 abbrev pub base_named : List ℕ → Option Base

@@ -10,7 +10,7 @@ use Rattle.policy_model.specs.declared.principal.Entry.{Entry}
 use Rattle.policy_model.specs.declared.principal.Entry.TheVariants.{All, Kind, Account, Exact}
 use Rattle.wildcard_lang.specs.declared.pattern.TheConstants.{MOST_PIECES}
 use Rattle.policy_model.specs.declared.principal.TheConstants.{ACCOUNT_DIGITS}
-use Rattle.policy_model.specs.Principals.{behind_colon, behind_prefix, has_colon}
+use Rattle.policy_model.specs.Principals.{after_colon, after_prefix, has_colon}
 use Rattle.policy_model.specs.Soundness.{IsAccount}
 use Rattle.policy_json.specs.declared.fault.PolicyCode.TheVariants.{P4WrongShape, P9PrincipalKind, P10PrincipalWildcard, P17Limit}
 use Rattle.policy_json.specs.declared.location.Location.{Location}
@@ -60,7 +60,7 @@ principal_checks location name (Some d) =
 pub record IsRootOf (account id : List ℕ) : Type 0 where
   pub account_is : IsAccount account
   pub partition : List ℕ
-  pub some : partition ≢ []
+  pub nonempty : partition ≢ []
   pub plain : has_colon partition ≡ false
   pub is : id ≡ codes "arn:" ++ (partition ++ 58 ∷ (codes "iam::" ++ (account ++ codes ":root")))
 
@@ -81,8 +81,8 @@ nonempty_part (c ∷ cs) = (if c == 58 then None else Some (c ∷ cs))
 -- the account whose root the id is
 abbrev pub root_account : List ℕ → Option (List ℕ)
 root_account id =
-    option_and_then account_before_root (option_and_then (behind_prefix (codes "iam::"))
-    (option_and_then behind_colon (option_and_then nonempty_part (behind_prefix (codes "arn:") id))))
+    option_and_then account_before_root (option_and_then (after_prefix (codes "iam::"))
+    (option_and_then after_colon (option_and_then nonempty_part (after_prefix (codes "arn:") id))))
 
 -- the account that an id stands for: twelve digits, or the ARN of its root
 abbrev pub account_of : List ℕ → Option (List ℕ)

@@ -36,7 +36,7 @@ use Rattle.policy_json.specs.declared.statement.TheConstants.{MOST_STATEMENTS}
 
 -- an exact id: not empty, without `*` and `?`, and under `AWS` no spelling of an account
 pub record IsReadId (kind : PrincipalKind) (id : List ℕ) : Type 0 where
-  pub some : id ≢ []
+  pub nonempty : id ≢ []
   pub plain : has_wildcard id ≡ false
   pub short : length id ≤ MOST_PIECES
   pub no_account : kind ≡ Aws → (account : List ℕ) → ¬ StandsForAccount account id

@@ -19,16 +19,16 @@ use Rattle.policy_json.specs.declared.set.TheConstants.{MOST_GUARDS}
 use Rattle.json_shapes.specs.declared.read_error.ReadError.TheVariants.{Refused, NoMemory}
 
 -- the file as a whole
-abbrev pub nowhere : Location
-nowhere = record { document = 0; statement = 0 }
+abbrev pub file_location : Location
+file_location = record { document = 0; statement = 0 }
 
 -- the file is an object with one of the names of a guarded set
 abbrev pub is_guarded : Data → Bool
 is_guarded d = has_name (codes "Grants") d || has_name (codes "Guards") d
 
 -- the documents of the grants
-abbrev pub granting : Data → List Data
-granting d = list_under (get (codes "Grants") d)
+abbrev pub grant_documents : Data → List Data
+grant_documents d = list_under (get (codes "Grants") d)
 
 -- the guards, each a list of documents
 abbrev pub guards_in : Data → List Data
@@ -37,25 +37,25 @@ guards_in d = list_under (get (codes "Guards") d)
 -- both names of a guarded set are there, both are lists, and there are few guards, each a list
 abbrev pub list_checks : Data → List PolicyCheck
 list_checks d =
-    check nowhere (has_name (codes "Grants") d) P5MissingElement (codes "Grants") ∷
-    check nowhere (has_name (codes "Guards") d) P5MissingElement (codes "Guards") ∷
-    check nowhere (is_there_and is_list (get (codes "Grants") d)) P4WrongShape (codes "Grants") ∷
-    check nowhere (is_there_and is_list (get (codes "Guards") d)) P4WrongShape (codes "Guards") ∷
-    check nowhere (nat_le (length (guards_in d)) MOST_GUARDS) P17Limit (codes "Guards") ∷
-    check nowhere (list_all is_list (guards_in d)) P4WrongShape (codes "Guards") ∷ []
+    check file_location (has_name (codes "Grants") d) P5MissingElement (codes "Grants") ∷
+    check file_location (has_name (codes "Guards") d) P5MissingElement (codes "Guards") ∷
+    check file_location (is_there_and is_list (get (codes "Grants") d)) P4WrongShape (codes "Grants") ∷
+    check file_location (is_there_and is_list (get (codes "Guards") d)) P4WrongShape (codes "Guards") ∷
+    check file_location (nat_le (length (guards_in d)) MOST_GUARDS) P17Limit (codes "Guards") ∷
+    check file_location (list_all is_list (guards_in d)) P4WrongShape (codes "Guards") ∷ []
 
 -- a guarded set has no other name
 abbrev pub guarded_checks : Data → List PolicyCheck
-guarded_checks d = name_checks nowhere (codes "Grants" ∷ codes "Guards" ∷ []) d ++ list_checks d
+guarded_checks d = name_checks file_location (codes "Grants" ∷ codes "Guards" ∷ []) d ++ list_checks d
 
 -- a file without guards is an object or a list
 abbrev pub plain_checks : Data → List PolicyCheck
-plain_checks d = check nowhere (is_object_or_list d) P2SetShape [] ∷ []
+plain_checks d = check file_location (is_object_or_list d) P2SetShape [] ∷ []
 
 -- the documents of the file in order: of a guarded set the grants, and then the guards one by one
 abbrev pub documents_in : Data → List Data
 documents_in d =
-    (if is_guarded d then granting d ++ flat_map values_in (guards_in d)
+    (if is_guarded d then grant_documents d ++ flat_map values_in (guards_in d)
     else (if is_object d then d ∷ [] else values_in d))
 
 -- documents are numbered in order, and statements are counted through all documents
@@ -78,7 +78,7 @@ set_with grants guards = record { grants = map document_of grants; guards = map 
 
 -- what the value stands for
 abbrev pub set_of : Data → PolicySet
-set_of d = (if is_guarded d then set_with (granting d) (guards_in d) else set_with (documents_in d) [])
+set_of d = (if is_guarded d then set_with (grant_documents d) (guards_in d) else set_with (documents_in d) [])
 
 -- ---- readers of parts
 

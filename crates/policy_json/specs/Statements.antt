@@ -79,8 +79,8 @@ actions_of d =
     (record { not = false; items = [] })
 
 -- whether the statement allows
-abbrev pub allows : Data → Bool
-allows d = is_there_and (is_text (codes "Allow")) (get (codes "Effect") d)
+abbrev pub has_effect_allow : Data → Bool
+has_effect_allow d = is_there_and (is_text (codes "Allow")) (get (codes "Effect") d)
 
 -- its principals and its resources, or none where it has no such element
 abbrev pub who_of : Data → Option (Matcher Entry)
@@ -92,7 +92,7 @@ resources_of escapes d = matcher_of (globs_of false escapes) (get (codes "Resour
 -- what the statement stands for
 abbrev pub statement_of : Bool → Data → Statement
 statement_of escapes d = record {
-  allow = allows d;
+  allow = has_effect_allow d;
   principal = who_of d;
   action = actions_of d;
   resource = resources_of escapes d;
@@ -101,7 +101,7 @@ statement_of escapes d = record {
 
 -- what readers of a statement's effect, principals, actions and resources answer, and what a reader of statements does
 abbrev pub IsEffectRead : Location → Data → Result Bool PolicyAnswer → Type 0
-IsEffectRead location d = IsReadOf (effect_checks location d) (allows d)
+IsEffectRead location d = IsReadOf (effect_checks location d) (has_effect_allow d)
 
 abbrev pub IsWhoRead : Location → Data → Result (Option (Matcher Entry)) PolicyAnswer → Type 0
 IsWhoRead location d = IsReadOf (who_checks location d) (who_of d)

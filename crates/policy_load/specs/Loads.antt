@@ -1,5 +1,5 @@
 -- The two sets of a number of keys.
-use Rattle.std.specs.Prelude.{◌+◌, ◌/◌, ◌%◌, ℕ, zero, suc, List, [], ◌∷◌, ◌++◌, Some, false, true, chars, codes}
+use Rattle.std.specs.Prelude.{◌≡◌, ◌+◌, ◌/◌, ◌%◌, ℕ, zero, suc, List, [], ◌∷◌, ◌++◌, Some, false, true, chars, codes}
 use Rattle.wildcard_lang.specs.declared.piece.Piece.{Piece}
 use Rattle.wildcard_lang.specs.Reading.{literals, wildcards}
 use Rattle.policy_model.specs.declared.matcher.Matcher.{Matcher}
@@ -12,6 +12,11 @@ use Rattle.policy_model.specs.declared.operator.Condition.{Condition}
 use Rattle.policy_model.specs.declared.principal.Entry.TheVariants.{All}
 use Rattle.policy_model.specs.declared.set.Statement.{Statement}
 use Rattle.policy_model.specs.declared.set.PolicySet.{PolicySet}
+use Rattle.policy_load.specs.declared.keys.TheConstants.{KEY_NUMBERS}
+
+-- how many numbers three digits write
+abbrev pub LoadLimits : Type 0
+LoadLimits = KEY_NUMBERS ≡ 1000
 
 -- the decimal digits of a number of at most three
 abbrev pub three_digits : ℕ → List ℕ

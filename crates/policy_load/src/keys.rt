@@ -1,7 +1,7 @@
 //! The keys, and what the first set asks of them.
 ghost use Rattle.std.specs.Prelude.{◌≡◌, ◌+◌, ◌++◌, ◌<◌, chars, IfOk, OnOk};
 ghost use Rattle.policy_load.specs.declared.keys.TheConstants.{KEY_NUMBERS};
-ghost use Rattle.policy_load.specs.Loads.{load_condition, load_conditions, load_key, load_values, three_digits};
+ghost use Rattle.policy_load.specs.Loads.{LoadLimits, load_condition, load_conditions, load_key, load_values, three_digits};
 
 use crate::patterns::literal;
 use plain_lists::{List, NoMemory};
@@ -11,6 +11,11 @@ use wildcard_lang::Text;
 
 /// How many numbers three digits write. The name of a key has three, so its number is below this.
 pub const KEY_NUMBERS: u32 = 1_000;
+
+/// Three digits write 1,000 numbers.
+pub fn load_limits()
+    ensures { LoadLimits }
+{}
 
 // The decimal digit of a number below ten.
 fn digit(number: u32) -> char

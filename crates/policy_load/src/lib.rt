@@ -5,6 +5,6 @@ mod keys;
 mod patterns;
 mod sets;
 
-pub use keys::KEY_NUMBERS;
+pub use keys::{KEY_NUMBERS, load_limits};
 pub use plain_lists::NoMemory;
 pub use sets::load_pair;

@@ -1,15 +1,15 @@
 -- The test that computes whether an id is an ARN of an account agrees with the relation.
 use Rattle.std.proofs.Common.{◌≡◌, ℕ, List, [], ◌∷◌, ◌++◌, true, false, Option, Some, None, refl, ap, ◌∙◌, inl, inr, arith, codes, ◌==◌, option_and_then}
 use Rattle.std.proofs.lemmas.Bool.{cases_Bool}
-use Rattle.policy_model.specs.Principals.{IsOfAccount, has_colon, behind_colon, behind_prefix, begins_colon, account_test}
+use Rattle.policy_model.specs.Principals.{IsOfAccount, has_colon, after_colon, after_prefix, begins_colon, account_test}
 
 -- a text that has the prefix is the prefix and what follows
-pub behind_prefix-is : (p t r : List ℕ) → behind_prefix p t ≡ Some r → t ≡ p ++ r
+pub behind_prefix-is : (p t r : List ℕ) → after_prefix p t ≡ Some r → t ≡ p ++ r
 behind_prefix-is [] t r e = cc
 behind_prefix-is (p ∷ ps) [] r e = cc
 behind_prefix-is (p ∷ ps) (c ∷ t) r e = grind (arith, behind_prefix-is ps t r)
 
-pub behind_prefix-append : (p r : List ℕ) → behind_prefix p (p ++ r) ≡ Some r
+pub behind_prefix-append : (p r : List ℕ) → after_prefix p (p ++ r) ≡ Some r
 behind_prefix-append [] r = refl
 behind_prefix-append (p ∷ ps) r = grind (arith, behind_prefix-append ps r)
 
@@ -19,25 +19,25 @@ pub record BeforeColon (t r : List ℕ) : Type 0 where
   pub plain : has_colon front ≡ false
   pub is : t ≡ front ++ 58 ∷ r
 
-before-here : (c : ℕ) (t r : List ℕ) → (c == 58) ≡ true → behind_colon (c ∷ t) ≡ Some r → BeforeColon (c ∷ t) r
+before-here : (c : ℕ) (t r : List ℕ) → (c == 58) ≡ true → after_colon (c ∷ t) ≡ Some r → BeforeColon (c ∷ t) r
 before-here c t r h e = record { front = []; plain = refl; is = grind (arith) }
 
 before-more : (c : ℕ) (t r : List ℕ) → (c == 58) ≡ false → BeforeColon t r → BeforeColon (c ∷ t) r
 before-more c t r h b = record { front = c ∷ b.front; plain = grind (arith, b.plain); is = ap (λ u. c ∷ u) b.is }
 
-pub behind_colon-is : (t r : List ℕ) → behind_colon t ≡ Some r → BeforeColon t r
+pub behind_colon-is : (t r : List ℕ) → after_colon t ≡ Some r → BeforeColon t r
 behind_colon-is [] r e = absurd (cc)
 behind_colon-is (c ∷ t) r e = elim (cases_Bool (c == 58)) [
   | inl h ↦ before-here c t r h e
   | inr h ↦ before-more c t r h (behind_colon-is t r (rw h at e))
 ]
 
-pub behind_colon-append : (x r : List ℕ) → has_colon x ≡ false → behind_colon (x ++ 58 ∷ r) ≡ Some r
+pub behind_colon-append : (x r : List ℕ) → has_colon x ≡ false → after_colon (x ++ 58 ∷ r) ≡ Some r
 behind_colon-append [] r h = refl
 behind_colon-append (c ∷ x) r h = grind (arith, behind_colon-append x r)
 
 -- what a prefix and a front without colons leave of an optional text
-prefix-step : (p : List ℕ) (o : Option (List ℕ)) (b : List ℕ) → option_and_then (behind_prefix p) o ≡ Some b → o ≡ Some (p ++ b)
+prefix-step : (p : List ℕ) (o : Option (List ℕ)) (b : List ℕ) → option_and_then (after_prefix p) o ≡ Some b → o ≡ Some (p ++ b)
 prefix-step p None b e = absurd (cc)
 prefix-step p (Some a) b e = ap (λ t. Some t) (behind_prefix-is p a b e)
 
@@ -46,7 +46,7 @@ record Behind (o : Option (List ℕ)) (b : List ℕ) : Type 0 where
   pub plain : has_colon front ≡ false
   pub is : o ≡ Some (front ++ 58 ∷ b)
 
-behind-step : (o : Option (List ℕ)) (b : List ℕ) → option_and_then behind_colon o ≡ Some b → Behind o b
+behind-step : (o : Option (List ℕ)) (b : List ℕ) → option_and_then after_colon o ≡ Some b → Behind o b
 behind-step None b e = absurd (cc)
 behind-step (Some a) b e = let x : BeforeColon a b = behind_colon-is a b e in record { front = x.front; plain = x.plain; is = ap (λ t. Some t) x.is }
 
@@ -55,8 +55,8 @@ begins_colon-is None e = absurd (cc)
 begins_colon-is (Some []) e = absurd (cc)
 begins_colon-is (Some (c ∷ t)) e = (t, grind (arith, e))
 
-parts : (account id r : List ℕ) (o0 o1 o2 o3 : Option (List ℕ)) → behind_prefix (codes "arn:") id ≡ o0 → option_and_then behind_colon o0 ≡ o1 → option_and_then behind_colon o1 ≡ o2 →
-    option_and_then behind_colon o2 ≡ o3 → option_and_then (behind_prefix account) o3 ≡ Some (58 ∷ r) → IsOfAccount account id
+parts : (account id r : List ℕ) (o0 o1 o2 o3 : Option (List ℕ)) → after_prefix (codes "arn:") id ≡ o0 → option_and_then after_colon o0 ≡ o1 → option_and_then after_colon o1 ≡ o2 →
+    option_and_then after_colon o2 ≡ o3 → option_and_then (after_prefix account) o3 ≡ Some (58 ∷ r) → IsOfAccount account id
 parts account id r o0 o1 o2 o3 e0 e1 e2 e3 e =
     let at_account : o3 ≡ Some (account ++ 58 ∷ r) = prefix-step account o3 (58 ∷ r) e in
     let region : Behind o2 (account ++ 58 ∷ r) = behind-step o2 (account ++ 58 ∷ r) (e3 ∙ at_account) in

@@ -41,15 +41,15 @@ abbrev pub EntryHolds : Request → Entry → Type 0
 EntryHolds r entry = EntryNames r.kind r.id entry
 
 -- what follows the first colon
-abbrev pub behind_colon : List ℕ → Option (List ℕ)
-behind_colon [] = None
-behind_colon (c ∷ t) = if c == 58 then Some t else behind_colon t
+abbrev pub after_colon : List ℕ → Option (List ℕ)
+after_colon [] = None
+after_colon (c ∷ t) = if c == 58 then Some t else after_colon t
 
 -- what follows the prefix
-abbrev pub behind_prefix : List ℕ → List ℕ → Option (List ℕ)
-behind_prefix [] t = Some t
-behind_prefix (p ∷ ps) [] = None
-behind_prefix (p ∷ ps) (c ∷ t) = if c == p then behind_prefix ps t else None
+abbrev pub after_prefix : List ℕ → List ℕ → Option (List ℕ)
+after_prefix [] t = Some t
+after_prefix (p ∷ ps) [] = None
+after_prefix (p ∷ ps) (c ∷ t) = if c == p then after_prefix ps t else None
 
 abbrev pub begins_colon : Option (List ℕ) → Bool
 begins_colon None = false
@@ -58,4 +58,4 @@ begins_colon (Some (c ∷ t)) = c == 58
 
 -- a test that computes whether the id is an ARN of the account
 abbrev pub account_test : List ℕ → List ℕ → Bool
-account_test account id = begins_colon (option_and_then (behind_prefix account) (option_and_then behind_colon (option_and_then behind_colon (option_and_then behind_colon (behind_prefix (codes "arn:") id)))))
+account_test account id = begins_colon (option_and_then (after_prefix account) (option_and_then after_colon (option_and_then after_colon (option_and_then after_colon (after_prefix (codes "arn:") id)))))

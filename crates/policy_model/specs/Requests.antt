@@ -28,7 +28,7 @@ FitsShape (Some shape) t = Matches shape t
 -- a text that isn't empty and fits the shape
 pub record IsWord (shape : Option (List Piece)) (t : List ℕ) : Type 0 where
   pub text : IsText t
-  pub some : t ≢ []
+  pub nonempty : t ≢ []
   pub fits : FitsShape shape t
 
 -- the shape of the ids of a kind of principals
@@ -110,7 +110,7 @@ HasValidRequest schema = (r : Request) × IsValid schema r
 pub record HasKeysOnce (r : Request) : Type 0 where
   pub ordered : IsInOrder r.context
   pub folded : AreFolded r.context
-  pub some : AllHaveValues r.context
+  pub nonempty : AllHaveValues r.context
 
 -- and each key is a text: so it is with every request that a program holds
 pub record IsWellKept (r : Request) : Type 0 where

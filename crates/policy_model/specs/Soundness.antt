@@ -95,7 +95,7 @@ pub record RuleIsSound (rule : KeyRule) : Type 0 where
 -- the shape of a word, where one is given, is a pattern other than the empty one, since words aren't empty
 pub record WordShapeIsSound (shape : Option (List Piece)) : Type 0 where
   pub pattern : IfSome shape IsPattern
-  pub some : shape ≢ Some []
+  pub nonempty : shape ≢ Some []
 
 pub record ShapesAreSound (shapes : Shapes) : Type 0 where
   pub action : WordShapeIsSound shapes.action

@@ -70,7 +70,7 @@ impl Context {
         ensures ordered { IsInOrder self.now }
         ensures texts { KeysAreTexts self.now }
         ensures folded { AreFolded self.now }
-        ensures some { AllHaveValues self.now }
+        ensures nonempty { AllHaveValues self.now }
     {
         self.entries.len();
         self.entries.keys_are_texts();
@@ -79,7 +79,7 @@ impl Context {
     /// The values of a key, of which there is at least one, or none where the key isn't there.
     pub fn get(&self, key: &Text) -> Option<&ValueList>
         ensures values { option_map (λ v. v.now) result ≡ item_at key.now self.now }
-        ensures some { IfSome result (λ v. v.now ≢ []) }
+        ensures nonempty { IfSome result (λ v. v.now ≢ []) }
     {
         self.entries.get(key)
     }
@@ -89,7 +89,7 @@ impl Context {
     pub fn at(&self, i: usize) -> Option<(&Text, &ValueList)>
         ensures entry { option_map (λ p. (p.0.now, p.1.now)) result ≡ slice_get self.now i }
         ensures folded { IfSome result (λ p. IsFolded p.0.now) }
-        ensures some { IfSome result (λ p. p.1.now ≢ []) }
+        ensures nonempty { IfSome result (λ p. p.1.now ≢ []) }
     {
         self.entries.at(i)
     }
@@ -100,7 +100,7 @@ impl Context {
         ensures value { result ≡ self.now }
         ensures ordered { IsInOrder self.now }
         ensures folded { AreFolded self.now }
-        ensures some { AllHaveValues self.now }
+        ensures nonempty { AllHaveValues self.now }
     {
         self.entries.iter()
     }
@@ -109,7 +109,7 @@ impl Context {
     /// stays as it was, and key and values are dropped.
     pub fn insert(&mut self, key: Text, values: ValueList) -> Result<(), NoMemory>
         requires folded { IsFolded key }
-        requires some { values ≢ [] }
+        requires nonempty { values ≢ [] }
         ensures ok { OnOk result (self.new ≡ with_item self.old key values) }
         ensures err { OnErr result (self.new ≡ self.old) }
     {

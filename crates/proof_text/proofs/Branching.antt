@@ -8,10 +8,10 @@ use Rattle.refute_check.specs.Proofs.{Proof, label, split}
 use Rattle.pattern_automata.specs.Closed.{rises_from}
 use Rattle.proof_text.specs.Around.{AreAround}
 use Rattle.proof_text.specs.Faults.{answered_tests, fault_of_line, is_of_version, is_ordered, is_shallow, numbers_in, tests_named}
-use Rattle.proof_text.specs.LineForms.{Expected, a_node, a_slot_proof, line_said, lines_of}
+use Rattle.proof_text.specs.LineForms.{Expected, ExpectNode, ExpectSlotProof, line_said, lines_of}
 use Rattle.proof_text.specs.Lines.{Line, label_line, slot_line, split_line}
-use Rattle.proof_text.specs.SlotLines.{IsOfCore, lines_behind}
-use Rattle.proof_text.specs.Spelling.{node_lines, starts}
+use Rattle.proof_text.specs.SlotLines.{IsOfCore, lines_after}
+use Rattle.proof_text.specs.Spelling.{node_lines, node_line_numbers}
 use Rattle.proof_text.specs.Steps.{FailsFrom, HasLineRoom, IsBehind, ArePartsRead, TakesLines}
 use Rattle.proof_text.specs.declared.fault.ProofAnswer.{ProofAnswer}
 use Rattle.proof_text.specs.declared.fault.ProofCode.{ProofCode}
@@ -41,15 +41,15 @@ all-passed a b c d e h =
 pub passes : (limits : Limits) (begun : ℕ) (e : Expected) (l : Line) → fault_of_line limits begun e (Some l) ≡ None → (is_ordered begun e l ≡ true) × (is_shallow e l ≡ true) × (is_of_version limits.version l ≡ true)
 passes limits begun e l h = all-passed (list_all (λ n. nat_le n MOST_NUMBER) (numbers_in l)) (is_ordered begun e l) (is_of_version limits.version l) (list_all (λ n. nat_lt n limits.tests) (tests_named l)) (is_shallow e l) h
 
-pub split-depth : (limits : Limits) (begun depth test : ℕ) (inside : List ℕ) → fault_of_line limits begun (a_node depth inside) (Some (split_line test)) ≡ None → depth < MOST_NESTING
-split-depth limits begun depth test inside h = ltb-true depth MOST_NESTING (passes limits begun (a_node depth inside) (split_line test) h).1
+pub split-depth : (limits : Limits) (begun depth test : ℕ) (inside : List ℕ) → fault_of_line limits begun (ExpectNode depth inside) (Some (split_line test)) ≡ None → depth < MOST_NESTING
+split-depth limits begun depth test inside h = ltb-true depth MOST_NESTING (passes limits begun (ExpectNode depth inside) (split_line test) h).1
 
-pub label-depth : (limits : Limits) (begun depth n : ℕ) (given : Answers) (inside : List ℕ) → fault_of_line limits begun (a_node depth inside) (Some (label_line n given)) ≡ None → depth < MOST_NESTING
-label-depth limits begun depth n given inside h = ltb-true depth MOST_NESTING (passes limits begun (a_node depth inside) (label_line n given) h).1
+pub label-depth : (limits : Limits) (begun depth n : ℕ) (given : Answers) (inside : List ℕ) → fault_of_line limits begun (ExpectNode depth inside) (Some (label_line n given)) ≡ None → depth < MOST_NESTING
+label-depth limits begun depth n given inside h = ltb-true depth MOST_NESTING (passes limits begun (ExpectNode depth inside) (label_line n given) h).1
 
-pub label-number : (limits : Limits) (begun depth n : ℕ) (given : Answers) (inside : List ℕ) → fault_of_line limits begun (a_node depth inside) (Some (label_line n given)) ≡ None → n ≡ begun
+pub label-number : (limits : Limits) (begun depth n : ℕ) (given : Answers) (inside : List ℕ) → fault_of_line limits begun (ExpectNode depth inside) (Some (label_line n given)) ≡ None → n ≡ begun
 label-number limits begun depth n given inside h =
-    eqb-true n begun (and_parts (eqb n begun) (rises_from 0 (answered_tests given)) (passes limits begun (a_node depth inside) (label_line n given) h).0).0
+    eqb-true n begun (and_parts (eqb n begun) (rises_from 0 (answered_tests given)) (passes limits begun (ExpectNode depth inside) (label_line n given) h).0).0
 
 -- ---- labels around
 
@@ -85,57 +85,57 @@ around-more ns n begun around is = record {
 
 -- ---- splits
 
-pub split-takes : (limits : Limits) (depth test : ℕ) (inside line : List ℕ) (location behind middle end : Location) (y z : Proof) → IsBehind line 0 location behind → line_said (a_node depth inside) line ≡ Some (split_line test) → fault_of_line limits location.begun (a_node depth inside) (Some (split_line test)) ≡ None →
-    TakesLines limits (a_node (depth + 1) inside ∷ []) behind (node_lines y) middle → TakesLines limits (a_node (depth + 1) inside ∷ []) middle (node_lines z) end → TakesLines limits (a_node depth inside ∷ []) location (node_lines (split test y z)) end
+pub split-takes : (limits : Limits) (depth test : ℕ) (inside line : List ℕ) (location behind middle end : Location) (y z : Proof) → IsBehind line 0 location behind → line_said (ExpectNode depth inside) line ≡ Some (split_line test) → fault_of_line limits location.begun (ExpectNode depth inside) (Some (split_line test)) ≡ None →
+    TakesLines limits (ExpectNode (depth + 1) inside ∷ []) behind (node_lines y) middle → TakesLines limits (ExpectNode (depth + 1) inside ∷ []) middle (node_lines z) end → TakesLines limits (ExpectNode depth inside ∷ []) location (node_lines (split test y z)) end
 split-takes limits depth test inside line location behind middle end y z next said passes first second =
-    leads-line limits (a_node depth inside) location behind end line (split_line test) (node_lines y ++ node_lines z) next said passes
-    (leads-both limits (a_node (depth + 1) inside ∷ []) (a_node (depth + 1) inside ∷ []) behind middle end (node_lines y) (node_lines z) first second)
+    leads-line limits (ExpectNode depth inside) location behind end line (split_line test) (node_lines y ++ node_lines z) next said passes
+    (leads-both limits (ExpectNode (depth + 1) inside ∷ []) (ExpectNode (depth + 1) inside ∷ []) behind middle end (node_lines y) (node_lines z) first second)
 
-pub split-first_fails : (limits : Limits) (depth test : ℕ) (inside line : List ℕ) (location behind : Location) (answer : ProofAnswer) → IsBehind line 0 location behind → line_said (a_node depth inside) line ≡ Some (split_line test) → fault_of_line limits location.begun (a_node depth inside) (Some (split_line test)) ≡ None →
-    FailsFrom limits (a_node (depth + 1) inside ∷ []) behind answer → FailsFrom limits (a_node depth inside ∷ []) location answer
+pub split-first_fails : (limits : Limits) (depth test : ℕ) (inside line : List ℕ) (location behind : Location) (answer : ProofAnswer) → IsBehind line 0 location behind → line_said (ExpectNode depth inside) line ≡ Some (split_line test) → fault_of_line limits location.begun (ExpectNode depth inside) (Some (split_line test)) ≡ None →
+    FailsFrom limits (ExpectNode (depth + 1) inside ∷ []) behind answer → FailsFrom limits (ExpectNode depth inside ∷ []) location answer
 split-first_fails limits depth test inside line location behind answer next said passes fails =
-    fails-below limits (a_node depth inside) location behind line (split_line test) answer next said passes (fails-longer limits (a_node (depth + 1) inside ∷ []) (a_node (depth + 1) inside ∷ []) behind answer fails)
+    fails-below limits (ExpectNode depth inside) location behind line (split_line test) answer next said passes (fails-longer limits (ExpectNode (depth + 1) inside ∷ []) (ExpectNode (depth + 1) inside ∷ []) behind answer fails)
 
-pub split-second_fails : (limits : Limits) (depth test : ℕ) (inside line : List ℕ) (location behind middle : Location) (y : Proof) (answer : ProofAnswer) → IsBehind line 0 location behind → line_said (a_node depth inside) line ≡ Some (split_line test) → fault_of_line limits location.begun (a_node depth inside) (Some (split_line test)) ≡ None →
-    TakesLines limits (a_node (depth + 1) inside ∷ []) behind (node_lines y) middle → FailsFrom limits (a_node (depth + 1) inside ∷ []) middle answer → FailsFrom limits (a_node depth inside ∷ []) location answer
+pub split-second_fails : (limits : Limits) (depth test : ℕ) (inside line : List ℕ) (location behind middle : Location) (y : Proof) (answer : ProofAnswer) → IsBehind line 0 location behind → line_said (ExpectNode depth inside) line ≡ Some (split_line test) → fault_of_line limits location.begun (ExpectNode depth inside) (Some (split_line test)) ≡ None →
+    TakesLines limits (ExpectNode (depth + 1) inside ∷ []) behind (node_lines y) middle → FailsFrom limits (ExpectNode (depth + 1) inside ∷ []) middle answer → FailsFrom limits (ExpectNode depth inside ∷ []) location answer
 split-second_fails limits depth test inside line location behind middle y answer next said passes first fails =
-    fails-below limits (a_node depth inside) location behind line (split_line test) answer next said passes (fails-behind limits (a_node (depth + 1) inside ∷ []) (a_node (depth + 1) inside ∷ []) behind middle (node_lines y) answer first fails)
+    fails-below limits (ExpectNode depth inside) location behind line (split_line test) answer next said passes (fails-behind limits (ExpectNode (depth + 1) inside ∷ []) (ExpectNode (depth + 1) inside ∷ []) behind middle (node_lines y) answer first fails)
 
 -- the lines of a split's nodes
-pub split-starts : (test n m k : ℕ) (y z : Proof) (before own first all : List ℕ) → own ≡ before ++ n ∷ [] → first ≡ own ++ starts m y → all ≡ first ++ starts k z → m ≡ n + 1 → k ≡ m + length (node_lines y) → all ≡ before ++ starts n (split test y z)
+pub split-starts : (test n m k : ℕ) (y z : Proof) (before own first all : List ℕ) → own ≡ before ++ n ∷ [] → first ≡ own ++ node_line_numbers m y → all ≡ first ++ node_line_numbers k z → m ≡ n + 1 → k ≡ m + length (node_lines y) → all ≡ before ++ node_line_numbers n (split test y z)
 split-starts test n m k y z before own first all e f g next after =
-    let ys : starts m y ≡ starts (n + 1) y = ap (λ j. starts j y) next in
-    let zs : starts k z ≡ starts (n + 1 + length (node_lines y)) z = ap (λ j. starts j z) (omega arith) in
-    g ∙ ap (λ r. r ++ starts k z) (f ∙ ap (λ r. r ++ starts m y) e) ∙ append_assoc (before ++ n ∷ []) (starts m y) (starts k z) ∙ append_assoc before (n ∷ []) (starts m y ++ starts k z) ∙
-    ap (λ r. before ++ n ∷ (r ++ starts k z)) ys ∙ ap (λ r. before ++ n ∷ (starts (n + 1) y ++ r)) zs
+    let ys : node_line_numbers m y ≡ node_line_numbers (n + 1) y = ap (λ j. node_line_numbers j y) next in
+    let zs : node_line_numbers k z ≡ node_line_numbers (n + 1 + length (node_lines y)) z = ap (λ j. node_line_numbers j z) (omega arith) in
+    g ∙ ap (λ r. r ++ node_line_numbers k z) (f ∙ ap (λ r. r ++ node_line_numbers m y) e) ∙ append_assoc (before ++ n ∷ []) (node_line_numbers m y) (node_line_numbers k z) ∙ append_assoc before (n ∷ []) (node_line_numbers m y ++ node_line_numbers k z) ∙
+    ap (λ r. before ++ n ∷ (r ++ node_line_numbers k z)) ys ∙ ap (λ r. before ++ n ∷ (node_line_numbers (n + 1) y ++ r)) zs
 
-pub label-starts : (number n m : ℕ) (given : Answers) (p : Proof) (before own all : List ℕ) → own ≡ before ++ n ∷ [] → all ≡ own ++ starts m p → m ≡ n + 1 → all ≡ before ++ starts n (label number given p)
+pub label-starts : (number n m : ℕ) (given : Answers) (p : Proof) (before own all : List ℕ) → own ≡ before ++ n ∷ [] → all ≡ own ++ node_line_numbers m p → m ≡ n + 1 → all ≡ before ++ node_line_numbers n (label number given p)
 label-starts number n m given p before own all e f next =
-    f ∙ ap (λ r. r ++ starts m p) e ∙ append_assoc before (n ∷ []) (starts m p) ∙ ap (λ j. before ++ n ∷ starts j p) next
+    f ∙ ap (λ r. r ++ node_line_numbers m p) e ∙ append_assoc before (n ∷ []) (node_line_numbers m p) ∙ ap (λ j. before ++ n ∷ node_line_numbers j p) next
 
 -- ---- cores
 
-pub core-read : {X : Type 0} (tree : X → Proof) (limits : Limits) (depth : ℕ) (inside core line : List ℕ) (from to : Location) (r : Result (X × Location) ProofAnswer) → IsBehind line 0 from to → line_said (a_node depth inside) line ≡ Some (slot_line core) → fault_of_line limits from.begun (a_node depth inside) (Some (slot_line core)) ≡ None →
-    ArePartsRead (λ (x : X). lines_behind (tree x)) limits (a_slot_proof ∷ []) to r → IfOk r (λ x. IsOfCore core (tree x.0)) → ArePartsRead (λ (x : X). node_lines (tree x)) limits (a_node depth inside ∷ []) from r
+pub core-read : {X : Type 0} (tree : X → Proof) (limits : Limits) (depth : ℕ) (inside core line : List ℕ) (from to : Location) (r : Result (X × Location) ProofAnswer) → IsBehind line 0 from to → line_said (ExpectNode depth inside) line ≡ Some (slot_line core) → fault_of_line limits from.begun (ExpectNode depth inside) (Some (slot_line core)) ≡ None →
+    ArePartsRead (λ (x : X). lines_after (tree x)) limits (ExpectSlotProof ∷ []) to r → IfOk r (λ x. IsOfCore core (tree x.0)) → ArePartsRead (λ (x : X). node_lines (tree x)) limits (ExpectNode depth inside ∷ []) from r
 core-read tree limits depth inside core line from to (Ok x) next is passes read of =
-    subst (λ (ls : List Line). TakesLines limits (a_node depth inside ∷ []) from ls x.1) (sym of.lines) (leads-line limits (a_node depth inside) from to x.1 line (slot_line core) (lines_behind (tree x.0)) next is passes read)
-core-read tree limits depth inside core line from to (Err answer) next is passes read of = fails-below limits (a_node depth inside) from to line (slot_line core) answer next is passes read
+    subst (λ (ls : List Line). TakesLines limits (ExpectNode depth inside ∷ []) from ls x.1) (sym of.lines) (leads-line limits (ExpectNode depth inside) from to x.1 line (slot_line core) (lines_after (tree x.0)) next is passes read)
+core-read tree limits depth inside core line from to (Err answer) next is passes read of = fails-below limits (ExpectNode depth inside) from to line (slot_line core) answer next is passes read
 
-pub core-starts : {X : Type 0} (tree : X → Proof) (core before own : List ℕ) (n : ℕ) (r : Result (X × Location) ProofAnswer) → own ≡ before ++ n ∷ [] → IfOk r (λ x. IsOfCore core (tree x.0)) → IfOk r (λ x. own ≡ before ++ starts n (tree x.0))
+pub core-starts : {X : Type 0} (tree : X → Proof) (core before own : List ℕ) (n : ℕ) (r : Result (X × Location) ProofAnswer) → own ≡ before ++ n ∷ [] → IfOk r (λ x. IsOfCore core (tree x.0)) → IfOk r (λ x. own ≡ before ++ node_line_numbers n (tree x.0))
 core-starts tree core before own n (Ok x) e of = e ∙ ap (λ l. before ++ l) (sym (of.alone n))
 core-starts tree core before own n (Err answer) e of = tt
 
 -- ---- where the labels around were looked at
 
-pub known-at : (limits : Limits) (begun depth : ℕ) (seen inside line : List ℕ) (l : Line) → seen ≡ inside → (line_said (a_node depth seen) line ≡ Some l) × (fault_of_line limits begun (a_node depth seen) (Some l) ≡ None) →
-    (line_said (a_node depth inside) line ≡ Some l) × (fault_of_line limits begun (a_node depth inside) (Some l) ≡ None)
-known-at limits begun depth seen inside line l same known = subst (λ (ns : List ℕ). (line_said (a_node depth ns) line ≡ Some l) × (fault_of_line limits begun (a_node depth ns) (Some l) ≡ None)) same known
+pub known-at : (limits : Limits) (begun depth : ℕ) (seen inside line : List ℕ) (l : Line) → seen ≡ inside → (line_said (ExpectNode depth seen) line ≡ Some l) × (fault_of_line limits begun (ExpectNode depth seen) (Some l) ≡ None) →
+    (line_said (ExpectNode depth inside) line ≡ Some l) × (fault_of_line limits begun (ExpectNode depth inside) (Some l) ≡ None)
+known-at limits begun depth seen inside line l same known = subst (λ (ns : List ℕ). (line_said (ExpectNode depth ns) line ≡ Some l) × (fault_of_line limits begun (ExpectNode depth ns) (Some l) ≡ None)) same known
 
-pub takes-at : (limits : Limits) (depth : ℕ) (seen inside : List ℕ) (from to : Location) (ls : List Line) → seen ≡ inside → TakesLines limits (a_node depth seen ∷ []) from ls to → TakesLines limits (a_node depth inside ∷ []) from ls to
-takes-at limits depth seen inside from to ls same takes = subst (λ (ns : List ℕ). TakesLines limits (a_node depth ns ∷ []) from ls to) same takes
+pub takes-at : (limits : Limits) (depth : ℕ) (seen inside : List ℕ) (from to : Location) (ls : List Line) → seen ≡ inside → TakesLines limits (ExpectNode depth seen ∷ []) from ls to → TakesLines limits (ExpectNode depth inside ∷ []) from ls to
+takes-at limits depth seen inside from to ls same takes = subst (λ (ns : List ℕ). TakesLines limits (ExpectNode depth ns ∷ []) from ls to) same takes
 
-pub fails-at : (limits : Limits) (depth : ℕ) (seen inside : List ℕ) (from : Location) (answer : ProofAnswer) → seen ≡ inside → FailsFrom limits (a_node depth seen ∷ []) from answer → FailsFrom limits (a_node depth inside ∷ []) from answer
-fails-at limits depth seen inside from answer same fails = subst (λ (ns : List ℕ). FailsFrom limits (a_node depth ns ∷ []) from answer) same fails
+pub fails-at : (limits : Limits) (depth : ℕ) (seen inside : List ℕ) (from : Location) (answer : ProofAnswer) → seen ≡ inside → FailsFrom limits (ExpectNode depth seen ∷ []) from answer → FailsFrom limits (ExpectNode depth inside ∷ []) from answer
+fails-at limits depth seen inside from answer same fails = subst (λ (ns : List ℕ). FailsFrom limits (ExpectNode depth ns ∷ []) from answer) same fails
 
 -- ---- labels
 
@@ -151,12 +151,12 @@ pub around-entered : (inside entered : List ℕ) (number begun after : ℕ) → 
 around-entered inside entered number begun after around is grown next =
     subst (λ (ns : List ℕ). AreAround ns after) (sym grown) (subst (λ n. AreAround (inside ++ number ∷ []) n) (sym next) (around-more inside number begun around is))
 
-pub label-takes : (limits : Limits) (depth number : ℕ) (given : Answers) (inside entered line : List ℕ) (location to end : Location) (p : Proof) → IsBehind line 1 location to → (line_said (a_node depth inside) line ≡ Some (label_line number given)) × (fault_of_line limits location.begun (a_node depth inside) (Some (label_line number given)) ≡ None) →
-    entered ≡ inside ++ number ∷ [] → TakesLines limits (a_node (depth + 1) entered ∷ []) to (node_lines p) end → TakesLines limits (a_node depth inside ∷ []) location (node_lines (label number given p)) end
+pub label-takes : (limits : Limits) (depth number : ℕ) (given : Answers) (inside entered line : List ℕ) (location to end : Location) (p : Proof) → IsBehind line 1 location to → (line_said (ExpectNode depth inside) line ≡ Some (label_line number given)) × (fault_of_line limits location.begun (ExpectNode depth inside) (Some (label_line number given)) ≡ None) →
+    entered ≡ inside ++ number ∷ [] → TakesLines limits (ExpectNode (depth + 1) entered ∷ []) to (node_lines p) end → TakesLines limits (ExpectNode depth inside ∷ []) location (node_lines (label number given p)) end
 label-takes limits depth number given inside entered line location to end p next known grown takes =
-    leads-line limits (a_node depth inside) location to end line (label_line number given) (node_lines p) next known.0 known.1 (takes-at limits (depth + 1) entered (inside ++ number ∷ []) to end (node_lines p) grown takes)
+    leads-line limits (ExpectNode depth inside) location to end line (label_line number given) (node_lines p) next known.0 known.1 (takes-at limits (depth + 1) entered (inside ++ number ∷ []) to end (node_lines p) grown takes)
 
-pub label-fails : (limits : Limits) (depth number : ℕ) (given : Answers) (inside entered line : List ℕ) (location to : Location) (answer : ProofAnswer) → IsBehind line 1 location to → (line_said (a_node depth inside) line ≡ Some (label_line number given)) × (fault_of_line limits location.begun (a_node depth inside) (Some (label_line number given)) ≡ None) →
-    entered ≡ inside ++ number ∷ [] → FailsFrom limits (a_node (depth + 1) entered ∷ []) to answer → FailsFrom limits (a_node depth inside ∷ []) location answer
+pub label-fails : (limits : Limits) (depth number : ℕ) (given : Answers) (inside entered line : List ℕ) (location to : Location) (answer : ProofAnswer) → IsBehind line 1 location to → (line_said (ExpectNode depth inside) line ≡ Some (label_line number given)) × (fault_of_line limits location.begun (ExpectNode depth inside) (Some (label_line number given)) ≡ None) →
+    entered ≡ inside ++ number ∷ [] → FailsFrom limits (ExpectNode (depth + 1) entered ∷ []) to answer → FailsFrom limits (ExpectNode depth inside ∷ []) location answer
 label-fails limits depth number given inside entered line location to answer next known grown fails =
-    fails-below limits (a_node depth inside) location to line (label_line number given) answer next known.0 known.1 (fails-at limits (depth + 1) entered (inside ++ number ∷ []) to answer grown fails)
+    fails-below limits (ExpectNode depth inside) location to line (label_line number given) answer next known.0 known.1 (fails-at limits (depth + 1) entered (inside ++ number ∷ []) to answer grown fails)

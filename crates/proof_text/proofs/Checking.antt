@@ -5,7 +5,7 @@ use Rattle.std.specs.List.{list_all, slice_split}
 use Rattle.std.specs.Option.{option_and_then}
 use Rattle.formula_tree.specs.Answers.{Answers}
 use Rattle.proof_text.specs.Faults.{answered_tests, fault_of_line, is_of_version, is_ordered, is_shallow, numbers_in, tests_named}
-use Rattle.proof_text.specs.LineForms.{Expected, answers_of, content_of, content_said, label_said, labelled, line_said, number_said, said, said_in}
+use Rattle.proof_text.specs.LineForms.{Expected, answers_of, content_of, content_said, label_said, label_line_of, line_said, number_said, line_of_word, said_in}
 use Rattle.proof_text.specs.Lines.{Line, label_line}
 use Rattle.proof_text.specs.Steps.{IsLineRead, IsSmallRead, are_answers_small, are_small, is_label_small, is_small, label_parts, both_given}
 use Rattle.proof_text.specs.declared.fault.LineAnswer.{LineAnswer}
@@ -72,7 +72,7 @@ test-outside n count h = one-true (nat_lt n count) ∙ le-ltb n count h
 
 -- ---- labels
 
-label-forms : (o : Option ℕ) (p : Option Answers) → labelled o p ≡ option_map (λ (x : ℕ × Answers). label_line x.0 x.1) (both_given o p)
+label-forms : (o : Option ℕ) (p : Option Answers) → label_line_of o p ≡ option_map (λ (x : ℕ × Answers). label_line x.0 x.1) (both_given o p)
 label-forms None p = refl
 label-forms (Some n) None = refl
 label-forms (Some n) (Some given) = refl
@@ -104,5 +104,5 @@ label-too_large limits begun e parts o read none =
 -- ---- words
 
 -- what a line says by its word and its parts
-pub line-words : (e : Expected) (line text word : List ℕ) (parts : List (List ℕ)) → Some text ≡ content_of line → slice_split (λ b. eqb b 32) text ≡ word ∷ parts → line_said e line ≡ said e word parts
+pub line-words : (e : Expected) (line text word : List ℕ) (parts : List (List ℕ)) → Some text ≡ content_of line → slice_split (λ b. eqb b 32) text ≡ word ∷ parts → line_said e line ≡ line_of_word e word parts
 line-words e line text word parts is cut = ap (λ (o : Option (List ℕ)). option_and_then (content_said e) o) (sym is) ∙ ap (said_in e) cut

@@ -2,7 +2,7 @@
 use Rattle.std.proofs.Common.{◌≡◌, ◌<◌, ◌^◌, ℕ, List, [], ◌∷◌, ◌++◌, map, length, drop, Some, All, decimal, sym, ap, ◌∙◌}
 use Rattle.std.specs.List.{concat}
 use Rattle.proof_text.specs.Laws.{IsUnbroken}
-use Rattle.proof_text.specs.LineForms.{bytes_behind, content_of, ended_lines, lines_of, number_said}
+use Rattle.proof_text.specs.LineForms.{bytes_after, content_of, ended_lines, lines_of, number_said}
 use Rattle.proof_text.proofs.Cutting as cutting
 use Rattle.proof_text.proofs.Decimals as decimals
 use Rattle.proof_text.proofs.Files as files
@@ -21,7 +21,7 @@ pub lines_again : (contents : List (List ℕ)) (rest : List ℕ) → All IsUnbro
 lines_again contents rest unbroken = cutting.lines-again (λ (content : List ℕ). content) contents rest unbroken
 
 -- and what stands behind them is what stood there
-pub behind_again : (contents : List (List ℕ)) (rest : List ℕ) → All IsUnbroken contents → bytes_behind (length contents) (ended_lines contents ++ rest) ≡ rest
+pub behind_again : (contents : List (List ℕ)) (rest : List ℕ) → All IsUnbroken contents → bytes_after (length contents) (ended_lines contents ++ rest) ≡ rest
 behind_again contents rest unbroken =
     ap (λ (ls : List (List ℕ)). concat (drop (length contents) ls)) (lines_again contents rest unbroken) ∙
     ap concat (files.drop-ended contents (lines_of rest)) ∙ whole.concat-lines rest

@@ -3,11 +3,11 @@ use Rattle.std.proofs.Common.{◌≡◌, ℕ, ◌+◌, ◌-◌, ◌<◌, ◌≤�
 use Rattle.std.proofs.lemmas.List.{length-append}
 use Rattle.std.specs.List.{concat}
 use Rattle.refute_check.specs.Proofs.{Proof, proof_of, size}
-use Rattle.proof_text.specs.Faults.{fault_behind, fault_from, proof_fault, skipped}
-use Rattle.proof_text.specs.LineForms.{a_version, bytes_behind, lines_before, lines_of}
+use Rattle.proof_text.specs.Faults.{fault_after, fault_from, proof_fault, skipped_count}
+use Rattle.proof_text.specs.LineForms.{ExpectVersion, bytes_after, lines_before, lines_of}
 use Rattle.proof_text.specs.Lines.{verdict_line}
 use Rattle.proof_text.specs.Reads.{HasFewNodes, IsProofRead, IsProofReadBehind, IsReadBehind, IsReadFrom}
-use Rattle.proof_text.specs.Spelling.{IsCertificateOf, spell, starts}
+use Rattle.proof_text.specs.Spelling.{IsCertificateOf, certificate_text, node_line_numbers}
 use Rattle.proof_text.specs.Steps.{HasLineRoom, IsBehind, IsFirstLocation, IsLocationBehind, IsProofReadAt, IsReadAt}
 use Rattle.proof_text.specs.declared.fault.ProofAnswer.{ProofAnswer}
 use Rattle.proof_text.specs.declared.fault.ProofAnswer.TheVariants.{Refused, NoMemory}
@@ -20,18 +20,18 @@ use Rattle.proof_text.proofs.Whole.{concat-lines}
 -- ---- the location of a certificate
 
 pub fault-at : (limits : Limits) (front : ℕ) (bytes : List ℕ) (start : Location) → IsLocationBehind front bytes start →
-    fault_behind limits front bytes ≡ fault_from limits (a_version ∷ []) start.number start.begun (lines_of start.bytes.now)
-unfolding fault_behind
+    fault_after limits front bytes ≡ fault_from limits (ExpectVersion ∷ []) start.number start.begun (lines_of start.bytes.now)
+unfolding fault_after
 fault-at limits front bytes start at =
-    ap (λ n. fault_from limits (a_version ∷ []) n 0 (drop front (lines_of bytes))) (sym at.number) ∙
-    ap (λ k. fault_from limits (a_version ∷ []) start.number k (drop front (lines_of bytes))) (sym at.begun) ∙
-    ap (fault_from limits (a_version ∷ []) start.number start.begun) (sym at.lines)
+    ap (λ n. fault_from limits (ExpectVersion ∷ []) n 0 (drop front (lines_of bytes))) (sym at.number) ∙
+    ap (λ k. fault_from limits (ExpectVersion ∷ []) start.number k (drop front (lines_of bytes))) (sym at.begun) ∙
+    ap (fault_from limits (ExpectVersion ∷ []) start.number start.begun) (sym at.lines)
 
-bytes-at : (front : ℕ) (bytes : List ℕ) (start : Location) → IsLocationBehind front bytes start → bytes_behind front bytes ≡ start.bytes.now
+bytes-at : (front : ℕ) (bytes : List ℕ) (start : Location) → IsLocationBehind front bytes start → bytes_after front bytes ≡ start.bytes.now
 bytes-at front bytes start at = ap concat (sym at.lines) ∙ concat-lines start.bytes.now
 
-starts-at : (front n : ℕ) (p : Proof) → n ≡ front + 1 → starts (n + 1) p ≡ starts (front + 2) p
-starts-at front n p is = let more : n + 1 ≡ front + 2 = omega arith in ap (λ m. starts m p) more
+starts-at : (front n : ℕ) (p : Proof) → n ≡ front + 1 → node_line_numbers (n + 1) p ≡ node_line_numbers (front + 2) p
+starts-at front n p is = let more : n + 1 ≡ front + 2 = omega arith in ap (λ m. node_line_numbers m p) more
 
 pub behind-read : (limits : Limits) (front : ℕ) (bytes : List ℕ) (start : Location) (r : Result ReadProof ProofAnswer) → IsLocationBehind front bytes start → IsProofReadAt limits start r → IsProofReadBehind limits front bytes r
 behind-read limits front bytes start (Ok read) at is = record {
@@ -45,15 +45,15 @@ behind-read limits front bytes start (Err NoMemory) at is = tt
 
 -- ---- behind the answer of a comparison
 
-first-behind : (bytes : List ℕ) (start : Location) → IsFirstLocation bytes start → IsLocationBehind (skipped (lines_of bytes)) bytes start
+first-behind : (bytes : List ℕ) (start : Location) → IsFirstLocation bytes start → IsLocationBehind (skipped_count (lines_of bytes)) bytes start
 first-behind bytes start first = record { number = first.number; begun = first.begun; lines = first.lines; room = first.room }
 
 fault-first : (limits : Limits) (bytes : List ℕ) (start : Location) → IsFirstLocation bytes start →
-    proof_fault limits bytes ≡ fault_from limits (a_version ∷ []) start.number start.begun (lines_of start.bytes.now)
+    proof_fault limits bytes ≡ fault_from limits (ExpectVersion ∷ []) start.number start.begun (lines_of start.bytes.now)
 unfolding proof_fault
-fault-first limits bytes start first = fault-at limits (skipped (lines_of bytes)) bytes start (first-behind bytes start first)
+fault-first limits bytes start first = fault-at limits (skipped_count (lines_of bytes)) bytes start (first-behind bytes start first)
 
-first-spelled : (version : ℕ) (bytes : List ℕ) (start : Location) (p : Proof) → (bytes ≡ start.bytes.now) ⊎ (bytes ≡ verdict_line ++ start.bytes.now) → start.bytes.now ≡ spell version p → IsCertificateOf version bytes p
+first-spelled : (version : ℕ) (bytes : List ℕ) (start : Location) (p : Proof) → (bytes ≡ start.bytes.now) ⊎ (bytes ≡ verdict_line ++ start.bytes.now) → start.bytes.now ≡ certificate_text version p → IsCertificateOf version bytes p
 first-spelled version bytes start p (inl same) text = inl (same ∙ text)
 first-spelled version bytes start p (inr behind) text = inr (behind ∙ ap (λ t. verdict_line ++ t) text)
 
@@ -62,7 +62,7 @@ first-read limits bytes start (Ok read) first is = record {
   faultless = fault-first limits bytes start first ∙ is.faultless;
   spelled = first-spelled limits.version bytes start (proof_of read.refutation.value) first.whole is.spelled;
   small = is.small;
-  lines = is.lines ∙ starts-at (skipped (lines_of bytes)) start.number (proof_of read.refutation.value) first.number;
+  lines = is.lines ∙ starts-at (skipped_count (lines_of bytes)) start.number (proof_of read.refutation.value) first.number;
 }
 first-read limits bytes start (Err (Refused fault)) first is = fault-first limits bytes start first ∙ is
 first-read limits bytes start (Err NoMemory) first is = tt
@@ -93,7 +93,7 @@ behind-nodes front bytes start r at few =
 
 -- the location of the line of this number, where there is such a line, or of the end behind the last
 pub record IsAtLine (bytes : List ℕ) (number : ℕ) (at : Location) : Type 0 where
-  pub some : 1 ≤ number
+  pub positive : 1 ≤ number
   pub numbered : at.number ≡ number
   pub begun : at.begun ≡ 0
   pub lines : lines_of at.bytes.now ≡ drop (number - 1) (lines_of bytes)
@@ -102,7 +102,7 @@ pub record IsAtLine (bytes : List ℕ) (number : ℕ) (at : Location) : Type 0 w
 
 pub at-first : (bytes : List ℕ) → length bytes ≤ MOST_PROOF_BYTES → (at : Location) → at.number ≡ 1 → at.begun ≡ 0 → at.bytes.now ≡ bytes → IsAtLine bytes 1 at
 at-first bytes few at number begun same = record {
-  some = omega arith;
+  positive = omega arith;
   numbered = number;
   begun = begun;
   lines = ap lines_of same;
@@ -119,11 +119,11 @@ at-some (l ∷ lines) (suc k) line rest e = let more = at-some lines k line rest
 
 pub at-next : (bytes line : List ℕ) (number : ℕ) (at behind : Location) → IsAtLine bytes number at → IsBehind line 0 at behind → IsAtLine bytes (number + 1) behind
 at-next bytes line number at behind before next =
-    let some = before.some in
+    let some = before.positive in
     let there = at-some (lines_of bytes) (number - 1) line (lines_of behind.bytes.now) (sym before.lines ∙ next.cut) in
     let same : suc (number - 1) ≡ (number + 1) - 1 = omega arith in
     record {
-      some = omega arith;
+      positive = omega arith;
       numbered = omega (arith, next.number, before.numbered);
       begun = omega (arith, next.begun, before.begun);
       lines = there.1 ∙ ap (λ (n : ℕ). drop n (lines_of bytes)) same;
@@ -144,7 +144,7 @@ drop-none (l ∷ lines) (suc k) e = omega (arith, drop-none lines k e)
 
 located : (bytes : List ℕ) (number front : ℕ) (at : Location) → IsAtLine bytes number at → front ≡ number - 1 → IsLocationBehind front bytes at
 located bytes number front at is same =
-    let some = is.some in
+    let some = is.positive in
     record {
       number = omega (arith, is.numbered, same);
       begun = is.begun;
@@ -155,8 +155,8 @@ located bytes number front at is same =
 pub at-end : (bytes : List ℕ) (line number : ℕ) (at : Location) → IsAtLine bytes number at → number < line → lines_of at.bytes.now ≡ [] → IsLocationBehind (lines_before line bytes) bytes at
 at-end bytes line number at is before none =
     let few = drop-none (lines_of bytes) (number - 1) (sym is.lines ∙ none) in
-    located bytes number (lines_before line bytes) at is (min-large (line - 1) (length (lines_of bytes)) (omega (arith, few)) ∙ omega (arith, few, is.within, is.some))
+    located bytes number (lines_before line bytes) at is (min-large (line - 1) (length (lines_of bytes)) (omega (arith, few)) ∙ omega (arith, few, is.within, is.positive))
 
 pub at-line : (bytes : List ℕ) (line number : ℕ) (at : Location) → IsAtLine bytes number at → number ≡ line → IsLocationBehind (lines_before line bytes) bytes at
 at-line bytes line number at is same =
-    located bytes number (lines_before line bytes) at is (min-small (line - 1) (length (lines_of bytes)) (omega (arith, is.within, is.some, same)) ∙ omega (arith, same))
+    located bytes number (lines_before line bytes) at is (min-small (line - 1) (length (lines_of bytes)) (omega (arith, is.within, is.positive, same)) ∙ omega (arith, same))

@@ -7,7 +7,7 @@ use Rattle.std.proofs.lemmas.List.Elements.{All-head, All-tail, All-nil, All-con
 use Rattle.cnf_clauses.specs.Literals.{Clause}
 use Rattle.cnf_clauses.specs.Replays.{Replays, derives, refuted}
 use Rattle.formula_tree.specs.Answers.{Answers}
-use Rattle.formula_tree.specs.Runs.{answered}
+use Rattle.formula_tree.specs.Runs.{path_with}
 use Rattle.formula_tree.specs.Trees.{Tree}
 use Rattle.pattern_automata.specs.Closed.{all_rise, rises_from}
 use Rattle.policy_model.specs.declared.schema.Schema.{Schema}
@@ -24,7 +24,7 @@ use Rattle.proof_text.specs.declared.limits.Limits.{Limits}
 use Rattle.proof_text.specs.declared.limits.TheConstants.{MOST_NESTING}
 use Rattle.proof_text.specs.Faults.{answered_tests, calls_for, has_ended, labels_begun}
 use Rattle.proof_text.specs.Laws.{HasSmallNumbers, limits_of}
-use Rattle.proof_text.specs.LineForms.{Expected, a_closed_set, a_kind_proof, a_node, a_slot_proof, a_state}
+use Rattle.proof_text.specs.LineForms.{Expected, ExpectClosedSet, ExpectKindProof, ExpectNode, ExpectSlotProof, ExpectState}
 use Rattle.proof_text.specs.Lines.{Line, line_text, split_line, value_line, slot_line, clauses_line, label_line, reuse_line}
 use Rattle.proof_text.specs.Lines.{points_line, absent_line, required_line, closed_line, kinds_line, never_line, member_line, some_line, places_line}
 use Rattle.proof_text.specs.Spelling.{closed_lines, kind_lines, node_lines, slot_lines}
@@ -68,10 +68,10 @@ plain-passes limits es more e begun l rest may small fit none calls later =
 -- ---- proofs for slots
 
 states-pass : (limits : Limits) (es : List Expected) (begun : ℕ) (set : List (List (List ℕ))) (rest : List (List ℕ)) → All (λ s. all_rise s ≡ true) set → AllSmall (map places_line set) →
-    Pass limits es begun rest → Pass limits (replicate (length set) a_state ++ es) begun (before_lines (map places_line set) rest)
+    Pass limits es begun rest → Pass limits (replicate (length set) ExpectState ++ es) begun (before_lines (map places_line set) rest)
 states-pass limits es begun [] rest rise small later = later
 states-pass limits es begun (lists ∷ set) rest rise small later =
-    plain-passes limits (replicate (length set) a_state ++ es) (replicate (length set) a_state ++ es) a_state begun (places_line lists) (before_lines (map places_line set) rest) at_places
+    plain-passes limits (replicate (length set) ExpectState ++ es) (replicate (length set) ExpectState ++ es) ExpectState begun (places_line lists) (before_lines (map places_line set) rest) at_places
     (first-small (places_line lists) (map places_line set) small)
     (record { ordered = All-head (λ s. all_rise s ≡ true) lists set rise; version = refl; tests = refl; shallow = refl }) refl refl
     (states-pass limits es begun set rest (All-tail (λ s. all_rise s ≡ true) lists set rise) (later-small (places_line lists) (map places_line set) small) later)
@@ -79,20 +79,20 @@ states-pass limits es begun (lists ∷ set) rest rise small later =
 closed-passes : (limits : Limits) (es : List Expected) (e : Expected) (begun : ℕ) (set : List (List (List ℕ))) (rest : List (List ℕ)) → MayStand e (closed_line (length set)) → IsSetFit set → AllSmall (closed_lines set) →
     Pass limits es begun rest → Pass limits (e ∷ es) begun (before_lines (closed_lines set) rest)
 closed-passes limits es e begun set rest may fit small later =
-    plain-passes limits es (replicate (length set) a_state ++ es) e begun (closed_line (length set)) (before_lines (map places_line set) rest) may
+    plain-passes limits es (replicate (length set) ExpectState ++ es) e begun (closed_line (length set)) (before_lines (map places_line set) rest) may
     (first-small (closed_line (length set)) (map places_line set) small)
-    (record { ordered = le-leb 1 (length set) fit.some; version = refl; tests = refl; shallow = refl }) refl refl
+    (record { ordered = le-leb 1 (length set) fit.nonempty; version = refl; tests = refl; shallow = refl }) refl refl
     (states-pass limits es begun set rest fit.rise (later-small (closed_line (length set)) (map places_line set) small) later)
 
 kind-passes : (limits : Limits) (es : List Expected) (begun : ℕ) (proof : KindProof) (rest : List (List ℕ)) → IsKindFit proof → AllSmall (kind_lines proof) →
-    Pass limits es begun rest → Pass limits (a_kind_proof ∷ es) begun (before_lines (kind_lines proof) rest)
+    Pass limits es begun rest → Pass limits (ExpectKindProof ∷ es) begun (before_lines (kind_lines proof) rest)
 kind-passes limits es begun Never rest fit small later =
-    plain-passes limits es es a_kind_proof begun never_line rest at_never (first-small never_line [] small) (record { ordered = refl; version = refl; tests = refl; shallow = refl }) refl refl later
-kind-passes limits es begun (Closed set) rest fit small later = closed-passes limits es a_kind_proof begun set rest at_kind fit small later
+    plain-passes limits es es ExpectKindProof begun never_line rest at_never (first-small never_line [] small) (record { ordered = refl; version = refl; tests = refl; shallow = refl }) refl refl later
+kind-passes limits es begun (Closed set) rest fit small later = closed-passes limits es ExpectKindProof begun set rest at_kind fit small later
 
 kinds-pass : (limits : Limits) (es : List Expected) (begun : ℕ) (aws service federated canonical_user : KindProof) (rest : List (List ℕ)) → IsSlotFit limits.tests (Kinds aws service federated canonical_user) →
     AllSmall (kind_lines aws ++ (kind_lines service ++ (kind_lines federated ++ kind_lines canonical_user))) → Pass limits es begun rest →
-    Pass limits (a_kind_proof ∷ a_kind_proof ∷ a_kind_proof ∷ a_kind_proof ∷ es) begun (before_lines (kind_lines aws ++ (kind_lines service ++ (kind_lines federated ++ kind_lines canonical_user))) rest)
+    Pass limits (ExpectKindProof ∷ ExpectKindProof ∷ ExpectKindProof ∷ ExpectKindProof ∷ es) begun (before_lines (kind_lines aws ++ (kind_lines service ++ (kind_lines federated ++ kind_lines canonical_user))) rest)
 kinds-pass limits es begun aws service federated canonical_user rest fit small later =
     let a = kind_lines aws in
     let s = kind_lines service in
@@ -101,34 +101,34 @@ kinds-pass limits es begun aws service federated canonical_user rest fit small l
     let after_a = back-small a (s ++ (f ++ u)) small in
     let after_s = back-small s (f ++ u) after_a in
     let last = kind-passes limits es begun canonical_user rest fit.3 (back-small f u after_s) later in
-    let third = parts-pass limits (a_kind_proof ∷ a_kind_proof ∷ es) begun f u rest (kind-passes limits (a_kind_proof ∷ es) begun federated (before_lines u rest) fit.2 (front-small f u after_s) last) in
-    let second = parts-pass limits (a_kind_proof ∷ a_kind_proof ∷ a_kind_proof ∷ es) begun s (f ++ u) rest (kind-passes limits (a_kind_proof ∷ a_kind_proof ∷ es) begun service (before_lines (f ++ u) rest) fit.1 (front-small s (f ++ u) after_a) third) in
-    parts-pass limits (a_kind_proof ∷ a_kind_proof ∷ a_kind_proof ∷ a_kind_proof ∷ es) begun a (s ++ (f ++ u)) rest
-    (kind-passes limits (a_kind_proof ∷ a_kind_proof ∷ a_kind_proof ∷ es) begun aws (before_lines (s ++ (f ++ u)) rest) fit.0 (front-small a (s ++ (f ++ u)) small) second)
+    let third = parts-pass limits (ExpectKindProof ∷ ExpectKindProof ∷ es) begun f u rest (kind-passes limits (ExpectKindProof ∷ es) begun federated (before_lines u rest) fit.2 (front-small f u after_s) last) in
+    let second = parts-pass limits (ExpectKindProof ∷ ExpectKindProof ∷ ExpectKindProof ∷ es) begun s (f ++ u) rest (kind-passes limits (ExpectKindProof ∷ ExpectKindProof ∷ es) begun service (before_lines (f ++ u) rest) fit.1 (front-small s (f ++ u) after_a) third) in
+    parts-pass limits (ExpectKindProof ∷ ExpectKindProof ∷ ExpectKindProof ∷ ExpectKindProof ∷ es) begun a (s ++ (f ++ u)) rest
+    (kind-passes limits (ExpectKindProof ∷ ExpectKindProof ∷ ExpectKindProof ∷ es) begun aws (before_lines (s ++ (f ++ u)) rest) fit.0 (front-small a (s ++ (f ++ u)) small) second)
 
 slot-passes : (limits : Limits) (es : List Expected) (begun : ℕ) (proof : SlotProof) (rest : List (List ℕ)) → IsSlotFit limits.tests proof → AllSmall (slot_lines proof) →
-    Pass limits es begun rest → Pass limits (a_slot_proof ∷ es) begun (before_lines (slot_lines proof) rest)
+    Pass limits es begun rest → Pass limits (ExpectSlotProof ∷ es) begun (before_lines (slot_lines proof) rest)
 slot-passes limits es begun Points rest fit small later =
-    plain-passes limits es es a_slot_proof begun points_line rest at_points (first-small points_line [] small) (record { ordered = refl; version = refl; tests = refl; shallow = refl }) refl refl later
+    plain-passes limits es es ExpectSlotProof begun points_line rest at_points (first-small points_line [] small) (record { ordered = refl; version = refl; tests = refl; shallow = refl }) refl refl later
 slot-passes limits es begun Absent rest fit small later =
-    plain-passes limits es es a_slot_proof begun absent_line rest at_absent (first-small absent_line [] small) (record { ordered = refl; version = refl; tests = refl; shallow = refl }) refl refl later
+    plain-passes limits es es ExpectSlotProof begun absent_line rest at_absent (first-small absent_line [] small) (record { ordered = refl; version = refl; tests = refl; shallow = refl }) refl refl later
 slot-passes limits es begun Required rest fit small later =
-    plain-passes limits es es a_slot_proof begun required_line rest at_required (first-small required_line [] small) (record { ordered = refl; version = refl; tests = refl; shallow = refl }) refl refl later
-slot-passes limits es begun (Word set) rest fit small later = closed-passes limits es a_slot_proof begun set rest at_word fit small later
+    plain-passes limits es es ExpectSlotProof begun required_line rest at_required (first-small required_line [] small) (record { ordered = refl; version = refl; tests = refl; shallow = refl }) refl refl later
+slot-passes limits es begun (Word set) rest fit small later = closed-passes limits es ExpectSlotProof begun set rest at_word fit small later
 slot-passes limits es begun (Kinds aws service federated canonical_user) rest fit small later =
     let kinds = kind_lines aws ++ (kind_lines service ++ (kind_lines federated ++ kind_lines canonical_user)) in
-    plain-passes limits es (a_kind_proof ∷ a_kind_proof ∷ a_kind_proof ∷ a_kind_proof ∷ es) a_slot_proof begun kinds_line (before_lines kinds rest) at_kinds
+    plain-passes limits es (ExpectKindProof ∷ ExpectKindProof ∷ ExpectKindProof ∷ ExpectKindProof ∷ es) ExpectSlotProof begun kinds_line (before_lines kinds rest) at_kinds
     (first-small kinds_line kinds small) (record { ordered = refl; version = refl; tests = refl; shallow = refl }) refl refl
     (kinds-pass limits es begun aws service federated canonical_user rest fit (later-small kinds_line kinds small) later)
 slot-passes limits es begun (Member n set) rest fit small later =
-    plain-passes limits es (a_closed_set ∷ es) a_slot_proof begun (member_line n) (before_lines (closed_lines set) rest) at_member
+    plain-passes limits es (ExpectClosedSet ∷ es) ExpectSlotProof begun (member_line n) (before_lines (closed_lines set) rest) at_member
     (first-small (member_line n) (closed_lines set) small)
     (record { ordered = refl; version = refl; tests = tests-test limits.tests (n ∷ []) (All-cons (λ m. m < limits.tests) n [] fit.0 (All-nil (λ m. m < limits.tests))); shallow = refl }) refl refl
-    (closed-passes limits es a_closed_set begun set rest at_closed fit.1 (later-small (member_line n) (closed_lines set) small) later)
+    (closed-passes limits es ExpectClosedSet begun set rest at_closed fit.1 (later-small (member_line n) (closed_lines set) small) later)
 slot-passes limits es begun (SomeMember set) rest fit small later =
-    plain-passes limits es (a_closed_set ∷ es) a_slot_proof begun some_line (before_lines (closed_lines set) rest) at_some
+    plain-passes limits es (ExpectClosedSet ∷ es) ExpectSlotProof begun some_line (before_lines (closed_lines set) rest) at_some
     (first-small some_line (closed_lines set) small) (record { ordered = refl; version = refl; tests = refl; shallow = refl }) refl refl
-    (closed-passes limits es a_closed_set begun set rest at_closed fit (later-small some_line (closed_lines set) small) later)
+    (closed-passes limits es ExpectClosedSet begun set rest at_closed fit (later-small some_line (closed_lines set) small) later)
 
 -- ---- labels
 
@@ -145,8 +145,8 @@ lower low less high ls within all = All-weaker (IsBetween low high) (IsBetween l
 ended-between : (schema : Schema) (tests : List Test) (tree : Tree) (before : Before) (p : Proof) (path : Answers) → Closes schema tests tree before p path → All (IsBetween before.begun (before.begun + labels p)) (ended_in p)
 ended-between schema tests tree before (split n y z) path closes =
     let b = before.begun in
-    let first = ended-between schema tests tree before y (answered path n true) closes.1 in
-    let second = ended-between schema tests tree (after_part before y) z (answered path n false) closes.2 in
+    let first = ended-between schema tests tree before y (path_with path n true) closes.1 in
+    let second = ended-between schema tests tree (after_part before y) z (path_with path n false) closes.2 in
     All-append (IsBetween b (b + (labels y + labels z))) (ended_in y) (ended_in z)
     (wider b (b + labels y) (b + (labels y + labels z)) (ended_in y) (omega arith) first)
     (wider b (b + labels y + labels z) (b + (labels y + labels z)) (ended_in z) (omega arith) (lower (b + labels y) b (b + labels y + labels z) (ended_in z) (omega arith) second))
@@ -231,17 +231,17 @@ number-tests : (count n : ℕ) → n < count → All (λ m. m < count) (n ∷ []
 number-tests count n below = All-cons (λ m. m < count) n [] below (All-nil (λ m. m < count))
 
 core-passes : (limits : Limits) (es : List Expected) (depth begun : ℕ) (inside core : List ℕ) (rest : List (List ℕ)) → core ≢ [] → rises_from 0 core ≡ true → All (λ n. n < limits.tests) core → HasSmallNumbers (slot_line core) →
-    Pass limits (a_slot_proof ∷ es) begun rest → Pass limits (a_node depth inside ∷ es) begun (line_text (slot_line core) ∷ rest)
+    Pass limits (ExpectSlotProof ∷ es) begun rest → Pass limits (ExpectNode depth inside ∷ es) begun (line_text (slot_line core) ∷ rest)
 core-passes limits es depth begun inside [] rest some rise within small later = absurd (some refl)
 core-passes limits es depth begun inside (n ∷ core) rest some rise within small later =
-    plain-passes limits es (a_slot_proof ∷ es) (a_node depth inside) begun (slot_line (n ∷ core)) rest at_slot small
+    plain-passes limits es (ExpectSlotProof ∷ es) (ExpectNode depth inside) begun (slot_line (n ∷ core)) rest at_slot small
     (record { ordered = rise; version = refl; tests = tests-test limits.tests (n ∷ core) within; shallow = refl }) refl refl later
 
 hints-pass : (limits : Limits) (es : List Expected) (depth begun : ℕ) (inside hints : List ℕ) (rest : List (List ℕ)) → hints ≢ [] → HasSmallNumbers (clauses_line hints) →
-    Pass limits es begun rest → Pass limits (a_node depth inside ∷ es) begun (line_text (clauses_line hints) ∷ rest)
+    Pass limits es begun rest → Pass limits (ExpectNode depth inside ∷ es) begun (line_text (clauses_line hints) ∷ rest)
 hints-pass limits es depth begun inside [] rest some small later = absurd (some refl)
 hints-pass limits es depth begun inside (n ∷ hints) rest some small later =
-    plain-passes limits es es (a_node depth inside) begun (clauses_line (n ∷ hints)) rest at_clauses small (record { ordered = refl; version = refl; tests = refl; shallow = refl }) refl refl later
+    plain-passes limits es es (ExpectNode depth inside) begun (clauses_line (n ∷ hints)) rest at_clauses small (record { ordered = refl; version = refl; tests = refl; shallow = refl }) refl refl later
 
 -- one begun more or less
 begun-pass : (limits : Limits) (es : List Expected) (b c : ℕ) (rest : List (List ℕ)) → b ≡ c → Pass limits es b rest → Pass limits es c rest
@@ -252,27 +252,27 @@ label-ordered b n given next rise = rw ((Decides-eqb n b).1 next, rise) refl
 
 pub node-passes : (schema : Schema) (tests : List Test) (tree : Tree) (version : ℕ) (before : Before) (p : Proof) (path : Answers) (depth_here : ℕ) (inside : List ℕ) (es : List Expected) (rest : List (List ℕ)) →
     Closes schema tests tree before p path → PathInRange tests path → Stands before inside → depth_here + depth p ≤ MOST_NESTING → AllSmall (node_lines p) →
-    Pass (limits_of tests version) es (before.begun + labels p) rest → Pass (limits_of tests version) (a_node depth_here inside ∷ es) before.begun (before_lines (node_lines p) rest)
+    Pass (limits_of tests version) es (before.begun + labels p) rest → Pass (limits_of tests version) (ExpectNode depth_here inside ∷ es) before.begun (before_lines (node_lines p) rest)
 node-passes schema tests tree version before (split n y z) path d inside es rest closes range stands nests small later =
     let limits = limits_of tests version in
     let below : n < length tests = closes.0.0 in
     let lines = node_lines y ++ node_lines z in
     let parts = later-small (split_line n) lines small in
     let end = begun-pass limits es (before.begun + (labels y + labels z)) (before.begun + labels y + labels z) rest (omega arith) later in
-    let second = node-passes schema tests tree version (after_part before y) z (answered path n false) (d + 1) inside es rest closes.2 (range_more tests path n false range below)
-    (stands-after schema tests tree before y (answered path n true) inside closes.1 stands) (omega arith) (back-small (node_lines y) (node_lines z) parts) end in
-    let first = node-passes schema tests tree version before y (answered path n true) (d + 1) inside (a_node (d + 1) inside ∷ es) (before_lines (node_lines z) rest) closes.1 (range_more tests path n true range below)
+    let second = node-passes schema tests tree version (after_part before y) z (path_with path n false) (d + 1) inside es rest closes.2 (range_more tests path n false range below)
+    (stands-after schema tests tree before y (path_with path n true) inside closes.1 stands) (omega arith) (back-small (node_lines y) (node_lines z) parts) end in
+    let first = node-passes schema tests tree version before y (path_with path n true) (d + 1) inside (ExpectNode (d + 1) inside ∷ es) (before_lines (node_lines z) rest) closes.1 (range_more tests path n true range below)
     stands (omega arith) (front-small (node_lines y) (node_lines z) parts) second in
-    plain-passes limits es (a_node (d + 1) inside ∷ a_node (d + 1) inside ∷ es) (a_node d inside) before.begun (split_line n) (before_lines lines rest) at_split (first-small (split_line n) lines small)
+    plain-passes limits es (ExpectNode (d + 1) inside ∷ ExpectNode (d + 1) inside ∷ es) (ExpectNode d inside) before.begun (split_line n) (before_lines lines rest) at_split (first-small (split_line n) lines small)
     (record { ordered = refl; version = refl; tests = tests-test (length tests) (n ∷ []) (number-tests (length tests) n below); shallow = shallow d (omega arith) }) refl refl
-    (parts-pass limits (a_node (d + 1) inside ∷ a_node (d + 1) inside ∷ es) before.begun (node_lines y) (node_lines z) rest first)
+    (parts-pass limits (ExpectNode (d + 1) inside ∷ ExpectNode (d + 1) inside ∷ es) before.begun (node_lines y) (node_lines z) rest first)
 node-passes schema tests tree version before by_value path d inside es rest closes range stands nests small later =
-    plain-passes (limits_of tests version) es es (a_node d inside) before.begun value_line rest at_value (first-small value_line [] small) (record { ordered = refl; version = refl; tests = refl; shallow = refl }) refl refl
+    plain-passes (limits_of tests version) es es (ExpectNode d inside) before.begun value_line rest at_value (first-small value_line [] small) (record { ordered = refl; version = refl; tests = refl; shallow = refl }) refl refl
     (begun-pass (limits_of tests version) es (before.begun + 0) before.begun rest (omega arith) later)
 node-passes schema tests tree version before (by_slot core proof) path d inside es rest closes range stands nests small later =
     let limits = limits_of tests version in
     let is = closes.conflict.core_is in
-    core-passes limits es d before.begun inside core (before_lines (slot_lines proof) rest) is.some is.rises is.within (first-small (slot_line core) (slot_lines proof) small)
+    core-passes limits es d before.begun inside core (before_lines (slot_lines proof) rest) is.nonempty is.rises is.within (first-small (slot_line core) (slot_lines proof) small)
     (slot-passes limits es before.begun proof rest (accepted-fit schema tests path core proof closes) (later-small (slot_line core) (slot_lines proof) small)
     (begun-pass limits es (before.begun + 0) before.begun rest (omega arith) later))
 node-passes schema tests tree version before (by_clauses hints) path d inside es rest closes range stands nests small later =
@@ -285,9 +285,9 @@ node-passes schema tests tree version before (label n given p) path d inside es 
     let end = begun-pass limits es (before.begun + (labels p + 1)) (before.begun + 1 + labels p) rest (omega arith) later in
     let node = node-passes schema tests tree version (inside_label before) p given (d + 1) (inside ++ n ∷ []) es rest closes.1 inner (stands-inside before n inside next stands) (omega arith)
     (later-small (label_line n given) (node_lines p) small) end in
-    line-passes limits es (a_node d inside) before.begun (label_line n given) (before_lines (node_lines p) rest) at_label (first-small (label_line n given) (node_lines p) small)
+    line-passes limits es (ExpectNode d inside) before.begun (label_line n given) (before_lines (node_lines p) rest) at_label (first-small (label_line n given) (node_lines p) small)
     (record { ordered = label-ordered before.begun n given next closes.0.rise; version = refl; tests = tests-test (length tests) (answered_tests given) (given-within tests given inner); shallow = shallow d (omega arith) }) node
 node-passes schema tests tree version before (reuse n) path d inside es rest closes range stands nests small later =
-    plain-passes (limits_of tests version) es es (a_node d inside) before.begun (reuse_line n) rest at_reuse (first-small (reuse_line n) [] small)
+    plain-passes (limits_of tests version) es es (ExpectNode d inside) before.begun (reuse_line n) rest at_reuse (first-small (reuse_line n) [] small)
     (record { ordered = reused before n path inside closes stands; version = refl; tests = refl; shallow = refl }) refl refl
     (begun-pass (limits_of tests version) es (before.begun + 0) before.begun rest (omega arith) later)

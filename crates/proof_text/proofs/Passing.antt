@@ -5,7 +5,7 @@ use Rattle.std.specs.List.{list_all}
 use Rattle.std.proofs.lemmas.List.Elements.{All-head, All-tail}
 use Rattle.proof_text.specs.declared.limits.Limits.{Limits}
 use Rattle.proof_text.specs.declared.limits.TheConstants.{MOST_NUMBER}
-use Rattle.proof_text.specs.Faults.{called, calls_for, fault_from, fault_of_line, is_of_version, is_ordered, is_shallow, labels_begun, labels_said, numbers_in, tests_named}
+use Rattle.proof_text.specs.Faults.{expected_after, calls_for, fault_from, fault_of_line, is_of_version, is_ordered, is_shallow, labels_begun, labels_said, numbers_in, tests_named}
 use Rattle.proof_text.specs.Laws.{AreSmall, HasSmallNumbers}
 use Rattle.proof_text.specs.LineForms.{Expected, line_said}
 use Rattle.proof_text.specs.Lines.{Line, line_text}
@@ -40,7 +40,7 @@ abbrev pub Pass : Limits → List Expected → ℕ → List (List ℕ) → Type 
 Pass limits es begun lines = (n : ℕ) → fault_from limits es n begun lines ≡ None
 
 one-step : (limits : Limits) (es : List Expected) (e : Expected) (begun n : ℕ) (line : List ℕ) (lines : List (List ℕ)) (said : Option Line) →
-    line_said e line ≡ said → fault_of_line limits begun e said ≡ None → fault_from limits (e ∷ es) n begun (line ∷ lines) ≡ fault_from limits (called e said ++ es) (n + 1) (begun + labels_said said) lines
+    line_said e line ≡ said → fault_of_line limits begun e said ≡ None → fault_from limits (e ∷ es) n begun (line ∷ lines) ≡ fault_from limits (expected_after e said ++ es) (n + 1) (begun + labels_said said) lines
 one-step limits es e begun n line lines said is none = rw (is, none) refl
 
 pub line-passes : (limits : Limits) (es : List Expected) (e : Expected) (begun : ℕ) (l : Line) (lines : List (List ℕ)) → MayStand e l → HasSmallNumbers l → IsFit limits begun e l →

@@ -7,7 +7,7 @@ use Rattle.formula_tree.specs.Answers.{Answers}
 use Rattle.proof_text.specs.declared.limits.TheConstants.{MOST_NUMBER}
 use Rattle.proof_text.specs.Faults.{answered_tests}
 use Rattle.proof_text.specs.Laws.{AreListsSmall, AreSmall, HasSmallNumbers}
-use Rattle.proof_text.specs.LineForms.{Expected, a_closed_set, a_kind_proof, a_node, a_slot_proof, a_state, a_version, content_said, label_said, line_said, said_in}
+use Rattle.proof_text.specs.LineForms.{Expected, ExpectClosedSet, ExpectKindProof, ExpectNode, ExpectSlotProof, ExpectState, ExpectVersion, content_said, label_said, line_said, said_in}
 use Rattle.proof_text.specs.Lines.{Line, certificate_line, split_line, value_line, slot_line, clauses_line, label_line, reuse_line}
 use Rattle.proof_text.specs.Lines.{points_line, absent_line, required_line, closed_line, kinds_line, never_line, member_line, some_line, places_line}
 use Rattle.proof_text.specs.Lines.{line_parts, line_text, places_part, answer_part}
@@ -122,24 +122,24 @@ content-free l small = joined-free 10 32 (line_parts l) refl (parts-free 10 l li
 
 -- the line is of a form that may stand there
 pub data MayStand : Expected → Line → Type 0 where
-  at_version : {n : ℕ} → MayStand a_version (certificate_line n)
-  at_split : {depth n : ℕ} {inside : List ℕ} → MayStand (a_node depth inside) (split_line n)
-  at_value : {depth : ℕ} {inside : List ℕ} → MayStand (a_node depth inside) value_line
-  at_slot : {depth n : ℕ} {inside ns : List ℕ} → MayStand (a_node depth inside) (slot_line (n ∷ ns))
-  at_clauses : {depth n : ℕ} {inside ns : List ℕ} → MayStand (a_node depth inside) (clauses_line (n ∷ ns))
-  at_label : {depth n : ℕ} {inside : List ℕ} {given : Answers} → MayStand (a_node depth inside) (label_line n given)
-  at_reuse : {depth n : ℕ} {inside : List ℕ} → MayStand (a_node depth inside) (reuse_line n)
-  at_points : MayStand a_slot_proof points_line
-  at_absent : MayStand a_slot_proof absent_line
-  at_required : MayStand a_slot_proof required_line
-  at_kinds : MayStand a_slot_proof kinds_line
-  at_member : {n : ℕ} → MayStand a_slot_proof (member_line n)
-  at_some : MayStand a_slot_proof some_line
-  at_word : {n : ℕ} → MayStand a_slot_proof (closed_line n)
-  at_never : MayStand a_kind_proof never_line
-  at_kind : {n : ℕ} → MayStand a_kind_proof (closed_line n)
-  at_closed : {n : ℕ} → MayStand a_closed_set (closed_line n)
-  at_places : {lists : List (List ℕ)} → MayStand a_state (places_line lists)
+  at_version : {n : ℕ} → MayStand ExpectVersion (certificate_line n)
+  at_split : {depth n : ℕ} {inside : List ℕ} → MayStand (ExpectNode depth inside) (split_line n)
+  at_value : {depth : ℕ} {inside : List ℕ} → MayStand (ExpectNode depth inside) value_line
+  at_slot : {depth n : ℕ} {inside ns : List ℕ} → MayStand (ExpectNode depth inside) (slot_line (n ∷ ns))
+  at_clauses : {depth n : ℕ} {inside ns : List ℕ} → MayStand (ExpectNode depth inside) (clauses_line (n ∷ ns))
+  at_label : {depth n : ℕ} {inside : List ℕ} {given : Answers} → MayStand (ExpectNode depth inside) (label_line n given)
+  at_reuse : {depth n : ℕ} {inside : List ℕ} → MayStand (ExpectNode depth inside) (reuse_line n)
+  at_points : MayStand ExpectSlotProof points_line
+  at_absent : MayStand ExpectSlotProof absent_line
+  at_required : MayStand ExpectSlotProof required_line
+  at_kinds : MayStand ExpectSlotProof kinds_line
+  at_member : {n : ℕ} → MayStand ExpectSlotProof (member_line n)
+  at_some : MayStand ExpectSlotProof some_line
+  at_word : {n : ℕ} → MayStand ExpectSlotProof (closed_line n)
+  at_never : MayStand ExpectKindProof never_line
+  at_kind : {n : ℕ} → MayStand ExpectKindProof (closed_line n)
+  at_closed : {n : ℕ} → MayStand ExpectClosedSet (closed_line n)
+  at_places : {lists : List (List ℕ)} → MayStand ExpectState (places_line lists)
 
 pub one-small : (n : ℕ) → AreSmall (n ∷ []) → n < 2 ^ 64
 one-small n small = within n (All-head (λ m. m ≤ MOST_NUMBER) n [] small)

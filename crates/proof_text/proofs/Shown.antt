@@ -23,7 +23,7 @@ use Rattle.slot_theory.specs.declared.outcome.SlotProof.TheVariants.{Points, Abs
 
 -- a closed set has a product state, and the places of each rise
 pub record IsSetFit (set : List (List (List ℕ))) : Type 0 where
-  pub some : 1 ≤ length set
+  pub nonempty : 1 ≤ length set
   pub rise : All (λ s. all_rise s ≡ true) set
 
 abbrev pub IsKindFit : KindProof → Type 0
@@ -45,7 +45,7 @@ closed-fit patterns clauses set closed =
     let start = closed.starts in
     let there : start.0 < length set = start.1 in
     record {
-      some = omega (arith, there);
+      nonempty = omega (arith, there);
       rise = All-weaker (IsShaped patterns) (λ s. all_rise s ≡ true) (λ s shaped. shaped.1) set closed.shaped;
     }
 

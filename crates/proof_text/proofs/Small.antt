@@ -3,7 +3,7 @@ use Rattle.std.proofs.Common.{◌≡◌, ℕ, ◌+◌, ◌<◌, ◌≤◌, Bool,
 use Rattle.std.proofs.lemmas.List.{length-append, length-map}
 use Rattle.std.proofs.lemmas.List.Elements.{All-head, All-tail, All-nil, All-cons, All-append, All-weaker}
 use Rattle.formula_tree.specs.Answers.{Answers, Contained}
-use Rattle.formula_tree.specs.Runs.{answered}
+use Rattle.formula_tree.specs.Runs.{path_with}
 use Rattle.formula_tree.specs.Trees.{Tree}
 use Rattle.policy_model.specs.declared.schema.Schema.{Schema}
 use Rattle.policy_model.specs.declared.test.Test.{Test}
@@ -104,8 +104,8 @@ node-small schema tests tree before (split n y z) path tests_few closes range sm
     let here : n < length tests = closes.0.0 in
     one (split_line n) (node_lines y ++ node_lines z) (number-small n (omega arith))
     (both (node_lines y) (node_lines z)
-    (node-small schema tests tree before y (answered path n true) tests_few closes.1 (range_more tests path n true range here) small.0 (omega arith))
-    (node-small schema tests tree (after_part before y) z (answered path n false) tests_few closes.2 (range_more tests path n false range here) small.1 (omega arith)))
+    (node-small schema tests tree before y (path_with path n true) tests_few closes.1 (range_more tests path n true range here) small.0 (omega arith))
+    (node-small schema tests tree (after_part before y) z (path_with path n false) tests_few closes.2 (range_more tests path n false range here) small.1 (omega arith)))
 node-small schema tests tree before by_value path tests_few closes range small few = one value_line [] no-numbers none
 node-small schema tests tree before (by_slot core proof) path tests_few closes range small few =
     one (slot_line core) (slot_lines proof) (tests-small (length tests) core tests_few closes.conflict.core_is.within)

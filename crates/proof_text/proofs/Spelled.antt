@@ -14,7 +14,7 @@ use Rattle.proof_text.specs.LineForms.{content_of, label_said, lines_of, lists_o
 use Rattle.proof_text.specs.Lines.{Line, certificate_line, split_line, value_line, slot_line, clauses_line, label_line, reuse_line}
 use Rattle.proof_text.specs.Lines.{points_line, absent_line, required_line, closed_line, kinds_line, never_line, member_line, some_line, places_line}
 use Rattle.proof_text.specs.Lines.{line_parts, line_text, verdict_line}
-use Rattle.proof_text.specs.Spelling.{closed_lines, kind_lines, node_lines, proof_lines, slot_lines, spell}
+use Rattle.proof_text.specs.Spelling.{closed_lines, kind_lines, node_lines, proof_lines, slot_lines, certificate_text}
 use Rattle.proof_text.proofs.Cutting.{content-again}
 use Rattle.proof_text.proofs.Files.{spelled-lines}
 use Rattle.proof_text.proofs.Decimals.{lists-written, number-written, numbers-written}
@@ -174,7 +174,7 @@ same-node p q a b same = absurd (cc)
 
 -- ---- one refutation for each text
 
-same-spelling : (version : ℕ) (p q : Proof) → IsSmall version p → IsSmall version q → spell version p ≡ spell version q → p ≡ q
+same-spelling : (version : ℕ) (p q : Proof) → IsSmall version p → IsSmall version q → certificate_text version p ≡ certificate_text version q → p ≡ q
 same-spelling version p q first second same =
     let texts = sym (spelled-lines (proof_lines version p) first) ∙ ap lines_of same ∙ spelled-lines (proof_lines version q) second in
     let lines = same-lines (proof_lines version p) (proof_lines version q) first second texts in
@@ -182,11 +182,11 @@ same-spelling version p q first second same =
     (same-node p q [] [] (append-nil (node_lines p) ∙ nodes ∙ sym (append-nil (node_lines q)))).0
 
 -- a certificate doesn't begin as the answer of a comparison does
-other-start : (version : ℕ) (p : Proof) (bytes : List ℕ) → spell version p ≡ verdict_line ++ bytes → ⊥
+other-start : (version : ℕ) (p : Proof) (bytes : List ℕ) → certificate_text version p ≡ verdict_line ++ bytes → ⊥
 other-start version p bytes same = let first = ap (λ t. get_or t 0 0) same in absurd (omega (arith, first))
 
 pub one_proof_for_each_text : OneProofForEachText
 one_proof_for_each_text version bytes p q first second (inl is) (inl other) = same-spelling version p q first second (sym is ∙ other)
-one_proof_for_each_text version bytes p q first second (inl is) (inr other) = absurd (other-start version p (spell version q) (sym is ∙ other))
-one_proof_for_each_text version bytes p q first second (inr is) (inl other) = absurd (other-start version q (spell version p) (sym other ∙ is))
+one_proof_for_each_text version bytes p q first second (inl is) (inr other) = absurd (other-start version p (certificate_text version q) (sym is ∙ other))
+one_proof_for_each_text version bytes p q first second (inr is) (inl other) = absurd (other-start version q (certificate_text version p) (sym other ∙ is))
 one_proof_for_each_text version bytes p q first second (inr is) (inr other) = same-spelling version p q first second (ap (drop (length verdict_line)) (sym is ∙ other))

@@ -4,12 +4,12 @@ use Rattle.std.proofs.lemmas.Bool.{and_parts, leb-true}
 use Rattle.std.proofs.lemmas.List.{length-append, length-map, map-append, replicate_more}
 use Rattle.std.proofs.lemmas.List.Elements.{All-append, All-cons, All-nil}
 use Rattle.std.specs.Option.{option_or}
-use Rattle.proof_text.specs.Faults.{called, calls_for, fault_from, fault_of_line, labels_begun, labels_said, numbers_in, proof_fault_at}
+use Rattle.proof_text.specs.Faults.{expected_after, calls_for, fault_from, fault_of_line, labels_begun, labels_said, numbers_in, proof_fault_at}
 use Rattle.proof_text.specs.Laws.{AreSmall, HasSmallNumbers}
 use Rattle.slot_theory.specs.declared.outcome.SlotProof.{SlotProof}
-use Rattle.proof_text.specs.LineForms.{Expected, a_kind_proof, a_slot_proof, a_state, line_said, lines_of}
+use Rattle.proof_text.specs.LineForms.{Expected, ExpectKindProof, ExpectSlotProof, ExpectState, line_said, lines_of}
 use Rattle.proof_text.specs.Lines.{Line, closed_line, kinds_line, line_text, places_line}
-use Rattle.proof_text.specs.SlotLines.{behind_kinds}
+use Rattle.proof_text.specs.SlotLines.{lines_after_kinds}
 use Rattle.proof_text.specs.Spelling.{closed_lines, slot_lines}
 use Rattle.proof_text.specs.Steps.{FailsFrom, HasLineRoom, IsBehind, IsLineAt, IsLineRead, ArePartsRead, TakesLines, answer_here, are_small, is_small, labels_in}
 use Rattle.proof_text.specs.declared.fault.LineAnswer.{LineAnswer}
@@ -29,14 +29,14 @@ use Rattle.proof_text.proofs.Texts.{spelled}
 step : (limits : Limits) (e : Expected) (es : List Expected) (n begun : ℕ) (line : List ℕ) (lines : List (List ℕ)) (l : Line) → line_said e line ≡ Some l → fault_of_line limits begun e (Some l) ≡ None →
     fault_from limits (e ∷ es) n begun (line ∷ lines) ≡ fault_from limits (calls_for e l ++ es) (n + 1) (begun + labels_begun l) lines
 step limits e es n begun line lines l is passes =
-    let P : Option Line → Option ProofFault = λ o. option_or (option_map (proof_fault_at n) (fault_of_line limits begun e o)) (fault_from limits (called e o ++ es) (n + 1) (begun + labels_said o) lines) in
+    let P : Option Line → Option ProofFault = λ o. option_or (option_map (proof_fault_at n) (fault_of_line limits begun e o)) (fault_from limits (expected_after e o ++ es) (n + 1) (begun + labels_said o) lines) in
     let Q : Option ProofCode → Option ProofFault = λ f. option_or (option_map (proof_fault_at n) f) (fault_from limits (calls_for e l ++ es) (n + 1) (begun + labels_begun l) lines) in
     ap P is ∙ ap Q passes
 
 stop : (limits : Limits) (e : Expected) (es : List Expected) (n begun : ℕ) (line : List ℕ) (lines : List (List ℕ)) (code : ProofCode) → fault_of_line limits begun e (line_said e line) ≡ Some code →
     fault_from limits (e ∷ es) n begun (line ∷ lines) ≡ Some (proof_fault_at n code)
 stop limits e es n begun line lines code fails =
-    let Q : Option ProofCode → Option ProofFault = λ f. option_or (option_map (proof_fault_at n) f) (fault_from limits (called e (line_said e line) ++ es) (n + 1) (begun + labels_said (line_said e line)) lines) in
+    let Q : Option ProofCode → Option ProofFault = λ f. option_or (option_map (proof_fault_at n) f) (fault_from limits (expected_after e (line_said e line) ++ es) (n + 1) (begun + labels_said (line_said e line)) lines) in
     ap Q fails
 
 passed-size : (small : Bool) (rest : Option ProofCode) → (if small then rest else Some C4Limit) ≡ None → small ≡ true
@@ -167,24 +167,24 @@ replicate-both zero m e = ap (λ k. replicate k e) (omega arith)
 replicate-both (suc n) m e = let k : suc n + m ≡ suc (n + m) = omega arith in ap (λ j. replicate j e) k ∙ ap (λ (es : List Expected). e ∷ es) (replicate-both n m e)
 
 -- product states so far
-pub states-more : (limits : Limits) (i j : ℕ) (from at to : Location) (set grown : List (List (List ℕ))) (state : List (List ℕ)) → TakesLines limits (replicate i a_state) from (map places_line set) at → TakesLines limits (a_state ∷ []) at (places_line state ∷ []) to → j ≡ i + 1 → grown ≡ set ++ state ∷ [] →
-    TakesLines limits (replicate j a_state) from (map places_line grown) to
+pub states-more : (limits : Limits) (i j : ℕ) (from at to : Location) (set grown : List (List (List ℕ))) (state : List (List ℕ)) → TakesLines limits (replicate i ExpectState) from (map places_line set) at → TakesLines limits (ExpectState ∷ []) at (places_line state ∷ []) to → j ≡ i + 1 → grown ≡ set ++ state ∷ [] →
+    TakesLines limits (replicate j ExpectState) from (map places_line grown) to
 states-more limits i j from at to set grown state front back next grows =
-    let both = leads-both limits (replicate i a_state) (a_state ∷ []) from at to (map places_line set) (places_line state ∷ []) front back in
-    let parts : replicate j a_state ≡ replicate i a_state ++ a_state ∷ [] = ap (λ k. replicate k a_state) next ∙ replicate-next i a_state in
+    let both = leads-both limits (replicate i ExpectState) (ExpectState ∷ []) from at to (map places_line set) (places_line state ∷ []) front back in
+    let parts : replicate j ExpectState ≡ replicate i ExpectState ++ ExpectState ∷ [] = ap (λ k. replicate k ExpectState) next ∙ replicate-next i ExpectState in
     let lines : map places_line grown ≡ map places_line set ++ places_line state ∷ [] = ap (map places_line) grows ∙ map-append places_line set (state ∷ []) in
-    subst (λ (es : List Expected). TakesLines limits es from (map places_line grown) to) (sym parts) (subst (λ (ls : List Line). TakesLines limits (replicate i a_state ++ a_state ∷ []) from ls to) (sym lines) both)
+    subst (λ (es : List Expected). TakesLines limits es from (map places_line grown) to) (sym parts) (subst (λ (ls : List Line). TakesLines limits (replicate i ExpectState ++ ExpectState ∷ []) from ls to) (sym lines) both)
 
-pub states-stop : (limits : Limits) (i n : ℕ) (from at : Location) (set : List (List (List ℕ))) (answer : ProofAnswer) → TakesLines limits (replicate i a_state) from (map places_line set) at → i < n → FailsFrom limits (a_state ∷ []) at answer → FailsFrom limits (replicate n a_state) from answer
+pub states-stop : (limits : Limits) (i n : ℕ) (from at : Location) (set : List (List (List ℕ))) (answer : ProofAnswer) → TakesLines limits (replicate i ExpectState) from (map places_line set) at → i < n → FailsFrom limits (ExpectState ∷ []) at answer → FailsFrom limits (replicate n ExpectState) from answer
 states-stop limits i n from at set answer front below fails =
-    let whole : replicate n a_state ≡ replicate (i + 1) a_state ++ replicate (n - (i + 1)) a_state = ap (λ k. replicate k a_state) (omega arith) ∙ replicate-both (i + 1) (n - (i + 1)) a_state in
-    let here = fails-behind limits (replicate i a_state) (a_state ∷ []) from at (map places_line set) answer front fails in
-    let there = fails-longer limits (replicate (i + 1) a_state) (replicate (n - (i + 1)) a_state) from answer (subst (λ (es : List Expected). FailsFrom limits es from answer) (sym (replicate-next i a_state)) here) in
+    let whole : replicate n ExpectState ≡ replicate (i + 1) ExpectState ++ replicate (n - (i + 1)) ExpectState = ap (λ k. replicate k ExpectState) (omega arith) ∙ replicate-both (i + 1) (n - (i + 1)) ExpectState in
+    let here = fails-behind limits (replicate i ExpectState) (ExpectState ∷ []) from at (map places_line set) answer front fails in
+    let there = fails-longer limits (replicate (i + 1) ExpectState) (replicate (n - (i + 1)) ExpectState) from answer (subst (λ (es : List Expected). FailsFrom limits es from answer) (sym (replicate-next i ExpectState)) here) in
     subst (λ (es : List Expected). FailsFrom limits es from answer) (sym whole) there
 
 -- a closed set behind the line of its size
 pub closed-read : (limits : Limits) (e : Expected) (from to : Location) (line : List ℕ) (count : ℕ) (r : Result (List (List (List ℕ)) × Location) ProofAnswer) → IsBehind line 0 from to → line_said e line ≡ Some (closed_line count) → fault_of_line limits from.begun e (Some (closed_line count)) ≡ None →
-    ArePartsRead (map places_line) limits (replicate count a_state) to r → IfOk r (λ x. length x.0 ≡ count) → ArePartsRead closed_lines limits (e ∷ []) from r
+    ArePartsRead (map places_line) limits (replicate count ExpectState) to r → IfOk r (λ x. length x.0 ≡ count) → ArePartsRead closed_lines limits (e ∷ []) from r
 closed-read limits e from to line count (Ok x) behind is passes read size =
     let all = leads-line limits e from to x.1 line (closed_line count) (map places_line x.0) behind is passes read in
     subst (λ n. TakesLines limits (e ∷ []) from (closed_line n ∷ map places_line x.0) x.1) (sym size) all
@@ -206,9 +206,9 @@ fourth-fails limits e a b c d k l m answer one two three fails =
     fails-behind limits (e ∷ []) (e ∷ e ∷ e ∷ []) a b k answer one (fails-behind limits (e ∷ []) (e ∷ e ∷ []) b c l answer two (fails-behind limits (e ∷ []) (e ∷ []) c d m answer three fails))
 
 -- four kinds behind their line
-pub kinds-read : (limits : Limits) (from to : Location) (line : List ℕ) (r : Result (SlotProof × Location) ProofAnswer) → IsBehind line 0 from to → line_said a_slot_proof line ≡ Some kinds_line → fault_of_line limits from.begun a_slot_proof (Some kinds_line) ≡ None →
-    ArePartsRead behind_kinds limits (a_kind_proof ∷ a_kind_proof ∷ a_kind_proof ∷ a_kind_proof ∷ []) to r → IfOk r (λ x. slot_lines x.0 ≡ kinds_line ∷ behind_kinds x.0) → ArePartsRead slot_lines limits (a_slot_proof ∷ []) from r
+pub kinds-read : (limits : Limits) (from to : Location) (line : List ℕ) (r : Result (SlotProof × Location) ProofAnswer) → IsBehind line 0 from to → line_said ExpectSlotProof line ≡ Some kinds_line → fault_of_line limits from.begun ExpectSlotProof (Some kinds_line) ≡ None →
+    ArePartsRead lines_after_kinds limits (ExpectKindProof ∷ ExpectKindProof ∷ ExpectKindProof ∷ ExpectKindProof ∷ []) to r → IfOk r (λ x. slot_lines x.0 ≡ kinds_line ∷ lines_after_kinds x.0) → ArePartsRead slot_lines limits (ExpectSlotProof ∷ []) from r
 kinds-read limits from to line (Ok x) behind is passes read whole =
-    let all = leads-line limits a_slot_proof from to x.1 line kinds_line (behind_kinds x.0) behind is passes read in
-    subst (λ (ls : List Line). TakesLines limits (a_slot_proof ∷ []) from ls x.1) (sym whole) all
-kinds-read limits from to line (Err answer) behind is passes read whole = fails-below limits a_slot_proof from to line kinds_line answer behind is passes read
+    let all = leads-line limits ExpectSlotProof from to x.1 line kinds_line (lines_after_kinds x.0) behind is passes read in
+    subst (λ (ls : List Line). TakesLines limits (ExpectSlotProof ∷ []) from ls x.1) (sym whole) all
+kinds-read limits from to line (Err answer) behind is passes read whole = fails-below limits ExpectSlotProof from to line kinds_line answer behind is passes read

@@ -10,8 +10,8 @@ use Rattle.std.specs.Str.{all_ascii_digits}
 use Rattle.std.specs.Str.Parse.{digits_value}
 use Rattle.formula_tree.specs.Answers.{Answers}
 use Rattle.proof_text.specs.Faults.{answered_tests, numbers_in}
-use Rattle.proof_text.specs.LineForms.{Expected, a_closed_set, a_kind_proof, a_node, a_slot_proof, a_state, a_version, all_given, answer_said, answers_of, closed_said, content_of, content_said, is_number, is_plain_front, label_said, labelled}
-use Rattle.proof_text.specs.LineForms.{line_said, lists_of_places, node_said, number_said, numbers_of, one_number, places_in, said, said_alone, said_in, signed_answer, some_numbers, with_number}
+use Rattle.proof_text.specs.LineForms.{Expected, ExpectClosedSet, ExpectKindProof, ExpectNode, ExpectSlotProof, ExpectState, ExpectVersion, all_given, answer_said, answers_of, closed_said, content_of, content_said, is_number, is_plain_front, label_said, label_line_of}
+use Rattle.proof_text.specs.LineForms.{line_said, lists_of_places, node_said, number_said, numbers_of, one_number, places_in, line_of_word, said_alone, said_in, signed_answer, some_numbers, with_number}
 use Rattle.proof_text.specs.Lines.{Line, absent_line, answer_part, certificate_line, clauses_line, closed_line, kinds_line, label_line, line_parts, line_text, member_line, never_line, places_line, places_part, points_line, required_line, reuse_line}
 use Rattle.proof_text.specs.Lines.{slot_line, some_line, split_line, value_line}
 use Rattle.proof_text.specs.Steps.{are_answers_small, are_lists_small, are_small, is_answer_small, is_small}
@@ -166,7 +166,7 @@ places-form word parts l is e small =
     let low = sym (lists-small known.0) ∙ ap (λ (k : Line). are_small (numbers_in k)) known.2 ∙ small in
     ap (λ w. w ∷ parts) (same-word word (codes "places") is) ∙ ap (λ ps. codes "places" ∷ ps) (given-spelled places_in places_part are_small places-spelled parts known.0 known.1 low) ∙ ap line_parts known.2
 
-labelled-parts : (o : Option ℕ) (p : Option Answers) (l : Line) → labelled o p ≡ Some l → (n : ℕ) × (given : Answers) × (o ≡ Some n) × (p ≡ Some given) × (label_line n given ≡ l)
+labelled-parts : (o : Option ℕ) (p : Option Answers) (l : Line) → label_line_of o p ≡ Some l → (n : ℕ) × (given : Answers) × (o ≡ Some n) × (p ≡ Some given) × (label_line n given ≡ l)
 labelled-parts None p l e = cc
 labelled-parts (Some n) p l e = let known = mapped (label_line n) p l e in (n, known.0, refl, known.1, known.2)
 
@@ -198,7 +198,7 @@ node-form word parts l e small =
     chosen (bytes_eq word (codes "label")) _ _ l P e4 (λ is h. label-form word parts l is h small) (λ e5.
     chosen (bytes_eq word (codes "reuse")) _ _ l P e5 (λ is h. number-form word (codes "reuse") parts reuse_line l (λ n. refl) one-small is h small) (λ e6. cc))))))
 
-slot-form : (word : List ℕ) (parts : List (List ℕ)) (l : Line) → said a_slot_proof word parts ≡ Some l → are_small (numbers_in l) ≡ true → word ∷ parts ≡ line_parts l
+slot-form : (word : List ℕ) (parts : List (List ℕ)) (l : Line) → line_of_word ExpectSlotProof word parts ≡ Some l → are_small (numbers_in l) ≡ true → word ∷ parts ≡ line_parts l
 slot-form word parts l e small =
     let P : Type 0 = word ∷ parts ≡ line_parts l in
     chosen (bytes_eq word (codes "points")) _ _ l P e (λ is h. alone-spelled word (codes "points") parts points_line l refl is h) (λ e1.
@@ -208,17 +208,17 @@ slot-form word parts l e small =
     chosen (bytes_eq word (codes "member")) _ _ l P e4 (λ is h. number-form word (codes "member") parts member_line l (λ n. refl) one-small is h small) (λ e5.
     chosen (bytes_eq word (codes "some")) _ _ l P e5 (λ is h. alone-spelled word (codes "some") parts some_line l refl is h) (λ e6. closed-form word parts l e6 small))))))
 
-said-spelled : (e : Expected) (word : List ℕ) (parts : List (List ℕ)) (l : Line) → said e word parts ≡ Some l → are_small (numbers_in l) ≡ true → word ∷ parts ≡ line_parts l
-said-spelled a_version word parts l e small =
+said-spelled : (e : Expected) (word : List ℕ) (parts : List (List ℕ)) (l : Line) → line_of_word e word parts ≡ Some l → are_small (numbers_in l) ≡ true → word ∷ parts ≡ line_parts l
+said-spelled ExpectVersion word parts l e small =
     chosen (bytes_eq word (codes "certificate")) (with_number certificate_line parts) None l (word ∷ parts ≡ line_parts l) e
     (λ is h. number-form word (codes "certificate") parts certificate_line l (λ n. refl) one-small is h small) (λ h. cc)
-said-spelled (a_node depth inside) word parts l e small = node-form word parts l e small
-said-spelled a_slot_proof word parts l e small = slot-form word parts l e small
-said-spelled a_kind_proof word parts l e small =
+said-spelled (ExpectNode depth inside) word parts l e small = node-form word parts l e small
+said-spelled ExpectSlotProof word parts l e small = slot-form word parts l e small
+said-spelled ExpectKindProof word parts l e small =
     chosen (bytes_eq word (codes "never")) (said_alone never_line parts) (closed_said word parts) l (word ∷ parts ≡ line_parts l) e
     (λ is h. alone-spelled word (codes "never") parts never_line l refl is h) (λ h. closed-form word parts l h small)
-said-spelled a_closed_set word parts l e small = closed-form word parts l e small
-said-spelled a_state word parts l e small =
+said-spelled ExpectClosedSet word parts l e small = closed-form word parts l e small
+said-spelled ExpectState word parts l e small =
     chosen (bytes_eq word (codes "places")) (option_map places_line (lists_of_places parts)) None l (word ∷ parts ≡ line_parts l) e
     (λ is h. places-form word parts l is h small) (λ h. cc)
 

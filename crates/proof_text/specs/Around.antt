@@ -1,6 +1,6 @@
 -- Where a node stands, and what its first line says.
 use Rattle.std.specs.Prelude.{◌≤◌, ℕ, List, length, slice_index, ◌<◌}
-use Rattle.proof_text.specs.LineForms.{Expected, a_node}
+use Rattle.proof_text.specs.LineForms.{Expected, ExpectNode}
 use Rattle.proof_text.specs.Lines.{Line, split_line, value_line, slot_line, clauses_line, label_line, reuse_line}
 use Rattle.proof_text.specs.declared.lines.Around.{Around}
 use Rattle.proof_text.specs.declared.lines.NodeLine.{NodeLine}
@@ -8,7 +8,7 @@ use Rattle.proof_text.specs.declared.lines.NodeLine.TheVariants.{Split, Value, S
 
 -- the node that must stand there
 abbrev pub node_here : Around → Expected
-node_here around = a_node around.depth around.inside.now
+node_here around = ExpectNode around.depth around.inside.now
 
 -- the line that says so
 abbrev pub node_line_value : NodeLine → Line

@@ -13,7 +13,7 @@ use Rattle.proof_text.specs.declared.fault.ProofCode.TheVariants.{C1Syntax, C2Ve
 use Rattle.proof_text.specs.declared.fault.ProofFault.{ProofFault}
 use Rattle.proof_text.specs.declared.limits.Limits.{Limits}
 use Rattle.proof_text.specs.declared.limits.TheConstants.{MOST_NESTING, MOST_NUMBER}
-use Rattle.proof_text.specs.LineForms.{Expected, a_closed_set, a_kind_proof, a_node, a_slot_proof, a_state, a_version, line_said}
+use Rattle.proof_text.specs.LineForms.{Expected, ExpectClosedSet, ExpectKindProof, ExpectNode, ExpectSlotProof, ExpectState, ExpectVersion, line_said}
 use Rattle.proof_text.specs.LineForms.{lines_of}
 use Rattle.proof_text.specs.Lines.{Line, certificate_line, split_line, slot_line, clauses_line, label_line, reuse_line}
 use Rattle.proof_text.specs.Lines.{closed_line, kinds_line, member_line, some_line, places_line, verdict_line}
@@ -47,12 +47,12 @@ tests_named l = []
 
 -- how many splits and labels a node is below
 abbrev pub depth_at : Expected → ℕ
-depth_at (a_node depth inside) = depth
+depth_at (ExpectNode depth inside) = depth
 depth_at e = 0
 
 -- the numbers of the labels that it is inside of
 abbrev pub labels_around : Expected → List ℕ
-labels_around (a_node depth inside) = inside
+labels_around (ExpectNode depth inside) = inside
 labels_around e = []
 
 -- a label's node has ended where the label began before, and where the line isn't inside of it
@@ -103,19 +103,19 @@ fault_of_line limits begun e (Some l) = first_fault (line_checks limits begun e 
 -- the version calls for a node, a split for two nodes one deeper, a label for one that is inside of it too, a core for its proof, four
 -- kinds for a proof each, a member for a closed set, and a closed set for its product states
 abbrev pub calls_for : Expected → Line → List Expected
-calls_for e (certificate_line n) = a_node 0 [] ∷ []
-calls_for e (split_line n) = a_node (depth_at e + 1) (labels_around e) ∷ a_node (depth_at e + 1) (labels_around e) ∷ []
-calls_for e (slot_line ns) = a_slot_proof ∷ []
-calls_for e (label_line n answers) = a_node (depth_at e + 1) (labels_around e ++ n ∷ []) ∷ []
-calls_for e kinds_line = a_kind_proof ∷ a_kind_proof ∷ a_kind_proof ∷ a_kind_proof ∷ []
-calls_for e (member_line n) = a_closed_set ∷ []
-calls_for e some_line = a_closed_set ∷ []
-calls_for e (closed_line n) = replicate n a_state
+calls_for e (certificate_line n) = ExpectNode 0 [] ∷ []
+calls_for e (split_line n) = ExpectNode (depth_at e + 1) (labels_around e) ∷ ExpectNode (depth_at e + 1) (labels_around e) ∷ []
+calls_for e (slot_line ns) = ExpectSlotProof ∷ []
+calls_for e (label_line n answers) = ExpectNode (depth_at e + 1) (labels_around e ++ n ∷ []) ∷ []
+calls_for e kinds_line = ExpectKindProof ∷ ExpectKindProof ∷ ExpectKindProof ∷ ExpectKindProof ∷ []
+calls_for e (member_line n) = ExpectClosedSet ∷ []
+calls_for e some_line = ExpectClosedSet ∷ []
+calls_for e (closed_line n) = replicate n ExpectState
 calls_for e l = []
 
-abbrev pub called : Expected → Option Line → List Expected
-called e None = []
-called e (Some l) = calls_for e l
+abbrev pub expected_after : Expected → Option Line → List Expected
+expected_after e None = []
+expected_after e (Some l) = calls_for e l
 
 -- how many labels a line begins
 abbrev pub labels_begun : Line → ℕ
@@ -140,17 +140,17 @@ fault_from limits [] n begun (line ∷ lines) = Some (proof_fault_at n C1Syntax)
 fault_from limits (e ∷ es) n begun [] = Some (proof_fault_at n C1Syntax)
 fault_from limits (e ∷ es) n begun (line ∷ lines) =
     option_or (option_map (proof_fault_at n) (fault_of_line limits begun e (line_said e line)))
-    (fault_from limits (called e (line_said e line) ++ es) (n + 1) (begun + labels_said (line_said e line)) lines)
+    (fault_from limits (expected_after e (line_said e line) ++ es) (n + 1) (begun + labels_said (line_said e line)) lines)
 
 -- how many lines are skipped: the answer of a comparison, where it stands first
-abbrev pub skipped : List (List ℕ) → ℕ
-skipped [] = 0
-skipped (line ∷ lines) = (if bytes_eq line verdict_line then 1 else 0)
+abbrev pub skipped_count : List (List ℕ) → ℕ
+skipped_count [] = 0
+skipped_count (line ∷ lines) = (if bytes_eq line verdict_line then 1 else 0)
 
 -- the first fault of a file of which so many lines stand before the certificate, or none. Lines are counted from the file's first, from 1
-unfoldable pub fault_behind : Limits → ℕ → List ℕ → Option ProofFault
-fault_behind limits front bytes = fault_from limits (a_version ∷ []) (front + 1) 0 (drop front (lines_of bytes))
+unfoldable pub fault_after : Limits → ℕ → List ℕ → Option ProofFault
+fault_after limits front bytes = fault_from limits (ExpectVersion ∷ []) (front + 1) 0 (drop front (lines_of bytes))
 
 -- that of a file before whose certificate nothing but the answer of a comparison may stand
 unfoldable pub proof_fault : Limits → List ℕ → Option ProofFault
-proof_fault limits bytes = fault_behind limits (skipped (lines_of bytes)) bytes
+proof_fault limits bytes = fault_after limits (skipped_count (lines_of bytes)) bytes

@@ -11,10 +11,10 @@ use Rattle.slot_theory.specs.declared.outcome.SlotProof.{SlotProof}
 use Rattle.slot_theory.specs.declared.outcome.SlotProof.TheVariants.{Points, Absent, Required, Word, Kinds, Member, SomeMember}
 use Rattle.proof_text.specs.declared.limits.Limits.{Limits}
 use Rattle.proof_text.specs.declared.limits.TheConstants.{MOST_NESTING, MOST_NUMBER, MOST_PROOF_BYTES}
-use Rattle.proof_text.specs.Faults.{fault_behind, numbers_in, proof_fault}
+use Rattle.proof_text.specs.Faults.{fault_after, numbers_in, proof_fault}
 use Rattle.proof_text.specs.LineForms.{ended_lines}
 use Rattle.proof_text.specs.Lines.{Line}
-use Rattle.proof_text.specs.Spelling.{IsCertificateOf, proof_lines, spell}
+use Rattle.proof_text.specs.Spelling.{IsCertificateOf, proof_lines, certificate_text}
 
 -- no number is above the greatest that a certificate may have
 abbrev pub AreSmall : List ℕ → Type 0
@@ -79,8 +79,8 @@ ClosingProofsHaveNoFaultBehind =
     (schema : Schema) (tests : List Test) (tree : Tree) (version : ℕ) (proof : Proof) (contents : List (List ℕ)) →
     Closes schema tests tree at_first proof [] → depth proof ≤ MOST_NESTING → HoldsSmallNumbers proof →
     length tests ≤ MOST_NUMBER → version ≤ MOST_NUMBER →
-    All IsUnbroken contents → length (ended_lines contents ++ spell version proof) ≤ MOST_PROOF_BYTES →
-    fault_behind (limits_of tests version) (length contents) (ended_lines contents ++ spell version proof) ≡ None
+    All IsUnbroken contents → length (ended_lines contents ++ certificate_text version proof) ≤ MOST_PROOF_BYTES →
+    fault_after (limits_of tests version) (length contents) (ended_lines contents ++ certificate_text version proof) ≡ None
 
 -- no number of any line of the certificate is above the greatest
 abbrev pub IsSmall : ℕ → Proof → Type 0

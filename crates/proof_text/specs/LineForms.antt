@@ -13,12 +13,12 @@ use Rattle.proof_text.specs.Lines.{some_line, places_line}
 -- what must stand at a line: the format's number, a node below so many splits and labels, of which the labels have these numbers, the
 -- proof for a slot or for a kind of principals, a closed set, or one of its product states
 pub data Expected : Type 0 where
-  a_version : Expected
-  a_node : ℕ → List ℕ → Expected
-  a_slot_proof : Expected
-  a_kind_proof : Expected
-  a_closed_set : Expected
-  a_state : Expected
+  ExpectVersion : Expected
+  ExpectNode : ℕ → List ℕ → Expected
+  ExpectSlotProof : Expected
+  ExpectKindProof : Expected
+  ExpectClosedSet : Expected
+  ExpectState : Expected
 
 -- ---- numbers
 
@@ -78,13 +78,13 @@ abbrev pub some_numbers : List (List ℕ) → Option (List ℕ)
 some_numbers [] = None
 some_numbers (part ∷ parts) = numbers_of (part ∷ parts)
 
-abbrev pub labelled : Option ℕ → Option Answers → Option Line
-labelled None answers = None
-labelled (Some n) answers = option_map (label_line n) answers
+abbrev pub label_line_of : Option ℕ → Option Answers → Option Line
+label_line_of None answers = None
+label_line_of (Some n) answers = option_map (label_line n) answers
 
 abbrev pub label_said : List (List ℕ) → Option Line
 label_said [] = None
-label_said (part ∷ parts) = labelled (number_said part) (answers_of parts)
+label_said (part ∷ parts) = label_line_of (number_said part) (answers_of parts)
 
 abbrev pub lists_of_places : List (List ℕ) → Option (List (List ℕ))
 lists_of_places parts = all_given (map places_in parts)
@@ -120,18 +120,18 @@ kind_proof_said word parts =
     (if bytes_eq word (codes "never") then said_alone never_line parts else closed_said word parts)
 
 -- what a word and the parts behind it say there
-abbrev pub said : Expected → List ℕ → List (List ℕ) → Option Line
-said a_version word parts =
+abbrev pub line_of_word : Expected → List ℕ → List (List ℕ) → Option Line
+line_of_word ExpectVersion word parts =
     (if bytes_eq word (codes "certificate") then with_number certificate_line parts else None)
-said (a_node depth around) word parts = node_said word parts
-said a_slot_proof word parts = slot_proof_said word parts
-said a_kind_proof word parts = kind_proof_said word parts
-said a_closed_set word parts = closed_said word parts
-said a_state word parts = (if bytes_eq word (codes "places") then option_map places_line (lists_of_places parts) else None)
+line_of_word (ExpectNode depth around) word parts = node_said word parts
+line_of_word ExpectSlotProof word parts = slot_proof_said word parts
+line_of_word ExpectKindProof word parts = kind_proof_said word parts
+line_of_word ExpectClosedSet word parts = closed_said word parts
+line_of_word ExpectState word parts = (if bytes_eq word (codes "places") then option_map places_line (lists_of_places parts) else None)
 
 abbrev pub said_in : Expected → List (List ℕ) → Option Line
 said_in e [] = None
-said_in e (word ∷ parts) = said e word parts
+said_in e (word ∷ parts) = line_of_word e word parts
 
 -- what a line says without its end
 abbrev pub content_said : Expected → List ℕ → Option Line
@@ -149,8 +149,8 @@ abbrev pub lines_before : ℕ → List ℕ → ℕ
 lines_before line bytes = min (line - 1) (length (lines_of bytes))
 
 -- what stands behind so many lines
-abbrev pub bytes_behind : ℕ → List ℕ → List ℕ
-bytes_behind front bytes = concat (drop front (lines_of bytes))
+abbrev pub bytes_after : ℕ → List ℕ → List ℕ
+bytes_after front bytes = concat (drop front (lines_of bytes))
 
 -- lines of these contents, each ended by a line feed
 abbrev pub ended_lines : List (List ℕ) → List ℕ

@@ -7,10 +7,10 @@ use Rattle.proof_text.specs.declared.fault.ProofAnswer.TheVariants.{Refused, NoM
 use Rattle.proof_text.specs.declared.limits.Limits.{Limits}
 use Rattle.proof_text.specs.declared.limits.TheConstants.{MOST_NUMBER}
 use Rattle.proof_text.specs.declared.read.ReadProof.{ReadProof}
-use Rattle.proof_text.specs.Faults.{fault_behind, proof_fault, skipped}
+use Rattle.proof_text.specs.Faults.{fault_after, proof_fault, skipped_count}
 use Rattle.proof_text.specs.Laws.{IsSmall}
-use Rattle.proof_text.specs.LineForms.{bytes_behind, lines_of}
-use Rattle.proof_text.specs.Spelling.{IsCertificateOf, spell, starts}
+use Rattle.proof_text.specs.LineForms.{bytes_after, lines_of}
+use Rattle.proof_text.specs.Spelling.{IsCertificateOf, certificate_text, node_line_numbers}
 
 -- the file has no fault, it is the certificate of the refutation, whose numbers are small, and these are the lines of the
 -- refutation's nodes
@@ -18,7 +18,7 @@ pub record IsReadFrom (limits : Limits) (bytes : List ℕ) (read : ReadProof) : 
   pub faultless : proof_fault limits bytes ≡ None
   pub spelled : IsCertificateOf limits.version bytes (proof_of read.refutation.value)
   pub small : IsSmall limits.version (proof_of read.refutation.value)
-  pub lines : read.lines ≡ starts (skipped (lines_of bytes) + 2) (proof_of read.refutation.value)
+  pub lines : read.lines ≡ node_line_numbers (skipped_count (lines_of bytes) + 2) (proof_of read.refutation.value)
 
 -- the refutation of a file, or its first fault, besides want of memory
 abbrev pub IsProofRead : Limits → List ℕ → Result ReadProof ProofAnswer → Type 0
@@ -29,15 +29,15 @@ IsProofRead limits bytes (Err NoMemory) = ⊤
 -- behind so many lines the file has no fault, what stands there is the text of the refutation, whose numbers are small, and these are
 -- the lines of the refutation's nodes, counted from the file's first
 pub record IsReadBehind (limits : Limits) (front : ℕ) (bytes : List ℕ) (read : ReadProof) : Type 0 where
-  pub faultless : fault_behind limits front bytes ≡ None
-  pub spelled : bytes_behind front bytes ≡ spell limits.version (proof_of read.refutation.value)
+  pub faultless : fault_after limits front bytes ≡ None
+  pub spelled : bytes_after front bytes ≡ certificate_text limits.version (proof_of read.refutation.value)
   pub small : IsSmall limits.version (proof_of read.refutation.value)
-  pub lines : read.lines ≡ starts (front + 2) (proof_of read.refutation.value)
+  pub lines : read.lines ≡ node_line_numbers (front + 2) (proof_of read.refutation.value)
 
 -- the refutation that stands behind so many lines, or the first fault there, besides want of memory
 abbrev pub IsProofReadBehind : Limits → ℕ → List ℕ → Result ReadProof ProofAnswer → Type 0
 IsProofReadBehind limits front bytes (Ok read) = IsReadBehind limits front bytes read
-IsProofReadBehind limits front bytes (Err (Refused fault)) = fault_behind limits front bytes ≡ Some fault
+IsProofReadBehind limits front bytes (Err (Refused fault)) = fault_after limits front bytes ≡ Some fault
 IsProofReadBehind limits front bytes (Err NoMemory) = ⊤
 
 -- a node for each line that begins one, and so at most as many nodes as bytes

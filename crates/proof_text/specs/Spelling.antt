@@ -44,18 +44,18 @@ node_lines (reuse n) = reuse_line n ∷ []
 abbrev pub proof_lines : ℕ → Proof → List Line
 proof_lines version p = certificate_line version ∷ node_lines p
 
-abbrev pub spell : ℕ → Proof → List ℕ
-spell version p = flat_map line_text (proof_lines version p)
+abbrev pub certificate_text : ℕ → Proof → List ℕ
+certificate_text version p = flat_map line_text (proof_lines version p)
 
 -- the file is the certificate of the refutation; the answer of a comparison may stand before it
 abbrev pub IsCertificateOf : ℕ → List ℕ → Proof → Type 0
-IsCertificateOf version bytes p = (bytes ≡ spell version p) ⊎ (bytes ≡ verdict_line ++ spell version p)
+IsCertificateOf version bytes p = (bytes ≡ certificate_text version p) ⊎ (bytes ≡ verdict_line ++ certificate_text version p)
 
 -- the line of each node in reading order, where the first has this number
-abbrev pub starts : ℕ → Proof → List ℕ
-starts n (split t y z) = n ∷ (starts (n + 1) y ++ starts (n + 1 + length (node_lines y)) z)
-starts n by_value = n ∷ []
-starts n (by_slot core proof) = n ∷ []
-starts n (by_clauses hints) = n ∷ []
-starts n (label k answers p) = n ∷ starts (n + 1) p
-starts n (reuse k) = n ∷ []
+abbrev pub node_line_numbers : ℕ → Proof → List ℕ
+node_line_numbers n (split t y z) = n ∷ (node_line_numbers (n + 1) y ++ node_line_numbers (n + 1 + length (node_lines y)) z)
+node_line_numbers n by_value = n ∷ []
+node_line_numbers n (by_slot core proof) = n ∷ []
+node_line_numbers n (by_clauses hints) = n ∷ []
+node_line_numbers n (label k answers p) = n ∷ node_line_numbers (n + 1) p
+node_line_numbers n (reuse k) = n ∷ []

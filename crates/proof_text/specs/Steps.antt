@@ -4,12 +4,12 @@ use Rattle.std.specs.Prelude.{◌&&◌, Option, Some, None, Result, Ok, Err, if�
 use Rattle.std.specs.Borrow.{Bor}
 use Rattle.std.specs.List.{list_all, slice_split}
 use Rattle.formula_tree.specs.Answers.{Answers}
-use Rattle.proof_text.specs.Faults.{fault_from, fault_of_line, labels_begun, proof_fault_at, skipped}
+use Rattle.proof_text.specs.Faults.{fault_from, fault_of_line, labels_begun, proof_fault_at, skipped_count}
 use Rattle.refute_check.specs.Proofs.{proof_of}
 use Rattle.proof_text.specs.Laws.{HasSmallNumbers, IsSmall}
-use Rattle.proof_text.specs.LineForms.{Expected, a_version, answers_of, lines_of, number_said}
+use Rattle.proof_text.specs.LineForms.{Expected, ExpectVersion, answers_of, lines_of, number_said}
 use Rattle.proof_text.specs.Lines.{Line, line_text, verdict_line}
-use Rattle.proof_text.specs.Spelling.{spell, starts}
+use Rattle.proof_text.specs.Spelling.{certificate_text, node_line_numbers}
 use Rattle.proof_text.specs.declared.fault.LineAnswer.{LineAnswer}
 use Rattle.proof_text.specs.declared.fault.LineAnswer.TheVariants.{Fails, NoMemory as NoLineMemory}
 use Rattle.proof_text.specs.declared.fault.ProofAnswer.{ProofAnswer}
@@ -134,9 +134,9 @@ pub record IsLocationBehind (front : ℕ) (bytes : List ℕ) (location : Locatio
 
 -- the location of the certificate in a file
 pub record IsFirstLocation (bytes : List ℕ) (location : Location) : Type 0 where
-  pub number : location.number ≡ skipped (lines_of bytes) + 1
+  pub number : location.number ≡ skipped_count (lines_of bytes) + 1
   pub begun : location.begun ≡ 0
-  pub lines : lines_of location.bytes.now ≡ drop (skipped (lines_of bytes)) (lines_of bytes)
+  pub lines : lines_of location.bytes.now ≡ drop (skipped_count (lines_of bytes)) (lines_of bytes)
   pub whole : (bytes ≡ location.bytes.now) ⊎ (bytes ≡ verdict_line ++ location.bytes.now)
   pub room : HasLineRoom location
 
@@ -147,14 +147,14 @@ IsEndRead from (Err answer) = (from.bytes.now ≢ []) × (answer ≡ Refused (pr
 
 -- the certificate at a location, at whose nodes these lines begin
 pub record IsReadAt (limits : Limits) (start : Location) (read : ReadProof) : Type 0 where
-  pub faultless : fault_from limits (a_version ∷ []) start.number start.begun (lines_of start.bytes.now) ≡ None
-  pub spelled : start.bytes.now ≡ spell limits.version (proof_of read.refutation.value)
+  pub faultless : fault_from limits (ExpectVersion ∷ []) start.number start.begun (lines_of start.bytes.now) ≡ None
+  pub spelled : start.bytes.now ≡ certificate_text limits.version (proof_of read.refutation.value)
   pub small : IsSmall limits.version (proof_of read.refutation.value)
-  pub lines : read.lines ≡ starts (start.number + 1) (proof_of read.refutation.value)
+  pub lines : read.lines ≡ node_line_numbers (start.number + 1) (proof_of read.refutation.value)
 
 -- what the reader of the certificate at a location answers
 abbrev pub IsProofReadAt : Limits → Location → Result ReadProof ProofAnswer → Type 0
 IsProofReadAt limits start (Ok read) = IsReadAt limits start read
 IsProofReadAt limits start (Err (Refused fault)) =
-    fault_from limits (a_version ∷ []) start.number start.begun (lines_of start.bytes.now) ≡ Some fault
+    fault_from limits (ExpectVersion ∷ []) start.number start.begun (lines_of start.bytes.now) ≡ Some fault
 IsProofReadAt limits start (Err NoMemory) = Unit {0}

@@ -2,7 +2,7 @@
 ghost use Rattle.std.specs.Prelude.{◌≡◌, option_map};
 ghost use Rattle.std.specs.Option.{option_copied};
 ghost use Rattle.proof_text.specs.Faults.{has_ended};
-ghost use Rattle.proof_text.specs.LineForms.{a_version, label_said, line_said, said_alone, some_numbers, with_number};
+ghost use Rattle.proof_text.specs.LineForms.{ExpectVersion, label_said, line_said, said_alone, some_numbers, with_number};
 ghost use Rattle.proof_text.specs.LineForms.{one_number};
 ghost use Rattle.proof_text.specs.Lines.{certificate_line, clauses_line, reuse_line, slot_line, split_line, value_line};
 ghost use Rattle.proof_text.specs.Around.{IsRising, node_here, node_line_value};
@@ -206,7 +206,7 @@ pub(crate) fn node_line(
 }
 
 fn certificate_line(limits: Limits, behind: Option<&[u8]>) -> Result<u32, LineAnswer>
-    ensures { IsLineRead certificate_line limits 0 a_version
+    ensures { IsLineRead certificate_line limits 0 ExpectVersion
         (with_number certificate_line (parts_left 32 (option_copied behind.entry))) result }
 {
     let Some(version) = one_number(behind)? else {
@@ -220,7 +220,8 @@ fn certificate_line(limits: Limits, behind: Option<&[u8]>) -> Result<u32, LineAn
 
 /// The number of the format, where the line must say it.
 pub(crate) fn version_line(limits: Limits, line: &[u8]) -> Result<u32, LineAnswer>
-    ensures { IsLineRead certificate_line limits 0 a_version (line_said a_version line.now) result }
+    ensures { IsLineRead certificate_line limits 0 ExpectVersion
+        (line_said ExpectVersion line.now) result }
 {
     let Some(text) = content_of(line) else {
         return Err(LineAnswer::Fails(ProofCode::C1Syntax));

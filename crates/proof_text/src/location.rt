@@ -24,7 +24,7 @@ pub(crate) struct Location<'a> {
 fn line_length(bytes: &[u8]) -> usize
     requires { bytes.now ≢ [] }
     ensures within { result ≤ length bytes.now }
-    ensures some { 1 ≤ result }
+    ensures positive { 1 ≤ result }
     ensures line { lines_of bytes.now ≡ take result bytes.now ∷ lines_of (drop result bytes.now) }
 {
     let at = first_at(bytes, b'\n');

@@ -3,9 +3,9 @@ ghost use Rattle.std.specs.Prelude.{◌≡◌, ◌≤◌, ◌++◌, ◌∷◌, [
 ghost use Rattle.refute_check.specs.Proofs.{proof_of};
 ghost use Rattle.refute_check.specs.declared.refutation.Refutation.TheVariants.{ByValue};
 ghost use Rattle.proof_text.specs.Around.{AreAround};
-ghost use Rattle.proof_text.specs.LineForms.{a_node, a_slot_proof};
-ghost use Rattle.proof_text.specs.SlotLines.{IsOfCore, lines_behind};
-ghost use Rattle.proof_text.specs.Spelling.{node_lines, starts};
+ghost use Rattle.proof_text.specs.LineForms.{ExpectNode, ExpectSlotProof};
+ghost use Rattle.proof_text.specs.SlotLines.{IsOfCore, lines_after};
+ghost use Rattle.proof_text.specs.Spelling.{node_lines, node_line_numbers};
 ghost use Rattle.proof_text.specs.Steps.{HasLineRoom, ArePartsRead};
 
 use crate::fault::ProofAnswer;
@@ -62,8 +62,8 @@ fn read_core<'a>(
     proofs: &mut SharedProofs,
 ) -> Result<(Rc<Refutation>, Location<'a>), ProofAnswer>
     requires { HasLineRoom location }
-    ensures read { ArePartsRead (λ node. lines_behind (proof_of node.value)) limits
-        (a_slot_proof ∷ []) location.entry result }
+    ensures read { ArePartsRead (λ node. lines_after (proof_of node.value)) limits
+        (ExpectSlotProof ∷ []) location.entry result }
     ensures core { IfOk result (λ r. IsOfCore core (proof_of r.0.value)) }
 {
     let (proof, end) = read_slot_proof(alloc, limits, location)?;
@@ -87,10 +87,10 @@ pub(crate) fn read_node<'a>(
     requires around { AreAround trail.old.inside.items location.begun }
     requires value { value.now.value ≡ ByValue }
     ensures read { ArePartsRead (λ node. node_lines (proof_of node.value)) limits
-        (a_node depth trail.old.inside.items ∷ []) location.entry result }
+        (ExpectNode depth trail.old.inside.items ∷ []) location.entry result }
     ensures inside { OnOk result (trail.new.inside.items ≡ trail.old.inside.items) }
     ensures lines { IfOk result (λ r. trail.new.lines ≡
-        trail.old.lines ++ starts location.entry.number (proof_of r.0.value)) }
+        trail.old.lines ++ node_line_numbers location.entry.number (proof_of r.0.value)) }
 {
     let (line, behind) = line_at(location)?;
     trail.lines.push(location.number)?;

@@ -2,9 +2,9 @@
 ghost use Rattle.std.specs.Prelude.{◌≡◌, ◌∷◌, [], None, Some, IfOk};
 ghost use Rattle.std.specs.Option.{option_copied};
 ghost use Rattle.proof_text.specs.Faults.{fault_of_line};
-ghost use Rattle.proof_text.specs.LineForms.{a_kind_proof, a_slot_proof, line_said, said_alone, with_number};
+ghost use Rattle.proof_text.specs.LineForms.{ExpectKindProof, ExpectSlotProof, line_said, said_alone, with_number};
 ghost use Rattle.proof_text.specs.Lines.{closed_line, kinds_line, member_line, never_line};
-ghost use Rattle.proof_text.specs.SlotLines.{behind_kinds, kind_line_value, slot_line_value};
+ghost use Rattle.proof_text.specs.SlotLines.{lines_after_kinds, kind_line_value, slot_line_value};
 ghost use Rattle.proof_text.specs.Spelling.{kind_lines, slot_lines};
 ghost use Rattle.proof_text.specs.Steps.{HasLineRoom, IsLineRead, ArePartsRead, parts_left};
 
@@ -43,8 +43,8 @@ fn alone(
     line: SlotLine,
     behind: Option<&[u8]>,
 ) -> Result<SlotLine, LineAnswer>
-    requires { fault_of_line limits begun a_slot_proof (Some (slot_line_value line)) ≡ None }
-    ensures { IsLineRead slot_line_value limits begun a_slot_proof
+    requires { fault_of_line limits begun ExpectSlotProof (Some (slot_line_value line)) ≡ None }
+    ensures { IsLineRead slot_line_value limits begun ExpectSlotProof
         (said_alone (slot_line_value line) (parts_left 32 (option_copied behind.entry))) result }
 {
     if behind.is_some() {
@@ -55,7 +55,7 @@ fn alone(
 
 // A member for a test of the query.
 fn member_line(limits: Limits, begun: u32, behind: Option<&[u8]>) -> Result<SlotLine, LineAnswer>
-    ensures { IsLineRead slot_line_value limits begun a_slot_proof
+    ensures { IsLineRead slot_line_value limits begun ExpectSlotProof
         (with_number member_line (parts_left 32 (option_copied behind.entry))) result }
 {
     let Some(test) = one_number(behind)? else {
@@ -69,8 +69,8 @@ fn member_line(limits: Limits, begun: u32, behind: Option<&[u8]>) -> Result<Slot
 
 // What the line says, where a proof for a slot must stand.
 fn slot_line(limits: Limits, begun: u32, line: &[u8]) -> Result<SlotLine, LineAnswer>
-    ensures { IsLineRead slot_line_value limits begun a_slot_proof
-        (line_said a_slot_proof line.now) result }
+    ensures { IsLineRead slot_line_value limits begun ExpectSlotProof
+        (line_said ExpectSlotProof line.now) result }
 {
     let Some(text) = content_of(line) else {
         return Err(LineAnswer::Fails(ProofCode::C1Syntax));
@@ -102,7 +102,7 @@ fn slot_line(limits: Limits, begun: u32, line: &[u8]) -> Result<SlotLine, LineAn
 
 // A closed set for a slot.
 fn slot_closed(limits: Limits, begun: u32, behind: Option<&[u8]>) -> Result<SlotLine, LineAnswer>
-    ensures { IsLineRead slot_line_value limits begun a_slot_proof
+    ensures { IsLineRead slot_line_value limits begun ExpectSlotProof
         (with_number closed_line (parts_left 32 (option_copied behind.entry))) result }
 {
     match closed_count(limits, begun, behind) {
@@ -113,7 +113,7 @@ fn slot_closed(limits: Limits, begun: u32, behind: Option<&[u8]>) -> Result<Slot
 
 // A closed set for a kind of principals.
 fn kind_closed(limits: Limits, begun: u32, behind: Option<&[u8]>) -> Result<KindLine, LineAnswer>
-    ensures { IsLineRead kind_line_value limits begun a_kind_proof
+    ensures { IsLineRead kind_line_value limits begun ExpectKindProof
         (with_number closed_line (parts_left 32 (option_copied behind.entry))) result }
 {
     match closed_count(limits, begun, behind) {
@@ -123,7 +123,7 @@ fn kind_closed(limits: Limits, begun: u32, behind: Option<&[u8]>) -> Result<Kind
 }
 
 fn never_line(limits: Limits, begun: u32, behind: Option<&[u8]>) -> Result<KindLine, LineAnswer>
-    ensures { IsLineRead kind_line_value limits begun a_kind_proof
+    ensures { IsLineRead kind_line_value limits begun ExpectKindProof
         (said_alone never_line (parts_left 32 (option_copied behind.entry))) result }
 {
     if behind.is_some() {
@@ -134,8 +134,8 @@ fn never_line(limits: Limits, begun: u32, behind: Option<&[u8]>) -> Result<KindL
 
 // What the line says, where a proof for a kind of principals must stand.
 fn kind_line(limits: Limits, begun: u32, line: &[u8]) -> Result<KindLine, LineAnswer>
-    ensures { IsLineRead kind_line_value limits begun a_kind_proof
-        (line_said a_kind_proof line.now) result }
+    ensures { IsLineRead kind_line_value limits begun ExpectKindProof
+        (line_said ExpectKindProof line.now) result }
 {
     let Some(text) = content_of(line) else {
         return Err(LineAnswer::Fails(ProofCode::C1Syntax));
@@ -157,7 +157,8 @@ fn read_kind<'a>(
     location: Location<'a>,
 ) -> Result<(KindProof, Location<'a>), ProofAnswer>
     requires { HasLineRoom location }
-    ensures { ArePartsRead kind_lines limits (a_kind_proof ∷ []) location.entry result }
+    ensures { ArePartsRead kind_lines limits (ExpectKindProof ∷ [])
+        location.entry result }
 {
     let (line, behind) = line_at(location)?;
     match kind_line(limits, location.begun, line) {
@@ -177,9 +178,10 @@ fn read_kinds<'a>(
     location: Location<'a>,
 ) -> Result<(SlotProof, Location<'a>), ProofAnswer>
     requires { HasLineRoom location }
-    ensures kinds { ArePartsRead behind_kinds limits
-        (a_kind_proof ∷ a_kind_proof ∷ a_kind_proof ∷ a_kind_proof ∷ []) location.entry result }
-    ensures whole { IfOk result (λ r. slot_lines r.0 ≡ kinds_line ∷ behind_kinds r.0) }
+    ensures kinds { ArePartsRead lines_after_kinds limits
+        (ExpectKindProof ∷ ExpectKindProof ∷ ExpectKindProof ∷ ExpectKindProof ∷ [])
+        location.entry result }
+    ensures whole { IfOk result (λ r. slot_lines r.0 ≡ kinds_line ∷ lines_after_kinds r.0) }
 {
     let (aws, first) = read_kind(alloc, limits, location)?;
     let (service, second) = read_kind(alloc, limits, first)?;
@@ -198,7 +200,7 @@ pub(crate) fn read_slot_proof<'a>(
     location: Location<'a>,
 ) -> Result<(SlotProof, Location<'a>), ProofAnswer>
     requires { HasLineRoom location }
-    ensures { ArePartsRead slot_lines limits (a_slot_proof ∷ []) location.entry result }
+    ensures { ArePartsRead slot_lines limits (ExpectSlotProof ∷ []) location.entry result }
 {
     let (line, behind) = line_at(location)?;
     match slot_line(limits, location.begun, line) {

@@ -2,7 +2,7 @@
 ghost use Rattle.std.specs.Prelude.{◌≡◌, ◌≤◌, ◌∷◌, [], IfOk, length, map, option_map, replicate};
 ghost use Rattle.std.specs.Option.{option_copied};
 ghost use Rattle.pattern_automata.specs.Closed.{all_rise};
-ghost use Rattle.proof_text.specs.LineForms.{a_closed_set, a_kind_proof, a_slot_proof, a_state, line_said, lists_of_places, places_in, with_number};
+ghost use Rattle.proof_text.specs.LineForms.{ExpectClosedSet, ExpectKindProof, ExpectSlotProof, ExpectState, line_said, lists_of_places, places_in, with_number};
 ghost use Rattle.proof_text.specs.Lines.{closed_line, places_line};
 ghost use Rattle.proof_text.specs.Spelling.{closed_lines};
 ghost use Rattle.proof_text.specs.Steps.{HasLineRoom, IsLineRead, ArePartsRead, IsSmallRead, are_lists_small, are_small, parts_left};
@@ -69,7 +69,7 @@ fn places_line(
     begun: u32,
     behind: Option<&[u8]>,
 ) -> Result<PlaceLists, LineAnswer>
-    ensures { IsLineRead places_line limits begun a_state
+    ensures { IsLineRead places_line limits begun ExpectState
         (option_map places_line
         (lists_of_places (parts_left 32 (option_copied behind.entry)))) result }
 {
@@ -89,7 +89,8 @@ fn state_line(
     begun: u32,
     line: &[u8],
 ) -> Result<PlaceLists, LineAnswer>
-    ensures { IsLineRead places_line limits begun a_state (line_said a_state line.now) result }
+    ensures { IsLineRead places_line limits begun ExpectState
+        (line_said ExpectState line.now) result }
 {
     let Some(text) = content_of(line) else {
         return Err(LineAnswer::Fails(ProofCode::C1Syntax));
@@ -109,7 +110,7 @@ fn read_state<'a>(
 ) -> Result<(PlaceLists, Location<'a>), ProofAnswer>
     requires { HasLineRoom location }
     ensures { ArePartsRead
-        (λ lists. places_line lists ∷ []) limits (a_state ∷ []) location.entry result }
+        (λ lists. places_line lists ∷ []) limits (ExpectState ∷ []) location.entry result }
 {
     let (line, behind) = line_at(location)?;
     match state_line(alloc, limits, location.begun, line) {
@@ -127,7 +128,7 @@ pub(crate) fn read_states<'a>(
 ) -> Result<(Closed, Location<'a>), ProofAnswer>
     requires { HasLineRoom location }
     ensures states { ArePartsRead
-        (map places_line) limits (replicate count a_state) location.entry result }
+        (map places_line) limits (replicate count ExpectState) location.entry result }
     ensures count { IfOk result (λ r. length r.0 ≡ count) }
 {
     let mut set = Closed::new(alloc);
@@ -146,11 +147,11 @@ pub(crate) fn closed_count(
     begun: u32,
     behind: Option<&[u8]>,
 ) -> Result<u32, LineAnswer>
-    ensures set { IsLineRead closed_line limits begun a_closed_set
+    ensures set { IsLineRead closed_line limits begun ExpectClosedSet
         (with_number closed_line (parts_left 32 (option_copied behind.entry))) result }
-    ensures slot { IsLineRead closed_line limits begun a_slot_proof
+    ensures slot { IsLineRead closed_line limits begun ExpectSlotProof
         (with_number closed_line (parts_left 32 (option_copied behind.entry))) result }
-    ensures kind { IsLineRead closed_line limits begun a_kind_proof
+    ensures kind { IsLineRead closed_line limits begun ExpectKindProof
         (with_number closed_line (parts_left 32 (option_copied behind.entry))) result }
 {
     let Some(count) = one_number(behind)? else {
@@ -164,8 +165,8 @@ pub(crate) fn closed_count(
 
 // What the line says, where a closed set must stand.
 fn set_line(limits: Limits, begun: u32, line: &[u8]) -> Result<u32, LineAnswer>
-    ensures { IsLineRead closed_line limits begun a_closed_set
-        (line_said a_closed_set line.now) result }
+    ensures { IsLineRead closed_line limits begun ExpectClosedSet
+        (line_said ExpectClosedSet line.now) result }
 {
     let Some(text) = content_of(line) else {
         return Err(LineAnswer::Fails(ProofCode::C1Syntax));
@@ -184,7 +185,7 @@ pub(crate) fn read_closed<'a>(
     location: Location<'a>,
 ) -> Result<(Closed, Location<'a>), ProofAnswer>
     requires { HasLineRoom location }
-    ensures { ArePartsRead closed_lines limits (a_closed_set ∷ []) location.entry result }
+    ensures { ArePartsRead closed_lines limits (ExpectClosedSet ∷ []) location.entry result }
 {
     let (line, behind) = line_at(location)?;
     match set_line(limits, location.begun, line) {

@@ -4,7 +4,7 @@ ghost use Rattle.std.specs.List.{flat_map, join_with_byte};
 ghost use Rattle.refute_check.specs.Proofs.{proof_of};
 ghost use Rattle.proof_text.specs.Laws.{AreListsSmall, ArePlacesSmall, AreSmall, HoldsSmallNumbers, IsKindSmall, IsSlotSmall};
 ghost use Rattle.proof_text.specs.Lines.{answer_part, label_line, line_text, places_line, places_part};
-ghost use Rattle.proof_text.specs.Spelling.{closed_lines, kind_lines, node_lines, slot_lines, spell};
+ghost use Rattle.proof_text.specs.Spelling.{closed_lines, kind_lines, node_lines, slot_lines, certificate_text};
 
 use itoa::Buffer;
 use pattern_automata::{Closed, State};
@@ -237,7 +237,8 @@ fn put_node(text: &mut String, node: &Refutation) -> Result<(), NoMemory>
 /// has it. So the certificate of a refutation that closes a query has no fault
 /// (`closing_proofs_have_no_fault`), up to 67,108,864 bytes.
 pub fn write_proof(alloc: Global, refutation: &Refutation, version: u32) -> Result<String, NoMemory>
-    ensures text { IfOk result (λ s. string_bytes s ≡ spell version (proof_of refutation.now)) }
+    ensures text { IfOk result
+        (λ s. string_bytes s ≡ certificate_text version (proof_of refutation.now)) }
     ensures small { IfOk result (λ s. HoldsSmallNumbers (proof_of refutation.now)) }
 {
     let mut text = String::new(alloc);

@@ -37,10 +37,10 @@ refusal_with Q p (r, is, told) = subst IsOfText (sym told.1) tt
 
 zone_with : (names : List (List ℕ)) (limits : Limits) (one : OneSet) (zone : Zone) (p : Printed) → IsZonePrinted names limits one zone p → IsOfText p.status
 zone_with names limits one zone p (inl none) = not_found_of_text names limits (left_outside one zone) p none
-zone_with names limits one zone p (inr found) = subst IsOfText (sym found.printed.told.1) (by_status found.printed.found.summary)
+zone_with names limits one zone p (inr found) = subst IsOfText (sym found.printed.prints.1) (by_status found.printed.found.summary)
 
 set_with : (names : List (List ℕ)) (limits : Limits) (bytes : List ℕ) (one : OneSet) (p : Printed) → IsReachOfSet names limits bytes one p → IsOfText p.status
-set_with names limits bytes one p (inl refused) = subst IsOfText (sym refused.told.1) tt
+set_with names limits bytes one p (inl refused) = subst IsOfText (sym refused.prints.1) tt
 set_with names limits bytes one p (inr of) = zone_with names limits one of.zone p of.holds
 
 pub reach_of_text : (s : Summarising) (c : ReachContents) (p : Printed) → IsReachPrinted s c p → IsOfText p.status
@@ -58,7 +58,7 @@ by_found p s is (inr fails) = inr (is ∙ fails)
 
 zone_decides : (names : List (List ℕ)) (limits : Limits) (one : OneSet) (zone : Zone) (p : Printed) → IsSummarisable names limits (left_outside one zone) → IsZonePrinted names limits one zone p → Decided p
 zone_decides names limits one zone p d (inl none) = absurd (summarisable_sets_are_found names limits (left_outside one zone) p d none)
-zone_decides names limits one zone p d (inr found) = by_found p _ found.printed.told.1 (found_by found.printed.found.summary)
+zone_decides names limits one zone p d (inr found) = by_found p _ found.printed.prints.1 (found_by found.printed.found.summary)
 
 no_fault : (schema : Schema) (bytes : List ℕ) (zone : Zone) (p : Printed) → zone_from schema bytes ≡ Ok zone → IsZoneRefused schema bytes p → ⊥
 no_fault schema bytes zone p stands refused = let first = refused.first in cc

@@ -12,7 +12,7 @@ use Rattle.trust_zones.specs.Zones.{IsInside, outside}
 use Rattle.run_files.specs.declared.printed.Printed.{Printed}
 use Rattle.run_files.specs.declared.status.Status.{Status}
 use Rattle.run_files.specs.declared.status.Status.TheVariants.{Holds, Fails}
-use Rattle.run_files.specs.Printing.{Tells}
+use Rattle.run_files.specs.Printing.{PrintsText}
 use Rattle.run_sets.specs.declared.one_set.OneSet.{OneSet}
 use Rattle.run_sets.specs.OneSets.{IsNoOneSet, OfOneSet}
 use Rattle.run_sets.specs.Refusals.{IsRefusedBy}
@@ -53,7 +53,7 @@ status_by (x ∷ xs) = Fails
 pub record IsOutsidePrinted (names : List (List ℕ)) (limits : Limits) (left : OneSet) (p : Printed) : Type 0 where
   pub found : Found
   pub is : IsFoundOf names limits left found
-  pub told : Tells (found_text found) (status_by found.summary) p
+  pub prints : PrintsText (found_text found) (status_by found.summary) p
 
 -- and it says who reaches
 pub record IsReachFound (names : List (List ℕ)) (limits : Limits) (one : OneSet) (zone : Zone) (p : Printed) : Type 0 where

@@ -3,7 +3,7 @@ use Rattle.std.specs.Prelude.{◌≡◌, ℕ, List, ◌++◌, codes, Ok, Err}
 use Rattle.policy_model.specs.declared.schema.Schema.{Schema}
 use Rattle.run_files.specs.declared.printed.Printed.{Printed}
 use Rattle.run_files.specs.declared.status.Status.TheVariants.{Refused}
-use Rattle.run_files.specs.Printing.{Tells}
+use Rattle.run_files.specs.Printing.{PrintsText}
 use Rattle.run_sets.specs.Parts.{element_text}
 use Rattle.trust_zones.specs.declared.fault.ZoneCode.{ZoneCode}
 use Rattle.trust_zones.specs.declared.fault.ZoneCode.TheVariants.{Z1NotJson, Z2Shape, Z3BadValue, Z4KeyKind, Z5Limit}
@@ -30,7 +30,7 @@ zone_line fault = codes "refused: zone: " ++ zone_text fault ++ codes "\n"
 pub record IsZoneRefused (schema : Schema) (bytes : List ℕ) (p : Printed) : Type 0 where
   pub fault : ZoneFault
   pub first : zone_from schema bytes ≡ Err fault
-  pub told : Tells (zone_line fault) Refused p
+  pub prints : PrintsText (zone_line fault) Refused p
 
 -- the file stands for a zone, under the schema of the run, of which this holds
 pub record OfZone (schema : Schema) (bytes : List ℕ) (P : Zone → Type 0) : Type 0 where

@@ -1,6 +1,6 @@
 //! The zone that a file stands for, or what is printed of its first fault.
 ghost use Rattle.std.specs.Prelude.{◌≡◌, IfOk, Ok, codes, string_bytes};
-ghost use Rattle.run_files.specs.Printing.{IfAnswered, OrAnswered, Tells};
+ghost use Rattle.run_files.specs.Printing.{IfAnswered, OrAnswered, PrintsText};
 ghost use Rattle.run_files.specs.declared.status.Status.TheVariants.{Refused};
 ghost use Rattle.trust_zones.specs.ZoneFiles.{zone_from};
 ghost use Rattle.trust_zones.specs.Zones.{TakesZone, ZoneIsSound};
@@ -46,7 +46,7 @@ fn zone_line(alloc: Global, fault: &ZoneFault) -> Result<String, AllocError>
 
 // The line of the fault, which ends the run.
 fn zone_refused(alloc: Global, fault: &ZoneFault) -> EarlyEnd
-    ensures { IfAnswered result (Tells (zone_line fault.now) Refused) }
+    ensures { IfAnswered result (PrintsText (zone_line fault.now) Refused) }
 {
     ended(zone_line(alloc, fault), Status::Refused)
 }

@@ -348,11 +348,11 @@ module _ (blocks : BlockTexts) where
 
   principals-apart : (p q : Predicate) → IsWrittenForm slot.Principal p → IsWrittenForm slot.Principal q → predicate_text p ≡ predicate_text q → p ≡ q
   principals-apart Every Every first other e = refl
-  principals-apart Every (Principal f) first other e = absurd (any-no-entry f other.some e)
+  principals-apart Every (Principal f) first other e = absurd (any-no-entry f other.not_all e)
   principals-apart Every (Word q) first other e = absurd other
   principals-apart Every (Meets d) first other e = absurd other
-  principals-apart (Principal f) Every first other e = absurd (any-no-entry f first.some (sym e))
-  principals-apart (Principal f) (Principal g) first other e = ap Principal (entry-apart f g first.some other.some e)
+  principals-apart (Principal f) Every first other e = absurd (any-no-entry f first.not_all (sym e))
+  principals-apart (Principal f) (Principal g) first other e = ap Principal (entry-apart f g first.not_all other.not_all e)
   principals-apart (Principal f) (Word q) first other e = absurd other
   principals-apart (Principal f) (Meets d) first other e = absurd other
   principals-apart (Word p) q first other e = absurd first

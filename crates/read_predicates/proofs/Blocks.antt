@@ -12,7 +12,7 @@ use Rattle.std.proofs.Math.Nat.{pow-le-pow_right, div-add-mod'}
 use Rattle.cidr_bits.specs.declared.address.Address.{Address}
 use Rattle.cidr_bits.specs.declared.address.Address.TheVariants.{V4, V6}
 use Rattle.cidr_bits.specs.declared.block.Block.{Block}
-use Rattle.cidr_bits.specs.Numbers.{IsAddress, cleared, width}
+use Rattle.cidr_bits.specs.Numbers.{IsAddress, network_address, width}
 use Rattle.cidr_bits.specs.Blocks.{block_around}
 use Rattle.cidr_bits.specs.Forms.{IsAddressText, IsBlockText}
 use Rattle.cidr_bits.specs.Readings.{block_of, block_spelled}
@@ -79,7 +79,7 @@ address-in : (text : List ℕ) (a : Address) → IsAddressText text a → IsAddr
 address-in text (V4 n) (octets, dotted, is) = subst (λ (m : ℕ). m < 2 ^ 32) (sym is) (dotted-in text octets dotted)
 address-in text (V6 n) (groups, spelled, is) = subst (λ (m : ℕ). m < 2 ^ 128) (sym is) (hex-in text groups spelled)
 
-cleared-in : (a : Address) (prefix : ℕ) → IsAddress a → IsAddress (cleared a prefix)
+cleared-in : (a : Address) (prefix : ℕ) → IsAddress a → IsAddress (network_address a prefix)
 cleared-in (V4 n) prefix fits = below-cleared n (2 ^ (32 - prefix)) (2 ^ 32) fits
   where
     below-cleared : (n p most : ℕ) → n < most → n / p * p < most

@@ -15,7 +15,7 @@ use Rattle.policy_model.specs.declared.schema.Schema.{Schema}
 use Rattle.policy_model.specs.declared.value.Kind.{Kind}
 use Rattle.request_schema.specs.BuiltIn.{NamedRule, is_key, with_rules}
 use Rattle.request_schema.specs.RunSchemas.{UseCheck, asks_one, checks_among, expected_kind, fixed_kind, infer_checks, is_further, is_named_plural, rule_from, rule_in_use, run_rule, schema_for, use_check, use_checks}
-use Rattle.request_schema.specs.Uses.{Use, comparing, compares, is_plain, of_key, use_family}
+use Rattle.request_schema.specs.Uses.{Use, comparing_uses, compares_values, is_plain, of_key, use_family}
 use Rattle.read_predicates.specs.KnownKeys.{IsOperatorOn}
 use Rattle.read_predicates.proofs.Entries.{AreAmong, among-before, among-behind, key-is, ruled}
 use Rattle.read_predicates.proofs.SameRules.{IsNoMore, MakeTheSame, moved-same, no-more-taken, same-behind, same-front}
@@ -23,7 +23,7 @@ use Rattle.read_predicates.proofs.Uses.{moved}
 
 -- the uses compare values of the use's key, and the rule that a run on them gives the key has its operator
 pub record IsKnownUse (named : Schema) (us : List Use) (u : Use) : Type 0 where
-  pub in_use : list_any (compares u.condition.key) us ≡ true
+  pub in_use : list_any (compares_values u.condition.key) us ≡ true
   pub rule : MatchOption (run_rule named us u.condition.key) ⊥ (λ rule. IsOperatorOn rule.kind rule.many u.condition.operator)
 
 -- ---- lists
@@ -88,37 +88,37 @@ module _ (named : Schema) (us : List Use) where
   IsFurther k = is_none (item_at k named.keys) ≡ true
 
   -- of a further key a known use asks no more
-  no-more : (k : List ℕ) → IsFurther k → (u : Use) → Known u → k ≡ u.condition.key → IsNoMore (comparing k us) u
+  no-more : (k : List ℕ) → IsFurther k → (u : Use) → Known u → k ≡ u.condition.key → IsNoMore (comparing_uses k us) u
   no-more k further u known is = by (of_key k us) rule
     where
-      at : list_any (compares k) us ≡ true
-      at = subst (λ (l : List ℕ). list_any (compares l) us ≡ true) (sym is) known.in_use
+      at : list_any (compares_values k) us ≡ true
+      at = subst (λ (l : List ℕ). list_any (compares_values l) us ≡ true) (sym is) known.in_use
 
       own : MatchOption (run_rule named us k) ⊥ (λ rule. IsOperatorOn rule.kind rule.many u.condition.operator)
       own = subst (λ (l : List ℕ). MatchOption (run_rule named us l) ⊥ (λ rule. IsOperatorOn rule.kind rule.many u.condition.operator)) (sym is) known.rule
 
-      rule : MatchOption (rule_in_use (of_key k us) (comparing k us)) ⊥ (λ rule. IsOperatorOn rule.kind rule.many u.condition.operator)
-      rule = subst (λ (b : Bool). MatchOption (if b then rule_in_use (of_key k us) (comparing k us) else item_at k named.keys) ⊥ (λ rule. IsOperatorOn rule.kind rule.many u.condition.operator)) further own
+      rule : MatchOption (rule_in_use (of_key k us) (comparing_uses k us)) ⊥ (λ rule. IsOperatorOn rule.kind rule.many u.condition.operator)
+      rule = subst (λ (b : Bool). MatchOption (if b then rule_in_use (of_key k us) (comparing_uses k us) else item_at k named.keys) ⊥ (λ rule. IsOperatorOn rule.kind rule.many u.condition.operator)) further own
 
-      by : (mine : List Use) → MatchOption (rule_in_use mine (comparing k us)) ⊥ (λ rule. IsOperatorOn rule.kind rule.many u.condition.operator) → IsNoMore (comparing k us) u
+      by : (mine : List Use) → MatchOption (rule_in_use mine (comparing_uses k us)) ⊥ (λ rule. IsOperatorOn rule.kind rule.many u.condition.operator) → IsNoMore (comparing_uses k us) u
       by [] fits = absurd fits
-      by (v ∷ mine) fits = record { some = any-filter (compares k) us at; compares = fits.compares; takes = fits.takes; truth = fits.truth; prefixed = fits.prefixed }
+      by (v ∷ mine) fits = record { nonempty = any-filter (compares_values k) us at; compares = fits.compares; takes = fits.takes; truth = fits.truth; prefixed = fits.prefixed }
 
-  each-no-more : (k : List ℕ) → IsFurther k → (es : List Use) → Each Known es → Each (IsNoMore (comparing k us)) (comparing k es)
+  each-no-more : (k : List ℕ) → IsFurther k → (es : List Use) → Each Known es → Each (IsNoMore (comparing_uses k us)) (comparing_uses k es)
   each-no-more k further es known =
-      each-filtered Known (IsNoMore (comparing k us)) (compares k)
+      each-filtered Known (IsNoMore (comparing_uses k us)) (compares_values k)
       (λ u is at. no-more k further u is (key-is k u.condition.key (and_parts (is_key k u.condition.key) (not (is_null u.condition.operator.base)) at).0)) es known
 
   abbrev Agrees : List Use → Type 0
-  Agrees ts = (k : List ℕ) → IsFurther k → MakeTheSame (comparing k ts) (comparing k us)
+  Agrees ts = (k : List ℕ) → IsFurther k → MakeTheSame (comparing_uses k ts) (comparing_uses k us)
 
   agree-front : (es : List Use) → Each Known es → Agrees (us ++ es)
   agree-front es known k further =
-      subst (λ (t : List Use). MakeTheSame t (comparing k us)) (sym (filter-append (compares k) us es)) (same-front (comparing k us) (comparing k es) (each-no-more k further es known))
+      subst (λ (t : List Use). MakeTheSame t (comparing_uses k us)) (sym (filter-append (compares_values k) us es)) (same-front (comparing_uses k us) (comparing_uses k es) (each-no-more k further es known))
 
   agree-behind : (es : List Use) → Each Known es → Agrees (es ++ us)
   agree-behind es known k further =
-      subst (λ (t : List Use). MakeTheSame t (comparing k us)) (sym (filter-append (compares k) es us)) (same-behind (comparing k us) (comparing k es) (each-no-more k further es known))
+      subst (λ (t : List Use). MakeTheSame t (comparing_uses k us)) (sym (filter-append (compares_values k) es us)) (same-behind (comparing_uses k us) (comparing_uses k es) (each-no-more k further es known))
 
   -- ---- the rules of further keys, by the keys
 
@@ -126,7 +126,7 @@ module _ (named : Schema) (us : List Use) where
   key_of u = u.condition.key
 
   abbrev rule_of : List ℕ → KeyRule
-  rule_of k = rule_from (comparing k us)
+  rule_of k = rule_from (comparing_uses k us)
 
   abbrev keys_in : List Use → List (List ℕ)
   keys_in xs = map key_of (filter (is_further named.keys) xs)
@@ -137,18 +137,18 @@ module _ (named : Schema) (us : List Use) where
   -- ---- the checks of a run on more uses that agree
 
   module _ (ts : List Use) (agrees : Agrees ts) where
-    expected-same : (u : Use) → expected_kind named (fixed_kind (comparing u.condition.key ts)) u ≡ expected_kind named (fixed_kind (comparing u.condition.key us)) u
+    expected-same : (u : Use) → expected_kind named (fixed_kind (comparing_uses u.condition.key ts)) u ≡ expected_kind named (fixed_kind (comparing_uses u.condition.key us)) u
     expected-same u = by (item_at u.condition.key named.keys) refl
       where
-        by : (o : Option KeyRule) → item_at u.condition.key named.keys ≡ o → expected_kind named (fixed_kind (comparing u.condition.key ts)) u ≡ expected_kind named (fixed_kind (comparing u.condition.key us)) u
+        by : (o : Option KeyRule) → item_at u.condition.key named.keys ≡ o → expected_kind named (fixed_kind (comparing_uses u.condition.key ts)) u ≡ expected_kind named (fixed_kind (comparing_uses u.condition.key us)) u
         by None is = ap (λ (k : Kind). expected_kind named k u) (agrees u.condition.key (ap is_none is)).fixed
         by (Some rule) is = rw is refl
 
     own-passes : (u : Use) → first_fault (checks_among named us u) ≡ None → first_fault (checks_among named ts u) ≡ None
     own-passes u passed =
         let plural = not (is_named_plural named u && asks_one u.condition.operator) in
-        let both = two-passed u (takes_family (expected_kind named (fixed_kind (comparing u.condition.key us)) u) (use_family u)) plural passed in
-        both-pass u (takes_family (expected_kind named (fixed_kind (comparing u.condition.key ts)) u) (use_family u)) plural
+        let both = two-passed u (takes_family (expected_kind named (fixed_kind (comparing_uses u.condition.key us)) u) (use_family u)) plural passed in
+        both-pass u (takes_family (expected_kind named (fixed_kind (comparing_uses u.condition.key ts)) u) (use_family u)) plural
         (ap (λ (k : Kind). takes_family k (use_family u)) (expected-same u) ∙ both.0) both.1
 
     prefixed-plural : (many : Bool) (o : Operator) → not (is_plain o.quantifier) ≡ many → not (many && asks_one o) ≡ true
@@ -164,13 +164,13 @@ module _ (named : Schema) (us : List Use) where
       where
         by : (o : Option KeyRule) → item_at u.condition.key named.keys ≡ o → first_fault (checks_among named ts u) ≡ None
         by None is =
-            let taken = no-more-taken (comparing u.condition.key us) u (no-more u.condition.key (ap is_none is) u known refl) in
-            let kind : expected_kind named (fixed_kind (comparing u.condition.key ts)) u ≡ fixed_kind (comparing u.condition.key us) = expected-same u ∙ rw is refl in
+            let taken = no-more-taken (comparing_uses u.condition.key us) u (no-more u.condition.key (ap is_none is) u known refl) in
+            let kind : expected_kind named (fixed_kind (comparing_uses u.condition.key ts)) u ≡ fixed_kind (comparing_uses u.condition.key us) = expected-same u ∙ rw is refl in
             let single : is_named_plural named u ≡ false = rw is refl in
             both-pass u _ _ (ap (λ (k : Kind). takes_family k (use_family u)) kind ∙ taken) (ap (λ (b : Bool). not (b && asks_one u.condition.operator)) single)
         by (Some rule) is =
             let fits : IsOperatorOn rule.kind rule.many u.condition.operator = rw is at known.rule in
-            let kind : expected_kind named (fixed_kind (comparing u.condition.key ts)) u ≡ rule.kind = rw is refl in
+            let kind : expected_kind named (fixed_kind (comparing_uses u.condition.key ts)) u ≡ rule.kind = rw is refl in
             let plural : is_named_plural named u ≡ rule.many = rw is refl in
             both-pass u _ _ (ap (λ (k : Kind). takes_family k (use_family u)) kind ∙ fits.takes)
             (ap (λ (b : Bool). not (b && asks_one u.condition.operator)) plural ∙ prefixed-plural rule.many u.condition.operator fits.prefixed)
@@ -178,7 +178,7 @@ module _ (named : Schema) (us : List Use) where
     -- ---- its rules
 
     abbrev made_in : List Use → List NamedRule
-    made_in xs = map (λ u. (u.condition.key, rule_from (comparing u.condition.key ts))) xs
+    made_in xs = map (λ u. (u.condition.key, rule_from (comparing_uses u.condition.key ts))) xs
 
     rules-by-keys : (xs : List Use) → made_in (filter (is_further named.keys) xs) ≡ map (ruled rule_of) (keys_in xs)
     rules-by-keys [] = refl
@@ -232,11 +232,11 @@ module _ (named : Schema) (us : List Use) where
   later-among k x xs false later = later
 
   -- a further key whose values some use compares is among the keys
-  used-among : (k : List ℕ) → IsFurther k → (xs : List Use) → list_any (compares k) xs ≡ true → list_any (is_key k) (keys_in xs) ≡ true
+  used-among : (k : List ℕ) → IsFurther k → (xs : List Use) → list_any (compares_values k) xs ≡ true → list_any (is_key k) (keys_in xs) ≡ true
   used-among k further [] some = absurd (cc)
-  used-among k further (x ∷ xs) some = by (compares k x) refl some (used-among k further xs)
+  used-among k further (x ∷ xs) some = by (compares_values k x) refl some (used-among k further xs)
     where
-      by : (b : Bool) → compares k x ≡ b → (b || list_any (compares k) xs) ≡ true → (list_any (compares k) xs ≡ true → list_any (is_key k) (keys_in xs) ≡ true) →
+      by : (b : Bool) → compares_values k x ≡ b → (b || list_any (compares_values k) xs) ≡ true → (list_any (compares_values k) xs ≡ true → list_any (is_key k) (keys_in xs) ≡ true) →
           list_any (is_key k) (keys_with x xs (is_further named.keys x)) ≡ true
       by true is some later =
           let here : is_key k x.condition.key ≡ true = (and_parts (is_key k x.condition.key) (not (is_null x.condition.operator.base)) is).0 in
@@ -278,11 +278,11 @@ module _ (named : Schema) (us : List Use) where
 
   -- ---- the same uses, of the second set
 
-  comparing-moved : (k : List ℕ) (xs : List Use) → comparing k (map moved xs) ≡ map moved (comparing k xs)
+  comparing-moved : (k : List ℕ) (xs : List Use) → comparing_uses k (map moved xs) ≡ map moved (comparing_uses k xs)
   comparing-moved k [] = refl
-  comparing-moved k (x ∷ xs) = by (compares k x) (comparing-moved k xs)
+  comparing-moved k (x ∷ xs) = by (compares_values k x) (comparing-moved k xs)
     where
-      by : (b : Bool) → comparing k (map moved xs) ≡ map moved (comparing k xs) → (if b then moved x ∷ comparing k (map moved xs) else comparing k (map moved xs)) ≡ map moved (if b then x ∷ comparing k xs else comparing k xs)
+      by : (b : Bool) → comparing_uses k (map moved xs) ≡ map moved (comparing_uses k xs) → (if b then moved x ∷ comparing_uses k (map moved xs) else comparing_uses k (map moved xs)) ≡ map moved (if b then x ∷ comparing_uses k xs else comparing_uses k xs)
       by true later = ap (λ (us : List Use). moved x ∷ us) later
       by false later = later
 
@@ -296,7 +296,7 @@ module _ (named : Schema) (us : List Use) where
       by false later = later
 
   agrees-moved : Agrees (map moved us)
-  agrees-moved k further = subst (λ (t : List Use). MakeTheSame t (comparing k us)) (sym (comparing-moved k us)) (moved-same (comparing k us))
+  agrees-moved k further = subst (λ (t : List Use). MakeTheSame t (comparing_uses k us)) (sym (comparing-moved k us)) (moved-same (comparing_uses k us))
 
   moved-passes : (k : Kind) (u : Use) → first_fault (use_checks named k u) ≡ None → first_fault (use_checks named k (moved u)) ≡ None
   moved-passes k u passed =
@@ -310,6 +310,6 @@ module _ (named : Schema) (us : List Use) where
       let ts = map moved us in
       record {
         passed = all-passed (checks_among named ts) ts
-            (All-map (λ u. first_fault (checks_among named ts u) ≡ None) moved us (λ i d within. moved-passes (fixed_kind (comparing (get_or us i d).condition.key ts)) (get_or us i d) (each-own passed ts agrees-moved i d within)));
+            (All-map (λ u. first_fault (checks_among named ts u) ≡ None) moved us (λ i d within. moved-passes (fixed_kind (comparing_uses (get_or us i d).condition.key ts)) (get_or us i d) (each-own passed ts agrees-moved i d within)));
         schema = schema-same ts agrees-moved (ap rules_put (keys-moved us));
       }

@@ -219,7 +219,7 @@ cond-written schema key (cond.Equals bytes) named met = named
 
 form-written : (schema : Schema) (s : Slot) (p : Predicate) → IsNamedForm s p → (s ≡ slot.Principal → p ≢ Principal All) → IsMetUnder schema s p → IsWrittenForm s p
 form-written schema slot.Principal Every named other met = tt
-form-written schema slot.Principal (Principal entry) named other met = record { some = λ is. other refl (ap Principal is); read = named }
+form-written schema slot.Principal (Principal entry) named other met = record { not_all = λ is. other refl (ap Principal is); read = named }
 form-written schema slot.Principal (Word pattern) named other met = absurd named
 form-written schema slot.Principal (Meets c) named other met = absurd named
 form-written schema slot.Action Every named other met = tt
@@ -264,4 +264,4 @@ pub made-written : Readings → PredicatesAreOfWrittenForms
 made-written readings schema strata is =
     let read = read-form is.bytes is.set is.stands in
     let names = tests-name readings schema is.set is.base read is.made.query in
-    λ i x within. stratum-written schema is.base.tests (get_or strata.dimensions i x) is.made.some names (is.made.are.each i x within)
+    λ i x within. stratum-written schema is.base.tests (get_or strata.dimensions i x) is.made.has_request names (is.made.are.each i x within)

@@ -131,7 +131,7 @@ all-other p s e h = list_all-append p e s ∙ and-other (list_all p s) (list_all
 
 -- the use fits the rule that these uses make, and there is one of them
 pub record IsNoMore (s : List Use) (v : Use) : Type 0 where
-  pub some : s ≢ []
+  pub nonempty : s ≢ []
   pub compares : is_null v.condition.operator.base ≡ false
   pub takes : takes_family (kind_from s) (use_family v) ≡ true
   pub truth : kind_from s ≡ kind.Truth → is_bool (use_family v) ≡ true
@@ -215,17 +215,17 @@ same s = record { rule = refl; fixed = refl }
 -- behind the others, and before them
 pub same-front : (s e : List Use) → Each (IsNoMore s) e → MakeTheSame (s ++ e) s
 same-front s [] fits = subst (λ (t : List Use). MakeTheSame t s) (sym (append-nil s)) (same s)
-same-front [] (y ∷ e) fits = absurd ((All-head (IsNoMore []) y e fits).some refl)
+same-front [] (y ∷ e) fits = absurd ((All-head (IsNoMore []) y e fits).nonempty refl)
 same-front (x ∷ xs) (y ∷ e) fits = front-some x xs (y ∷ e) fits
 
 pub same-behind : (s e : List Use) → Each (IsNoMore s) e → MakeTheSame (e ++ s) s
 same-behind s [] fits = same s
-same-behind [] (y ∷ e) fits = absurd ((All-head (IsNoMore []) y e fits).some refl)
+same-behind [] (y ∷ e) fits = absurd ((All-head (IsNoMore []) y e fits).nonempty refl)
 same-behind (x ∷ xs) (y ∷ e) fits = behind-some x xs y e fits
 
 -- the fixed kind of these uses takes one that asks no more
 pub no-more-taken : (s : List Use) (y : Use) → IsNoMore s y → takes_family (fixed_kind s) (use_family y) ≡ true
-no-more-taken [] y fits = absurd (fits.some refl)
+no-more-taken [] y fits = absurd (fits.nonempty refl)
 no-more-taken (x ∷ xs) y fits = fixed-takes x xs y fits
 
 -- ---- the same uses, of the second set

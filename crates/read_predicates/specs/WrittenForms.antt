@@ -22,7 +22,7 @@ use Rattle.findings.specs.Texts.{is_narrow, takes_either_case}
 
 -- an entry that a file gives, other than that of every principal
 pub record IsWrittenEntry (e : Entry) : Type 0 where
-  pub some : e ≢ All
+  pub not_all : e ≢ All
   pub read : IsReadEntry e
 
 -- some text with escapes stands for the pattern: as that of an ARN where a wildcard takes no colon, else as a literal pattern without

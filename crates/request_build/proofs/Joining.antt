@@ -35,7 +35,7 @@ use Rattle.slot_theory.specs.Possible.{AnswersPath}
 use Rattle.slot_theory.specs.Unasked.{stated_values, stated_word}
 use Rattle.slot_theory.proofs.Laws.{at-test, stated-is-word, values-permitted}
 use Rattle.request_build.specs.Built.{AreSlotValues, KeysAreStated}
-use Rattle.request_build.specs.Taken.{action_in, action_or, context_in, joined, key_values, principal_in, principal_or, resource_in, resource_or, values_at_key}
+use Rattle.request_build.specs.Taken.{action_in, action_or, context_in, joined_request, key_values, principal_in, principal_or, resource_in, resource_or, values_at_key}
 use Rattle.request_build.proofs.Filling.{Rule, all-among, context-valid, has-given, own-item}
 
 abbrev Values : Type 0
@@ -152,7 +152,7 @@ module _ (schema : Schema) where
       taken-permitted values (slot.Key e.0) (value.Values (stated_values e.1)) (value.Values (key_values values e.0 e.1)) all (key-taken e.0 e.1 values all) (rw own stated) in
       rw own at permitted
 
-  pub joined-valid : (values : Values) → SchemaIsSound schema → IsInOrder schema.keys → All IsPermitted values → IsValid schema (joined schema values)
+  pub joined-valid : (values : Values) → SchemaIsSound schema → IsInOrder schema.keys → All IsPermitted values → IsValid schema (joined_request schema values)
   joined-valid values sound order all = record {
     words = record {
       id = taken-permitted values slot.Principal stated_principal (principal_of (principal_in schema.shapes values)) all (principal-taken values all) (stated-is-word schema.shapes.aws sound.shapes.aws);
@@ -218,7 +218,7 @@ module _ (schema : Schema) (tests : List Test) (path : Answers) where
 
   module _ (values : Values) (order : IsInOrder schema.keys) where
     -- a key of the schema has in it what is taken for it
-    values-taken : (key : List ℕ) (rule : KeyRule) → item_at key schema.keys ≡ Some rule → values_at (joined schema values) key ≡ key_values values key rule
+    values-taken : (key : List ℕ) (rule : KeyRule) → item_at key schema.keys ≡ Some rule → values_at (joined_request schema values) key ≡ key_values values key rule
     values-taken key rule there = has-given (key_values values) schema.keys order (key, rule) (Contains-from_lookup same-key key rule schema.keys there)
 
     key-answers : AreSlotValues schema tests path values → (key : List ℕ) (rule : KeyRule) → HasTest tests path (slot.Key key) → AnswersSlot tests path (slot.Key key) (value.Values (key_values values key rule))
@@ -226,7 +226,7 @@ module _ (schema : Schema) (tests : List Test) (path : Answers) where
         taken-answers values (slot.Key key) (value.Values (stated_values rule)) (value.Values (key_values values key rule)) are (key-taken schema key rule values (all-permitted values are.each)) asked
 
     -- a test holds on the request as its slot's value meets it
-    test-answers : AreSlotValues schema tests path values → (n : ℕ) (b : Bool) (t : Test) → HasTest tests path (slot_of t) → answer_of path n ≡ Some b → slice_get tests n ≡ Some t → MatchBool b (TestHolds (joined schema values) t) (¬ TestHolds (joined schema values) t)
+    test-answers : AreSlotValues schema tests path values → (n : ℕ) (b : Bool) (t : Test) → HasTest tests path (slot_of t) → answer_of path n ≡ Some b → slice_get tests n ≡ Some t → MatchBool b (TestHolds (joined_request schema values) t) (¬ TestHolds (joined_request schema values) t)
     test-answers are n b (Principal entry) asked answered at =
         taken-answers values slot.Principal (stated_principal schema) (principal_of (principal_in schema.shapes values)) are (principal-taken schema values (all-permitted values are.each)) asked n b (Principal entry) answered at refl
     test-answers are n b (Action pattern) asked answered at =
@@ -243,7 +243,7 @@ module _ (schema : Schema) (tests : List Test) (path : Answers) where
         let found = rule-of values key (are.there (slot.Key key) asked) are.each in
         subst (λ (vs : List Value). MatchBool b (Any (λ v. ¬ MeetsSome cs v) vs) (¬ Any (λ v. ¬ MeetsSome cs v) vs)) (sym (values-taken key found.0 found.1)) (key-answers are key found.0 asked n b (SomeMeetsNone key cs) answered at refl)
 
-    pub joined-answers : AreSlotValues schema tests path values → AnswersPath tests path (joined schema values)
+    pub joined-answers : AreSlotValues schema tests path values → AnswersPath tests path (joined_request schema values)
     joined-answers are n b t answered at = test-answers are n b t (asked-by tests path n b t answered at) answered at
 
     -- ---- slots without a test
@@ -263,19 +263,19 @@ module _ (schema : Schema) (tests : List Test) (path : Answers) where
         let same : value.Word (resource_in schema.shapes values) ≡ value.Word (stated_word schema.shapes.resource) = taken-stated values slot.Resource (stated_resource schema) (value.Word (resource_in schema.shapes values)) are.needed (resource-taken schema values (all-permitted values are.each)) none in
         cc
 
-    key-stated : AreSlotValues schema tests path values → (e : Rule) → Contains schema.keys e → (HasTest tests path (slot.Key e.0) → ⊥) → values_at (joined schema values) e.0 ≡ stated_values e.1
+    key-stated : AreSlotValues schema tests path values → (e : Rule) → Contains schema.keys e → (HasTest tests path (slot.Key e.0) → ⊥) → values_at (joined_request schema values) e.0 ≡ stated_values e.1
     key-stated are e among none =
         let same : value.Values (key_values values e.0 e.1) ≡ value.Values (stated_values e.1) = taken-stated values (slot.Key e.0) (value.Values (stated_values e.1)) (value.Values (key_values values e.0 e.1)) are.needed (key-taken schema e.0 e.1 values (all-permitted values are.each)) none in
         let equal : key_values values e.0 e.1 ≡ stated_values e.1 = cc in
         has-given (key_values values) schema.keys order e among ∙ equal
 
-    pub keys-stated : AreSlotValues schema tests path values → KeysAreStated schema tests path (joined schema values)
-    keys-stated are = all-among (λ (e : Rule). (HasTest tests path (slot.Key e.0) → ⊥) → values_at (joined schema values) e.0 ≡ stated_values e.1) schema.keys (key-stated are)
+    pub keys-stated : AreSlotValues schema tests path values → KeysAreStated schema tests path (joined_request schema values)
+    keys-stated are = all-among (λ (e : Rule). (HasTest tests path (slot.Key e.0) → ⊥) → values_at (joined_request schema values) e.0 ≡ stated_values e.1) schema.keys (key-stated are)
 
 -- the request is the joined one where its parts are
 pub joined-is : (schema : Schema) (values : Values) (kind : PrincipalKind) (id action resource : List ℕ) (context : Entries (List Value)) → (kind, id) ≡ principal_in schema.shapes values → action ≡ action_in schema.shapes values →
     resource ≡ resource_in schema.shapes values → context ≡ context_in values schema.keys →
-    record { kind = kind; id = id; action = action; resource = resource; context = context } ≡ joined schema values
+    record { kind = kind; id = id; action = action; resource = resource; context = context } ≡ joined_request schema values
 joined-is schema values kind id action resource context p a r k =
     let first : kind ≡ (principal_in schema.shapes values).0 = ap (λ (q : PrincipalKind × List ℕ). q.0) p in
     let second : id ≡ (principal_in schema.shapes values).1 = ap (λ (q : PrincipalKind × List ℕ). q.1) p in

@@ -9,17 +9,17 @@ use Rattle.policy_model.specs.Soundness.{SchemaIsSound}
 use Rattle.slot_theory.specs.declared.outcome.SlotValue.{SlotValue}
 use Rattle.slot_theory.specs.Possible.{AnswersPath, IsPossible}
 use Rattle.request_build.specs.Built.{AreSlotValues}
-use Rattle.request_build.specs.Taken.{joined}
+use Rattle.request_build.specs.Taken.{joined_request}
 use Rattle.request_build.proofs.Joining as joins
 
 -- the request that is joined from one value for each slot of a test answers the path
-pub joined-answers : (schema : Schema) (tests : List Test) (path : Answers) (values : List (Slot × SlotValue)) → IsInOrder schema.keys → AreSlotValues schema tests path values → AnswersPath tests path (joined schema values)
+pub joined-answers : (schema : Schema) (tests : List Test) (path : Answers) (values : List (Slot × SlotValue)) → IsInOrder schema.keys → AreSlotValues schema tests path values → AnswersPath tests path (joined_request schema values)
 joined-answers = joins.joined-answers
 
 -- and it is valid, so the path is possible
 pub joined-possible : (schema : Schema) (tests : List Test) (path : Answers) (values : List (Slot × SlotValue)) → SchemaIsSound schema → IsInOrder schema.keys → AreSlotValues schema tests path values → IsPossible schema tests path
 joined-possible schema tests path values sound order are = record {
-  request = joined schema values;
+  request = joined_request schema values;
   valid = joins.joined-valid schema values sound order (joins.all-permitted schema tests path values are.each);
   answers = joins.joined-answers schema tests path values order are;
 }

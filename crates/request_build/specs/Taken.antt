@@ -71,8 +71,8 @@ abbrev pub context_in : List (Slot × SlotValue) → Entries KeyRule → Entries
 context_in values keys = flat_map (λ entry. filled_entry entry.0 (key_values values entry.0 entry.1)) keys
 
 -- the request that has these values, and the stated ones where there are none
-abbrev pub joined : Schema → List (Slot × SlotValue) → Request
-joined schema values = record {
+abbrev pub joined_request : Schema → List (Slot × SlotValue) → Request
+joined_request schema values = record {
   kind = (principal_in schema.shapes values).0;
   id = (principal_in schema.shapes values).1;
   action = action_in schema.shapes values;

@@ -8,7 +8,7 @@ ghost use Rattle.slot_theory.specs.Cores.{HasTest};
 ghost use Rattle.slot_theory.specs.Possible.{AnswersPath, PathInRange};
 ghost use Rattle.slot_theory.specs.Unasked.{stated_word};
 ghost use Rattle.request_build.specs.Built.{AreSlotValues, KeysAreStated};
-ghost use Rattle.request_build.specs.Taken.{action_in, joined, principal_in, resource_in};
+ghost use Rattle.request_build.specs.Taken.{action_in, joined_request, principal_in, resource_in};
 
 use crate::context::context_in;
 use formula_tree::Path;
@@ -117,7 +117,7 @@ pub fn build(
     requires suit { All (TestSuits schema.now) _tests.now }
     requires range { PathInRange _tests.now _path.now }
     requires values { AreSlotValues schema.now _tests.now _path.now values.now }
-    ensures joined { IfOk result (λ r. r ≡ joined schema.now values.now) }
+    ensures joined { IfOk result (λ r. r ≡ joined_request schema.now values.now) }
     ensures valid { IfOk result (IsValid schema.now) }
     ensures answers { IfOk result (AnswersPath _tests.now _path.now) }
     ensures principal { IfOk result (λ r. ¬ HasTest _tests.now _path.now slot.Principal →

@@ -106,7 +106,7 @@ pub record IsKept (keys : Entries KeyRule) (name : List ℕ) (vs : List Value) :
   pub text : IsText name
   pub folded : IsFolded name
   pub permitted : MatchOption (item_at name keys) ⊥ (λ rule. PermitsValues rule vs)
-  pub some : vs ≢ []
+  pub nonempty : vs ≢ []
 
 named-again : (name : List ℕ) → IsText name → IsFolded name → folded_name (encode_utf8_all name) ≡ name
 named-again name text folded = ap folded_text (chars-encoded name text) ∙ folded
@@ -135,7 +135,7 @@ module _ (keys : Entries KeyRule) (name : List ℕ) (vs : List Value) (kept : Is
   kept-good = record { strings = strings-of vs; passes = found-passes (rule_at keys (encode_utf8_all name)) (encode_utf8_all name) vs by-rule }
 
   kept-put : (context : Keys) → with_key (rule_at keys (encode_utf8_all name)) context (encode_utf8_all name, values_data vs) ≡ with_item context name vs
-  kept-put context = found-put (rule_at keys (encode_utf8_all name)) context (encode_utf8_all name) name vs by-rule written-name kept.some
+  kept-put context = found-put (rule_at keys (encode_utf8_all name)) context (encode_utf8_all name) name vs by-rule written-name kept.nonempty
 
 -- ---- a key that is put among others
 

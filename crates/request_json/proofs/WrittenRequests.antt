@@ -47,7 +47,7 @@ kept-keys keys (e ∷ es) texts folded some valid = (
     text = All-head IsText e.0 (keys_of es) texts;
     folded = All-head IsFolded e.0 (keys_of es) folded;
     permitted = All-head (EntryIsValid keys) e es valid;
-    some = All-head (λ vs. vs ≢ []) e.1 (values_of es) some;
+    nonempty = All-head (λ vs. vs ≢ []) e.1 (values_of es) some;
   },
   kept-keys keys es (All-tail IsText e.0 (keys_of es) texts) (All-tail IsFolded e.0 (keys_of es) folded) (All-tail (λ vs. vs ≢ []) e.1 (values_of es) some) (All-tail (EntryIsValid keys) e es valid),
 )
@@ -62,7 +62,7 @@ kept-written keys (e ∷ es) kept = All-cons AreWritten e es (record { name = ke
 
 -- its names and values are of UTF-8
 pub keys-written : (schema : Schema) (r : Request) → IsWellKept r → IsValid schema r → All AreWritten r.context
-keys-written schema r kept valid = kept-written schema.keys r.context (kept-keys schema.keys r.context kept.texts kept.once.folded kept.once.some valid.keys.each)
+keys-written schema r kept valid = kept-written schema.keys r.context (kept-keys schema.keys r.context kept.texts kept.once.folded kept.once.nonempty valid.keys.each)
 
 -- ---- single checks
 
@@ -95,7 +95,7 @@ some-word [] some = absurd (some refl)
 some-word (c ∷ t) some = le-leb 1 (length (c ∷ t)) (omega arith)
 
 word-passes : (shape : Option (List Piece)) (t : List ℕ) → IsWord shape t → is_word shape t ≡ true
-word-passes shape t word = and-of (nat_le 1 (length t)) (fits_shape shape t) (some-word t word.some) ((fits-shape shape t).1 word.fits)
+word-passes shape t word = and-of (nat_le 1 (length t)) (fits_shape shape t) (some-word t word.nonempty) ((fits-shape shape t).1 word.fits)
 
 words-pass : (shapes : Shapes) (r : Request) → WordsAreValid shapes r → first_fault (word_checks_of shapes r) ≡ None
 words-pass shapes r valid =
@@ -139,7 +139,7 @@ pub data-again : (schema : Schema) (r : Request) → IsWellKept r → IsValid sc
 unfolding request_checks
 data-again schema r kept valid =
     let d = request_data r in
-    let keys = kept-keys schema.keys r.context kept.texts kept.once.folded kept.once.some valid.keys.each in
+    let keys = kept-keys schema.keys r.context kept.texts kept.once.folded kept.once.nonempty valid.keys.each in
     let context : context_of schema d ≡ r.context = keys-again schema.keys r.context kept.once.ordered keys in
     let stands : request_of schema d ≡ r = ap (request_with d) context ∙ request-again r valid.words.id.text valid.words.action.text valid.words.resource.text in
     let whole = one-passes (is_request d) _ _ (shaped r (keys-strings schema.keys r.context kept.once.ordered keys) (keys-apart schema.keys r.context kept.once.ordered keys)) in

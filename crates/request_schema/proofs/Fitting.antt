@@ -19,7 +19,7 @@ use Rattle.policy_model.specs.Operators.{family_of, is_null, takes_family}
 use Rattle.policy_model.specs.Soundness.{ConditionFits, RuleTakes}
 use Rattle.request_schema.specs.BuiltIn.{is_key}
 use Rattle.request_schema.specs.RunSchemas.{UseCheck, are_bools, asks_one, checks_among, expected_kind, fixed_kind, infer_checks, is_named_plural, many_from, rule_from, rule_in_use, schema_for, use_check}
-use Rattle.request_schema.specs.Uses.{Use, comparing, compares, is_bool, is_plain, of_key, use_family}
+use Rattle.request_schema.specs.Uses.{Use, comparing_uses, compares_values, is_bool, is_plain, of_key, use_family}
 use Rattle.request_schema.proofs.Entries.{is_key-same}
 use Rattle.request_schema.proofs.Further.{run-rule-found}
 use Rattle.request_schema.proofs.Listed.{and-both}
@@ -124,17 +124,17 @@ module _ (us : List Use) (i : ℕ) (d : Use) (within : i < length us) where
   this = get_or us i d
 
   abbrev mine : List Use
-  mine = comparing this.condition.key us
+  mine = comparing_uses this.condition.key us
 
-  here : is_null this.condition.operator.base ≡ false → compares this.condition.key this ≡ true
+  here : is_null this.condition.operator.base ≡ false → compares_values this.condition.key this ≡ true
   here compared = ap (λ (b : Bool). b && not (is_null this.condition.operator.base)) (is_key-same this.condition.key) ∙ ap not compared
 
   further-takes : takes_family (fixed_kind mine) (use_family this) ≡ true → RuleTakes (rule_from mine) this.condition.operator
   further-takes takes = record {
     kind = kind-takes (are_bools mine) (fixed_kind mine) (use_family this) takes (λ bools. truth-takes this.condition.operator.base (use_family this) refl (λ compared.
-        all-filtered (λ v. is_bool (use_family v)) (compares this.condition.key) us i d (bools-all mine bools) within (here compared)));
+        all-filtered (λ v. is_bool (use_family v)) (compares_values this.condition.key) us i d (bools-all mine bools) within (here compared)));
     single = λ other plain. not-true (many_from mine) (λ all.
-        let prefixed = all-filtered (λ v. not (is_plain v.condition.operator.quantifier)) (compares this.condition.key) us i d all within (here (compares-null this.condition.operator.base other)) in
+        let prefixed = all-filtered (λ v. not (is_plain v.condition.operator.quantifier)) (compares_values this.condition.key) us i d all within (here (compares-null this.condition.operator.base other)) in
         let lacks : not (is_plain this.condition.operator.quantifier) ≡ false = ap (λ q. not (is_plain q)) plain in
         cc);
   }

@@ -5,7 +5,7 @@ use Rattle.text_table.specs.Table.{Entries, item_at, with_item}
 use Rattle.policy_model.specs.declared.schema.KeyRule.{KeyRule}
 use Rattle.request_schema.specs.BuiltIn.{NamedRule, is_key, with_rules}
 use Rattle.request_schema.specs.RunSchemas.{further_rules, is_further, rule_from, rule_in_use}
-use Rattle.request_schema.specs.Uses.{Use, comparing, of_key}
+use Rattle.request_schema.specs.Uses.{Use, comparing_uses, of_key}
 use Rattle.request_schema.proofs.Entries.{is_key-is, item_at-with}
 
 -- ---- one use after another
@@ -79,5 +79,5 @@ at-run None [] us = refl
 at-run None (u ∷ mine) us = refl
 at-run (Some rule) mine us = refl
 
-pub run-rule-found : (keys : Entries KeyRule) (us : List Use) (key : List ℕ) → item_at key (with_rules keys (further_rules keys us)) ≡ (if is_none (item_at key keys) then rule_in_use (of_key key us) (comparing key us) else item_at key keys)
-run-rule-found keys us key = found-among keys (λ k. rule_from (comparing k us)) key us keys ∙ at-run (item_at key keys) (of_key key us) (comparing key us)
+pub run-rule-found : (keys : Entries KeyRule) (us : List Use) (key : List ℕ) → item_at key (with_rules keys (further_rules keys us)) ≡ (if is_none (item_at key keys) then rule_in_use (of_key key us) (comparing_uses key us) else item_at key keys)
+run-rule-found keys us key = found-among keys (λ k. rule_from (comparing_uses k us)) key us keys ∙ at-run (item_at key keys) (of_key key us) (comparing_uses key us)

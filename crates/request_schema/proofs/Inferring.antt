@@ -12,7 +12,7 @@ use Rattle.policy_model.specs.Soundness.{ConditionFits, IsSound, RuleIsSound, Sc
 use Rattle.request_schema.specs.BuiltIn.{NamedRule, with_rules}
 use Rattle.request_schema.specs.KeyUses.{AreUsesPassed, Summarises, checks_by, rules_by}
 use Rattle.request_schema.specs.RunSchemas.{IsInferred, further_rules, infer_checks, infer_fault, is_further, kind_from, many_from, schema_for, schema_of_run}
-use Rattle.request_schema.specs.Uses.{Use, comparing, uses_of}
+use Rattle.request_schema.specs.Uses.{Use, comparing_uses, uses_of}
 use Rattle.request_schema.specs.declared.infer_fault.InferAnswer.{InferAnswer}
 use Rattle.request_schema.specs.declared.infer_fault.InferAnswer.TheVariants.{Refused, NoMemory}
 use Rattle.request_schema.specs.declared.key_use.KeyUse.{KeyUse}
@@ -25,7 +25,7 @@ use Rattle.request_schema.proofs.Putting.{All-with_rules, plain-sound}
 further-sound : (us list : List Use) → All (λ (e : NamedRule). RuleIsSound e.1) (map (made_from us) list)
 further-sound us [] = All-nil (λ (e : NamedRule). RuleIsSound e.1)
 further-sound us (u ∷ list) =
-    let cs = comparing u.condition.key us in
+    let cs = comparing_uses u.condition.key us in
     All-cons (λ (e : NamedRule). RuleIsSound e.1) (made_from us u) (map (made_from us) list) (plain-sound (kind_from cs) (many_from cs)) (further-sound us list)
 
 schema-sound : (named : Schema) (us : List Use) → SchemaIsSound named → SchemaIsSound (schema_for named us)

@@ -11,7 +11,7 @@ use Rattle.policy_model.specs.Operators.{family_of, is_null}
 use Rattle.json_shapes.specs.Checks.{first_fault}
 use Rattle.request_schema.specs.BuiltIn.{NamedRule, plain_rule}
 use Rattle.request_schema.specs.RunSchemas.{UseCheck, are_bools, group_kind, is_further, many_from, use_checks}
-use Rattle.request_schema.specs.Uses.{Use, comparing, is_bool, is_plain, use_family}
+use Rattle.request_schema.specs.Uses.{Use, comparing_uses, is_bool, is_plain, use_family}
 use Rattle.request_schema.specs.declared.infer_fault.InferFault.{InferFault}
 use Rattle.request_schema.specs.declared.infer_fault.InferAnswer.{InferAnswer}
 use Rattle.request_schema.specs.declared.infer_fault.InferAnswer.TheVariants.{Refused, NoMemory}
@@ -38,7 +38,7 @@ with_use table c =
 
 -- the table has what the uses of each key come to
 abbrev pub Summarises : List Use → Entries KeyUse → Type 0
-Summarises uses table = (key : List ℕ) → item_at key table ≡ key_use (comparing key uses)
+Summarises uses table = (key : List ℕ) → item_at key table ≡ key_use (comparing_uses key uses)
 
 -- the kind that the uses fix for one another, and the rule that they make
 abbrev pub kind_fixed : Option KeyUse → Kind

@@ -14,7 +14,7 @@ use Rattle.policy_model.specs.declared.value.Kind.TheVariants as kind
 use Rattle.policy_model.specs.Operators.{is_null, takes_family}
 use Rattle.json_shapes.specs.Checks.{Check, first_fault}
 use Rattle.request_schema.specs.BuiltIn.{NamedRule, plain_rule, with_rules}
-use Rattle.request_schema.specs.Uses.{Use, comparing, is_bool, is_plain, of_key, use_family, uses_of}
+use Rattle.request_schema.specs.Uses.{Use, comparing_uses, is_bool, is_plain, of_key, use_family, uses_of}
 use Rattle.request_schema.specs.declared.infer_fault.InferFault.{InferFault}
 use Rattle.request_schema.specs.declared.infer_fault.InferAnswer.{InferAnswer}
 use Rattle.request_schema.specs.declared.infer_fault.InferAnswer.TheVariants.{Refused, NoMemory}
@@ -62,7 +62,7 @@ is_further keys u = is_none (item_at u.condition.key keys)
 -- the further keys, each as often as it is used
 abbrev pub further_rules : Entries KeyRule → List Use → List NamedRule
 further_rules keys uses =
-    map (λ u. (u.condition.key, rule_from (comparing u.condition.key uses))) (filter (is_further keys) uses)
+    map (λ u. (u.condition.key, rule_from (comparing_uses u.condition.key uses))) (filter (is_further keys) uses)
 
 abbrev pub schema_for : Schema → List Use → Schema
 schema_for named uses = record { version = named.version; keys = with_rules named.keys (further_rules named.keys uses); shapes = named.shapes }
@@ -81,7 +81,7 @@ rule_in_use [] deciding = None
 rule_in_use (u ∷ us) deciding = Some (rule_from deciding)
 
 abbrev pub run_rule : Schema → List Use → List ℕ → Option KeyRule
-run_rule named uses key = (if is_none (item_at key named.keys) then rule_in_use (of_key key uses) (comparing key uses)
+run_rule named uses key = (if is_none (item_at key named.keys) then rule_in_use (of_key key uses) (comparing_uses key uses)
     else item_at key named.keys)
 
 -- ---- its fault
@@ -116,7 +116,7 @@ use_checks named fixed u =
 
 -- each use in reading order, where the first use that compares values of a further key fixes the kinds that others may have
 abbrev pub checks_among : Schema → List Use → Use → List UseCheck
-checks_among named uses u = use_checks named (fixed_kind (comparing u.condition.key uses)) u
+checks_among named uses u = use_checks named (fixed_kind (comparing_uses u.condition.key uses)) u
 
 abbrev pub infer_checks : Schema → List Use → List UseCheck
 infer_checks named uses = flat_map (checks_among named uses) uses

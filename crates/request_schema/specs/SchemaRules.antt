@@ -1,6 +1,6 @@
 -- The keys of a schema file: what is checked of each, in this order, and the rule that it stands for. One table is for both versions:
 -- in version 1 a key has at most a kind and `Many`, so that the checks of what else stands are passed.
-use Rattle.std.specs.Prelude.{⊤, ℕ, List, [], ◌∷◌, ◌++◌, length, map, Bool, true, false, ◌&&◌, ◌||◌, not, nat_le, is_some, Option, Some, None, option_map, option_and_then, unwrap_or, chars, codes, bytes_eq, if◌then◌else◌}
+use Rattle.std.specs.Prelude.{◌≡◌, ⊤, ℕ, List, [], ◌∷◌, ◌++◌, length, map, Bool, true, false, ◌&&◌, ◌||◌, not, nat_le, is_some, Option, Some, None, option_map, option_and_then, unwrap_or, chars, codes, bytes_eq, if◌then◌else◌}
 use Rattle.std.specs.List.{list_all, list_any}
 use Rattle.serde_json.specs.Data.{Data}
 use Rattle.serde_json.specs.Find.{get, as_bool, as_str}
@@ -111,6 +111,10 @@ is_some_list listed = nat_le 1 (length listed)
 -- there are few values, and each text is short; of values that aren't texts the length isn't asked
 abbrev pub are_few : Kind → List (List ℕ) → Bool
 are_few k listed = nat_le (length listed) MOST_VALUES && (not (is_text_kind k) || list_all is_short listed)
+
+-- the limits of a rule, in numbers: how many values it lists, and how many characters a text among them has
+abbrev pub SchemaLimits : Type 0
+SchemaLimits = (MOST_VALUES ≡ 100) × (MOST_PIECES ≡ 2048)
 
 -- the texts are of values of the kind
 abbrev pub are_of_kind : Kind → List (List ℕ) → Bool

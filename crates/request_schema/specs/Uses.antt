@@ -64,9 +64,9 @@ abbrev pub of_key : List ℕ → List Use → List Use
 of_key key uses = filter (λ u. is_key key u.condition.key) uses
 
 -- the use is of the key, and its operator compares the key's values, as all do but `Null`
-abbrev pub compares : List ℕ → Use → Bool
-compares key u = is_key key u.condition.key && not (is_null u.condition.operator.base)
+abbrev pub compares_values : List ℕ → Use → Bool
+compares_values key u = is_key key u.condition.key && not (is_null u.condition.operator.base)
 
 -- the uses that compare values of the key: they settle its kind and its number of values
-abbrev pub comparing : List ℕ → List Use → List Use
-comparing key uses = filter (compares key) uses
+abbrev pub comparing_uses : List ℕ → List Use → List Use
+comparing_uses key uses = filter (compares_values key) uses

@@ -20,7 +20,7 @@ pub use file::read_schema;
 pub use global_keys::built_in;
 pub use infer_fault::{InferAnswer, InferFault};
 pub use inference::infer;
-pub use rules::MOST_VALUES;
+pub use rules::{MOST_VALUES, schema_limits};
 pub use run_rules::keys_have_their_rules;
 pub use schema_fault::{SchemaAnswer, SchemaCode, SchemaFault};
 pub use value_text::value_written;

@@ -8,7 +8,7 @@ ghost use Rattle.policy_model.specs.Requests.{IsOfKind};
 ghost use Rattle.policy_model.specs.Soundness.{RuleIsSound};
 ghost use Rattle.wildcard_lang.specs.Patterns.{IsPattern};
 ghost use Rattle.request_schema.specs.SchemaChecks.{schema_check};
-ghost use Rattle.request_schema.specs.SchemaRules.{among_of, are_few, are_of_kind, rule_form_checks, has_kind, has_limits, is_list_of_strings, is_rule, is_short, is_some_list, is_text_kind, is_truth, kind_in, kind_named, kind_of_rule, listed_checks, listed_in, rule_checks, rule_names, rule_of, shape_checks, shape_in, shape_pieces, string_at, string_in, strings_of, truth_at, value_kind_checks, values_of_kind};
+ghost use Rattle.request_schema.specs.SchemaRules.{SchemaLimits, among_of, are_few, are_of_kind, rule_form_checks, has_kind, has_limits, is_list_of_strings, is_rule, is_short, is_some_list, is_text_kind, is_truth, kind_in, kind_named, kind_of_rule, listed_checks, listed_in, rule_checks, rule_names, rule_of, shape_checks, shape_in, shape_pieces, string_at, string_in, strings_of, truth_at, value_kind_checks, values_of_kind};
 ghost use Rattle.request_schema.specs.declared.schema_fault.SchemaCode.TheVariants.{S8BadValue, S9Limit};
 ghost use Rattle.json_shapes.specs.Checks.{IsReadOf};
 
@@ -23,6 +23,11 @@ use wildcard_lang::{MOST_PIECES, Pattern, PatternFault, read_glob};
 
 /// The most values that a key may list.
 pub const MOST_VALUES: usize = 100;
+
+/// A key lists at most 100 values, and a text among them has at most 2,048 characters.
+pub fn schema_limits()
+    ensures { SchemaLimits }
+{}
 
 // Whether the rule is an object, of the names that rules in files of the version may have.
 fn has_names(second: bool, rule: &Value) -> bool

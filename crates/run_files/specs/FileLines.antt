@@ -5,7 +5,7 @@ use Rattle.run_files.specs.declared.role.Role.{Role}
 use Rattle.run_files.specs.declared.role.Role.TheVariants.{First, Second, Set, Schema, Request, Proof, Zone}
 use Rattle.run_files.specs.declared.status.Status.TheVariants.{ReadFault, Refused}
 use Rattle.run_files.specs.Files.{limit_of}
-use Rattle.run_files.specs.Printing.{IfAnswered, Tells}
+use Rattle.run_files.specs.Printing.{IfAnswered, PrintsText}
 
 abbrev pub role_word : Role → List ℕ
 role_word First = codes "first"
@@ -30,7 +30,7 @@ too_long_line role = codes "refused: " ++ role_word role ++ too_long_end role
 
 -- what is printed of them
 abbrev pub IsReadFault : Role → EarlyEnd → Type 0
-IsReadFault role e = IfAnswered e (Tells (read_fault_line role) ReadFault)
+IsReadFault role e = IfAnswered e (PrintsText (read_fault_line role) ReadFault)
 
 abbrev pub IsTooLong : Role → EarlyEnd → Type 0
-IsTooLong role e = IfAnswered e (Tells (too_long_line role) Refused)
+IsTooLong role e = IfAnswered e (PrintsText (too_long_line role) Refused)

@@ -8,8 +8,8 @@ use Rattle.run_files.specs.declared.status.Status.{Status}
 use Rattle.run_files.specs.declared.status.Status.TheVariants.{WriteFault, NoMemory as no_memory}
 
 -- this text with this status
-abbrev pub Tells : List ℕ → Status → Printed → Type 0
-Tells text status p = (string_bytes p.text ≡ text) × (p.status ≡ status)
+abbrev pub PrintsText : List ℕ → Status → Printed → Type 0
+PrintsText text status p = (string_bytes p.text ≡ text) × (p.status ≡ status)
 
 -- what ends a command early is printed so, unless it is want of memory
 abbrev pub IfAnswered : EarlyEnd → (Printed → Type 0) → Type 0

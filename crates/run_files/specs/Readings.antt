@@ -9,7 +9,7 @@ use Rattle.run_files.specs.declared.role.Role.{Role}
 use Rattle.run_files.specs.declared.status.Status.TheVariants.{ReadFault, Refused}
 use Rattle.run_files.specs.FileLines.{read_fault_line, too_long_line}
 use Rattle.run_files.specs.Files.{IsLong, IsShort, IsShortIfNamed}
-use Rattle.run_files.specs.Printing.{OrAnswered, Tells}
+use Rattle.run_files.specs.Printing.{OrAnswered, PrintsText}
 
 -- the folder of a run: what it holds, and how many faults it had and the name of the last, before the run and now
 pub record Reading : Type 0 where
@@ -55,8 +55,8 @@ AreRead held _ _ = ⊥
 -- the folder's last fault is as it was
 abbrev pub FileFails : FileName → Reading → Printed → Type 0
 FileFails f r p =
-    (Rose r.faults_before r.faults × (r.last ≡ Some f.name) × Tells (read_fault_line f.role) ReadFault p)
-    ⊎ (IsLong r.held f.role f.name × IsCalm r × Tells (too_long_line f.role) Refused p)
+    (Rose r.faults_before r.faults × (r.last ≡ Some f.name) × PrintsText (read_fault_line f.role) ReadFault p)
+    ⊎ (IsLong r.held f.role f.name × IsCalm r × PrintsText (too_long_line f.role) Refused p)
 
 -- what is printed of the first of the files that fails: those before it were read within their limits
 pub record FilesFail (files : List FileName) (r : Reading) (p : Printed) : Type 0 where

@@ -14,7 +14,7 @@ use Rattle.run_sets.specs.declared.refusal.Refusal.{Refusal}
 use Rattle.run_sets.specs.declared.refusal.Refusal.TheVariants as refusal
 use Rattle.run_sets.specs.OneSets.{IsNoOneSet, IsOneSetOf, OfOneSet, OfSet}
 use Rattle.run_sets.specs.Pairs.{Contents, IsNoPair, IsPairOf, OfFiles, OfPair}
-use Rattle.run_sets.specs.Refusals.{TellsRefusal, IsRefusedBy}
+use Rattle.run_sets.specs.Refusals.{PrintsRefusal, IsRefusedBy}
 use Rattle.run_sets.specs.Standing.{NamesSchema, SchemaFails}
 
 -- what is refused, for a weaker reason
@@ -22,7 +22,7 @@ pub refused_weaker : (Q R : Refusal → Type 0) → ((r : Refusal) → Q r → R
 refused_weaker Q R weaker p (r, is, told) = (r, weaker r is, told)
 
 -- what is refused for a reason
-pub refused_by : (e : EarlyEnd) (r : Refusal) (Q : Refusal → Type 0) → Q r → IfAnswered e (TellsRefusal r) → IfAnswered e (IsRefusedBy Q)
+pub refused_by : (e : EarlyEnd) (r : Refusal) (Q : Refusal → Type 0) → Q r → IfAnswered e (PrintsRefusal r) → IfAnswered e (IsRefusedBy Q)
 refused_by (Answered p) r Q is told = (r, is, told)
 refused_by NoMemory r Q is told = tt
 

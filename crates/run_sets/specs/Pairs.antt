@@ -14,8 +14,8 @@ use Rattle.run_sets.specs.declared.refusal.Refusal.TheVariants.{NoSchema, NoSet,
 use Rattle.run_sets.specs.Standing.{HasSchema, HasSet, NamesSchema, SchemaFails, StandsFor}
 
 -- two sets, under the schema of their run
-abbrev pub paired : Schema → PolicySet → PolicySet → Pair
-paired schema first second = record { schema = schema; first = first; second = second }
+abbrev pub pair_of_sets : Schema → PolicySet → PolicySet → Pair
+pair_of_sets schema first second = record { schema = schema; first = first; second = second }
 
 -- the schema can answer for both sets, and there are valid requests under it
 pub record IsFitting (pair : Pair) : Type 0 where
@@ -27,7 +27,7 @@ pub record IsFitting (pair : Pair) : Type 0 where
 
 -- the two sets, under the schema of their run: the named keys, and what the sets' operators say of each further key
 abbrev pub pair_of : Schema → PolicySet → PolicySet → Pair
-pair_of named one two = paired (schema_of_run named one (Some two)) one two
+pair_of named one two = pair_of_sets (schema_of_run named one (Some two)) one two
 
 -- no condition of the two sets is refused under the named keys, and of the sets under the schema of their run this holds
 pub record OfRun (named : Schema) (one two : PolicySet) (P : Pair → Type 0) : Type 0 where

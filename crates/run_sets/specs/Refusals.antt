@@ -17,7 +17,7 @@ use Rattle.policy_json.specs.declared.fault.PolicyCode.TheVariants.{P13BadValue,
 use Rattle.run_files.specs.declared.printed.Printed.{Printed}
 use Rattle.run_files.specs.declared.status.Status.TheVariants.{Refused}
 use Rattle.run_files.specs.FileLines.{role_word}
-use Rattle.run_files.specs.Printing.{Tells}
+use Rattle.run_files.specs.Printing.{PrintsText}
 use Rattle.run_sets.specs.declared.refusal.Refusal.{Refusal}
 use Rattle.run_sets.specs.declared.refusal.Refusal.TheVariants.{NoSchema, NoSet, NoRun, TooManyTests, TooManyPieces}
 use Rattle.run_sets.specs.Parts.{element_text}
@@ -86,9 +86,9 @@ refusal_text TooManyTests = codes "refused: query: P17 Limit: document 0, statem
 refusal_text TooManyPieces = codes "refused: query: P17 Limit: document 0, statement 0, \"pieces\"\n"
 
 -- the line of the refusal is printed
-abbrev pub TellsRefusal : Refusal → Printed → Type 0
-TellsRefusal refusal p = Tells (refusal_text refusal) Refused p
+abbrev pub PrintsRefusal : Refusal → Printed → Type 0
+PrintsRefusal refusal p = PrintsText (refusal_text refusal) Refused p
 
 -- the line of a refusal of which this holds is printed
 abbrev pub IsRefusedBy : (Refusal → Type 0) → Printed → Type 0
-IsRefusedBy Q p = (refusal : Refusal) × Q refusal × TellsRefusal refusal p
+IsRefusedBy Q p = (refusal : Refusal) × Q refusal × PrintsRefusal refusal p

@@ -1,7 +1,7 @@
 //! Why files, and the sets that they stand for, aren't answered.
 ghost use Rattle.std.specs.Prelude.{◌≡◌, IfOk, string_bytes};
 ghost use Rattle.run_files.specs.Printing.{IfAnswered};
-ghost use Rattle.run_sets.specs.Refusals.{TellsRefusal, refusal_text};
+ghost use Rattle.run_sets.specs.Refusals.{PrintsRefusal, refusal_text};
 
 use crate::codes::{fault_text, infer_text, schema_text};
 use crate::lines::refused_line;
@@ -52,7 +52,7 @@ fn refusal_text(alloc: Global, refusal: &Refusal) -> Result<String, AllocError>
 
 /// The line of the refusal, which ends the run.
 pub fn refused(alloc: Global, refusal: Refusal) -> EarlyEnd
-    ensures { IfAnswered result (TellsRefusal refusal) }
+    ensures { IfAnswered result (PrintsRefusal refusal) }
 {
     match refusal_text(alloc, &refusal) {
         Ok(text) => EarlyEnd::Answered(Printed {

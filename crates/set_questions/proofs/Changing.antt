@@ -13,7 +13,7 @@ use Rattle.policy_model.specs.declared.set.StatementName.{StatementName}
 use Rattle.policy_model.specs.Sets.{Allows, Decides, SomeDecides}
 use Rattle.policy_model.specs.Soundness.{ConditionFits, DocumentFits, DocumentIsSound, IsSound, SchemaFits, StatementIsSound}
 use Rattle.policy_compile.specs.Asked.{HasStatementsOf, SomeStatementIn}
-use Rattle.set_questions.specs.Idle.{change_item, document_without, documents_without, guards_without, without, without_item}
+use Rattle.set_questions.specs.Idle.{change_item, document_without, documents_without, guards_without, without_statement, without_item}
 use Rattle.set_questions.proofs.Losing.{EachLoses, SetLoses, some-less, some-more, zip-all, zip-all-back, zip-any, zip-any-back}
 
 -- ---- what is allowed
@@ -112,7 +112,7 @@ document-stays-sound k d sound =
 document-stays-fit : (schema : Schema) (k : ℕ) (d : Document) → DocumentFits schema d → DocumentFits schema (document_without k d)
 document-stays-fit schema k d fits = all-without (λ s. All (ConditionFits schema) s.conditions) k d.statements fits
 
-pub stays-sound : (set : PolicySet) (name : StatementName) → IsSound set → IsSound (without set name)
+pub stays-sound : (set : PolicySet) (name : StatementName) → IsSound set → IsSound (without_statement set name)
 stays-sound set name sound =
     let k = name.statement in
     let n = name.document - length set.grants in
@@ -125,7 +125,7 @@ stays-sound set name sound =
       guarding = all-guards DocumentIsSound k (document-stays-sound k) n set.guards sound.guarding;
     }
 
-pub stays-fit : (schema : Schema) (set : PolicySet) (name : StatementName) → SchemaFits schema set → SchemaFits schema (without set name)
+pub stays-fit : (schema : Schema) (set : PolicySet) (name : StatementName) → SchemaFits schema set → SchemaFits schema (without_statement set name)
 stays-fit schema set name fits =
     let k = name.statement in
     let n = name.document - length set.grants in

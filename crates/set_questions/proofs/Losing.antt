@@ -11,7 +11,7 @@ use Rattle.policy_model.specs.declared.set.PolicySet.{PolicySet}
 use Rattle.policy_model.specs.declared.set.Statement.{Statement}
 use Rattle.policy_model.specs.declared.set.StatementName.{StatementName}
 use Rattle.policy_model.specs.StatementNames.{named_set}
-use Rattle.set_questions.specs.Idle.{document_without, documents_without, guards_without, without, without_item}
+use Rattle.set_questions.specs.Idle.{document_without, documents_without, guards_without, without_statement, without_item}
 use Rattle.set_questions.specs.SetDocuments.{guard_documents, set_documents}
 use Rattle.set_questions.proofs.Removing.{change-none}
 use Rattle.set_questions.proofs.Counting.{slice_get-behind}
@@ -96,7 +96,7 @@ module _ (s : Statement) (j : ℕ) (x : Document) (here : slice_get x.statements
       (subst (λ (m : ℕ). SetLoses s set (without_at set (suc i) m)) (sym statement) (set-at i set at))
 
 -- the set loses the named statement
-pub set-loses : (set : PolicySet) (name : StatementName) (s : Statement) → Contains (named_set set) (name, s) → SetLoses s set (without set name)
+pub set-loses : (set : PolicySet) (name : StatementName) (s : Statement) → Contains (named_set set) (name, s) → SetLoses s set (without_statement set name)
 set-loses set name s at =
     let p = place-of set name s at in
     let d : name.document ≡ 1 + p.i = p.document_number in

@@ -18,7 +18,7 @@ use Rattle.policy_model.specs.Soundness.{ConditionFits, DocumentFits, DocumentIs
 use Rattle.policy_model.specs.StatementNames.{named_set}
 use Rattle.policy_difference.specs.Apartness.{AskTheSamePair, WithoutApartSaysNoLess}
 use Rattle.set_questions.specs.declared.narrowing.AskedPair.{AskedPair}
-use Rattle.set_questions.specs.Idle.{without}
+use Rattle.set_questions.specs.Idle.{without_statement}
 use Rattle.set_questions.specs.Laws.{AsksTheChange}
 use Rattle.set_questions.specs.Narrowing.{HasDocumentRoom, IsNarrowed, IsNarrowedChange, NarrowedPairsAskTheSame, documents_alone, guarded_by, set_alone}
 use Rattle.set_questions.specs.SetDocuments.{guard_documents, set_documents}
@@ -277,7 +277,7 @@ module _ (law : WithoutApartSaysNoLess) (s : Statement) (first second : PolicySe
 
 module _ (law : WithoutApartSaysNoLess) (schema : Schema) (set : PolicySet) (name : StatementName) (s : Statement) (asked : AskedPair) (fits : SchemaFits schema set) (at : Contains (named_set set) (name, s)) where
   abbrev part : PolicySet
-  part = without set name
+  part = without_statement set name
 
   asks-by : (allow : Bool) → MatchBool allow (IsNarrowed s set part asked) (IsNarrowed s part set asked) → MatchBool allow (AskTheSamePair set part asked.less asked.rest) (AskTheSamePair part set asked.less asked.rest)
   asks-by true is = narrowed-pair law s set part asked is (λ schema r. unless-allow schema r s set part (set-loses set name s at))

@@ -7,7 +7,7 @@ use Rattle.policy_model.specs.declared.set.PolicySet.{PolicySet}
 use Rattle.policy_model.specs.declared.set.Statement.{Statement}
 use Rattle.policy_model.specs.declared.set.StatementName.{StatementName}
 use Rattle.policy_model.specs.StatementNames.{Named, name_of, named_documents, named_statements}
-use Rattle.set_questions.specs.Idle.{change_item, document_without, documents_without, guards_without, without, without_item}
+use Rattle.set_questions.specs.Idle.{change_item, document_without, documents_without, guards_without, without_statement, without_item}
 use Rattle.set_questions.specs.Laws.{WithoutTakesOne, statements_named}
 use Rattle.set_questions.specs.SetDocuments.{guard_documents, set_documents}
 use Rattle.set_questions.proofs.Changing.{as-many, same-lengths}
@@ -147,7 +147,7 @@ guards-in-one n k [] = refl
 guards-in-one n k (g ∷ gs) =
     ap (λ ds. documents_without n k g ++ ds) (guards-in-one (n - length g) k gs) ∙ sym (change-past (document_without k) n g (guard_documents gs))
 
-set-in-one : (set : PolicySet) (name : StatementName) → set_documents (without set name) ≡ change_item (document_without name.statement) name.document (set_documents set)
+set-in-one : (set : PolicySet) (name : StatementName) → set_documents (without_statement set name) ≡ change_item (document_without name.statement) name.document (set_documents set)
 set-in-one set name =
     ap (λ ds. documents_without name.document name.statement set.grants ++ ds) (guards-in-one (name.document - length set.grants) name.statement set.guards)
     ∙ sym (change-past (document_without name.statement) name.document set.grants (guard_documents set.guards))
@@ -162,7 +162,7 @@ takes-one set name s before after is =
     let there : change_item (document_without name.statement) name.document (set_documents set) ≡ change_item (document_without (suc one.j)) (suc one.i) (set_documents set) =
     ap (λ m. change_item (document_without name.statement) m (set_documents set)) document ∙ ap (λ m. change_item (document_without m) (suc one.i) (set_documents set)) statement in
     record {
-      statements = ap (λ ns. statements_named ns) (named-all (without set name)) ∙ unnamed-documents 1 (set_documents (without set name)) ∙ ap (λ ds. document_statements ds) (set-in-one set name ∙ there) ∙ one.left;
+      statements = ap (λ ns. statements_named ns) (named-all (without_statement set name)) ∙ unnamed-documents 1 (set_documents (without_statement set name)) ∙ ap (λ ds. document_statements ds) (set-in-one set name ∙ there) ∙ one.left;
       grants = as-many (document_without name.statement) name.document set.grants;
       guards = same-lengths name.statement (name.document - length set.grants) set.guards;
     }

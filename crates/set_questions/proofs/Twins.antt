@@ -13,7 +13,7 @@ use Rattle.policy_model.specs.declared.set.Statement.{Statement}
 use Rattle.policy_model.specs.declared.set.StatementName.{StatementName}
 use Rattle.policy_model.specs.Sets.{Allows, Decides, SomeDecides}
 use Rattle.policy_model.specs.StatementNames.{Named, named_grants}
-use Rattle.set_questions.specs.Idle.{IsIdle, change_item, document_without, without}
+use Rattle.set_questions.specs.Idle.{IsIdle, change_item, document_without, without_statement}
 use Rattle.set_questions.specs.Laws.{HasSilentGuard, LastAllowsOfGuards, TwinsAreIdle, statements_named}
 use Rattle.set_questions.proofs.Losing.{guards-none}
 use Rattle.set_questions.proofs.Placing.{in-documents, there-cases}
@@ -82,7 +82,7 @@ unnamed-any P (n ∷ ns) some = elim (Any-split (λ (m : Named). P m.1) n ns som
 
 module _ (set : PolicySet) (s : Statement) (name other : StatementName) (at : Contains (named_grants set) (name, s)) (at_other : Contains (named_grants set) (other, s)) (differ : name ≢ other) where
   -- the guards stay as they are
-  same-guards : (without set name).guards ≡ set.guards
+  same-guards : (without_statement set name).guards ≡ set.guards
   same-guards =
       let p = in-documents 1 set.grants name s at in
       let number : name.document ≡ 1 + p.i = p.document_number in
@@ -91,7 +91,7 @@ module _ (set : PolicySet) (s : Statement) (name other : StatementName) (at : Co
       rw e (guards-none name.statement set.guards)
 
   -- what is left of the grants has the twin, and so has some statement of which P holds where they do
-  same-grants : (P : Statement → Type 0) → (Any (λ d. Any P d.statements) set.grants ↔ Any (λ d. Any P d.statements) (without set name).grants)
+  same-grants : (P : Statement → Type 0) → (Any (λ d. Any P d.statements) set.grants ↔ Any (λ d. Any P d.statements) (without_statement set name).grants)
   same-grants P =
       let c = cut-at (name, s) (named_grants set) at in
       let before = statements_named c.0 in
@@ -101,13 +101,13 @@ module _ (set : PolicySet) (s : Statement) (name other : StatementName) (at : Co
       let k : name.statement ≡ 1 + one.j = one.statement_number in
       let document : name.document ≡ suc one.i = omega (arith, d) in
       let statement : name.statement ≡ suc one.j = omega (arith, k) in
-      let left : document_statements (without set name).grants ≡ before ++ after =
+      let left : document_statements (without_statement set name).grants ≡ before ++ after =
       ap (λ m. document_statements (change_item (document_without name.statement) m set.grants)) document
       ∙ ap (λ m. document_statements (change_item (document_without m) (suc one.i) set.grants)) statement ∙ one.left in
       let whole : document_statements set.grants ≡ before ++ s ∷ after =
       sym (unnamed-documents 1 set.grants) ∙ ap (λ ns. statements_named ns) c.2 ∙ map-append (λ (n : Named). n.1) c.0 ((name, s) ∷ c.1) in
       let twin : Contains (c.0 ++ (name, s) ∷ c.1) (other, s) = subst (λ (ns : List Named). Contains ns (other, s)) c.2 at_other in (
-        λ some. (some-flat P (without set name).grants).0 (subst (Any P) (sym left) (
+        λ some. (some-flat P (without_statement set name).grants).0 (subst (Any P) (sym left) (
             elim (any-joined P before (s ∷ after) (subst (Any P) whole ((some-flat P set.grants).1 some))) [
               | inl a ↦ any-front P before after a
               | inr b ↦ elim (Any-split P s after b) [
@@ -117,7 +117,7 @@ module _ (set : PolicySet) (s : Statement) (name other : StatementName) (at : Co
               ]
             ])),
         λ some. (some-flat P set.grants).0 (subst (Any P) (sym whole) (
-            elim (any-joined P before after (subst (Any P) left ((some-flat P (without set name).grants).1 some))) [
+            elim (any-joined P before after (subst (Any P) left ((some-flat P (without_statement set name).grants).1 some))) [
               | inl a ↦ any-front P before (s ∷ after) a
               | inr b ↦ any-behind P before (s ∷ after) (Any-later P s after b)
             ])),
@@ -165,6 +165,6 @@ module _ (schema : Schema) (r : Request) where
 
 pub last-allows : LastAllowsOfGuards
 last-allows schema set name some = (
-  λ idle r valid h. nothing-allowed schema r (without set name) some ((idle r valid).0 h),
-  λ none r valid. (λ h. absurd (none r valid h), λ h. absurd (nothing-allowed schema r (without set name) some h)),
+  λ idle r valid h. nothing-allowed schema r (without_statement set name) some ((idle r valid).0 h),
+  λ none r valid. (λ h. absurd (none r valid h), λ h. absurd (nothing-allowed schema r (without_statement set name) some h)),
 )

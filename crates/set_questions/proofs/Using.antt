@@ -33,8 +33,8 @@ use Rattle.findings.specs.Answers.{QueryIsAskable}
 use Rattle.set_questions.specs.declared.narrowing.AskedPair.{AskedPair}
 use Rattle.set_questions.specs.declared.settling.Settled.{Settled}
 use Rattle.set_questions.specs.declared.settling.Settled.TheVariants as settled
-use Rattle.set_questions.specs.Idle.{Differ, IsNameIn, OfNamed, without}
-use Rattle.set_questions.specs.Laws.{AsksAsTheSet, IsSmallerQuestion, TellsUse}
+use Rattle.set_questions.specs.Idle.{Differ, IsNameIn, OfNamed, without_statement}
+use Rattle.set_questions.specs.Laws.{AsksAsTheSet, IsSmallerQuestion, DecidesUse}
 use Rattle.set_questions.specs.Settling.{IsClosedBy, SettlesQuery}
 use Rattle.set_questions.specs.Uses.{AreLimitsMet, IsUseOf, change_plan, limits_told, use_told}
 use Rattle.set_questions.proofs.Changing.{allow-adds, deny-takes, part-among, stays-fit}
@@ -110,18 +110,18 @@ module _ (schema : Schema) (s : Statement) (set part : PolicySet) (lose : SetLos
 pub change-asks : (schema : Schema) (set : PolicySet) (named : Named) → Contains (named_set set) named → AsksAsTheSet schema set named
 change-asks schema set (name, s) at =
     let lose = set-loses set name s at in
-    record { tests = directed-tests schema s set (without set name) lose s.allow; limits = directed-limits schema s set (without set name) lose s.allow }
+    record { tests = directed-tests schema s set (without_statement set name) lose s.allow; limits = directed-limits schema s set (without_statement set name) lose s.allow }
 
 pub change-askable : (schema : Schema) (set : PolicySet) (name : StatementName) (s : Statement) (q : Query) → SchemaFits schema set → SchemaIsSound schema → Contains (named_set set) (name, s) → IsQuery (change_plan schema set (name, s)) q → QueryIsAskable schema q
 change-askable schema set name s q fits sound at is =
-    directed-askable schema s set (without set name) (set-loses set name s at) fits (stays-fit schema set name fits) q s.allow is sound
+    directed-askable schema s set (without_statement set name) (set-loses set name s at) fits (stays-fit schema set name fits) q s.allow is sound
 
 pub use-settled : (schema : Schema) (splits states : ℕ) (set : PolicySet) (name : StatementName) (s : Statement) (q : Query) → SchemaFits schema set → Contains (named_set set) (name, s) → IsQuery (change_plan schema set (name, s)) q →
     (answer : Settled) → SettlesQuery schema splits states q answer → IsUseOf schema splits states set (name, s) (use_told answer)
 use-settled schema splits states set name s q fits at is (settled.Met r) met =
-    record { valid = met.valid; differ = directed-met schema s set (without set name) (set-loses set name s at) fits (stays-fit schema set name fits) q s.allow is r met }
+    record { valid = met.valid; differ = directed-met schema s set (without_statement set name) (set-loses set name s at) fits (stays-fit schema set name fits) q s.allow is r met }
 use-settled schema splits states set name s q fits at is (settled.Nobody r) h = (
-  directed-closed schema s set (without set name) (set-loses set name s at) fits (stays-fit schema set name fits) q s.allow refl is (proof_of r.value) h.closes,
+  directed-closed schema s set (without_statement set name) (set-loses set name s at) fits (stays-fit schema set name fits) q s.allow refl is (proof_of r.value) h.closes,
   record { query = q; is = is; holds = h },
 )
 use-settled schema splits states set name s q fits at is settled.OutOfSplits h = record { query = q; is = is; holds = h }
@@ -134,10 +134,10 @@ change-within schema set named at within =
     record { tests = λ many. within.tests (alike.tests.0 many); pieces = λ many. within.pieces (alike.pieces.0 many) }
 
 -- what is asked with the part and the effect is the change query
-pub directed-change : (schema : Schema) (set : PolicySet) (name : StatementName) (s : Statement) (part : PolicySet) (allow : Bool) → part ≡ without set name → allow ≡ s.allow → directed_plan allow schema set part ≡ change_plan schema set (name, s)
-directed-change schema set name s part allow same effect = ap (λ (p : PolicySet). directed_plan allow schema set p) same ∙ ap (λ (b : Bool). directed_plan b schema set (without set name)) effect
+pub directed-change : (schema : Schema) (set : PolicySet) (name : StatementName) (s : Statement) (part : PolicySet) (allow : Bool) → part ≡ without_statement set name → allow ≡ s.allow → directed_plan allow schema set part ≡ change_plan schema set (name, s)
+directed-change schema set name s part allow same effect = ap (λ (p : PolicySet). directed_plan allow schema set p) same ∙ ap (λ (b : Bool). directed_plan b schema set (without_statement set name)) effect
 
-pub directed-within : (schema : Schema) (set : PolicySet) (name : StatementName) (part : PolicySet) (allow : Bool) → IsNameIn set name → part ≡ without set name → OfNamed set name (λ s. allow ≡ s.allow) → IsWithinLimits (set_plan schema set) → IsWithinLimits (directed_plan allow schema set part)
+pub directed-within : (schema : Schema) (set : PolicySet) (name : StatementName) (part : PolicySet) (allow : Bool) → IsNameIn set name → part ≡ without_statement set name → OfNamed set name (λ s. allow ≡ s.allow) → IsWithinLimits (set_plan schema set) → IsWithinLimits (directed_plan allow schema set part)
 directed-within schema set name part allow is same effect within =
     let there = named-there set name is in
     subst IsWithinLimits (sym (directed-change schema set name there.0 part allow same (effect there.0 there.1))) (change-within schema set (name, there.0) there.1 within)
@@ -154,14 +154,14 @@ limits-met plan (Err query_fault.NoMemory) is = tt
 -- a request that only `less` allows is one on which the sets differ, and a refutation shows them the same
 module _ (schema : Schema) (set : PolicySet) (named : Named) (asked : AskedPair) (q : Query) (question : IsSmallerQuestion schema set named asked q) where
   abbrev part : PolicySet
-  part = without set named.0
+  part = without_statement set named.0
 
   lose : SetLoses named.1 set part
   lose = set-loses set named.0 named.1 question.named_there
 
   pair-tells : (first second : PolicySet) → AskTheSamePair first second asked.less asked.rest →
       ((r : Request) → Allows schema first r × ¬ Allows schema second r → Differ schema set part r) →
-      ((r : Request) → (Allows schema first r → Allows schema second r) → (Allows schema set r ↔ Allows schema part r)) → TellsUse schema set named.0 q
+      ((r : Request) → (Allows schema first r → Allows schema second r) → (Allows schema set r ↔ Allows schema part r)) → DecidesUse schema set named.0 q
   pair-tells first second asks differ alike = record {
     askable = query-askable schema asked.less asked.rest question.pair.less_fits question.pair.rest_fits q question.is;
     used = λ r met.
@@ -171,11 +171,11 @@ module _ (schema : Schema) (set : PolicySet) (named : Named) (asked : AskedPair)
         alike r (λ allows. asks.covers schema r allows (λ few. closed-covers schema asked.less asked.rest question.pair.less_fits question.pair.rest_fits q question.is p closes r valid few));
   }
 
-  tells-by : (allow : Bool) → named.1.allow ≡ allow → MatchBool allow (AskTheSamePair set part asked.less asked.rest) (AskTheSamePair part set asked.less asked.rest) → TellsUse schema set named.0 q
+  tells-by : (allow : Bool) → named.1.allow ≡ allow → MatchBool allow (AskTheSamePair set part asked.less asked.rest) (AskTheSamePair part set asked.less asked.rest) → DecidesUse schema set named.0 q
   tells-by true effect asks =
       pair-tells set part asks (λ r only. inl only) (λ r covers. (covers, λ h. allow-adds schema named.1 set part lose r effect h))
   tells-by false effect asks =
       pair-tells part set asks (λ r only. inr only) (λ r covers. (λ h. deny-takes schema named.1 set part lose r effect h, covers))
 
-pub smaller-tells : (schema : Schema) (set : PolicySet) (named : Named) (asked : AskedPair) (query : Query) → IsSmallerQuestion schema set named asked query → TellsUse schema set named.0 query
+pub smaller-tells : (schema : Schema) (set : PolicySet) (named : Named) (asked : AskedPair) (query : Query) → IsSmallerQuestion schema set named asked query → DecidesUse schema set named.0 query
 smaller-tells schema set named asked query question = tells-by schema set named asked query question named.1.allow refl question.pair.asks

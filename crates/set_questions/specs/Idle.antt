@@ -52,8 +52,8 @@ guards_without document statement (g ∷ gs) =
 
 -- the set without the statement of this name. Its documents and guards stay, also where they are empty, so that no other document
 -- has another number
-abbrev pub without : PolicySet → StatementName → PolicySet
-without set name = record {
+abbrev pub without_statement : PolicySet → StatementName → PolicySet
+without_statement set name = record {
   grants = documents_without name.document name.statement set.grants;
   guards = guards_without (name.document - length set.grants) name.statement set.guards;
 }
@@ -68,8 +68,8 @@ Differ schema one other r =
 -- the request is valid, and the set answers it otherwise than without the statement
 pub record IsUsedBy (schema : Schema) (set : PolicySet) (name : StatementName) (r : Request) : Type 0 where
   pub valid : IsValid schema r
-  pub differ : Differ schema set (without set name) r
+  pub differ : Differ schema set (without_statement set name) r
 
 -- without the statement the set allows the same valid requests
 abbrev pub IsIdle : Schema → PolicySet → StatementName → Type 0
-IsIdle schema set name = (r : Request) → IsValid schema r → (Allows schema set r ↔ Allows schema (without set name) r)
+IsIdle schema set name = (r : Request) → IsValid schema r → (Allows schema set r ↔ Allows schema (without_statement set name) r)

@@ -18,7 +18,7 @@ use Rattle.refute_check.specs.Laws.{IsMetBy}
 use Rattle.refute_check.specs.Proofs.{Proof}
 use Rattle.findings.specs.Answers.{QueryIsAskable}
 use Rattle.set_questions.specs.declared.narrowing.AskedPair.{AskedPair}
-use Rattle.set_questions.specs.Idle.{IsIdle, IsUsedBy, without}
+use Rattle.set_questions.specs.Idle.{IsIdle, IsUsedBy, without_statement}
 use Rattle.set_questions.specs.Settling.{IsClosedBy}
 use Rattle.set_questions.specs.Uses.{change_plan}
 
@@ -30,9 +30,9 @@ statements_named ns = map (λ n. n.1) ns
 
 -- of the set's statements just the one goes; each document and each guard stays
 pub record TakesOne (set : PolicySet) (name : StatementName) (before after : List Named) : Type 0 where
-  pub statements : statements_named (named_set (without set name)) ≡ statements_named before ++ statements_named after
-  pub grants : length (without set name).grants ≡ length set.grants
-  pub guards : map (λ g. length g) (without set name).guards ≡ map (λ g. length g) set.guards
+  pub statements : statements_named (named_set (without_statement set name)) ≡ statements_named before ++ statements_named after
+  pub grants : length (without_statement set name).grants ≡ length set.grants
+  pub guards : map (λ g. length g) (without_statement set name).guards ≡ map (λ g. length g) set.guards
 
 abbrev pub WithoutTakesOne : Type 0
 WithoutTakesOne =
@@ -41,8 +41,8 @@ WithoutTakesOne =
 
 -- a schema that can answer for a set can answer for it without a statement, which is sound where the set is
 pub record StaysSound (set : PolicySet) (name : StatementName) : Type 0 where
-  pub sound : IsSound set → IsSound (without set name)
-  pub fits : (schema : Schema) → SchemaFits schema set → SchemaFits schema (without set name)
+  pub sound : IsSound set → IsSound (without_statement set name)
+  pub fits : (schema : Schema) → SchemaFits schema set → SchemaFits schema (without_statement set name)
 
 abbrev pub WithoutStaysSound : Type 0
 WithoutStaysSound = (set : PolicySet) (name : StatementName) → StaysSound set name
@@ -62,8 +62,8 @@ ChangesAskAsTheSet =
 
 -- of two sets the same is asked as of the set and the set without the statement, these in the order of the change query
 pub record AsksTheChange (schema : Schema) (set : PolicySet) (name : StatementName) (s : Statement) (asked : AskedPair) : Type 0 where
-  pub asks : MatchBool s.allow (AskTheSamePair set (without set name) asked.less asked.rest)
-      (AskTheSamePair (without set name) set asked.less asked.rest)
+  pub asks : MatchBool s.allow (AskTheSamePair set (without_statement set name) asked.less asked.rest)
+      (AskTheSamePair (without_statement set name) set asked.less asked.rest)
   pub less_fits : SchemaFits schema asked.less
   pub rest_fits : SchemaFits schema asked.rest
 
@@ -75,7 +75,7 @@ pub record IsSmallerQuestion (schema : Schema) (set : PolicySet) (named : Named)
   pub is : IsQuery (query_plan schema asked.less asked.rest) query
 
 -- a request that meets it shows the statement used, and a refutation that closes it shows the statement idle
-pub record TellsUse (schema : Schema) (set : PolicySet) (name : StatementName) (query : Query) : Type 0 where
+pub record DecidesUse (schema : Schema) (set : PolicySet) (name : StatementName) (query : Query) : Type 0 where
   pub askable : SchemaIsSound schema → QueryIsAskable schema query
   pub used : (r : Request) → IsMetBy schema query.tests (asked_tree query) [] r → IsUsedBy schema set name r
   pub idle : (proof : Proof) → IsClosedBy schema query proof → IsIdle schema set name
@@ -83,7 +83,7 @@ pub record TellsUse (schema : Schema) (set : PolicySet) (name : StatementName) (
 abbrev pub SmallerQuestionsTell : Type 0
 SmallerQuestionsTell =
     (schema : Schema) (set : PolicySet) (named : Named) (asked : AskedPair) (query : Query) →
-    IsSmallerQuestion schema set named asked query → TellsUse schema set named.0 query
+    IsSmallerQuestion schema set named asked query → DecidesUse schema set named.0 query
 
 -- ---- single cases
 
@@ -94,7 +94,7 @@ HasSilentGuard set = Any (All (λ d. All (λ s. s.allow ≡ false) d.statements)
 -- the last Allow statement of a guard is idle just where the set allows nothing: the guard stays without it
 abbrev pub LastAllowsOfGuards : Type 0
 LastAllowsOfGuards =
-    (schema : Schema) (set : PolicySet) (name : StatementName) → HasSilentGuard (without set name) →
+    (schema : Schema) (set : PolicySet) (name : StatementName) → HasSilentGuard (without_statement set name) →
     (IsIdle schema set name ↔ ((r : Request) → IsValid schema r → ¬ Allows schema set r))
 
 -- of two equal statements of the grants each is idle by itself: the other stays

@@ -10,7 +10,7 @@ use Rattle.policy_model.specs.StatementNames.{named_set}
 use Rattle.policy_difference.specs.Apartness.{IsWithoutApart}
 use Rattle.policy_difference.specs.Differences.{HasFewPairs}
 use Rattle.set_questions.specs.declared.narrowing.AskedPair.{AskedPair}
-use Rattle.set_questions.specs.Idle.{without}
+use Rattle.set_questions.specs.Idle.{without_statement}
 use Rattle.set_questions.specs.Laws.{AsksTheChange}
 
 -- a document of the statement alone, as an Allow
@@ -47,7 +47,7 @@ pub record IsNarrowable (s : Statement) (first second : PolicySet) : Type 0 wher
 -- the sets in the order of the change query
 abbrev pub IsNarrowedChange : PolicySet → StatementName → Statement → AskedPair → Type 0
 IsNarrowedChange set name s asked =
-    MatchBool s.allow (IsNarrowed s set (without set name) asked) (IsNarrowed s (without set name) set asked)
+    MatchBool s.allow (IsNarrowed s set (without_statement set name) asked) (IsNarrowed s (without_statement set name) set asked)
 
 -- the same is asked of them as of the set and the set without the statement
 abbrev pub NarrowedPairsAskTheSame : Type 0

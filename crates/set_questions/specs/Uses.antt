@@ -21,7 +21,7 @@ use Rattle.set_questions.specs.declared.outcome.UseFault.{UseFault}
 use Rattle.set_questions.specs.declared.outcome.UseFault.TheVariants.{TooManyTests, TooManyPieces, NoMemory}
 use Rattle.set_questions.specs.declared.settling.Settled.{Settled}
 use Rattle.set_questions.specs.declared.settling.Settled.TheVariants as settled
-use Rattle.set_questions.specs.Idle.{IsIdle, IsUsedBy, OfNamed, without}
+use Rattle.set_questions.specs.Idle.{IsIdle, IsUsedBy, OfNamed, without_statement}
 use Rattle.set_questions.specs.Settling.{BothRunsFail, RefutesQuery}
 
 -- ---- change queries
@@ -30,7 +30,7 @@ use Rattle.set_questions.specs.Settling.{BothRunsFail, RefutesQuery}
 -- request that it doesn't allow without the statement; by a Deny it can only allow less, so the sets change places
 abbrev pub change_plan : Schema → PolicySet → Named → Plan
 change_plan schema set (name, s) =
-    (if s.allow then query_plan schema set (without set name) else query_plan schema (without set name) set)
+    (if s.allow then query_plan schema set (without_statement set name) else query_plan schema (without_statement set name) set)
 
 -- of the change query this holds
 pub record OfChange (schema : Schema) (set : PolicySet) (named : Named) (P : Query → Type 0) : Type 0 where

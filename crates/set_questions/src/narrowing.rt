@@ -92,7 +92,7 @@ pub fn narrowed(
 ) -> Result<Option<AskedPair>, NoMemory>
     ensures asked { IfOk result
         (λ asked. IfSome asked (IsNarrowed statement.now first.now second.now)) }
-    ensures some { IfOk result
+    ensures exactly { IfOk result
         (λ asked. IsSome asked ↔ IsNarrowable statement.now first.now second.now) }
 {
     if !has_room(first) {

@@ -1,6 +1,6 @@
 //! A set without one of its statements.
 ghost use Rattle.std.specs.Prelude.{◌≡◌, ◌++◌, ◌∷◌, [], IfOk, OnOk, if◌then◌else◌, nat_eq};
-ghost use Rattle.set_questions.specs.Idle.{IsNameIn, document_without, documents_without, guards_without, without, without_item};
+ghost use Rattle.set_questions.specs.Idle.{IsNameIn, document_without, documents_without, guards_without, without_statement, without_item};
 
 use plain_lists::{EqualClone, List, NoMemory};
 use policy_model::{
@@ -94,7 +94,7 @@ fn guards_without(
 /// an empty guard allows nothing. The only error is want of memory.
 pub fn without(alloc: Global, set: &PolicySet, name: StatementName) -> Result<PolicySet, NoMemory>
     requires { IsNameIn set.now name }
-    ensures { IfOk result (λ kept. kept ≡ without set.now name) }
+    ensures { IfOk result (λ kept. kept ≡ without_statement set.now name) }
 {
     let document = name.document as usize;
     let statement = name.statement as usize;

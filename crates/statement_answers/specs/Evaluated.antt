@@ -11,7 +11,7 @@ use Rattle.request_json.specs.RequestFiles.{request_from}
 use Rattle.request_json.specs.declared.fault.RequestFault.{RequestFault}
 use Rattle.run_files.specs.declared.printed.Printed.{Printed}
 use Rattle.run_files.specs.declared.status.Status.TheVariants.{Refused, Holds, Fails}
-use Rattle.run_files.specs.Printing.{Tells}
+use Rattle.run_files.specs.Printing.{PrintsText}
 use Rattle.run_sets.specs.declared.one_set.OneSet.{OneSet}
 use Rattle.run_sets.specs.OneSets.{IsNoOneSet, OfOneSet}
 use Rattle.run_sets.specs.Refusals.{IsRefusedBy}
@@ -60,22 +60,22 @@ abbrev pub StandsForRequest : Schema → List ℕ → Request → Type 0
 StandsForRequest schema bytes r = (request_from schema bytes ≡ Ok r) × IsValid schema r
 
 -- an evaluation of which this holds, by its line and status
-pub record TellsEvaluation (P : Evaluation → Type 0) (p : Printed) : Type 0 where
+pub record PrintsEvaluation (P : Evaluation → Type 0) (p : Printed) : Type 0 where
   pub answer : Evaluation
   pub holds : P answer
-  pub told : Tells (evaluation_text answer) (evaluation_status answer) p
+  pub prints : PrintsText (evaluation_text answer) (evaluation_status answer) p
 
 -- the request's first fault
 pub record IsRequestFault (schema : Schema) (bytes : List ℕ) (p : Printed) : Type 0 where
   pub fault : RequestFault
   pub first : request_from schema bytes ≡ Err fault
-  pub told : Tells (request_fault_line fault) Refused p
+  pub prints : PrintsText (request_fault_line fault) Refused p
 
 -- of a set under the schema of its run, and of a request file: the request's first fault, or what decides
 abbrev pub IsRequestPrinted : List ℕ → OneSet → Printed → Type 0
 IsRequestPrinted bytes one p =
     IsRequestFault one.schema bytes p
-    ⊎ OfRequest one.schema bytes (λ r. TellsEvaluation (IsEvaluation one.schema one.set r) p)
+    ⊎ OfRequest one.schema bytes (λ r. PrintsEvaluation (IsEvaluation one.schema one.set r) p)
 
 -- of files: why they stand for no set, or what is printed of the set that they stand for
 abbrev pub IsEvaluationPrinted : EvaluationContents → Printed → Type 0

@@ -1,6 +1,6 @@
 //! The texts of the answers.
 ghost use Rattle.std.specs.Prelude.{◌≡◌, IfOk, string_bytes};
-ghost use Rattle.run_files.specs.Printing.{IfAnswered, Tells};
+ghost use Rattle.run_files.specs.Printing.{IfAnswered, PrintsText};
 ghost use Rattle.run_files.specs.declared.status.Status.TheVariants.{Refused};
 ghost use Rattle.statement_answers.specs.Sayings.{denial_text, evaluation_status, evaluation_text, number_end, request_fault_line, request_fault_text, request_word, statement_line};
 
@@ -78,7 +78,7 @@ fn request_fault_line(alloc: Global, fault: &RequestFault) -> Result<String, All
 
 /// What is printed of a request file that stands for no request.
 pub fn no_request(alloc: Global, fault: RequestFault) -> EarlyEnd
-    ensures { IfAnswered result (Tells (request_fault_line fault) Refused) }
+    ensures { IfAnswered result (PrintsText (request_fault_line fault) Refused) }
 {
     match request_fault_line(alloc, &fault) {
         Ok(text) => EarlyEnd::Answered(Printed {

@@ -9,15 +9,15 @@ use Rattle.strata.specs.declared.predicate.Predicate.TheVariants.{Every}
 use Rattle.strata.specs.declared.rows.Row.{Row}
 use Rattle.strata.specs.Below.{IsBelow}
 use Rattle.strata.specs.Covers.{predicate_at}
-use Rattle.strata.specs.Rows.{AreAnswered, IsRow, TellOrder, TellsBelow}
+use Rattle.strata.specs.Rows.{AreAnswered, IsRow, RowsDecideOrder, DecidesBelow}
 use Rattle.strata.proofs.Ordering.{apart-below}
 
 -- an answer that is true tells that the one is below the other
-pub says-below : (schema : Schema) (s : Slot) (p q : Predicate) (b : Bool) → TellsBelow schema s p q b → b ≡ true → IsBelow schema s p q
-says-below schema s p q b says on = subst (λ (a : Bool). TellsBelow schema s p q a) on says
+pub says-below : (schema : Schema) (s : Slot) (p q : Predicate) (b : Bool) → DecidesBelow schema s p q b → b ≡ true → IsBelow schema s p q
+says-below schema s p q b says on = subst (λ (a : Bool). DecidesBelow schema s p q a) on says
 
 -- and where it is, the answer is true
-pub below-says : (schema : Schema) (s : Slot) (p q : Predicate) (b : Bool) → TellsBelow schema s p q b → IsBelow schema s p q → b ≡ true
+pub below-says : (schema : Schema) (s : Slot) (p q : Predicate) (b : Bool) → DecidesBelow schema s p q b → IsBelow schema s p q → b ≡ true
 below-says schema s p q true says below = refl
 below-says schema s p q false says below = absurd (apart-below schema s p q says below)
 
@@ -48,15 +48,15 @@ answered-longer P kept more n answers within h = record {
 
 row-longer : (schema : Schema) (s : Slot) (kept more : List Predicate) (n : ℕ) (p : Predicate) (row : Row) → n ≤ length kept → IsRow schema s kept n p row → IsRow schema s (kept ++ more) n p row
 row-longer schema s kept more n p row within h = record {
-  below = answered-longer (λ q b. TellsBelow schema s p q b) kept more n row.below within h.below;
-  above = answered-longer (λ q b. TellsBelow schema s q p b) kept more n row.above within h.above;
+  below = answered-longer (λ q b. DecidesBelow schema s p q b) kept more n row.below within h.below;
+  above = answered-longer (λ q b. DecidesBelow schema s q p b) kept more n row.above within h.above;
 }
 
-pub told-none : (schema : Schema) (s : Slot) → TellOrder schema s [] []
+pub told-none : (schema : Schema) (s : Slot) → RowsDecideOrder schema s [] []
 told-none schema s = record { count = refl; each = λ i d l. absurd (omega arith) }
 
 -- one more predicate with its row
-pub told-push : (schema : Schema) (s : Slot) (kept : List Predicate) (rows : List Row) (p : Predicate) (row : Row) → TellOrder schema s kept rows → IsRow schema s kept (length kept) p row → TellOrder schema s (kept ++ p ∷ []) (rows ++ row ∷ [])
+pub told-push : (schema : Schema) (s : Slot) (kept : List Predicate) (rows : List Row) (p : Predicate) (row : Row) → RowsDecideOrder schema s kept rows → IsRow schema s kept (length kept) p row → RowsDecideOrder schema s (kept ++ p ∷ []) (rows ++ row ∷ [])
 told-push schema s kept rows p row h last = record {
   count = length_push rows row ∙ (ap (λ m. m + 1) h.count ∙ sym (length_push kept p));
   each = λ i d l. elim (cases_lt i (length rows)) [

@@ -16,7 +16,7 @@ use Rattle.strata.specs.Below.{AreKeptAmong, Keeps, keeps_none, keeps_it, drops_
 use Rattle.strata.specs.Covers.{AreMaximalBelow, predicate_at}
 use Rattle.strata.specs.Laws.{StrataAreDetermined}
 use Rattle.strata.specs.Predicates.{read_in}
-use Rattle.strata.specs.Rows.{AreAnswered, IsRow, TellOrder, TellsBelow}
+use Rattle.strata.specs.Rows.{AreAnswered, IsRow, RowsDecideOrder, DecidesBelow}
 use Rattle.strata.specs.Strata.{AreKeptOf, IsOrder, IsStratum}
 use Rattle.strata.proofs.Gathering.{gathers-unique}
 use Rattle.strata.proofs.Ordering.{apart-below}
@@ -93,7 +93,7 @@ order-same schema s kept xs ys first second = same_lists xs ys (first.count ∙ 
 
 -- ---- the answers to all questions on the order
 
-tells-same : (schema : Schema) (s : Slot) (p q : Predicate) (a b : Bool) → TellsBelow schema s p q a → TellsBelow schema s p q b → a ≡ b
+tells-same : (schema : Schema) (s : Slot) (p q : Predicate) (a b : Bool) → DecidesBelow schema s p q a → DecidesBelow schema s p q b → a ≡ b
 tells-same schema s p q true true first second = refl
 tells-same schema s p q true false first second = absurd (apart-below schema s p q second first)
 tells-same schema s p q false true first second = absurd (apart-below schema s p q first second)
@@ -106,11 +106,11 @@ answers-same P kept n xs ys one first second = same_lists xs ys (first.count ∙
 
 row-same : (schema : Schema) (s : Slot) (kept : List Predicate) (n : ℕ) (p : Predicate) (x y : Row) → IsRow schema s kept n p x → IsRow schema s kept n p y → x ≡ y
 row-same schema s kept n p x y first second =
-    let below : x.below ≡ y.below = answers-same (λ q b. TellsBelow schema s p q b) kept n x.below y.below (λ q a b. tells-same schema s p q a b) first.below second.below in
-    let above : x.above ≡ y.above = answers-same (λ q b. TellsBelow schema s q p b) kept n x.above y.above (λ q a b. tells-same schema s q p a b) first.above second.above in
+    let below : x.below ≡ y.below = answers-same (λ q b. DecidesBelow schema s p q b) kept n x.below y.below (λ q a b. tells-same schema s p q a b) first.below second.below in
+    let above : x.above ≡ y.above = answers-same (λ q b. DecidesBelow schema s q p b) kept n x.above y.above (λ q a b. tells-same schema s q p a b) first.above second.above in
     λ i. record { below = below i; above = above i }
 
-rows-same : (schema : Schema) (s : Slot) (kept : List Predicate) (xs ys : List Row) → TellOrder schema s kept xs → TellOrder schema s kept ys → xs ≡ ys
+rows-same : (schema : Schema) (s : Slot) (kept : List Predicate) (xs ys : List Row) → RowsDecideOrder schema s kept xs → RowsDecideOrder schema s kept ys → xs ≡ ys
 rows-same schema s kept xs ys first second = same_lists xs ys (first.count ∙ sym second.count) (λ i d l. row-same schema s kept i (predicate_at kept i) (get_or xs i d) (get_or ys i d) (first.each i d l) (second.each i d (omega (arith, first.count, second.count))))
 
 -- ---- strata
@@ -119,10 +119,10 @@ stratum-same : (schema : Schema) (tests : List Test) (x y : Stratum) → x.slot 
 stratum-same schema tests x y slot first second =
     let kept : y.predicates ≡ x.predicates = sym (kept-same schema x.slot tests x.predicates y.predicates first.predicates (subst (λ (s : Slot). AreKeptOf schema s tests y.predicates) (sym slot) second.predicates)) in
     let order : IsOrder schema x.slot x.predicates y.below = subst (λ (s : Slot). IsOrder schema s x.predicates y.below) (sym slot) (subst (λ (ps : List Predicate). IsOrder schema y.slot ps y.below) kept second.order) in
-    let told : TellOrder schema x.slot x.predicates y.rows = subst (λ (s : Slot). TellOrder schema s x.predicates y.rows) (sym slot) (subst (λ (ps : List Predicate). TellOrder schema y.slot ps y.rows) kept second.told) in
+    let told : RowsDecideOrder schema x.slot x.predicates y.rows = subst (λ (s : Slot). RowsDecideOrder schema s x.predicates y.rows) (sym slot) (subst (λ (ps : List Predicate). RowsDecideOrder schema y.slot ps y.rows) kept second.rows_decide) in
     let same : x.predicates ≡ y.predicates = sym kept in
     let below : x.below ≡ y.below = order-same schema x.slot x.predicates x.below y.below first.order order in
-    let rows : x.rows ≡ y.rows = rows-same schema x.slot x.predicates x.rows y.rows first.told told in
+    let rows : x.rows ≡ y.rows = rows-same schema x.slot x.predicates x.rows y.rows first.rows_decide told in
     λ i. record { slot = slot i; predicates = same i; below = below i; rows = rows i }
 
 all-same : (schema : Schema) (tests : List Test) (slots : List Slot) (xs ys : List Stratum) → map (λ (x : Stratum). x.slot) xs ≡ slots → map (λ (x : Stratum). x.slot) ys ≡ slots →

@@ -6,7 +6,7 @@ use Rattle.std.proofs.lemmas.List.{get_or_append_left, get_or_push, length_push}
 use Rattle.std.proofs.lemmas.List.Elements.{All-contains, All-head, All-nil, All-push, All-tail, All-weaker, Contains-append_left, Contains-push, Contains-push_cases}
 use Rattle.pattern_automata.specs.Closed.{rises_from}
 use Rattle.strata.specs.declared.rows.Row.{Row}
-use Rattle.strata.specs.Rows.{AreListed, AreToldMaximal, IsToldMaximal}
+use Rattle.strata.specs.Rows.{AreListed, AreMaximalByRows, IsMaximalByRows}
 
 le-true : (a b : ℕ) → a ≤ b → nat_le a b ≡ true
 le-true a b h = grind (arith, nat_tests)
@@ -56,17 +56,17 @@ listed-skip P n numbers h not = record {
     past-none : (n : ℕ) (numbers : List ℕ) (j : ℕ) → All (λ i. i < n) numbers → Contains numbers j → n ≤ j → ⊥
     past-none n numbers j within here h = omega (arith, All-contains (λ i. i < n) numbers j within here)
 
-pub told-none : (rows : List Row) → AreToldMaximal rows 0 []
+pub told-none : (rows : List Row) → AreMaximalByRows rows 0 []
 told-none rows = record { count = refl; each = λ i d l. absurd (omega arith) }
 
-pub told-push : (rows : List Row) (n : ℕ) (lists : List (List ℕ)) (numbers : List ℕ) → AreToldMaximal rows n lists → AreListed (IsToldMaximal rows n) (length rows) numbers → AreToldMaximal rows (n + 1) (lists ++ numbers ∷ [])
+pub told-push : (rows : List Row) (n : ℕ) (lists : List (List ℕ)) (numbers : List ℕ) → AreMaximalByRows rows n lists → AreListed (IsMaximalByRows rows n) (length rows) numbers → AreMaximalByRows rows (n + 1) (lists ++ numbers ∷ [])
 told-push rows n lists numbers h listed = record {
   count = length_push lists numbers ∙ ap (λ m. m + 1) h.count;
   each = λ i d l. elim (cases_lt i n) [
-    | inl before ↦ subst (λ (ns : List ℕ). AreListed (IsToldMaximal rows i) (length rows) ns) (sym (get_or_append_left lists (numbers ∷ []) d i (omega (arith, h.count)))) (h.each i d before)
+    | inl before ↦ subst (λ (ns : List ℕ). AreListed (IsMaximalByRows rows i) (length rows) ns) (sym (get_or_append_left lists (numbers ∷ []) d i (omega (arith, h.count)))) (h.each i d before)
     | inr past ↦
         let same : n ≡ i = omega arith in
-        subst (λ (ns : List ℕ). AreListed (IsToldMaximal rows i) (length rows) ns) (sym (get_or_push lists numbers d i (h.count ∙ same))) (subst (λ (m : ℕ). AreListed (IsToldMaximal rows m) (length rows) numbers) same listed)
+        subst (λ (ns : List ℕ). AreListed (IsMaximalByRows rows i) (length rows) ns) (sym (get_or_push lists numbers d i (h.count ∙ same))) (subst (λ (m : ℕ). AreListed (IsMaximalByRows rows m) (length rows) numbers) same listed)
   ];
 }
 
@@ -74,5 +74,5 @@ told-push rows n lists numbers h listed = record {
 pub listed-end : (P : ℕ → Type 0) (n : ℕ) (rows : List Row) (numbers : List ℕ) → n ≤ length rows → length rows ≤ n → AreListed P n numbers → AreListed P (length rows) numbers
 listed-end P n rows numbers low high h = let same : n ≡ length rows = omega arith in subst (λ (m : ℕ). AreListed P m numbers) same h
 
-pub told-end : (rows : List Row) (n : ℕ) (lists : List (List ℕ)) → n ≤ length rows → length rows ≤ n → AreToldMaximal rows n lists → AreToldMaximal rows (length rows) lists
-told-end rows n lists low high h = let same : n ≡ length rows = omega arith in subst (λ (m : ℕ). AreToldMaximal rows m lists) same h
+pub told-end : (rows : List Row) (n : ℕ) (lists : List (List ℕ)) → n ≤ length rows → length rows ≤ n → AreMaximalByRows rows n lists → AreMaximalByRows rows (length rows) lists
+told-end rows n lists low high h = let same : n ≡ length rows = omega arith in subst (λ (m : ℕ). AreMaximalByRows rows m lists) same h

@@ -25,7 +25,7 @@ use Rattle.strata.specs.Below.{AreKeptAmong}
 use Rattle.strata.specs.Causes.{AreFew, AreStrataOf, HaveWidePair, IsFirstTooMany, NamesTooMany, NamesWide}
 use Rattle.strata.specs.Making.{AreAllNamed, AreFewNamed, AreStrataAmong, IsStratumOf, MakesAll, MakesStratum, NamesAll, SuitSlots, named_at, slot_at}
 use Rattle.strata.specs.Predicates.{AreNamed, SuitsSlot, read_in}
-use Rattle.strata.specs.Rows.{AreToldMaximal, TellOrder}
+use Rattle.strata.specs.Rows.{AreMaximalByRows, RowsDecideOrder}
 use Rattle.strata.specs.Settling.{AreKeptSoFar, FailsAmong}
 use Rattle.strata.specs.Strata.{AreStrata, IsOrder, IsStratum}
 use Rattle.strata.proofs.Gathering.{gathers-unique}
@@ -90,14 +90,14 @@ stratum-fails schema states s names xs (Err f) e is same h = subst (FailsAmong s
 
 pub kept-fits : (schema : Schema) (s : Slot) (names xs : List Predicate) (kept : Kept) (rows : List Row) → rows ≡ kept.rows → xs ≡ names → length names ≤ MOST_PREDICATES → AreKeptSoFar schema s xs kept → length rows < 2 ^ 32
 kept-fits schema s names xs kept rows same whole few h =
-    omega (arith, ap (λ (ys : List Row). length ys) same, ap (λ (ns : List Predicate). length ns) whole, h.told.count, kept-few schema s [] xs kept.predicates h.keeps)
+    omega (arith, ap (λ (ys : List Row). length ys) same, ap (λ (ns : List Predicate). length ns) whole, h.rows_decide.count, kept-few schema s [] xs kept.predicates h.keeps)
 
-pub stratum-made : (schema : Schema) (s copied : Slot) (names xs : List Predicate) (kept : Kept) (rows : List Row) (lists : List (List ℕ)) → copied ≡ s → rows ≡ kept.rows → xs ≡ names → AreKeptSoFar schema s xs kept → AreToldMaximal rows (length rows) lists → IsStratumOf schema s names (record { slot = copied; predicates = kept.predicates; below = lists; rows = kept.rows })
+pub stratum-made : (schema : Schema) (s copied : Slot) (names xs : List Predicate) (kept : Kept) (rows : List Row) (lists : List (List ℕ)) → copied ≡ s → rows ≡ kept.rows → xs ≡ names → AreKeptSoFar schema s xs kept → AreMaximalByRows rows (length rows) lists → IsStratumOf schema s names (record { slot = copied; predicates = kept.predicates; below = lists; rows = kept.rows })
 stratum-made schema s copied names xs kept rows lists copy same whole h told = record {
   slot = copy;
   kept = subst (λ (ns : List Predicate). AreKeptAmong schema s ns kept.predicates) whole h.keeps;
-  order = told-order schema s kept.predicates kept.rows lists h.told (subst (λ (ys : List Row). AreToldMaximal ys (length ys) lists) same told);
-  told = h.told;
+  order = told-order schema s kept.predicates kept.rows lists h.rows_decide (subst (λ (ys : List Row). AreMaximalByRows ys (length ys) lists) same told);
+  rows_decide = h.rows_decide;
 }
 
 -- ---- all strata
@@ -174,7 +174,7 @@ strata-of schema query slots all strata h made = record {
         kept = subst (λ (t : Slot). AreKeptAmong schema t names x.predicates) (sym is.slot) is.kept;
       };
       order = subst (λ (t : Slot). IsOrder schema t x.predicates x.below) (sym is.slot) is.order;
-      told = subst (λ (t : Slot). TellOrder schema t x.predicates x.rows) (sym is.slot) is.told;
+      rows_decide = subst (λ (t : Slot). RowsDecideOrder schema t x.predicates x.rows) (sym is.slot) is.rows_decide;
     }
 
 wide-named : (schema : Schema) (states : ℕ) (s : Slot) (tests : List Test) (names : List Predicate) (texts : List (List ℕ)) → AreNamed s tests names → HaveWidePair schema states s (Every ∷ names) texts → NamesWide schema tests states s texts

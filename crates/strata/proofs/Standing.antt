@@ -20,8 +20,8 @@ use Rattle.strata.specs.Asking.{AnswersMet, AnswersWithin, pair_patterns}
 use Rattle.strata.specs.Below.{AreKeptAmong, IsMetUnder, MeetTheSame, keeps_none}
 use Rattle.strata.specs.Covers.{predicate_at}
 use Rattle.strata.specs.Predicates.{SuitsSlot}
-use Rattle.strata.specs.Rows.{AreAnswered, IsRow, TellOrder, TellsBelow}
-use Rattle.strata.specs.Settling.{AreKeptSoFar, FailsAmong, FailsWide, IsRowOf, IsWidePair, KeepsOf, KeepsOneMore, SettlesTo, TellsMet, TellsWithin}
+use Rattle.strata.specs.Rows.{AreAnswered, IsRow, RowsDecideOrder, DecidesBelow}
+use Rattle.strata.specs.Settling.{AreKeptSoFar, FailsAmong, FailsWide, IsRowOf, IsWidePair, KeepsOf, KeepsOneMore, SettlesTo, DecidesMet, DecidesWithin}
 use Rattle.strata.proofs.Answering.{answered-none, answered-push, below-says, says-below, told-none, told-push}
 use Rattle.strata.proofs.Ordering.{below-self, kept-named}
 use Rattle.strata.proofs.Keeping.{kept-among, new-covers, new-keeps, same-covers, same-keeps, unmet-covers, unmet-keeps}
@@ -33,7 +33,7 @@ pub any-met : (schema : Schema) (s : Slot) (p : Predicate) → p ≡ Every → H
 any-met schema s p is some = (λ _. subst (IsMetUnder schema s) (sym is) (record { request = some.0; valid = some.1; meets = tt }), λ _. refl)
 
 -- what an answer comes to, where the predicate isn't `any`
-pub settles-met : (schema : Schema) (states : ℕ) (s : Slot) (p : Predicate) (answer : Within) (r : Result Bool StrataFault) → p ≢ Every → AnswersMet schema states s p answer → SettlesTo s answer r → TellsMet schema states s p r
+pub settles-met : (schema : Schema) (states : ℕ) (s : Slot) (p : Predicate) (answer : Within) (r : Result Bool StrataFault) → p ≢ Every → AnswersMet schema states s p answer → SettlesTo s answer r → DecidesMet schema states s p r
 settles-met schema states s p answer (Err NoMemory) differ says is = tt
 settles-met schema states s p within.Yes (Ok b) differ says is = (λ _. says, λ _. (cc))
 settles-met schema states s p within.No (Ok b) differ says is = (λ on. absurd (cc), λ met. absurd (says met))
@@ -47,10 +47,10 @@ settles-met schema states s p within.No (Err (TooManyPredicates d)) differ says 
 settles-met schema states s p (within.TooMany texts) (Err (TooManyPredicates d)) differ says is = absurd (cc)
 
 -- and of two predicates that differ
-pub settles-within : (schema : Schema) (states : ℕ) (s : Slot) (p q : Predicate) (answer : Within) (r : Result Bool StrataFault) → p ≢ q → AnswersWithin schema states s p q answer → SettlesTo s answer r → TellsWithin schema states s p q r
+pub settles-within : (schema : Schema) (states : ℕ) (s : Slot) (p q : Predicate) (answer : Within) (r : Result Bool StrataFault) → p ≢ q → AnswersWithin schema states s p q answer → SettlesTo s answer r → DecidesWithin schema states s p q r
 settles-within schema states s p q answer (Err NoMemory) differ says is = tt
-settles-within schema states s p q within.Yes (Ok b) differ says is = (let on : true ≡ b = cc in subst (λ (a : Bool). TellsBelow schema s p q a) on says)
-settles-within schema states s p q within.No (Ok b) differ says is = (let off : false ≡ b = cc in subst (λ (a : Bool). TellsBelow schema s p q a) off says)
+settles-within schema states s p q within.Yes (Ok b) differ says is = (let on : true ≡ b = cc in subst (λ (a : Bool). DecidesBelow schema s p q a) on says)
+settles-within schema states s p q within.No (Ok b) differ says is = (let off : false ≡ b = cc in subst (λ (a : Bool). DecidesBelow schema s p q a) off says)
 settles-within schema states s p q (within.TooMany texts) (Ok b) differ says is = absurd (cc)
 settles-within schema states s p q within.Yes (Err (Wide t xs)) differ says is = absurd (cc)
 settles-within schema states s p q within.No (Err (Wide t xs)) differ says is = absurd (cc)
@@ -61,8 +61,8 @@ settles-within schema states s p q within.No (Err (TooManyPredicates d)) differ 
 settles-within schema states s p q (within.TooMany texts) (Err (TooManyPredicates d)) differ says is = absurd (cc)
 
 -- each predicate is below an equal one
-pub equal-within : (schema : Schema) (states : ℕ) (s : Slot) (p q : Predicate) → p ≡ q → TellsWithin schema states s p q (Ok true)
-equal-within schema states s p q same = subst (λ (t : Predicate). TellsWithin schema states s p t (Ok true)) same (below-self schema s p)
+pub equal-within : (schema : Schema) (states : ℕ) (s : Slot) (p q : Predicate) → p ≡ q → DecidesWithin schema states s p q (Ok true)
+equal-within schema states s p q same = subst (λ (t : Predicate). DecidesWithin schema states s p t (Ok true)) same (below-self schema s p)
 
 -- `any` and those that are named
 pub any-in : (names : List Predicate) → Contains (Every ∷ names) Every
@@ -107,31 +107,31 @@ fails-more schema states s few names NoMemory more h = tt
 
 pub row-none : (schema : Schema) (s : Slot) (kept : List Predicate) (p : Predicate) (row : Row) → row.below ≡ [] → row.above ≡ [] → IsRow schema s kept 0 p row
 row-none schema s kept p row below above = record {
-  below = subst (λ (xs : List Bool). AreAnswered (λ q b. TellsBelow schema s p q b) kept 0 xs) (sym below) (answered-none (λ q b. TellsBelow schema s p q b) kept);
-  above = subst (λ (xs : List Bool). AreAnswered (λ q b. TellsBelow schema s q p b) kept 0 xs) (sym above) (answered-none (λ q b. TellsBelow schema s q p b) kept);
+  below = subst (λ (xs : List Bool). AreAnswered (λ q b. DecidesBelow schema s p q b) kept 0 xs) (sym below) (answered-none (λ q b. DecidesBelow schema s p q b) kept);
+  above = subst (λ (xs : List Bool). AreAnswered (λ q b. DecidesBelow schema s q p b) kept 0 xs) (sym above) (answered-none (λ q b. DecidesBelow schema s q p b) kept);
 }
 
 -- an answer of one who answers for the schema
-pub told-below : (now schema : Schema) (s : Slot) (p q : Predicate) (b : Bool) → now ≡ schema → TellsBelow now s p q b → TellsBelow schema s p q b
-told-below now schema s p q b same h = subst (λ (x : Schema). TellsBelow x s p q b) same h
+pub told-below : (now schema : Schema) (s : Slot) (p q : Predicate) (b : Bool) → now ≡ schema → DecidesBelow now s p q b → DecidesBelow schema s p q b
+told-below now schema s p q b same h = subst (λ (x : Schema). DecidesBelow x s p q b) same h
 
 pub told-wide : (now schema : Schema) (had states : ℕ) (s : Slot) (p q : Predicate) (e : StrataFault) → now ≡ schema → had ≡ states → FailsWide (IsWidePair now had s p q) s e → FailsWide (IsWidePair schema states s p q) s e
 told-wide now schema had states s p q e same few h = subst (λ (x : Schema). FailsWide (IsWidePair x states s p q) s e) same (subst (λ (n : ℕ). FailsWide (IsWidePair now n s p q) s e) few h)
 
 -- one more predicate was compared
-pub row-push : (schema : Schema) (s : Slot) (kept : List Predicate) (i : ℕ) (p q : Predicate) (row : Row) (below above : Bool) (lows highs : List Bool) → IsRow schema s kept i p row → i < length kept → q ≡ get_or kept i q → TellsBelow schema s p q below → TellsBelow schema s q p above → lows ≡ row.below ++ below ∷ [] → highs ≡ row.above ++ above ∷ [] → IsRow schema s kept (i + 1) p (record { below = lows; above = highs })
+pub row-push : (schema : Schema) (s : Slot) (kept : List Predicate) (i : ℕ) (p q : Predicate) (row : Row) (below above : Bool) (lows highs : List Bool) → IsRow schema s kept i p row → i < length kept → q ≡ get_or kept i q → DecidesBelow schema s p q below → DecidesBelow schema s q p above → lows ≡ row.below ++ below ∷ [] → highs ≡ row.above ++ above ∷ [] → IsRow schema s kept (i + 1) p (record { below = lows; above = highs })
 row-push schema s kept i p q row below above lows highs h within at low high is_low is_high =
     let here : q ≡ predicate_at kept i = get_or_read kept i q within at Every in
     record {
-      below = subst (λ (xs : List Bool). AreAnswered (λ t b. TellsBelow schema s p t b) kept (i + 1) xs) (sym is_low) (answered-push (λ t b. TellsBelow schema s p t b) kept i row.below below h.below (subst (λ (t : Predicate). TellsBelow schema s p t below) here low));
-      above = subst (λ (xs : List Bool). AreAnswered (λ t b. TellsBelow schema s t p b) kept (i + 1) xs) (sym is_high) (answered-push (λ t b. TellsBelow schema s t p b) kept i row.above above h.above (subst (λ (t : Predicate). TellsBelow schema s t p above) here high));
+      below = subst (λ (xs : List Bool). AreAnswered (λ t b. DecidesBelow schema s p t b) kept (i + 1) xs) (sym is_low) (answered-push (λ t b. DecidesBelow schema s p t b) kept i row.below below h.below (subst (λ (t : Predicate). DecidesBelow schema s p t below) here low));
+      above = subst (λ (xs : List Bool). AreAnswered (λ t b. DecidesBelow schema s t p b) kept (i + 1) xs) (sym is_high) (answered-push (λ t b. DecidesBelow schema s t p b) kept i row.above above h.above (subst (λ (t : Predicate). DecidesBelow schema s t p above) here high));
     }
 
 -- none of the first n predicates is met by the same requests as p
 abbrev pub AreApart : Schema → Slot → List Predicate → ℕ → Predicate → Type 0
 AreApart schema s kept n p = (j : ℕ) → j < n → MeetTheSame schema s (predicate_at kept j) p → ⊥
 
-pub apart-push : (schema : Schema) (s : Slot) (kept : List Predicate) (i : ℕ) (p q : Predicate) (below above both : Bool) → AreApart schema s kept i p → i < length kept → q ≡ get_or kept i q → TellsBelow schema s p q below → TellsBelow schema s q p above → both ≡ (below && above) → both ≡ false → AreApart schema s kept (i + 1) p
+pub apart-push : (schema : Schema) (s : Slot) (kept : List Predicate) (i : ℕ) (p q : Predicate) (below above both : Bool) → AreApart schema s kept i p → i < length kept → q ≡ get_or kept i q → DecidesBelow schema s p q below → DecidesBelow schema s q p above → both ≡ (below && above) → both ≡ false → AreApart schema s kept (i + 1) p
 apart-push schema s kept i p q below above both h within at low high is off j l same = elim (cases_lt j i) [
   | inl before ↦ h j before same
   | inr past ↦
@@ -143,7 +143,7 @@ apart-push schema s kept i p q below above both h within at low high is off j l 
 ]
 
 -- one of those that are kept is met by the same requests
-pub row-same : (schema : Schema) (s : Slot) (kept : List Predicate) (i : ℕ) (p q : Predicate) (below above both : Bool) → i < length kept → q ≡ get_or kept i q → TellsBelow schema s p q below → TellsBelow schema s q p above → both ≡ (below && above) → both ≡ true → Any (λ t. MeetTheSame schema s t p) kept
+pub row-same : (schema : Schema) (s : Slot) (kept : List Predicate) (i : ℕ) (p q : Predicate) (below above both : Bool) → i < length kept → q ≡ get_or kept i q → DecidesBelow schema s p q below → DecidesBelow schema s q p above → both ≡ (below && above) → both ≡ true → Any (λ t. MeetTheSame schema s t p) kept
 row-same schema s kept i p q below above both within at low high is on =
     let parts = and_parts below above (sym is ∙ on) in
     (i, q, within, sym at, record { below = says-below schema s q p above high parts.1; above = says-below schema s p q below low parts.0 })
@@ -165,7 +165,7 @@ pub so-far-none : (schema : Schema) (s : Slot) (kept : Kept) → kept.predicates
 so-far-none schema s kept none rows = record {
   keeps = subst (λ (ps : List Predicate). AreKeptAmong schema s [] ps) (sym none) keeps_none;
   covers = λ q here met. absurd (omega (arith, here.1));
-  told = subst (λ (ps : List Predicate). TellOrder schema s ps kept.rows) (sym none) (subst (λ (xs : List Row). TellOrder schema s [] xs) (sym rows) (told-none schema s));
+  rows_decide = subst (λ (ps : List Predicate). RowsDecideOrder schema s ps kept.rows) (sym none) (subst (λ (xs : List Row). RowsDecideOrder schema s [] xs) (sym rows) (told-none schema s));
 }
 
 pub so-far-unmet : (schema : Schema) (s : Slot) (names : List Predicate) (kept : Kept) (p : Predicate) (b : Bool) → AreKeptSoFar schema s names kept → IsTrue b ↔ IsMetUnder schema s p → b ≡ false → AreKeptSoFar schema s (names ++ p ∷ []) kept
@@ -174,21 +174,21 @@ so-far-unmet schema s names kept p b h says off =
     record {
       keeps = unmet-keeps schema s names kept.predicates p h.keeps unmet;
       covers = unmet-covers schema s names kept.predicates p h.covers unmet;
-      told = h.told;
+      rows_decide = h.rows_decide;
     }
 
 pub so-far-same : (schema : Schema) (s : Slot) (names : List Predicate) (kept : Kept) (p : Predicate) → AreKeptSoFar schema s names kept → Any (λ q. MeetTheSame schema s q p) kept.predicates → AreKeptSoFar schema s (names ++ p ∷ []) kept
 so-far-same schema s names kept p h some = record {
   keeps = same-keeps schema s names kept.predicates p h.keeps some;
   covers = same-covers schema s names kept.predicates p h.covers some;
-  told = h.told;
+  rows_decide = h.rows_decide;
 }
 
 pub so-far-new : (schema : Schema) (s : Slot) (names : List Predicate) (kept new : Kept) (p : Predicate) (row : Row) → AreKeptSoFar schema s names kept → IsMetUnder schema s p → IsRow schema s kept.predicates (length kept.predicates) p row × ¬ Any (λ q. MeetTheSame schema s q p) kept.predicates → new.predicates ≡ kept.predicates ++ p ∷ [] → new.rows ≡ kept.rows ++ row ∷ [] → AreKeptSoFar schema s (names ++ p ∷ []) new
 so-far-new schema s names kept new p row h met is predicates rows = record {
   keeps = subst (λ (ps : List Predicate). AreKeptAmong schema s (names ++ p ∷ []) ps) (sym predicates) (new-keeps schema s names kept.predicates p h.keeps h.covers met is.1);
   covers = λ q here own. subst (λ (ps : List Predicate). Any (λ k. MeetTheSame schema s k q) ps) (sym predicates) (new-covers schema s names kept.predicates p h.covers q here own);
-  told = subst (λ (ps : List Predicate). TellOrder schema s ps new.rows) (sym predicates) (subst (λ (xs : List Row). TellOrder schema s (kept.predicates ++ p ∷ []) xs) (sym rows) (told-push schema s kept.predicates kept.rows p row h.told is.0));
+  rows_decide = subst (λ (ps : List Predicate). RowsDecideOrder schema s ps new.rows) (sym predicates) (subst (λ (xs : List Row). RowsDecideOrder schema s (kept.predicates ++ p ∷ []) xs) (sym rows) (told-push schema s kept.predicates kept.rows p row h.rows_decide is.0));
 }
 
 -- what is kept and one more are among what is named and one more

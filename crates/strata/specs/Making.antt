@@ -13,7 +13,7 @@ use Rattle.strata.specs.declared.stratum.Stratum.{Stratum}
 use Rattle.strata.specs.Below.{AreKeptAmong}
 use Rattle.strata.specs.Causes.{IsFirstTooMany}
 use Rattle.strata.specs.Predicates.{AreNamed, SuitsSlot}
-use Rattle.strata.specs.Rows.{TellOrder}
+use Rattle.strata.specs.Rows.{RowsDecideOrder}
 use Rattle.strata.specs.Settling.{FailsAmong}
 use Rattle.strata.specs.Strata.{IsOrder}
 
@@ -46,7 +46,7 @@ pub record IsStratumOf (schema : Schema) (s : Slot) (names : List Predicate) (x 
   pub slot : x.slot ≡ s
   pub kept : AreKeptAmong schema s names x.predicates
   pub order : IsOrder schema s x.predicates x.below
-  pub told : TellOrder schema s x.predicates x.rows
+  pub rows_decide : RowsDecideOrder schema s x.predicates x.rows
 
 abbrev pub MakesStratum : Schema → ℕ → Slot → List Predicate → Result Stratum StrataFault → Type 0
 MakesStratum schema states s names (Ok x) = IsStratumOf schema s names x

@@ -14,7 +14,7 @@ use Rattle.strata.specs.declared.kept.Kept.{Kept}
 use Rattle.strata.specs.Asking.{pair_patterns}
 use Rattle.strata.specs.Below.{IsMetUnder, MeetTheSame, AreKeptAmong}
 use Rattle.strata.specs.Causes.{HaveWidePair}
-use Rattle.strata.specs.Rows.{IsRow, TellOrder, TellsBelow}
+use Rattle.strata.specs.Rows.{IsRow, RowsDecideOrder, DecidesBelow}
 
 -- a fault in the slot: W holds of the texts
 abbrev pub FailsWide : (List (List ℕ) → Type 0) → Slot → StrataFault → Type 0
@@ -35,14 +35,14 @@ SettlesTo s within.No r = r ≡ Ok false
 SettlesTo s (within.TooMany texts) r = r ≡ Err (Wide s texts)
 
 -- whether some valid request meets the predicate
-abbrev pub TellsMet : Schema → ℕ → Slot → Predicate → Result Bool StrataFault → Type 0
-TellsMet schema states s p (Ok b) = IsTrue b ↔ IsMetUnder schema s p
-TellsMet schema states s p (Err e) = FailsWide (IsWidePair schema states s p Every) s e
+abbrev pub DecidesMet : Schema → ℕ → Slot → Predicate → Result Bool StrataFault → Type 0
+DecidesMet schema states s p (Ok b) = IsTrue b ↔ IsMetUnder schema s p
+DecidesMet schema states s p (Err e) = FailsWide (IsWidePair schema states s p Every) s e
 
 -- whether p is below q
-abbrev pub TellsWithin : Schema → ℕ → Slot → Predicate → Predicate → Result Bool StrataFault → Type 0
-TellsWithin schema states s p q (Ok b) = TellsBelow schema s p q b
-TellsWithin schema states s p q (Err e) = FailsWide (IsWidePair schema states s p q) s e
+abbrev pub DecidesWithin : Schema → ℕ → Slot → Predicate → Predicate → Result Bool StrataFault → Type 0
+DecidesWithin schema states s p q (Ok b) = DecidesBelow schema s p q b
+DecidesWithin schema states s p q (Err e) = FailsWide (IsWidePair schema states s p q) s e
 
 -- two of `any` and these predicates are too wide in the slot
 abbrev pub FailsAmong : Schema → ℕ → Slot → List Predicate → StrataFault → Type 0
@@ -58,7 +58,7 @@ IsRowOf schema states s kept p (Err e) = FailsAmong schema states s (kept ++ p �
 pub record AreKeptSoFar (schema : Schema) (s : Slot) (names : List Predicate) (kept : Kept) : Type 0 where
   pub keeps : AreKeptAmong schema s names kept.predicates
   pub covers : (q : Predicate) → Contains names q → IsMetUnder schema s q → Any (λ k. MeetTheSame schema s k q) kept.predicates
-  pub told : TellOrder schema s kept.predicates kept.rows
+  pub rows_decide : RowsDecideOrder schema s kept.predicates kept.rows
 
 -- the same, or two of those that are named are too wide
 abbrev pub KeepsOf : Schema → ℕ → Slot → List Predicate → Result Kept StrataFault → Type 0

@@ -10,7 +10,7 @@ use Rattle.strata.specs.declared.stratum.Strata.{Strata}
 use Rattle.strata.specs.Predicates.{AreNamed}
 use Rattle.strata.specs.Below.{AreKeptAmong}
 use Rattle.strata.specs.Covers.{AreMaximalBelow, IsBelowAt, OrderIsDecided}
-use Rattle.strata.specs.Rows.{TellOrder}
+use Rattle.strata.specs.Rows.{RowsDecideOrder}
 
 -- the predicates are those that are kept of what the tests name in the slot
 pub record AreKeptOf (schema : Schema) (s : Slot) (tests : List Test) (predicates : List Predicate) : Type 0 where
@@ -28,7 +28,7 @@ pub record IsOrder (schema : Schema) (s : Slot) (kept : List Predicate) (lists :
 pub record IsStratum (schema : Schema) (tests : List Test) (x : Stratum) : Type 0 where
   pub predicates : AreKeptOf schema x.slot tests x.predicates
   pub order : IsOrder schema x.slot x.predicates x.below
-  pub told : TellOrder schema x.slot x.predicates x.rows
+  pub rows_decide : RowsDecideOrder schema x.slot x.predicates x.rows
 
 -- a stratum for each of the slots, in their order
 pub record AreStrata (schema : Schema) (query : Query) (slots : List Slot) (strata : Strata) : Type 0 where

@@ -2,7 +2,7 @@
 ghost use Rattle.std.specs.Prelude.{◌≡◌, ◌↔◌, IsTrue};
 ghost use Rattle.strata.specs.Asking.{IsAskedIn};
 ghost use Rattle.strata.specs.Predicates.{SuitsSlot};
-ghost use Rattle.strata.specs.Settling.{SettlesTo, TellsMet, TellsWithin};
+ghost use Rattle.strata.specs.Settling.{SettlesTo, DecidesMet, DecidesWithin};
 
 use crate::inclusion::{Inclusion, Within};
 use crate::outcome::StrataFault;
@@ -33,7 +33,7 @@ pub(crate) fn is_met<I: Inclusion>(
 ) -> Result<bool, StrataFault>
     requires slot { IsAskedIn (I.schema by.old) slot.now }
     requires one { SuitsSlot (I.schema by.old) slot.now one.now }
-    ensures tells { TellsMet (I.schema by.old) (I.states by.old) slot.now one.now result }
+    ensures decides { DecidesMet (I.schema by.old) (I.states by.old) slot.now one.now result }
     ensures schema { I.schema by.new ≡ I.schema by.old }
     ensures states { I.states by.new ≡ I.states by.old }
 {
@@ -63,7 +63,7 @@ pub(crate) fn is_within<I: Inclusion>(
     requires slot { IsAskedIn (I.schema by.old) slot.now }
     requires one { SuitsSlot (I.schema by.old) slot.now one.now }
     requires other { SuitsSlot (I.schema by.old) slot.now other.now }
-    ensures tells { TellsWithin (I.schema by.old) (I.states by.old) slot.now one.now other.now
+    ensures decides { DecidesWithin (I.schema by.old) (I.states by.old) slot.now one.now other.now
         result }
     ensures schema { I.schema by.new ≡ I.schema by.old }
     ensures states { I.states by.new ≡ I.states by.old }

@@ -1,6 +1,6 @@
 //! For each predicate that is kept those that are maximal strictly below it.
 ghost use Rattle.std.specs.Prelude.{◌+◌, ◌<◌, ◌^◌, IfOk, OnOk, length};
-ghost use Rattle.strata.specs.Rows.{AreListed, AreToldMaximal, IsToldMaximal};
+ghost use Rattle.strata.specs.Rows.{AreListed, AreMaximalByRows, IsMaximalByRows};
 
 use crate::rows::{Row, is_maximal_below};
 use crate::stratum::NumberList;
@@ -12,8 +12,8 @@ fn look_at(rows: &[Row], i: usize, j: usize, numbers: &mut NumberList) -> Result
     requires few { length rows.now < 2 ^ 32 }
     requires upper { i < length rows.now }
     requires lower { j < length rows.now }
-    requires before { AreListed (IsToldMaximal rows.now i) j numbers.old }
-    ensures { OnOk result (AreListed (IsToldMaximal rows.now i) (j + 1) numbers.new) }
+    requires before { AreListed (IsMaximalByRows rows.now i) j numbers.old }
+    ensures { OnOk result (AreListed (IsMaximalByRows rows.now i) (j + 1) numbers.new) }
 {
     if !is_maximal_below(rows, j, i) {
         return Ok(());
@@ -26,7 +26,7 @@ fn look_at(rows: &[Row], i: usize, j: usize, numbers: &mut NumberList) -> Result
 fn covered(alloc: Global, rows: &[Row], i: usize) -> Result<NumberList, NoMemory>
     requires few { length rows.now < 2 ^ 32 }
     requires upper { i < length rows.now }
-    ensures { IfOk result (AreListed (IsToldMaximal rows.now i) (length rows.now)) }
+    ensures { IfOk result (AreListed (IsMaximalByRows rows.now i) (length rows.now)) }
 {
     let mut numbers = NumberList::new(alloc);
     for j in 0..rows.len() {
@@ -38,7 +38,7 @@ fn covered(alloc: Global, rows: &[Row], i: usize) -> Result<NumberList, NoMemory
 // The same of each number.
 pub(crate) fn all_covered(alloc: Global, rows: &[Row]) -> Result<List<NumberList>, NoMemory>
     requires { length rows.now < 2 ^ 32 }
-    ensures { IfOk result (AreToldMaximal rows.now (length rows.now)) }
+    ensures { IfOk result (AreMaximalByRows rows.now (length rows.now)) }
 {
     let mut lists = List::new(alloc);
     for i in 0..rows.len() {

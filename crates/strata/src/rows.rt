@@ -1,6 +1,6 @@
 //! Rows of answers: for each predicate that is kept, how it stands to those before it.
 ghost use Rattle.std.specs.Prelude.{◌≡◌, ◌<◌, ◌↔◌, [], IsTrue, false, length, slice_index_or};
-ghost use Rattle.strata.specs.Rows.{IsNothingTold, IsToldBelow, IsToldMaximal, tells_below, tells_between, tells_strictly};
+ghost use Rattle.strata.specs.Rows.{IsNothingBetween, IsBelowByRows, IsMaximalByRows, below_by_rows, between_by_rows, strictly_by_rows};
 
 use plain_lists::List;
 use std::alloc::Global;
@@ -40,7 +40,7 @@ fn answer_at(answers: &List<bool>, number: usize) -> bool
 fn is_below(rows: &[Row], j: usize, i: usize) -> bool
     requires lower { j < length rows.now }
     requires upper { i < length rows.now }
-    ensures { result ≡ tells_below rows.now j i }
+    ensures { result ≡ below_by_rows rows.now j i }
 {
     if j == i {
         return true;
@@ -54,7 +54,7 @@ fn is_below(rows: &[Row], j: usize, i: usize) -> bool
 
 // Whether both numbers are there and number j is below number i.
 pub(crate) fn is_told_below(rows: &[Row], j: usize, i: usize) -> bool
-    ensures { IsTrue result ↔ IsToldBelow rows.now j i }
+    ensures { IsTrue result ↔ IsBelowByRows rows.now j i }
 {
     j < rows.len() && i < rows.len() && is_below(rows, j, i)
 }
@@ -63,7 +63,7 @@ pub(crate) fn is_told_below(rows: &[Row], j: usize, i: usize) -> bool
 fn is_strictly_below(rows: &[Row], j: usize, i: usize) -> bool
     requires lower { j < length rows.now }
     requires upper { i < length rows.now }
-    ensures { result ≡ tells_strictly rows.now j i }
+    ensures { result ≡ strictly_by_rows rows.now j i }
 {
     j != i && is_below(rows, j, i)
 }
@@ -73,7 +73,7 @@ fn is_between(rows: &[Row], j: usize, k: usize, i: usize) -> bool
     requires lower { j < length rows.now }
     requires between { k < length rows.now }
     requires upper { i < length rows.now }
-    ensures { result ≡ tells_between rows.now j k i }
+    ensures { result ≡ between_by_rows rows.now j k i }
 {
     is_strictly_below(rows, j, k) && is_strictly_below(rows, k, i)
 }
@@ -82,7 +82,7 @@ fn is_between(rows: &[Row], j: usize, k: usize, i: usize) -> bool
 fn is_nothing_between(rows: &[Row], j: usize, i: usize) -> bool
     requires lower { j < length rows.now }
     requires upper { i < length rows.now }
-    ensures { IsTrue result ↔ IsNothingTold rows.now j i }
+    ensures { IsTrue result ↔ IsNothingBetween rows.now j i }
 {
     for k in 0..rows.len() {
         if is_between(rows, j, k, i) {
@@ -96,7 +96,7 @@ fn is_nothing_between(rows: &[Row], j: usize, i: usize) -> bool
 pub(crate) fn is_maximal_below(rows: &[Row], j: usize, i: usize) -> bool
     requires lower { j < length rows.now }
     requires upper { i < length rows.now }
-    ensures { IsTrue result ↔ IsToldMaximal rows.now i j }
+    ensures { IsTrue result ↔ IsMaximalByRows rows.now i j }
 {
     is_strictly_below(rows, j, i) && is_nothing_between(rows, j, i)
 }

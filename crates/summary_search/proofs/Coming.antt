@@ -25,7 +25,7 @@ pub made-for : (schema : Schema) (set : PolicySet) (query : Query) (slots : List
 made-for schema set query slots strata some askable of within = record {
   fits = of.fits;
   sound = askable.sound;
-  some = some;
+  has_request = some;
   query = of.is;
   slots = slots;
   differ = askable.differ;

@@ -14,7 +14,7 @@ use Rattle.strata.specs.declared.predicate.Predicate.TheVariants.{Every}
 use Rattle.strata.specs.Asking.{AnswersMet, AnswersWithin}
 use Rattle.strata.specs.Predicates.{SuitsSlot, test_of}
 use Rattle.summary_search.specs.Plain.{IsPlainlyBelow}
-use Rattle.summary_search.specs.Questions.{TellsEscape, TellsPossible, opposite}
+use Rattle.summary_search.specs.Questions.{DecidesEscape, DecidesPossible, opposite_answer}
 use Rattle.summary_search.proofs.Answering.{by-test, no-test, not-not, of-test, one-answered, one-possible, two-no, two-possible, two-yes, test-on}
 use Rattle.summary_search.proofs.Patterns.{asked-both, asked-met, asked-missed}
 
@@ -24,7 +24,7 @@ wider-same few more states texts same h = subst (λ (ps : List (List Piece)). Sh
 module _ (schema : Schema) (states : ℕ) (s : Slot) where
   -- ---- what is met
 
-  pub met-by-test : (p : Predicate) (t : Test) → test_of s p ≡ Some t → (w : Within) → TellsPossible schema (t ∷ []) ((0, true) ∷ []) s states w → AnswersMet schema states s p w
+  pub met-by-test : (p : Predicate) (t : Test) → test_of s p ≡ Some t → (w : Within) → DecidesPossible schema (t ∷ []) ((0, true) ∷ []) s states w → AnswersMet schema states s p w
   met-by-test p t e within.Yes h = record {
     request = h.request;
     valid = h.valid;
@@ -45,7 +45,7 @@ module _ (schema : Schema) (states : ℕ) (s : Slot) where
   pub below-every : (p q : Predicate) → q ≡ Every → AnswersWithin schema states s p q within.Yes
   below-every p q is = subst (λ (x : Predicate). AnswersWithin schema states s p x within.Yes) (sym is) (λ r valid meets. tt)
 
-  below-both : (p q : Predicate) (t u : Test) → test_of s p ≡ Some t → test_of s q ≡ Some u → (w : Within) → TellsEscape schema s states (Some t) u w → AnswersWithin schema states s p q (opposite w)
+  below-both : (p q : Predicate) (t u : Test) → test_of s p ≡ Some t → test_of s q ≡ Some u → (w : Within) → DecidesEscape schema s states (Some t) u w → AnswersWithin schema states s p q (opposite_answer w)
   below-both p q t u e f within.Yes h = record {
     request = h.request;
     valid = h.valid;
@@ -56,7 +56,7 @@ module _ (schema : Schema) (states : ℕ) (s : Slot) where
       by-test (TestHolds r) s q u f (not-not r u (λ fails. h (two-possible schema t u r valid (of-test (TestHolds r) s p t e meets) fails)))
   below-both p q t u e f (within.TooMany texts) h = wider-same _ _ states texts (asked-both schema s p q t u e f (test-on s p t e) (test-on s q u f)) h
 
-  below-missed : (q : Predicate) (u : Test) → test_of s q ≡ Some u → (w : Within) → TellsEscape schema s states None u w → AnswersWithin schema states s Every q (opposite w)
+  below-missed : (q : Predicate) (u : Test) → test_of s q ≡ Some u → (w : Within) → DecidesEscape schema s states None u w → AnswersWithin schema states s Every q (opposite_answer w)
   below-missed q u f within.Yes h = record {
     request = h.request;
     valid = h.valid;
@@ -67,7 +67,7 @@ module _ (schema : Schema) (states : ℕ) (s : Slot) where
       by-test (TestHolds r) s q u f (not-not r u (λ fails. h (one-possible schema u false r valid fails)))
   below-missed q u f (within.TooMany texts) h = wider-same _ _ states texts (asked-missed schema s q u f (test-on s q u f)) h
 
-  pub below-by-test : (p q : Predicate) (u : Test) → SuitsSlot schema s p → test_of s q ≡ Some u → (one : Option Test) → one ≡ test_of s p → (w : Within) → TellsEscape schema s states one u w → AnswersWithin schema states s p q (opposite w)
+  pub below-by-test : (p q : Predicate) (u : Test) → SuitsSlot schema s p → test_of s q ≡ Some u → (one : Option Test) → one ≡ test_of s p → (w : Within) → DecidesEscape schema s states one u w → AnswersWithin schema states s p q (opposite_answer w)
   below-by-test p q u suits f None e w h =
-      subst (λ (x : Predicate). AnswersWithin schema states s x q (opposite w)) (sym (no-test schema s p suits (sym e))) (below-missed q u f w h)
+      subst (λ (x : Predicate). AnswersWithin schema states s x q (opposite_answer w)) (sym (no-test schema s p suits (sym e))) (below-missed q u f w h)
   below-by-test p q u suits f (Some t) e w h = below-both p q t u (sym e) f w h

@@ -16,22 +16,22 @@ use Rattle.strata.specs.declared.inclusion.Within.TheVariants.{Yes, No, TooMany}
 
 -- whether some valid request answers the path; or one more text than the number of states, with different product states of the
 -- slot's patterns there
-abbrev pub TellsPossible : Schema → List Test → Answers → Slot → ℕ → Within → Type 0
-TellsPossible schema tests path s states Yes = IsPossible schema tests path
-TellsPossible schema tests path s states No = ¬ IsPossible schema tests path
-TellsPossible schema tests path s states (TooMany texts) = ShowWider (patterns_at schema tests path s) states texts
+abbrev pub DecidesPossible : Schema → List Test → Answers → Slot → ℕ → Within → Type 0
+DecidesPossible schema tests path s states Yes = IsPossible schema tests path
+DecidesPossible schema tests path s states No = ¬ IsPossible schema tests path
+DecidesPossible schema tests path s states (TooMany texts) = ShowWider (patterns_at schema tests path s) states texts
 
 -- the answer to the contrary question
-abbrev pub opposite : Within → Within
-opposite Yes = No
-opposite No = Yes
-opposite (TooMany texts) = TooMany texts
+abbrev pub opposite_answer : Within → Within
+opposite_answer Yes = No
+opposite_answer No = Yes
+opposite_answer (TooMany texts) = TooMany texts
 
 -- whether some valid request passes the one test, where one is given, and not the other; or texts with too many product states
-abbrev pub TellsEscape : Schema → Slot → ℕ → Option Test → Test → Within → Type 0
-TellsEscape schema s states None other w = TellsPossible schema (other ∷ []) ((0, false) ∷ []) s states w
-TellsEscape schema s states (Some one) other w =
-    TellsPossible schema (one ∷ other ∷ []) ((0, true) ∷ (1, false) ∷ []) s states w
+abbrev pub DecidesEscape : Schema → Slot → ℕ → Option Test → Test → Within → Type 0
+DecidesEscape schema s states None other w = DecidesPossible schema (other ∷ []) ((0, false) ∷ []) s states w
+DecidesEscape schema s states (Some one) other w =
+    DecidesPossible schema (one ∷ other ∷ []) ((0, true) ∷ (1, false) ∷ []) s states w
 
 -- as a value of whichever key it meets the condition
 abbrev pub MeetsOnKeys : Cond → SlotValue → Type 0

@@ -3,7 +3,7 @@
 ghost use Rattle.std.specs.Prelude.{◌≡◌, ◌≤◌, IfOk, IfSome};
 ghost use Rattle.policy_model.specs.Soundness.{SchemaIsSound};
 ghost use Rattle.slot_theory.specs.Slots.{SlotIsIn};
-ghost use Rattle.summary_search.specs.Questions.{IsTestOnSlot, TellsEscape, opposite};
+ghost use Rattle.summary_search.specs.Questions.{IsTestOnSlot, DecidesEscape, opposite_answer};
 
 use crate::plain::is_plainly_below;
 use crate::questions::{ask_escape, ask_missed, ask_passed};
@@ -19,7 +19,7 @@ use strata::{Inclusion, Predicate, Within, test_of};
 pub struct ByProducts<'a> {
     schema: &'a Schema,
     states: u32,
-    ghost some: { 1 ≤ states },
+    ghost positive: { 1 ≤ states },
 }
 
 impl<'a> ByProducts<'a> {
@@ -35,7 +35,7 @@ impl<'a> ByProducts<'a> {
 
 // The answer to the contrary question.
 fn opposite(answer: Within) -> Within
-    ensures { result ≡ opposite answer }
+    ensures { result ≡ opposite_answer answer }
 {
     match answer {
         Within::Yes => Within::No,
@@ -57,8 +57,8 @@ fn escapes(
     requires slot { SlotIsIn schema.now slot.now }
     requires one_suits { IfSome one (IsTestOnSlot schema.now slot.now) }
     requires other_suits { IsTestOnSlot schema.now slot.now other }
-    requires some { 1 ≤ states }
-    ensures { IfOk result (TellsEscape schema.now slot.now states one other) }
+    requires positive { 1 ≤ states }
+    ensures { IfOk result (DecidesEscape schema.now slot.now states one other) }
 {
     match one {
         Some(test) => ask_escape(alloc, schema, slot, test, other, states),

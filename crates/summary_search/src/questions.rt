@@ -5,7 +5,7 @@ ghost use Rattle.policy_model.specs.Soundness.{SchemaIsSound, TestSuits};
 ghost use Rattle.slot_theory.specs.Cores.{HasTest};
 ghost use Rattle.slot_theory.specs.Possible.{PathInRange};
 ghost use Rattle.slot_theory.specs.Slots.{SlotIsIn, slot_of};
-ghost use Rattle.summary_search.specs.Questions.{IsTestOnSlot, TellsPossible};
+ghost use Rattle.summary_search.specs.Questions.{IsTestOnSlot, DecidesPossible};
 
 use crate::samples::{sample_escapes, sample_passes, stated_misses};
 use formula_tree::Path;
@@ -31,8 +31,8 @@ fn is_possible(
     requires slot { SlotIsIn schema.now slot.now }
     requires on { All (λ t. slot_of t ≡ slot.now) tests.now }
     requires asked { HasTest tests.now path.now slot.now }
-    requires some { 1 ≤ states }
-    ensures { IfOk result (TellsPossible schema.now tests.now path.now slot.now states) }
+    requires positive { 1 ≤ states }
+    ensures { IfOk result (DecidesPossible schema.now tests.now path.now slot.now states) }
 {
     // The schema's keys are in order, so what is found for the slot is part of a valid request.
     let _keys = schema.len();
@@ -55,9 +55,9 @@ fn ask_one(
     requires sound { SchemaIsSound schema.now }
     requires slot { SlotIsIn schema.now slot.now }
     requires suits { IsTestOnSlot schema.now slot.now test }
-    requires some { 1 ≤ states }
+    requires positive { 1 ≤ states }
     ensures { IfOk result
-        (TellsPossible schema.now (test ∷ []) ((0, answer) ∷ []) slot.now states) }
+        (DecidesPossible schema.now (test ∷ []) ((0, answer) ∷ []) slot.now states) }
 {
     let mut tests = TestList::new(alloc);
     tests.push(test)?;
@@ -99,8 +99,8 @@ fn ask_two(
     requires slot { SlotIsIn schema.now slot.now }
     requires yes_suits { IsTestOnSlot schema.now slot.now yes }
     requires no_suits { IsTestOnSlot schema.now slot.now no }
-    requires some { 1 ≤ states }
-    ensures { IfOk result (TellsPossible schema.now
+    requires positive { 1 ≤ states }
+    ensures { IfOk result (DecidesPossible schema.now
         (yes ∷ no ∷ []) ((0, true) ∷ (1, false) ∷ []) slot.now states) }
 {
     let tests = both(alloc, yes, no)?;
@@ -119,9 +119,9 @@ pub fn ask_passed(
     requires sound { SchemaIsSound schema.now }
     requires slot { SlotIsIn schema.now slot.now }
     requires suits { IsTestOnSlot schema.now slot.now test }
-    requires some { 1 ≤ states }
+    requires positive { 1 ≤ states }
     ensures { IfOk result
-        (TellsPossible schema.now (test ∷ []) ((0, true) ∷ []) slot.now states) }
+        (DecidesPossible schema.now (test ∷ []) ((0, true) ∷ []) slot.now states) }
 {
     if sample_passes(alloc, schema, slot, &test)? {
         return Ok(Within::Yes);
@@ -140,9 +140,9 @@ pub fn ask_missed(
     requires sound { SchemaIsSound schema.now }
     requires slot { SlotIsIn schema.now slot.now }
     requires suits { IsTestOnSlot schema.now slot.now test }
-    requires some { 1 ≤ states }
+    requires positive { 1 ≤ states }
     ensures { IfOk result
-        (TellsPossible schema.now (test ∷ []) ((0, false) ∷ []) slot.now states) }
+        (DecidesPossible schema.now (test ∷ []) ((0, false) ∷ []) slot.now states) }
 {
     if stated_misses(alloc, schema, slot, &test)? {
         return Ok(Within::Yes);
@@ -163,8 +163,8 @@ pub fn ask_escape(
     requires slot { SlotIsIn schema.now slot.now }
     requires yes_suits { IsTestOnSlot schema.now slot.now yes }
     requires no_suits { IsTestOnSlot schema.now slot.now no }
-    requires some { 1 ≤ states }
-    ensures { IfOk result (TellsPossible schema.now
+    requires positive { 1 ≤ states }
+    ensures { IfOk result (DecidesPossible schema.now
         (yes ∷ no ∷ []) ((0, true) ∷ (1, false) ∷ []) slot.now states) }
 {
     if sample_escapes(alloc, schema, slot, &yes, &no)? {

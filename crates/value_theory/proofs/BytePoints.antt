@@ -8,7 +8,7 @@ use Rattle.value_theory.specs.declared.kinds.PlainCond.{PlainCond}
 use Rattle.value_theory.specs.declared.kinds.PlainCond.TheVariants.{Compares, Inside, Flag, Equals}
 use Rattle.value_theory.specs.declared.kinds.PlainValue.TheVariants as Value
 use Rattle.value_theory.specs.Solutions.{answers}
-use Rattle.value_theory.specs.Samples.{samples_at, length_named, longest, fresh_bytes}
+use Rattle.value_theory.specs.Samples.{samples_at, length_named, longest_length, fresh_bytes}
 use Rattle.value_theory.proofs.Floors.{In, In-right}
 
 -- as many answers, each of them no
@@ -60,5 +60,5 @@ all_shorter (c ∷ conds) m n h = (omega (arith, h, grows conds (max m (length_n
 
 pub fresh_meets_none : (conds : List PlainCond) → answers conds (Value.Bytes (fresh_bytes conds)) ≡ none_met conds
 fresh_meets_none conds =
-    let long : longest conds < length (fresh_bytes conds) = omega (arith, length-append {A = ℕ} (replicate (longest conds) 0) (0 ∷ []), length-replicate {A = ℕ} (longest conds) 0) in
+    let long : longest_length conds < length (fresh_bytes conds) = omega (arith, length-append {A = ℕ} (replicate (longest_length conds) 0) (0 ∷ []), length-replicate {A = ℕ} (longest_length conds) 0) in
     unnamed conds (fresh_bytes conds) (all_shorter conds 0 (length (fresh_bytes conds)) long)

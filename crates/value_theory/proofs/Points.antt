@@ -16,7 +16,7 @@ use Rattle.value_theory.specs.Meaning.{IsOfPlainKind}
 use Rattle.value_theory.specs.declared.clause.Literal.{Literal}
 use Rattle.value_theory.specs.Clauses.{some_literal_holds}
 use Rattle.value_theory.specs.Solutions.{answers, meets_clauses}
-use Rattle.value_theory.specs.Samples.{samples, first_samples, samples_at, longest, fresh_bytes, SamplesStandForAll}
+use Rattle.value_theory.specs.Samples.{samples, first_samples, samples_at, longest_length, fresh_bytes, SamplesStandForAll}
 use Rattle.value_theory.proofs.Floors.{In, In-left, In-right, Contains-In, IsFloor}
 use Rattle.value_theory.proofs.NumberPoints.{number_points, numbers_alike, number_listed, number_floor}
 use Rattle.value_theory.proofs.AddressPoints.{moved, address_points, addresses_alike, address_listed, address_floor}
@@ -96,7 +96,7 @@ bytes_point conds bs h =
       }
       | inr none ↦ record {
         point = Value.Bytes (fresh_bytes conds);
-        is_of_kind = zero_byte (longest conds);
+        is_of_kind = zero_byte (longest_length conds);
         listed = inl refl;
         alike = none ∙ sym (fresh_meets_none conds);
       }

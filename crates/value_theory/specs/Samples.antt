@@ -48,12 +48,12 @@ length_named (Flag t f) = 0
 length_named (Equals bytes) = length bytes
 
 -- the length of the longest byte string that a condition names
-abbrev pub longest : List PlainCond → ℕ
-longest conds = fold (λ most c. max most (length_named c)) 0 conds
+abbrev pub longest_length : List PlainCond → ℕ
+longest_length conds = fold (λ most c. max most (length_named c)) 0 conds
 
 -- a byte string that no condition names: it is longer than each
 abbrev pub fresh_bytes : List PlainCond → List ℕ
-fresh_bytes conds = replicate (longest conds) 0 ++ 0 ∷ []
+fresh_bytes conds = replicate (longest_length conds) 0 ++ 0 ∷ []
 
 -- the points that are tried first: both truth values, 0, the least address of each family, and a byte string that no condition
 -- names

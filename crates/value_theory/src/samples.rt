@@ -6,7 +6,7 @@ ghost use Rattle.cidr_bits.specs.Numbers.{number};
 ghost use Rattle.value_theory.specs.declared.kinds.PlainKind.TheVariants as Kind;
 ghost use Rattle.value_theory.specs.declared.kinds.PlainValue.TheVariants as Value;
 ghost use Rattle.value_theory.specs.Meaning.{plain_kind, IsOfPlainKind};
-ghost use Rattle.value_theory.specs.Samples.{SamplesStandForAll, samples, first_samples, last_samples, samples_at, number_samples, address_samples, address_at, longest, length_named};
+ghost use Rattle.value_theory.specs.Samples.{SamplesStandForAll, samples, first_samples, last_samples, samples_at, number_samples, address_samples, address_at, longest_length, length_named};
 
 use crate::kinds::{PlainCond, PlainKind, PlainValue};
 use cidr_bits::{Address, Block, bounds};
@@ -96,7 +96,7 @@ fn zeros(alloc: Global, count: usize) -> Result<ByteList, NoMemory>
 
 // The length of the longest byte string that a condition names.
 fn longest_of(conds: &[PlainCond]) -> usize
-    ensures { result ≡ longest conds.now }
+    ensures { result ≡ longest_length conds.now }
 {
     conds.iter().fold(0, |most, cond| most.max(length_of(cond)))
 }

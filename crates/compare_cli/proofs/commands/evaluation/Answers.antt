@@ -1,7 +1,7 @@
 use Rattle.std.proofs.Common.{◌∙◌, ◌≤◌, ◌∷◌, ℕ, List, Option, Some, arith, option_map, refl, subst, sym}
 use Rattle.std.specs.Prelude.{string_bytes}
 use Rattle.std.proofs.lemmas.Result.{err_from_is_err_and}
-use Rattle.command_words.specs.Asked.{Asked, an_evaluation, evaluating_in}
+use Rattle.command_words.specs.Asked.{Asked, EvalCommand, evaluating_in}
 use Rattle.run_files.specs.declared.printed.Printed.{Printed}
 use Rattle.run_files.specs.declared.role.Role.TheVariants as role
 use Rattle.run_files.specs.Files.{IsShort}
@@ -16,7 +16,7 @@ use Rattle.compare_cli.proofs.commands.evaluation.Goals as goal
 pub returns-in_err-set-clause-prints : goal.returns-in_err-set-clause-prints
 returns-in_err-set-clause-prints g c =
     let arguments = c.args.arguments.now in
-    let asked : Asked = an_evaluation (evaluating_in arguments) in
+    let asked : Asked = EvalCommand (evaluating_in arguments) in
     let last : List FileName = last_names role.Request (string_bytes arguments.request) (option_map (λ n. string_bytes n) arguments.schema) in
     let before = c.args.folder.now in
     let first : FileName = file role.Set (string_bytes arguments.set) in
@@ -28,7 +28,7 @@ returns-in_err-set-clause-prints g c =
 pub returns-in_err-rest-clause-prints : goal.returns-in_err-rest-clause-prints
 returns-in_err-rest-clause-prints g c =
     let arguments = c.args.arguments.now in
-    let asked : Asked = an_evaluation (evaluating_in arguments) in
+    let asked : Asked = EvalCommand (evaluating_in arguments) in
     let last : List FileName = last_names role.Request (string_bytes arguments.request) (option_map (λ n. string_bytes n) arguments.schema) in
     let before = c.args.folder.now in
     let first : FileName = file role.Set (string_bytes arguments.set) in
@@ -43,7 +43,7 @@ returns-in_err-rest-clause-prints g c =
 pub returns-clause-prints : goal.returns-clause-prints
 returns-clause-prints g c =
     let arguments = c.args.arguments.now in
-    let asked : Asked = an_evaluation (evaluating_in arguments) in
+    let asked : Asked = EvalCommand (evaluating_in arguments) in
     let last : List FileName = last_names role.Request (string_bytes arguments.request) (option_map (λ n. string_bytes n) arguments.schema) in
     let before = c.args.folder.now in
     let first : FileName = file role.Set (string_bytes arguments.set) in

@@ -1,7 +1,7 @@
 use Rattle.std.proofs.Common.{◌∷◌, ℕ, List, Option, Some, option_map, refl}
 use Rattle.std.specs.Prelude.{string_bytes}
 use Rattle.std.proofs.lemmas.Result.{err_from_is_err_and}
-use Rattle.command_words.specs.Asked.{Asked, a_use_question, use_question_in}
+use Rattle.command_words.specs.Asked.{Asked, IdleCommand, use_question_in}
 use Rattle.run_files.specs.declared.printed.Printed.{Printed}
 use Rattle.run_files.specs.declared.role.Role.TheVariants as role
 use Rattle.run_files.specs.Readings.{AreRead, FileName, Reading, if_given, reading_of}
@@ -16,7 +16,7 @@ use Rattle.compare_cli.proofs.commands.idle.Goals as goal
 pub returns-in_err-files-clause-prints : goal.returns-in_err-files-clause-prints
 returns-in_err-files-clause-prints g c =
     let arguments = c.args.arguments.now in
-    let asked : Asked = a_use_question (use_question_in arguments) in
+    let asked : Asked = IdleCommand (use_question_in arguments) in
     let last : List FileName = last_names role.Set (string_bytes arguments.set) (option_map (λ n. string_bytes n) arguments.schema) in
     let before = c.args.folder.now in
     let r : Reading = reading_of g.F.Folder.held g.F.Folder.faults g.F.Folder.last_fault before c.read_last.new.folder in
@@ -26,7 +26,7 @@ returns-in_err-files-clause-prints g c =
 pub returns-clause-prints : goal.returns-clause-prints
 returns-clause-prints g c =
     let arguments = c.args.arguments.now in
-    let asked : Asked = a_use_question (use_question_in arguments) in
+    let asked : Asked = IdleCommand (use_question_in arguments) in
     let last : List FileName = last_names role.Set (string_bytes arguments.set) (option_map (λ n. string_bytes n) arguments.schema) in
     let before = c.args.folder.now in
     let r : Reading = reading_of g.F.Folder.held g.F.Folder.faults g.F.Folder.last_fault before c.read_last.new.folder in

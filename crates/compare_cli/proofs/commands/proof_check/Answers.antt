@@ -1,7 +1,7 @@
 use Rattle.std.proofs.Common.{◌≡◌, ◌∙◌, ◌≤◌, ◌∷◌, ℕ, List, Option, Some, arith, option_map, refl, subst, sym}
 use Rattle.std.specs.Prelude.{string_bytes}
 use Rattle.std.proofs.lemmas.Result.{err_from_is_err_and}
-use Rattle.command_words.specs.Asked.{Asked, a_check, checking_in}
+use Rattle.command_words.specs.Asked.{Asked, CheckCommand, checking_in}
 use Rattle.run_files.specs.declared.printed.Printed.{Printed}
 use Rattle.run_files.specs.declared.role.Role.TheVariants as role
 use Rattle.run_files.specs.Files.{IsShort}
@@ -17,7 +17,7 @@ use Rattle.compare_cli.proofs.commands.proof_check.Goals as goal
 pub returns-in_err-first-clause-prints : goal.returns-in_err-first-clause-prints
 returns-in_err-first-clause-prints g c =
     let arguments = c.args.arguments.now in
-    let asked : Asked = a_check (checking_in arguments) in
+    let asked : Asked = CheckCommand (checking_in arguments) in
     let last : List FileName = last_names role.Proof (string_bytes arguments.proof) (option_map (λ n. string_bytes n) arguments.names.schema) in
     let before = c.args.folder.now in
     let first : FileName = file role.First (string_bytes arguments.names.first) in
@@ -30,7 +30,7 @@ returns-in_err-first-clause-prints g c =
 pub returns-in_err-second-clause-prints : goal.returns-in_err-second-clause-prints
 returns-in_err-second-clause-prints g c =
     let arguments = c.args.arguments.now in
-    let asked : Asked = a_check (checking_in arguments) in
+    let asked : Asked = CheckCommand (checking_in arguments) in
     let last : List FileName = last_names role.Proof (string_bytes arguments.proof) (option_map (λ n. string_bytes n) arguments.names.schema) in
     let before = c.args.folder.now in
     let first : FileName = file role.First (string_bytes arguments.names.first) in
@@ -46,7 +46,7 @@ returns-in_err-second-clause-prints g c =
 pub returns-in_err-rest-clause-prints : goal.returns-in_err-rest-clause-prints
 returns-in_err-rest-clause-prints g c =
     let arguments = c.args.arguments.now in
-    let asked : Asked = a_check (checking_in arguments) in
+    let asked : Asked = CheckCommand (checking_in arguments) in
     let last : List FileName = last_names role.Proof (string_bytes arguments.proof) (option_map (λ n. string_bytes n) arguments.names.schema) in
     let before = c.args.folder.now in
     let first : FileName = file role.First (string_bytes arguments.names.first) in
@@ -65,7 +65,7 @@ returns-in_err-rest-clause-prints g c =
 pub returns-clause-prints : goal.returns-clause-prints
 returns-clause-prints g c =
     let arguments = c.args.arguments.now in
-    let asked : Asked = a_check (checking_in arguments) in
+    let asked : Asked = CheckCommand (checking_in arguments) in
     let last : List FileName = last_names role.Proof (string_bytes arguments.proof) (option_map (λ n. string_bytes n) arguments.names.schema) in
     let before = c.args.folder.now in
     let first : FileName = file role.First (string_bytes arguments.names.first) in

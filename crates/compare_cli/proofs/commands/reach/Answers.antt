@@ -1,7 +1,7 @@
 use Rattle.std.proofs.Common.{◌∙◌, ◌≤◌, ◌∷◌, ℕ, List, Option, Some, arith, option_map, refl, subst, sym}
 use Rattle.std.specs.Prelude.{string_bytes}
 use Rattle.std.proofs.lemmas.Result.{err_from_is_err_and}
-use Rattle.command_words.specs.Asked.{Asked, a_reach, summarising_in}
+use Rattle.command_words.specs.Asked.{Asked, ReachCommand, summarising_in}
 use Rattle.run_files.specs.declared.printed.Printed.{Printed}
 use Rattle.run_files.specs.declared.role.Role.TheVariants as role
 use Rattle.run_files.specs.Files.{IsShort}
@@ -16,7 +16,7 @@ use Rattle.compare_cli.proofs.commands.reach.Goals as goal
 pub returns-in_err-set-clause-prints : goal.returns-in_err-set-clause-prints
 returns-in_err-set-clause-prints g c =
     let arguments = c.args.arguments.now in
-    let asked : Asked = a_reach (summarising_in arguments.summary) (string_bytes arguments.zone) in
+    let asked : Asked = ReachCommand (summarising_in arguments.summary) (string_bytes arguments.zone) in
     let last : List FileName = last_names role.Zone (string_bytes arguments.zone) (option_map (λ n. string_bytes n) arguments.summary.schema) in
     let before = c.args.folder.now in
     let first : FileName = file role.Set (string_bytes arguments.summary.set) in
@@ -28,7 +28,7 @@ returns-in_err-set-clause-prints g c =
 pub returns-in_err-rest-clause-prints : goal.returns-in_err-rest-clause-prints
 returns-in_err-rest-clause-prints g c =
     let arguments = c.args.arguments.now in
-    let asked : Asked = a_reach (summarising_in arguments.summary) (string_bytes arguments.zone) in
+    let asked : Asked = ReachCommand (summarising_in arguments.summary) (string_bytes arguments.zone) in
     let last : List FileName = last_names role.Zone (string_bytes arguments.zone) (option_map (λ n. string_bytes n) arguments.summary.schema) in
     let before = c.args.folder.now in
     let first : FileName = file role.Set (string_bytes arguments.summary.set) in
@@ -43,7 +43,7 @@ returns-in_err-rest-clause-prints g c =
 pub returns-clause-prints : goal.returns-clause-prints
 returns-clause-prints g c =
     let arguments = c.args.arguments.now in
-    let asked : Asked = a_reach (summarising_in arguments.summary) (string_bytes arguments.zone) in
+    let asked : Asked = ReachCommand (summarising_in arguments.summary) (string_bytes arguments.zone) in
     let last : List FileName = last_names role.Zone (string_bytes arguments.zone) (option_map (λ n. string_bytes n) arguments.summary.schema) in
     let before = c.args.folder.now in
     let first : FileName = file role.Set (string_bytes arguments.summary.set) in

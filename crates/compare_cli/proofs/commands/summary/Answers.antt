@@ -1,7 +1,7 @@
 use Rattle.std.proofs.Common.{◌∷◌, ℕ, List, Bool, Option, Some, option_map, refl, subst, sym}
 use Rattle.std.specs.Prelude.{string_bytes}
 use Rattle.std.proofs.lemmas.Result.{err_from_is_err_and}
-use Rattle.command_words.specs.Asked.{Asked, a_summary, summarising_in}
+use Rattle.command_words.specs.Asked.{Asked, SummaryCommand, summarising_in}
 use Rattle.run_files.specs.declared.printed.Printed.{Printed}
 use Rattle.run_files.specs.declared.role.Role.TheVariants as role
 use Rattle.run_files.specs.Readings.{AreRead, FileName, Reading, if_given, reading_of}
@@ -9,7 +9,7 @@ use Rattle.run_files.proofs.Laws.{or_answered_weaker}
 use Rattle.run_sets.specs.OneSets.{set_contents}
 use Rattle.finding_answers.specs.Printed.{IsSummaryPrinted}
 use Rattle.cover_answers.specs.Certified.{IsCertifiedSummaryPrinted}
-use Rattle.compare_cli.specs.Commands.{IsPrinted, IsSummaryTold}
+use Rattle.compare_cli.specs.Commands.{IsPrinted, IsSummaryPrintedFrom}
 use Rattle.compare_cli.specs.LastFiles.{last_names}
 use Rattle.compare_cli.proofs.Reading.{fails_printed, last_read, may_print}
 use Rattle.compare_cli.proofs.commands.summary.Goals as goal
@@ -17,7 +17,7 @@ use Rattle.compare_cli.proofs.commands.summary.Goals as goal
 pub returns-in_err-files-clause-prints : goal.returns-in_err-files-clause-prints
 returns-in_err-files-clause-prints g c =
     let arguments = c.args.arguments.now in
-    let asked : Asked = a_summary (summarising_in arguments.summary) arguments.certified in
+    let asked : Asked = SummaryCommand (summarising_in arguments.summary) arguments.certified in
     let last : List FileName = last_names role.Set (string_bytes arguments.summary.set) (option_map (λ n. string_bytes n) arguments.summary.schema) in
     let before = c.args.folder.now in
     let r : Reading = reading_of g.F.Folder.held g.F.Folder.faults g.F.Folder.last_fault before c.read_last.new.folder in
@@ -27,7 +27,7 @@ returns-in_err-files-clause-prints g c =
 pub returns-then-arguments-clause-prints : goal.returns-then-arguments-clause-prints
 returns-then-arguments-clause-prints g c =
     let arguments = c.args.arguments.now in
-    let asked : Asked = a_summary (summarising_in arguments.summary) arguments.certified in
+    let asked : Asked = SummaryCommand (summarising_in arguments.summary) arguments.certified in
     let last : List FileName = last_names role.Set (string_bytes arguments.summary.set) (option_map (λ n. string_bytes n) arguments.summary.schema) in
     let before = c.args.folder.now in
     let r : Reading = reading_of g.F.Folder.held g.F.Folder.faults g.F.Folder.last_fault before c.read_last.new.folder in
@@ -35,13 +35,13 @@ returns-then-arguments-clause-prints g c =
     let given : AreRead (g.F.Folder.held before) last (c.as_slice-set.result.now ∷ if_given schema) =
     last_read (g.F.Folder.held before) last c.as_slice-set.result.now schema c.in_ok-files.files c.as_slice-set.ensures.value c.bytes_of.ensures c.in_ok-files.ensures.reads.0 in
     let says : (p : Printed) → IsCertifiedSummaryPrinted (summarising_in arguments.summary) (set_contents c.as_slice-set.result.now schema) p → IsPrinted (Some asked) r p =
-    λ p v. may_print asked r c.in_ok-files.ensures.reads.1 p (record { contents = set_contents c.as_slice-set.result.now schema; read = given; holds = subst (λ (b : Bool). IsSummaryTold (summarising_in arguments.summary) b (set_contents c.as_slice-set.result.now schema) p) (sym c.if-arguments.true) v }) in
+    λ p v. may_print asked r c.in_ok-files.ensures.reads.1 p (record { contents = set_contents c.as_slice-set.result.now schema; read = given; holds = subst (λ (b : Bool). IsSummaryPrintedFrom (summarising_in arguments.summary) b (set_contents c.as_slice-set.result.now schema) p) (sym c.if-arguments.true) v }) in
     or_answered_weaker c.print_certified_summary.result _ (IsPrinted (Some asked) r) _ (IsPrinted (Some asked) r) says says c.print_certified_summary.ensures
 
 pub returns-clause-prints : goal.returns-clause-prints
 returns-clause-prints g c =
     let arguments = c.args.arguments.now in
-    let asked : Asked = a_summary (summarising_in arguments.summary) arguments.certified in
+    let asked : Asked = SummaryCommand (summarising_in arguments.summary) arguments.certified in
     let last : List FileName = last_names role.Set (string_bytes arguments.summary.set) (option_map (λ n. string_bytes n) arguments.summary.schema) in
     let before = c.args.folder.now in
     let r : Reading = reading_of g.F.Folder.held g.F.Folder.faults g.F.Folder.last_fault before c.read_last.new.folder in
@@ -49,5 +49,5 @@ returns-clause-prints g c =
     let given : AreRead (g.F.Folder.held before) last (c.as_slice-set.result.now ∷ if_given schema) =
     last_read (g.F.Folder.held before) last c.as_slice-set.result.now schema c.in_ok-files.files c.as_slice-set.ensures.value c.bytes_of-else-arguments.ensures c.in_ok-files.ensures.reads.0 in
     let says : (p : Printed) → IsSummaryPrinted (summarising_in arguments.summary) (set_contents c.as_slice-set.result.now schema) p → IsPrinted (Some asked) r p =
-    λ p v. may_print asked r c.in_ok-files.ensures.reads.1 p (record { contents = set_contents c.as_slice-set.result.now schema; read = given; holds = subst (λ (b : Bool). IsSummaryTold (summarising_in arguments.summary) b (set_contents c.as_slice-set.result.now schema) p) (sym c.if-arguments.false) v }) in
+    λ p v. may_print asked r c.in_ok-files.ensures.reads.1 p (record { contents = set_contents c.as_slice-set.result.now schema; read = given; holds = subst (λ (b : Bool). IsSummaryPrintedFrom (summarising_in arguments.summary) b (set_contents c.as_slice-set.result.now schema) p) (sym c.if-arguments.false) v }) in
     or_answered_weaker c.print_summary.result _ (IsPrinted (Some asked) r) _ (IsPrinted (Some asked) r) says says c.print_summary.ensures

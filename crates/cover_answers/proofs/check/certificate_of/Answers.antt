@@ -1,6 +1,6 @@
 use Rattle.std.proofs.Common.{arith}
 use Rattle.run_files.specs.declared.status.Status.TheVariants.{BadProof}
-use Rattle.run_files.specs.Printing.{Tells}
+use Rattle.run_files.specs.Printing.{PrintsText}
 use Rattle.run_files.proofs.Laws.{if_answered_weaker}
 use Rattle.run_sets.specs.CertificateLines.{proof_fault_text}
 use Rattle.cover_answers.specs.Judged.{IsBadCertificatePrinted}
@@ -13,5 +13,5 @@ returns-in-Err-Refused c =
     let fault = c.in-Err-Refused.fault in
     let read = (rw c.in-Err-Refused.field-0-is at c.in-Err-Refused.ensures.read) in
     let is = certificate-bad schema c.args.query.now c.args.pairs.now c.args.bytes.now _ _ fault c.requires.head (omega (arith, c.len.ensures)) (omega (arith, c.len-2.ensures)) read in
-    if_answered_weaker c.ended.result (Tells (proof_fault_text fault) BadProof) (IsBadCertificatePrinted schema c.args.query.now c.args.pairs.now c.args.bytes.now)
-    (λ p v. record { fault = fault; is = is; told = v }) (c.ended.ensures _ c.proof_fault_text.ensures)
+    if_answered_weaker c.ended.result (PrintsText (proof_fault_text fault) BadProof) (IsBadCertificatePrinted schema c.args.query.now c.args.pairs.now c.args.bytes.now)
+    (λ p v. record { fault = fault; is = is; prints = v }) (c.ended.ensures _ c.proof_fault_text.ensures)

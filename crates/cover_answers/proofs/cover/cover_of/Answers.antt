@@ -1,7 +1,7 @@
 use Rattle.std.proofs.Common.{ℕ, List, subst}
 use Rattle.run_files.specs.declared.printed.Printed.{Printed}
 use Rattle.run_files.specs.declared.status.Status.TheVariants.{Refused}
-use Rattle.run_files.specs.Printing.{Tells}
+use Rattle.run_files.specs.Printing.{PrintsText}
 use Rattle.run_files.proofs.Laws.{if_answered_weaker}
 use Rattle.findings.specs.CoverQueries.{CoverHasTooMany}
 use Rattle.findings.specs.Summaries.{findings_of}
@@ -16,5 +16,5 @@ returns-in-Err-TooManyTests c =
     let fs = findings_of c.args.summary.now in
     let told = (rw c.in-Err-TooManyTests.field-0-is at c.in-Err-TooManyTests.ensures) in
     let large : CoverHasTooMany base strata.dimensions fs = subst (λ (gs : List (List ℕ)). CoverHasTooMany base strata.dimensions gs) c.in_ok-findings.ensures told in
-    let says : (p : Printed) → Tells cover_tests_line Refused p → IsLargePrinted base strata fs p = λ p v. record { large = large; told = v } in
-    if_answered_weaker c.ended.result (Tells cover_tests_line Refused) (IsLargePrinted base strata fs) says (c.ended.ensures _ c.cover_tests_line.ensures)
+    let says : (p : Printed) → PrintsText cover_tests_line Refused p → IsLargePrinted base strata fs p = λ p v. record { large = large; prints = v } in
+    if_answered_weaker c.ended.result (PrintsText cover_tests_line Refused) (IsLargePrinted base strata fs) says (c.ended.ensures _ c.cover_tests_line.ensures)

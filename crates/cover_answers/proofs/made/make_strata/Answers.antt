@@ -10,7 +10,7 @@ use Rattle.summary_search.specs.Outcomes.{AreAskable}
 use Rattle.finding_answers.specs.Dimensions.{IsUnknownPrinted}
 use Rattle.run_sets.specs.PastLimits.{IsSetPastLimit}
 use Rattle.finding_answers.proofs.Laws.{names_are_askable}
-use Rattle.cover_answers.specs.Made.{IsNotMade, TellsUnmade}
+use Rattle.cover_answers.specs.Made.{IsNotMade, PrintsUnmade}
 use Rattle.cover_answers.proofs.Making.{has-dimension, made-of}
 use Rattle.cover_answers.proofs.made.make_strata.Goals as goal
 
@@ -44,9 +44,9 @@ returns c =
     let names = texts_in c.args.names.now in
     let slots = c.in_ok-slots.ensures.slots in
     let cause = subst (λ (ss : List Slot). AreStrataOf one.schema c.args.states c.in_ok-query.query ss (Err c.in-Err.fault)) slots.1 c.in-Err.ensures in
-    let says : (p : Printed) → TellsUnmade names c.args.states c.in-Err.fault p → IsNotMade names c.args.states one p =
-    λ p v. inr (slots.0, inr (record { query = c.in_ok-query.query; is = c.in_ok-query.ensures; fault = c.in-Err.fault; cause = cause; told = v })) in
-    if_answered_weaker c.unmade.result (TellsUnmade names c.args.states c.in-Err.fault) (IsNotMade names c.args.states one) says c.unmade.ensures
+    let says : (p : Printed) → PrintsUnmade names c.args.states c.in-Err.fault p → IsNotMade names c.args.states one p =
+    λ p v. inr (slots.0, inr (record { query = c.in_ok-query.query; is = c.in_ok-query.ensures; fault = c.in-Err.fault; cause = cause; prints = v })) in
+    if_answered_weaker c.unmade.result (PrintsUnmade names c.args.states c.in-Err.fault) (IsNotMade names c.args.states one) says c.unmade.ensures
 
 pub returns-in_err-slots : goal.returns-in_err-slots
 returns-in_err-slots c =

@@ -7,7 +7,7 @@ use Rattle.policy_emit.specs.declared.fault.EmitFault.TheVariants.{TooManyStatem
 use Rattle.policy_emit.specs.Emitted.{IsEmitted}
 use Rattle.policy_emit.specs.Laws.{IsReadAsEmitted}
 use Rattle.run_files.specs.declared.status.Status.TheVariants.{Refused}
-use Rattle.run_files.specs.Printing.{Tells}
+use Rattle.run_files.specs.Printing.{PrintsText}
 use Rattle.run_files.proofs.Laws.{if_answered_weaker}
 use Rattle.emit_answers.specs.EmitPrinted.{IsPolicyPrinted, many_findings_line}
 use Rattle.emit_answers.proofs.Emitting.{none-printed, policy-printed}
@@ -34,4 +34,4 @@ returns-in-Err-TooManyStatements c =
     let known : Written = Err TooManyStatements in
     let is : c.emit.result ≡ known = search rules in
     let emitted = subst (λ (r : Written). IsEmitted schema found.strata.dimensions (findings_of found.summary) r) is c.emit.ensures.emitted in
-    if_answered_weaker c.ended.result (Tells many_findings_line Refused) (IsPolicyPrinted schema found) (none-printed schema found emitted) (c.ended.ensures many_findings_line c.many_findings_line.ensures)
+    if_answered_weaker c.ended.result (PrintsText many_findings_line Refused) (IsPolicyPrinted schema found) (none-printed schema found emitted) (c.ended.ensures many_findings_line c.many_findings_line.ensures)

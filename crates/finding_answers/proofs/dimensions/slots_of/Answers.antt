@@ -5,7 +5,7 @@ use Rattle.command_words.specs.Asked.{texts_in}
 use Rattle.policy_model.proofs.Laws.{All-done}
 use Rattle.slot_theory.specs.Slots.{SlotIsIn}
 use Rattle.run_files.specs.declared.status.Status.TheVariants.{Refused}
-use Rattle.run_files.specs.Printing.{IfAnswered, Tells}
+use Rattle.run_files.specs.Printing.{IfAnswered, PrintsText}
 use Rattle.run_files.proofs.Laws.{if_answered_weaker}
 use Rattle.finding_answers.specs.FindingTexts.{unknown_line}
 use Rattle.finding_answers.specs.Dimensions.{IsFirstUnknown, IsUnknownPrinted, NamesSlot, dimension_slot}
@@ -26,9 +26,9 @@ returns-then-not-is_in-clause-slots c =
     absurd (cc) in
     let first : IsFirstUnknown schema (texts_in names) (chars (string_bytes item)) =
     unknown-at schema (texts_in names) i (string_bytes item) (within-texts names i within) (name-at names i item within c.name-item.is) c.loop-name.invariant.known unknown in
-    let told : IfAnswered c.unknown.result (Tells (unknown_line (chars (string_bytes item))) Refused) = search rules in
-    if_answered_weaker c.unknown.result (Tells (unknown_line (chars (string_bytes item))) Refused) (IsUnknownPrinted schema (texts_in names))
-    (λ p v. record { element = chars (string_bytes item); first = first; told = v }) told
+    let told : IfAnswered c.unknown.result (PrintsText (unknown_line (chars (string_bytes item))) Refused) = search rules in
+    if_answered_weaker c.unknown.result (PrintsText (unknown_line (chars (string_bytes item))) Refused) (IsUnknownPrinted schema (texts_in names))
+    (λ p v. record { element = chars (string_bytes item); first = first; prints = v }) told
 
 pub loop-name-preserved : goal.loop-name-preserved
 loop-name-preserved c =

@@ -21,4 +21,4 @@ returns-in_err-found c =
     rw (p.1, p.2) (if_answered_weaker _ (IsNotFound names c.args.limits one) (IsSetPrinted names c.args.limits one) (λ p v. inl v) c.in_err-found.ensures)
 
 pub returns : goal.returns
-returns c = inr (record { found = c.in_ok-found.found; is = c.in_ok-found.ensures; told = (c.in_ok-found_text.ensures, refl) })
+returns c = inr (record { found = c.in_ok-found.found; is = c.in_ok-found.ensures; prints = (c.in_ok-found_text.ensures, refl) })

@@ -8,7 +8,7 @@ use Rattle.run_sets.specs.Refusals.{IsRefusedBy}
 use Rattle.summary_search.specs.Outcomes.{AreAskable}
 use Rattle.finding_answers.specs.declared.answer.Found.{Found}
 use Rattle.finding_answers.specs.Dimensions.{IsUnknownPrinted, dimension_slots}
-use Rattle.finding_answers.specs.Found.{IsFoundIn, IsFoundOf, IsNotFound, IsSetOutcome, TellsUnfound}
+use Rattle.finding_answers.specs.Found.{IsFoundIn, IsFoundOf, IsNotFound, IsSetOutcome, PrintsUnfound}
 use Rattle.run_sets.specs.PastLimits.{IsSetPastLimit}
 use Rattle.finding_answers.proofs.Naming.{names-askable}
 use Rattle.finding_answers.proofs.Summarising.{found-of, texts-of}
@@ -38,9 +38,9 @@ returns c =
     let askable = names-askable names c.requires.dimensions one.schema c.requires.fits.sound known c.in_ok-slots.ensures.texts in
     let finds : (f : Found) → IsFoundIn outcome f → IsFoundOf names c.args.limits one f = λ f v.
     found-of names c.args.limits one outcome came known c.requires.fits (c.sound_schemas_have_requests.ensures one.schema c.requires.fits.sound) askable f v in
-    let tells : (p : Printed) → TellsUnfound names c.args.limits outcome p → IsNotFound names c.args.limits one p =
-    λ p v. inr (known, inr (record { came = outcome; is = came; told = v })) in
-    or_answered_weaker c.found_in.result (IsFoundIn outcome) (IsFoundOf names c.args.limits one) (TellsUnfound names c.args.limits outcome) (IsNotFound names c.args.limits one) finds tells c.found_in.ensures
+    let tells : (p : Printed) → PrintsUnfound names c.args.limits outcome p → IsNotFound names c.args.limits one p =
+    λ p v. inr (known, inr (record { came = outcome; is = came; prints = v })) in
+    or_answered_weaker c.found_in.result (IsFoundIn outcome) (IsFoundOf names c.args.limits one) (PrintsUnfound names c.args.limits outcome) (IsNotFound names c.args.limits one) finds tells c.found_in.ensures
 
 pub returns-in_err-slots : goal.returns-in_err-slots
 returns-in_err-slots c =

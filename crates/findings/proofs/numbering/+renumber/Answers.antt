@@ -1,7 +1,7 @@
 use Rattle.std.proofs.Common.{ap, arith, length, ◌∙◌}
 use Rattle.formula_tree.specs.declared.formula.Formula.{Formula}
 use Rattle.formula_tree.specs.Trees.{tree_of, trees_of}
-use Rattle.findings.specs.Renumbering.{renumbered}
+use Rattle.findings.specs.Renumbering.{renumbered_tree}
 use Rattle.findings.proofs.Trees.{below-at, each-all, each-next, none_past, size-at}
 use Rattle.findings.proofs.numbering.+renumber.Goals as goal
 use Rattle.findings.proofs.numbering.+renumber.Goals.{renumber_each-else-branches-test, renumber_each-then-branches-test+in_default}
@@ -14,7 +14,7 @@ renumber_each-renumber-requires t c = (
 
 pub renumber_each-branches-preserved : goal.renumber_each-branches-preserved
 renumber_each-branches-preserved t c =
-    let is = ap tree_of c.in_ok-new.ensures.ok ∙ c.in_ok-branch.ensures ∙ ap (λ (f : Formula). renumbered c.args.numbers.now (tree_of f)) c.deref.ensures in
+    let is = ap tree_of c.in_ok-new.ensures.ok ∙ c.in_ok-branch.ensures ∙ ap (λ (f : Formula). renumbered_tree c.args.numbers.now (tree_of f)) c.deref.ensures in
     each-next c.args.numbers.now (trees_of c.args.branches.now) c.branches.i _ (tree_of c.in_ok-new.field-0.value) (trees_of c.branches.renumbered) (trees_of c.push.new.self) c.in-Some.ensures c.branches.invariant is c.in_ok-push.ensures.ok
 
 pub renumber_each-returns : goal.renumber_each-returns

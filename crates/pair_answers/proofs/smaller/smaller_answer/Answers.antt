@@ -1,15 +1,15 @@
-use Rattle.run_sets.specs.Pairs.{paired}
+use Rattle.run_sets.specs.Pairs.{pair_of_sets}
 use Rattle.pair_answers.proofs.Comparing.{query_below, query_tests, smaller-fits, verdict_if_decided}
 use Rattle.pair_answers.proofs.smaller.smaller_answer.Goals as goal
 
 pub decide-requires-clause-suit : goal.decide-requires-clause-suit
 decide-requires-clause-suit c =
-    query_tests (paired c.args.pair.now.schema c.args.first.now c.args.second.now) c.in-Ok.query
+    query_tests (pair_of_sets c.args.pair.now.schema c.args.first.now c.args.second.now) c.in-Ok.query
     (smaller-fits c.args.pair.now c.args.first.now c.args.second.now c.requires.smaller c.requires.fitting) c.in-Ok.ensures
 
 pub decide-requires-clause-below : goal.decide-requires-clause-below
 decide-requires-clause-below c =
-    query_below (paired c.args.pair.now.schema c.args.first.now c.args.second.now) c.in-Ok.query c.in-Ok.ensures
+    query_below (pair_of_sets c.args.pair.now.schema c.args.first.now c.args.second.now) c.in-Ok.query c.in-Ok.ensures
 
 pub returns : goal.returns
 returns c =

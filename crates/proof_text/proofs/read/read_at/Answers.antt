@@ -1,7 +1,7 @@
 use Rattle.std.proofs.Common.{◌∙◌, ◌+◌, ap, length}
 use Rattle.std.proofs.lemmas.Result.{err_from_is_err_and}
 use Rattle.refute_check.specs.Proofs.{proof_of}
-use Rattle.proof_text.specs.LineForms.{a_version}
+use Rattle.proof_text.specs.LineForms.{ExpectVersion}
 use Rattle.proof_text.specs.Spelling.{proof_lines}
 use Rattle.proof_text.specs.declared.limits.Limits.{Limits}
 use Rattle.proof_text.proofs.Taking.{end-refused}
@@ -12,7 +12,7 @@ pub returns-in_err-line-clause-read : goal.returns-in_err-line-clause-read
 returns-in_err-line-clause-read c =
     let limits : Limits = c.args.limits in
     let p = err_from_is_err_and c.from_residual.result c.from_residual.ensures.1 in
-    rw (p.1, p.2) (read-refused limits c.args.start _ (end-refused limits a_version c.args.start _ c.in_err-line.ensures))
+    rw (p.1, p.2) (read-refused limits c.args.start _ (end-refused limits ExpectVersion c.args.start _ c.in_err-line.ensures))
 
 pub returns-in-Err-clause-read : goal.returns-in-Err-clause-read
 returns-in-Err-clause-read c =

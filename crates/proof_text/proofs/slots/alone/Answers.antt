@@ -1,10 +1,10 @@
 use Rattle.std.proofs.Common.{sym, ap, ◌∙◌, Option}
 use Rattle.proof_text.specs.Faults.{fault_of_line}
-use Rattle.proof_text.specs.LineForms.{a_slot_proof}
+use Rattle.proof_text.specs.LineForms.{ExpectSlotProof}
 use Rattle.proof_text.specs.Lines.{Line}
 use Rattle.proof_text.specs.SlotLines.{slot_line_value}
 use Rattle.proof_text.proofs.Endings.{alone-none}
 use Rattle.proof_text.proofs.slots.alone.Goals as goal
 
 pub returns-then-is_some : goal.returns-then-is_some
-returns-then-is_some c = ap (λ (o : Option Line). fault_of_line c.args.limits c.args.begun a_slot_proof o) (alone-none (slot_line_value c.args.line) c.args.behind (sym c.is_some.ensures ∙ c.if-is_some.true))
+returns-then-is_some c = ap (λ (o : Option Line). fault_of_line c.args.limits c.args.begun ExpectSlotProof o) (alone-none (slot_line_value c.args.line) c.args.behind (sym c.is_some.ensures ∙ c.if-is_some.true))

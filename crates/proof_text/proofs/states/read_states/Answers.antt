@@ -1,7 +1,7 @@
 use Rattle.std.proofs.Common.{arith, length, ◌≡◌, ◌∙◌, ap, subst, replicate, map, ℕ}
 use Rattle.std.proofs.lemmas.List.{length-append}
 use Rattle.std.proofs.lemmas.Result.{err_from_is_err_and}
-use Rattle.proof_text.specs.LineForms.{a_state}
+use Rattle.proof_text.specs.LineForms.{ExpectState}
 use Rattle.proof_text.specs.Lines.{places_line}
 use Rattle.proof_text.specs.Steps.{TakesLines}
 use Rattle.proof_text.proofs.Taking.{states-more, states-stop}
@@ -21,4 +21,4 @@ loop-done-preserved c = (
 pub returns-clause-states : goal.returns-clause-states
 returns-clause-states c =
     let all : c.loop-done.done ≡ c.args.count = omega arith in
-    subst (λ (n : ℕ). TakesLines c.args.limits (replicate n a_state) c.args.location (map places_line c.loop-done.set) c.loop-done.at) all c.loop-done.invariant.0
+    subst (λ (n : ℕ). TakesLines c.args.limits (replicate n ExpectState) c.args.location (map places_line c.loop-done.set) c.loop-done.at) all c.loop-done.invariant.0

@@ -18,4 +18,4 @@ returns-in_err-found c =
     rw (p.1, p.2) (if_answered_weaker _ (IsNotFound names c.args.limits left) (λ p. IsNotFound names c.args.limits left p ⊎ IsOutsidePrinted names c.args.limits left p) (λ p v. inl v) c.in_err-found.ensures)
 
 pub returns : goal.returns
-returns c = inr (record { found = c.in_ok-found.found; is = c.in_ok-found.ensures; told = search rules })
+returns c = inr (record { found = c.in_ok-found.found; is = c.in_ok-found.ensures; prints = search rules })

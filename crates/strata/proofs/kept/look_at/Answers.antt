@@ -19,11 +19,11 @@ row_of-requires-clause-one g c = subst (λ (x : Schema). SuitsSlot x c.args.slot
 
 pub returns-in_err-met-clause-keeps : goal.returns-in_err-met-clause-keeps
 returns-in_err-met-clause-keeps g c = λ names so_far.
-    met-fails (g.I.Inclusion.schema c.args.by.now) (g.I.Inclusion.states c.args.by.now) c.args.slot.now names c.args.kept.now c.args.one.now c.from_residual.result c.in_err-met.field-0.0 c.from_residual.ensures.1 c.in_err-met.ensures.tells
+    met-fails (g.I.Inclusion.schema c.args.by.now) (g.I.Inclusion.states c.args.by.now) c.args.slot.now names c.args.kept.now c.args.one.now c.from_residual.result c.in_err-met.field-0.0 c.from_residual.ensures.1 c.in_err-met.ensures.decides
 
 pub returns-then-not-met-clause-keeps : goal.returns-then-not-met-clause-keeps
 returns-then-not-met-clause-keeps g c = λ names so_far.
-    so-far-unmet (g.I.Inclusion.schema c.args.by.now) c.args.slot.now names c.args.kept.now c.args.one.now c.in_ok-met.met so_far c.in_ok-met.ensures.tells c.if-not-met.true
+    so-far-unmet (g.I.Inclusion.schema c.args.by.now) c.args.slot.now names c.args.kept.now c.args.one.now c.in_ok-met.met so_far c.in_ok-met.ensures.decides c.if-not-met.true
 
 pub returns-in_err-found-clause-keeps : goal.returns-in_err-found-clause-keeps
 returns-in_err-found-clause-keeps g c = λ names so_far.
@@ -38,4 +38,4 @@ returns-in-None-clause-keeps g c = λ names so_far.
 pub returns-in_ok-add-in-Some-clause-keeps : goal.returns-in_ok-add-in-Some-clause-keeps
 returns-in_ok-add-in-Some-clause-keeps g c = λ names so_far.
     so-far-found (g.I.Inclusion.schema c.is_met.new.by) (g.I.Inclusion.schema c.args.by.now) (g.I.Inclusion.states c.is_met.new.by) c.args.slot.now names c.args.kept.now c.add.new.kept c.as_slice.result.now c.args.one.now c.in_ok-copied-in-Some.copied c.in_ok-found.found c.in-Some.row c.in_ok-met.met
-    c.in_ok-met.ensures.schema c.as_slice.ensures so_far c.in_ok-met.ensures.tells c.if-not-met.false c.in_ok-found.ensures.row c.in-Some.is c.in_ok-copied-in-Some.ensures c.in_ok-add-in-Some.ensures.predicates c.in_ok-add-in-Some.ensures.rows
+    c.in_ok-met.ensures.schema c.as_slice.ensures so_far c.in_ok-met.ensures.decides c.if-not-met.false c.in_ok-found.ensures.row c.in-Some.is c.in_ok-copied-in-Some.ensures c.in_ok-add-in-Some.ensures.predicates c.in_ok-add-in-Some.ensures.rows

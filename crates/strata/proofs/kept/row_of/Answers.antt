@@ -33,7 +33,7 @@ returns-in_err-below-clause-row g c =
     row-fails schema states c.args.slot.now c.args.kept.now c.args.one.now c.from_residual.result c.in_err-below.field-0.0 c.from_residual.ensures.1
     (pair-fails schema states c.args.slot.now c.args.one.now c.other-item.result (c.args.kept.now ++ c.args.one.now ∷ []) c.in_err-below.field-0.0 (in-more (c.args.kept.now ++ c.args.one.now ∷ []) c.args.one.now (Contains-push c.args.kept.now c.args.one.now))
     (in-more (c.args.kept.now ++ c.args.one.now ∷ []) c.other-item.result (Contains-append_left c.args.kept.now (c.args.one.now ∷ []) c.other-item.result (c.loop-other.other-index, c.loop-other-test.true, sym c.other-item.is)))
-    (told-wide (g.I.Inclusion.schema c.loop-other.by) schema (g.I.Inclusion.states c.loop-other.by) states c.args.slot.now c.args.one.now c.other-item.result c.in_err-below.field-0.0 c.loop-other.invariant.schema c.loop-other.invariant.states c.in_err-below.ensures.tells))
+    (told-wide (g.I.Inclusion.schema c.loop-other.by) schema (g.I.Inclusion.states c.loop-other.by) states c.args.slot.now c.args.one.now c.other-item.result c.in_err-below.field-0.0 c.loop-other.invariant.schema c.loop-other.invariant.states c.in_err-below.ensures.decides))
 
 pub is_within-requires-in-loop-other-clause-slot : goal.is_within-requires-in-loop-other-clause-slot
 is_within-requires-in-loop-other-clause-slot g c = subst (λ (x : Schema). IsAskedIn x c.args.slot.now) (sym (c.in_ok-below.ensures.schema ∙ c.loop-other.invariant.schema)) c.requires.slot
@@ -54,21 +54,21 @@ returns-in_err-above-clause-row g c =
     (pair-fails schema states c.args.slot.now c.other-item.result c.args.one.now (c.args.kept.now ++ c.args.one.now ∷ []) c.in_err-above.field-0.0
     (in-more (c.args.kept.now ++ c.args.one.now ∷ []) c.other-item.result (Contains-append_left c.args.kept.now (c.args.one.now ∷ []) c.other-item.result (c.loop-other.other-index, c.loop-other-test.true, sym c.other-item.is)))
     (in-more (c.args.kept.now ++ c.args.one.now ∷ []) c.args.one.now (Contains-push c.args.kept.now c.args.one.now))
-    (told-wide (g.I.Inclusion.schema c.is_within.new.by) schema (g.I.Inclusion.states c.is_within.new.by) states c.args.slot.now c.other-item.result c.args.one.now c.in_err-above.field-0.0 (c.in_ok-below.ensures.schema ∙ c.loop-other.invariant.schema) (c.in_ok-below.ensures.states ∙ c.loop-other.invariant.states) c.in_err-above.ensures.tells))
+    (told-wide (g.I.Inclusion.schema c.is_within.new.by) schema (g.I.Inclusion.states c.is_within.new.by) states c.args.slot.now c.other-item.result c.args.one.now c.in_err-above.field-0.0 (c.in_ok-below.ensures.schema ∙ c.loop-other.invariant.schema) (c.in_ok-below.ensures.states ∙ c.loop-other.invariant.states) c.in_err-above.ensures.decides))
 
 pub returns-then-is_same-clause-row : goal.returns-then-is_same-clause-row
 returns-then-is_same-clause-row g c =
     let schema = g.I.Inclusion.schema c.args.by.now in
     row-same schema c.args.slot.now c.args.kept.now c.loop-other.other-index c.args.one.now c.other-item.result c.in_ok-below.below c.in_ok-above.above c.is_same.result c.loop-other-test.true c.other-item.is
-    (told-below (g.I.Inclusion.schema c.loop-other.by) schema c.args.slot.now c.args.one.now c.other-item.result c.in_ok-below.below c.loop-other.invariant.schema c.in_ok-below.ensures.tells)
-    (told-below (g.I.Inclusion.schema c.is_within.new.by) schema c.args.slot.now c.other-item.result c.args.one.now c.in_ok-above.above (c.in_ok-below.ensures.schema ∙ c.loop-other.invariant.schema) c.in_ok-above.ensures.tells)
+    (told-below (g.I.Inclusion.schema c.loop-other.by) schema c.args.slot.now c.args.one.now c.other-item.result c.in_ok-below.below c.loop-other.invariant.schema c.in_ok-below.ensures.decides)
+    (told-below (g.I.Inclusion.schema c.is_within.new.by) schema c.args.slot.now c.other-item.result c.args.one.now c.in_ok-above.above (c.in_ok-below.ensures.schema ∙ c.loop-other.invariant.schema) c.in_ok-above.ensures.decides)
     c.is_same.ensures c.if-is_same.true
 
 pub loop-other-preserved : goal.loop-other-preserved
 loop-other-preserved g c =
     let schema = g.I.Inclusion.schema c.args.by.now in
-    let low = told-below (g.I.Inclusion.schema c.loop-other.by) schema c.args.slot.now c.args.one.now c.other-item.result c.in_ok-below.below c.loop-other.invariant.schema c.in_ok-below.ensures.tells in
-    let high = told-below (g.I.Inclusion.schema c.is_within.new.by) schema c.args.slot.now c.other-item.result c.args.one.now c.in_ok-above.above (c.in_ok-below.ensures.schema ∙ c.loop-other.invariant.schema) c.in_ok-above.ensures.tells in
+    let low = told-below (g.I.Inclusion.schema c.loop-other.by) schema c.args.slot.now c.args.one.now c.other-item.result c.in_ok-below.below c.loop-other.invariant.schema c.in_ok-below.ensures.decides in
+    let high = told-below (g.I.Inclusion.schema c.is_within.new.by) schema c.args.slot.now c.other-item.result c.args.one.now c.in_ok-above.above (c.in_ok-below.ensures.schema ∙ c.loop-other.invariant.schema) c.in_ok-above.ensures.decides in
     record {
       within = omega (arith, c.loop-other-test.true);
       schema = c.in_ok-above.ensures.schema ∙ (c.in_ok-below.ensures.schema ∙ c.loop-other.invariant.schema);

@@ -1,7 +1,7 @@
 use Rattle.std.proofs.Common.{subst, sym}
 use Rattle.std.proofs.lemmas.List.Elements.{Contains-push}
 use Rattle.policy_model.specs.declared.schema.Schema.{Schema}
-use Rattle.findings.specs.Asking.{TellsWhose}
+use Rattle.findings.specs.Asking.{DecidesWhose}
 use Rattle.findings.specs.Queries.{AreMadeUnder}
 use Rattle.findings.specs.Walked.{GoesBelow}
 use Rattle.findings.proofs.Looking.{stands-found, stands-reducible, taken-must}
@@ -28,7 +28,7 @@ pub returns-in-OutOfSplits-clause-fault : goal.returns-in-OutOfSplits-clause-fau
 returns-in-OutOfSplits-clause-fault g c = λ set made.
     let schema = g.D.Decide.schema c.args.asks.now in
     let steps = made-steps schema set c.args.base.now c.args.strata.now made in
-    let told = subst (TellsWhose schema set c.args.strata.now.dimensions (g.D.Decide.splits c.args.asks.now) (g.D.Decide.states c.args.asks.now) c.args.finding) c.in-OutOfSplits.is (c.in_ok-answer.ensures.answer set made) in
+    let told = subst (DecidesWhose schema set c.args.strata.now.dimensions (g.D.Decide.splits c.args.asks.now) (g.D.Decide.states c.args.asks.now) c.args.finding) c.in-OutOfSplits.is (c.in_ok-answer.ensures.answer set made) in
     record {
       visited = taken-must schema set c.args.strata.now.dimensions steps c.args.self.now c.args.finding (c.requires.due set made);
       query = told.query;
@@ -40,7 +40,7 @@ pub returns-in-OutOfStates-clause-fault : goal.returns-in-OutOfStates-clause-fau
 returns-in-OutOfStates-clause-fault g c = λ set made.
     let schema = g.D.Decide.schema c.args.asks.now in
     let steps = made-steps schema set c.args.base.now c.args.strata.now made in
-    let told = subst (TellsWhose schema set c.args.strata.now.dimensions (g.D.Decide.splits c.args.asks.now) (g.D.Decide.states c.args.asks.now) c.args.finding) c.in-OutOfStates.is (c.in_ok-answer.ensures.answer set made) in
+    let told = subst (DecidesWhose schema set c.args.strata.now.dimensions (g.D.Decide.splits c.args.asks.now) (g.D.Decide.states c.args.asks.now) c.args.finding) c.in-OutOfStates.is (c.in_ok-answer.ensures.answer set made) in
     record {
       visited = taken-must schema set c.args.strata.now.dimensions steps c.args.self.now c.args.finding (c.requires.due set made);
       query = told.query;
@@ -57,7 +57,7 @@ pub returns-in_ok-add_found-in-Met-clause-stands : goal.returns-in_ok-add_found-
 returns-in_ok-add_found-in-Met-clause-stands g c = λ set made.
     let schema = g.D.Decide.schema c.args.asks.now in
     let steps = made-steps schema set c.args.base.now c.args.strata.now made in
-    let told = subst (TellsWhose schema set c.args.strata.now.dimensions (g.D.Decide.splits c.args.asks.now) (g.D.Decide.states c.args.asks.now) c.args.finding) c.in-Met.is (c.in_ok-answer.ensures.answer set made) in
+    let told = subst (DecidesWhose schema set c.args.strata.now.dimensions (g.D.Decide.splits c.args.asks.now) (g.D.Decide.states c.args.asks.now) c.args.finding) c.in-Met.is (c.in_ok-answer.ensures.answer set made) in
     stands-found schema set c.args.strata.now.dimensions steps c.args.self.now c.add_found.new.self c.args.finding c.in-Met.request (c.requires.due set made) told c.in_ok-add_found-in-Met.ensures
 
 pub returns-in_ok-go_below-in-Nobody-clause-looked : goal.returns-in_ok-go_below-in-Nobody-clause-looked
@@ -70,6 +70,6 @@ pub returns-in_ok-go_below-in-Nobody-clause-stands : goal.returns-in_ok-go_below
 returns-in_ok-go_below-in-Nobody-clause-stands g c = λ set made.
     let schema = g.D.Decide.schema c.args.asks.now in
     let steps = made-steps schema set c.args.base.now c.args.strata.now made in
-    let told = subst (TellsWhose schema set c.args.strata.now.dimensions (g.D.Decide.splits c.args.asks.now) (g.D.Decide.states c.args.asks.now) c.args.finding) c.in-Nobody.is (c.in_ok-answer.ensures.answer set made) in
+    let told = subst (DecidesWhose schema set c.args.strata.now.dimensions (g.D.Decide.splits c.args.asks.now) (g.D.Decide.states c.args.asks.now) c.args.finding) c.in-Nobody.is (c.in_ok-answer.ensures.answer set made) in
     let below = subst (λ (s : Schema). GoesBelow s c.args.base.now c.args.strata.now c.args.self.now c.args.finding c.go_below.new.self) c.answer_on.ensures.schema c.in_ok-go_below-in-Nobody.ensures.below in
     stands-reducible schema set c.args.strata.now.dimensions steps c.args.self.now c.go_below.new.self c.args.finding (c.requires.due set made) told (below set made)

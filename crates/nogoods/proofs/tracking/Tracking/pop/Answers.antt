@@ -11,5 +11,5 @@ invariant_of-self c =
 pub returns-clause-last : goal.returns-clause-last
 returns-clause-last c = search rules
 
-pub returns-clause-some : goal.returns-clause-some
-returns-clause-some c = search rules
+pub returns-clause-nonempty : goal.returns-clause-nonempty
+returns-clause-nonempty c = search rules

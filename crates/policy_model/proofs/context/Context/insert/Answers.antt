@@ -12,6 +12,6 @@ invariant_of-self c =
     let cmp = slice_cmp nat_cmp in
     inserted (λ entries. AreFolded entries × AllHaveValues entries) c.insert.result old c.insert.new.self _ c.self.invariant (
       All-keys-insert_entry cmp c.args.key c.args.values IsFolded old c.self.invariant.0 c.requires.folded,
-      All-values-insert_entry cmp c.args.key c.args.values (λ values. values ≢ []) old c.self.invariant.1 c.requires.some,
+      All-values-insert_entry cmp c.args.key c.args.values (λ values. values ≢ []) old c.self.invariant.1 c.requires.nonempty,
     )
     c.insert.ensures.ok c.insert.ensures.err
