@@ -9,7 +9,7 @@ use Rattle.formula_tree.proofs.Laws.{cases_eq}
 use Rattle.cnf_clauses.specs.declared.index.Index.{Index}
 use Rattle.cnf_clauses.specs.Literals.{Clause, Literal}
 use Rattle.cnf_clauses.specs.Found.{IsOpen}
-use Rattle.cnf_clauses.specs.Indexes.{lists_at, held_at, HasTwoLiterals, AreIndexed}
+use Rattle.cnf_clauses.specs.Indexes.{lists_at, held_at, HasTwoLiterals, StandInIndex}
 use Rattle.cnf_clauses.proofs.Scanning.{in_more}
 
 -- a list with one more number, put back among its lists
@@ -45,9 +45,9 @@ clause-same clauses i k c d e found read =
     sym (get_or_from_slice_get clauses k d c there) ∙ sym read
 
 -- one more clause
-pub indexed-more : (clauses : List Clause) (before after : Index) (k : ℕ) (c : Clause) → c ≡ get_or clauses k c → AreIndexed clauses before k →
+pub indexed-more : (clauses : List Clause) (before after : Index) (k : ℕ) (c : Clause) → c ≡ get_or clauses k c → StandInIndex clauses before k →
     ((m : Literal) → Contains c m → Contains (held_at after m) k) → ((m : Literal) (i : ℕ) → Contains (held_at before m) i → Contains (held_at after m) i) →
-    HasTwoLiterals c ⊎ Contains after.short k → ((i : ℕ) → Contains before.short i → Contains after.short i) → AreIndexed clauses after (k + 1)
+    HasTwoLiterals c ⊎ Contains after.short k → ((i : ℕ) → Contains before.short i → Contains after.short i) → StandInIndex clauses after (k + 1)
 indexed-more clauses before after k c read old named kept short kept_short = record {
   held = λ i d l h found stands.
       elim (cases_eq i k) [
@@ -90,12 +90,12 @@ names-at at_yes at_no l b i ps e f h =
     let here : Contains (get_or (lists_at at_yes at_no b) l.0 []) i = subst (λ (x : Bool). Contains (get_or (lists_at at_yes at_no x) l.0 []) i) e h in
     subst (λ (x : List ℕ). Contains x i) (sym f) here
 
-pub indexed-none : (clauses : List Clause) (index : Index) → AreIndexed clauses index 0
+pub indexed-none : (clauses : List Clause) (index : Index) → StandInIndex clauses index 0
 indexed-none clauses index = record { held = λ i c l h found stands. absurd (omega arith); short = λ i c h found. absurd (omega arith) }
 
-pub indexed-step : (clauses : List Clause) (before mid after : Index) (k : ℕ) (c lits : Clause) → c ≡ get_or clauses k c → lits ≡ c → AreIndexed clauses before k →
+pub indexed-step : (clauses : List Clause) (before mid after : Index) (k : ℕ) (c lits : Clause) → c ≡ get_or clauses k c → lits ≡ c → StandInIndex clauses before k →
     ((m : Literal) → Contains lits m → Contains (held_at mid m) k) → ((m : Literal) (i : ℕ) → Contains (held_at before m) i → Contains (held_at mid m) i) → mid.short ≡ before.short →
-    HasTwoLiterals lits ⊎ Contains after.short k → ((i : ℕ) → Contains mid.short i → Contains after.short i) → ((l : Literal) → held_at after l ≡ held_at mid l) → AreIndexed clauses after (k + 1)
+    HasTwoLiterals lits ⊎ Contains after.short k → ((i : ℕ) → Contains mid.short i → Contains after.short i) → ((l : Literal) → held_at after l ≡ held_at mid l) → StandInIndex clauses after (k + 1)
 indexed-step clauses before mid after k c lits read same old named kept kept_short short more_short lists =
     indexed-more clauses before after k c read old
     (λ m h. rw (lists m) (named m (rw same h))) (λ m i h. rw (lists m) (kept m i h))

@@ -16,14 +16,10 @@ abbrev pub HasTwoLiterals : Clause → Type 0
 HasTwoLiterals c = (m : Literal) × (n : Literal) × Contains c m × Contains c n × (m ≡ n → ⊥)
 
 -- the clauses from 0 up to a number stand in the index
-pub record AreIndexed (clauses : List Clause) (index : Index) (upto : ℕ) : Type 0 where
+pub record StandInIndex (clauses : List Clause) (index : Index) (upto : ℕ) : Type 0 where
   pub held : (i : ℕ) (c : Clause) (l : Literal) → i < upto → slice_get clauses i ≡ Some c → Contains c l →
       Contains (held_at index l) i
   pub short : (i : ℕ) (c : Clause) → i < upto → slice_get clauses i ≡ Some c → HasTwoLiterals c ⊎ Contains index.short i
-
--- there is the same list for each variable
-abbrev pub HasSameLists : List (List ℕ) → List (List ℕ) → Type 0
-HasSameLists old new = (n : ℕ) → slice_index_or new n [] ≡ slice_index_or old n []
 
 -- no number is lost, at any variable
 abbrev pub KeepsNumbers : List (List ℕ) → List (List ℕ) → Type 0

@@ -43,5 +43,5 @@ abbrev pub Unless : Type 0 → Bool → Type 0
 Unless holds met = met ≡ false → holds
 
 -- the clause of the number is open
-abbrev pub IsOpenAt : List Clause → Answers → ℕ → Type 0
-IsOpenAt clauses decided n = (c : Clause) → slice_get clauses n ≡ Some c → IsOpen decided c
+abbrev pub IsOpenClause : List Clause → Answers → ℕ → Type 0
+IsOpenClause clauses decided n = (c : Clause) → slice_get clauses n ≡ Some c → IsOpen decided c

@@ -24,7 +24,7 @@ pub(crate) enum Found {
 }
 
 // What one more literal makes of what was found.
-pub(crate) fn noted(found: Found, literal: Literal, value: Option<bool>) -> Found
+pub(crate) fn found_after(found: Found, literal: Literal, value: Option<bool>) -> Found
     ensures { result ≡ found_after found literal value }
 {
     match value {
@@ -55,7 +55,7 @@ pub(crate) fn look(decided: &Decided, literals: &[Literal]) -> Found
 {
     let mut found = Found::Refuted;
     'look: for literal in literals {
-        found = noted(found, *literal, decided.value(literal.0));
+        found = found_after(found, *literal, decided.value(literal.0));
         if let Found::Open = found {
             return Found::Open;
         }

@@ -26,11 +26,11 @@ impl Model for Clauses {
 
     ghost Value = { List (List (ℕ × Bool)) };
 
-    ghost use Rattle.cnf_clauses.specs.Indexes.{AreIndexed};
+    ghost use Rattle.cnf_clauses.specs.Indexes.{StandInIndex};
 
     ghost view = { λ c. c.clauses.items };
 
-    ghost invariant = { λ c. AreIndexed c.clauses.items c.index (length c.clauses.items) };
+    ghost invariant = { λ c. StandInIndex c.clauses.items c.index (length c.clauses.items) };
 }
 
 impl Clauses {

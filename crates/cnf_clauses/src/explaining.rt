@@ -10,7 +10,7 @@ use crate::clauses::Clauses;
 use crate::following::Conflict;
 use crate::trail::Trail;
 use formula_tree::Path;
-use plain_lists::{List, NoMemory};
+use plain_lists::{List, NoMemory, fill_to};
 use std::alloc::Global;
 
 // The variables that a conflict needs, and its hints, the last first.
@@ -20,22 +20,11 @@ pub(crate) struct Traced {
     pub(crate) hints: Vec<u32>,
 }
 
-// Adds marks until there is one for the variable. What it adds isn't needed.
-fn make_room(needed: &mut Vec<bool>, variable: u32) -> Result<(), NoMemory>
-    ensures same { HasSameMarks needed.old.items needed.new.items }
-    ensures room { OnOk result (variable < length needed.new.items) }
-{
-    'room: for _ in needed.len()..variable as usize + 1 {
-        needed.push(false)?;
-    }
-    Ok(())
-}
-
 fn need_all(needed: &mut Vec<bool>, literals: &[Literal]) -> Result<(), NoMemory>
     ensures { OnOk result (NeedsAlso literals.now needed.old.items needed.new.items) }
 {
     'literals: for literal in literals {
-        make_room(needed, literal.0)?;
+        fill_to(needed, literal.0 as usize, false)?;
         needed[literal.0 as usize] = true;
     }
     Ok(())

@@ -115,6 +115,7 @@ impl Following {
     pub fn is_quiet(&self)
         ensures { NoneReplay self.now.clauses self.now.path }
     {
+        // Read, so that the proof has what the type keeps of its trail.
         let _trail = &self.trail;
     }
 }

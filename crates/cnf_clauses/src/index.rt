@@ -1,12 +1,12 @@
 //! The index of a list of clauses: in which of them each literal stands, and which have no two literals
 //! that differ.
 ghost use Rattle.std.specs.Prelude.{◌≡◌, ◌<◌, ℕ, Bool, [], length, slice_index_or, Contains, ◌⊎◌, OnOk, IfOk};
-ghost use Rattle.cnf_clauses.specs.Indexes.{AreIndexed, HasSameLists, HasTwoLiterals, HoldsAll, KeepsHeld, KeepsNumbers, held_at};
+ghost use Rattle.cnf_clauses.specs.Indexes.{StandInIndex, HasTwoLiterals, HoldsAll, KeepsHeld, KeepsNumbers, held_at};
 ghost use Rattle.cnf_clauses.specs.Numbering.{HaveNumbers};
 
 use crate::clause::{Clause, Found, Literal, look};
 use crate::decided::Decided;
-use plain_lists::{List, NoMemory};
+use plain_lists::{List, NoMemory, fill_to};
 use std::alloc::Global;
 
 // By variable, the numbers of the clauses in which its literal that is true at yes stands, and of those
@@ -18,17 +18,6 @@ pub(crate) struct Index {
     pub(crate) short: List<u32>,
 }
 
-// Adds empty lists until there is one for the variable.
-fn make_room(alloc: Global, lists: &mut Vec<List<u32>>, variable: u32) -> Result<(), NoMemory>
-    ensures same { HasSameLists lists.old.items lists.new.items }
-    ensures room { OnOk result (variable < length lists.new.items) }
-{
-    'room: for _ in lists.len()..variable as usize + 1 {
-        lists.push(List::new(alloc))?;
-    }
-    Ok(())
-}
-
 fn add_number(
     alloc: Global,
     lists: &mut Vec<List<u32>>,
@@ -38,7 +27,7 @@ fn add_number(
     ensures named { OnOk result (Contains (slice_index_or lists.new.items variable []) number) }
     ensures kept { OnOk result (KeepsNumbers lists.old.items lists.new.items) }
 {
-    make_room(alloc, lists, variable)?;
+    fill_to(lists, variable as usize, List::new(alloc))?;
     let list = &mut lists[variable as usize];
     list.push(number)?;
     Ok(())
@@ -98,7 +87,7 @@ fn add_short(
 // The index of the clauses.
 pub(crate) fn index_of(alloc: Global, clauses: &[Clause]) -> Result<Index, NoMemory>
     requires { HaveNumbers clauses.now }
-    ensures { IfOk result (λ index. AreIndexed clauses.now index (length clauses.now)) }
+    ensures { IfOk result (λ index. StandInIndex clauses.now index (length clauses.now)) }
 {
     let nothing = Decided::new(alloc);
     let mut index = Index {

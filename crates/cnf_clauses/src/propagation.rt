@@ -2,7 +2,7 @@
 //! literal that has become false is looked at again, and no other; it is read only where none of its
 //! two watched literals keeps it open.
 ghost use Rattle.std.specs.Prelude.{[], take, IfOk, IfSome, IfNone};
-ghost use Rattle.cnf_clauses.specs.Propagates.{AreQuiet, AreQuietAt, IsOpenAt, Steps, Unless};
+ghost use Rattle.cnf_clauses.specs.Propagates.{AreQuiet, AreQuietAt, IsOpenClause, Steps, Unless};
 ghost use Rattle.cnf_clauses.specs.Reasons.{Derives, Extends};
 ghost use Rattle.cnf_clauses.specs.Replays.{NoneReplay, Replays};
 
@@ -26,7 +26,7 @@ fn settle(
     ensures steps { IfOk result (Steps clauses.now hints.old decided.old hints.new decided.new) }
     ensures hints { IfOk result (Derives clauses.now hints.old decided.old hints.new decided.new) }
     ensures kept { Extends decided.old decided.new }
-    ensures settled { IfOk result (Unless (IsOpenAt clauses.now decided.new number)) }
+    ensures settled { IfOk result (Unless (IsOpenClause clauses.now decided.new number)) }
 {
     if watches.keep_open(clauses, decided, number)? {
         return Ok(false);
@@ -108,6 +108,7 @@ pub(crate) fn follow_all(
             return Ok(true);
         }
     }
+    // `len` tells that a list is shorter than `usize::MAX`: the proof that nothing is left rests on it.
     let _decided = decided.len();
     Ok(false)
 }

@@ -2,9 +2,9 @@
 //! clause is open, and needn't be read.
 ghost use Rattle.std.specs.Prelude.{IsTrue, IfOk};
 ghost use Rattle.cnf_clauses.specs.Found.{IsOpen};
-ghost use Rattle.cnf_clauses.specs.Propagates.{IsOpenAt};
+ghost use Rattle.cnf_clauses.specs.Propagates.{IsOpenClause};
 
-use crate::clause::{Found, Literal, look, noted};
+use crate::clause::{Found, Literal, found_after, look};
 use crate::clauses::Clauses;
 use crate::decided::Decided;
 use plain_lists::NoMemory;
@@ -39,7 +39,7 @@ impl Watches {
         decided: &Decided,
         number: u32,
     ) -> Result<bool, NoMemory>
-        ensures { IfOk result (λ kept. IsTrue kept → IsOpenAt clauses.now decided.now number) }
+        ensures { IfOk result (λ kept. IsTrue kept → IsOpenClause clauses.now decided.now number) }
     {
         match clauses.get(number as usize) {
             Some(literals) => self.keep_read_open(decided, literals, number),
@@ -101,7 +101,7 @@ fn next_watch(decided: &Decided, literals: &[Literal], from: usize) -> Watch {
             first = index;
         }
         let literal = literals[index];
-        found = noted(found, literal, decided.value(literal.0));
+        found = found_after(found, literal, decided.value(literal.0));
         if let Found::Open = found {
             break;
         }

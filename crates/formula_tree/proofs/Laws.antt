@@ -9,6 +9,10 @@ use Rattle.formula_tree.proofs.AnswerLists as lists
 use Rattle.formula_tree.proofs.Looking as looks
 use Rattle.formula_tree.proofs.Running as runs
 use Rattle.formula_tree.proofs.Keeping as values
+-- what a look at a tree gives under answers is the tree's value under a path of the same answers, and the test that it picks
+pub use Rattle.formula_tree.proofs.Looking.{clause-unanswered, clause-unknown, clause-within, pick-is, value-is, waits-unanswered, waits-within}
+-- branches in a row, of which a known one decides
+pub use Rattle.formula_tree.proofs.Looking.{both-assoc, both-yes, either-assoc, either-no}
 
 -- two numbers are equal, or they aren't
 pub cases_eq : (k n : ℕ) → (k ≡ n) ⊎ (k ≢ n)

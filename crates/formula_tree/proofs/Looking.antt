@@ -1,229 +1,248 @@
--- Value and picked test found together are those of the definitions.
-use Rattle.std.proofs.Common.{◌≡◌, ℕ, Bool, true, false, Option, Some, None, IsSome, IfSome, if◌then◌else◌, ◌⊎◌, refl, sym, ap, ◌∙◌, inl, inr, ◌<◌}
+-- What a look at a tree gives is its value and the test that it waits for.
+use Rattle.std.proofs.Common.{◌≡◌, ℕ, ◌<◌, Bool, true, false, Option, Some, None, IsSome, IfSome, if◌then◌else◌, ◌⊎◌, refl, sym, ap, ◌∙◌, inl, inr}
 use Rattle.formula_tree.specs.declared.value.Three.TheVariants as three
-use Rattle.formula_tree.specs.declared.value.Looked.{Looked}
-use Rattle.formula_tree.specs.declared.value.Looked.TheVariants.{Yes, No, Unknown}
+use Rattle.formula_tree.specs.declared.looks.Look.{Look}
+use Rattle.formula_tree.specs.declared.looks.Look.TheVariants.{Yes, No, Waits}
 use Rattle.formula_tree.specs.Answers.{Answers, answer_of}
 use Rattle.formula_tree.specs.Trees.{Tree, Trees, yes, no, test, not, all, one_of, none, more}
-use Rattle.formula_tree.specs.Looks.{value_in, pick_in, look_of_not, look_of_both, look_of_either, look_of_test, look_of_tree, look_of_all, look_of_some}
 use Rattle.formula_tree.specs.Values.{answer_value, kleene_not, kleene_and, kleene_or, value, value_of_all, value_of_some, is_unknown, pick, pick_of_first, AreBelow, EachBelow}
+use Rattle.formula_tree.specs.Looks.{value_in, pick_in, look_of_not, look_of_both, look_of_either, look_of_test, look_of_tree, look_of_all, look_of_some}
 
-pub least-assoc : (a b c : Looked) → look_of_both a (look_of_both b c) ≡ look_of_both (look_of_both a b) c
-least-assoc Yes b c = refl
-least-assoc No b c = refl
-least-assoc (Unknown n) Yes c = refl
-least-assoc (Unknown n) No c = refl
-least-assoc (Unknown n) (Unknown m) Yes = refl
-least-assoc (Unknown n) (Unknown m) No = refl
-least-assoc (Unknown n) (Unknown m) (Unknown k) = refl
+-- ---- branches in a row
 
-pub least-yes : (a : Looked) → look_of_both a Yes ≡ a
-least-yes Yes = refl
-least-yes No = refl
-least-yes (Unknown n) = refl
+pub both-assoc : (a b c : Look) → look_of_both a (look_of_both b c) ≡ look_of_both (look_of_both a b) c
+both-assoc Yes b c = refl
+both-assoc No b c = refl
+both-assoc (Waits n) Yes c = refl
+both-assoc (Waits n) No c = refl
+both-assoc (Waits n) (Waits m) Yes = refl
+both-assoc (Waits n) (Waits m) No = refl
+both-assoc (Waits n) (Waits m) (Waits k) = refl
 
-pub least-no : (a b : Looked) → look_of_both a (look_of_both No b) ≡ No
-least-no Yes b = refl
-least-no No b = refl
-least-no (Unknown n) b = refl
+pub both-yes : (a : Look) → look_of_both a Yes ≡ a
+both-yes Yes = refl
+both-yes No = refl
+both-yes (Waits n) = refl
 
-pub most-assoc : (a b c : Looked) → look_of_either a (look_of_either b c) ≡ look_of_either (look_of_either a b) c
-most-assoc Yes b c = refl
-most-assoc No b c = refl
-most-assoc (Unknown n) No c = refl
-most-assoc (Unknown n) Yes c = refl
-most-assoc (Unknown n) (Unknown m) Yes = refl
-most-assoc (Unknown n) (Unknown m) No = refl
-most-assoc (Unknown n) (Unknown m) (Unknown k) = refl
+pub both-no : (a b : Look) → look_of_both a (look_of_both No b) ≡ No
+both-no Yes b = refl
+both-no No b = refl
+both-no (Waits n) b = refl
 
-pub most-no : (a : Looked) → look_of_either a No ≡ a
-most-no Yes = refl
-most-no No = refl
-most-no (Unknown n) = refl
+pub either-assoc : (a b c : Look) → look_of_either a (look_of_either b c) ≡ look_of_either (look_of_either a b) c
+either-assoc Yes b c = refl
+either-assoc No b c = refl
+either-assoc (Waits n) No c = refl
+either-assoc (Waits n) Yes c = refl
+either-assoc (Waits n) (Waits m) Yes = refl
+either-assoc (Waits n) (Waits m) No = refl
+either-assoc (Waits n) (Waits m) (Waits k) = refl
 
-pub most-yes : (a b : Looked) → look_of_either a (look_of_either Yes b) ≡ Yes
-most-yes Yes b = refl
-most-yes No b = refl
-most-yes (Unknown n) b = refl
+pub either-no : (a : Look) → look_of_either a No ≡ a
+either-no Yes = refl
+either-no No = refl
+either-no (Waits n) = refl
 
--- the value
-both-in : (a b : Looked) → value_in (look_of_both a b) ≡ kleene_and (value_in a) (value_in b)
-both-in Yes b = refl
-both-in No b = refl
-both-in (Unknown n) Yes = refl
-both-in (Unknown n) No = refl
-both-in (Unknown n) (Unknown m) = refl
+pub either-yes : (a b : Look) → look_of_either a (look_of_either Yes b) ≡ Yes
+either-yes Yes b = refl
+either-yes No b = refl
+either-yes (Waits n) b = refl
 
-either-in : (a b : Looked) → value_in (look_of_either a b) ≡ kleene_or (value_in a) (value_in b)
-either-in Yes b = refl
-either-in No b = refl
-either-in (Unknown n) Yes = refl
-either-in (Unknown n) No = refl
-either-in (Unknown n) (Unknown m) = refl
+-- ---- the value
 
-turned-in : (a : Looked) → value_in (look_of_not a) ≡ kleene_not (value_in a)
-turned-in Yes = refl
-turned-in No = refl
-turned-in (Unknown n) = refl
+both-value : (a b : Look) → value_in (look_of_both a b) ≡ kleene_and (value_in a) (value_in b)
+both-value Yes b = refl
+both-value No b = refl
+both-value (Waits n) Yes = refl
+both-value (Waits n) No = refl
+both-value (Waits n) (Waits m) = refl
 
-test-in : (a : Option Bool) (n : ℕ) → value_in (look_of_test a n) ≡ answer_value a
-test-in None n = refl
-test-in (Some true) n = refl
-test-in (Some false) n = refl
+either-value : (a b : Look) → value_in (look_of_either a b) ≡ kleene_or (value_in a) (value_in b)
+either-value Yes b = refl
+either-value No b = refl
+either-value (Waits n) Yes = refl
+either-value (Waits n) No = refl
+either-value (Waits n) (Waits m) = refl
 
-mutual
-  pub value_is : (path : Answers) (t : Tree) → value_in (look_of_tree path t) ≡ value path t
-  value_is path yes = refl
-  value_is path no = refl
-  value_is path (test n) = test-in (answer_of path n) n
-  value_is path (not t) = turned-in (look_of_tree path t) ∙ ap kleene_not (value_is path t)
-  value_is path (all ts) = all_is path ts
-  value_is path (one_of ts) = some_is path ts
+turned-value : (a : Look) → value_in (look_of_not a) ≡ kleene_not (value_in a)
+turned-value Yes = refl
+turned-value No = refl
+turned-value (Waits n) = refl
 
-  all_is : (path : Answers) (ts : Trees) → value_in (look_of_all path ts) ≡ value_of_all path ts
-  all_is path none = refl
-  all_is path (more t ts) = rw (both-in (look_of_tree path t) (look_of_all path ts), value_is path t, all_is path ts) refl
-
-  some_is : (path : Answers) (ts : Trees) → value_in (look_of_some path ts) ≡ value_of_some path ts
-  some_is path none = refl
-  some_is path (more t ts) = rw (either-in (look_of_tree path t) (look_of_some path ts), value_is path t, some_is path ts) refl
+test-value : (a : Option Bool) (n : ℕ) → value_in (look_of_test a n) ≡ answer_value a
+test-value None n = refl
+test-value (Some true) n = refl
+test-value (Some false) n = refl
 
 -- the picked test
-picks : (r : Looked) (o : Option ℕ) → ((n : ℕ) → r ≡ Unknown n → o ≡ Some n) → pick_in r ≡ (if is_unknown (value_in r) then o else None)
-picks Yes o h = refl
-picks No o h = refl
-picks (Unknown n) o h = sym (h n refl)
+picked : (r : Look) (o : Option ℕ) → ((n : ℕ) → r ≡ Waits n → o ≡ Some n) → pick_in r ≡ (if is_unknown (value_in r) then o else None)
+picked Yes o h = refl
+picked No o h = refl
+picked (Waits n) o h = sym (h n refl)
 
-least-first : (a b : Looked) (o : Option ℕ) (n : ℕ) → ((m : ℕ) → b ≡ Unknown m → o ≡ Some m) → look_of_both a b ≡ Unknown n → (if is_unknown (value_in a) then pick_in a else o) ≡ Some n
-least-first Yes b o n h e = h n e
-least-first No b o n h e = absurd (cc)
-least-first (Unknown m) Yes o n h e = cc
-least-first (Unknown m) No o n h e = absurd (cc)
-least-first (Unknown m) (Unknown k) o n h e = cc
+both-first : (a b : Look) (o : Option ℕ) (n : ℕ) → ((m : ℕ) → b ≡ Waits m → o ≡ Some m) → look_of_both a b ≡ Waits n → (if is_unknown (value_in a) then pick_in a else o) ≡ Some n
+both-first Yes b o n h e = h n e
+both-first No b o n h e = absurd (cc)
+both-first (Waits m) Yes o n h e = cc
+both-first (Waits m) No o n h e = absurd (cc)
+both-first (Waits m) (Waits k) o n h e = cc
 
-most-first : (a b : Looked) (o : Option ℕ) (n : ℕ) → ((m : ℕ) → b ≡ Unknown m → o ≡ Some m) → look_of_either a b ≡ Unknown n → (if is_unknown (value_in a) then pick_in a else o) ≡ Some n
-most-first No b o n h e = h n e
-most-first Yes b o n h e = absurd (cc)
-most-first (Unknown m) No o n h e = cc
-most-first (Unknown m) Yes o n h e = absurd (cc)
-most-first (Unknown m) (Unknown k) o n h e = cc
+either-first : (a b : Look) (o : Option ℕ) (n : ℕ) → ((m : ℕ) → b ≡ Waits m → o ≡ Some m) → look_of_either a b ≡ Waits n → (if is_unknown (value_in a) then pick_in a else o) ≡ Some n
+either-first No b o n h e = h n e
+either-first Yes b o n h e = absurd (cc)
+either-first (Waits m) No o n h e = cc
+either-first (Waits m) Yes o n h e = absurd (cc)
+either-first (Waits m) (Waits k) o n h e = cc
 
 test-picks : (a : Option Bool) (n : ℕ) → pick_in (look_of_test a n) ≡ (if is_unknown (answer_value a) then Some n else None)
 test-picks None n = refl
 test-picks (Some true) n = refl
 test-picks (Some false) n = refl
 
-turned-picks : (a : Looked) → pick_in (look_of_not a) ≡ pick_in a
+turned-picks : (a : Look) → pick_in (look_of_not a) ≡ pick_in a
 turned-picks Yes = refl
 turned-picks No = refl
-turned-picks (Unknown n) = refl
+turned-picks (Waits n) = refl
 
-mutual
-  pub pick_is : (path : Answers) (t : Tree) → pick_in (look_of_tree path t) ≡ pick path t
-  pick_is path yes = refl
-  pick_is path no = refl
-  pick_is path (test n) = test-picks (answer_of path n) n
-  pick_is path (not t) = turned-picks (look_of_tree path t) ∙ pick_is path t
-  pick_is path (all ts) = rw (← (all_is path ts)) (picks (look_of_all path ts) (pick_of_first path ts) (first_of_all path ts))
-  pick_is path (one_of ts) = rw (← (some_is path ts)) (picks (look_of_some path ts) (pick_of_first path ts) (first_of_some path ts))
+both-of : (a b : Look) (n : ℕ) → look_of_both a b ≡ Waits n → (a ≡ Waits n) ⊎ (b ≡ Waits n)
+both-of Yes b n e = inr e
+both-of No b n e = absurd (cc)
+both-of (Waits m) Yes n e = inl e
+both-of (Waits m) No n e = absurd (cc)
+both-of (Waits m) (Waits k) n e = inl e
 
-  first_of_all : (path : Answers) (ts : Trees) (n : ℕ) → look_of_all path ts ≡ Unknown n → pick_of_first path ts ≡ Some n
-  first_of_all path none n e = absurd (cc)
-  first_of_all path (more t ts) n e = rw (← (value_is path t), ← (pick_is path t)) (least-first (look_of_tree path t) (look_of_all path ts) (pick_of_first path ts) n (first_of_all path ts) e)
+either-of : (a b : Look) (n : ℕ) → look_of_either a b ≡ Waits n → (a ≡ Waits n) ⊎ (b ≡ Waits n)
+either-of No b n e = inr e
+either-of Yes b n e = absurd (cc)
+either-of (Waits m) Yes n e = absurd (cc)
+either-of (Waits m) No n e = inl e
+either-of (Waits m) (Waits k) n e = inl e
 
-  first_of_some : (path : Answers) (ts : Trees) (n : ℕ) → look_of_some path ts ≡ Unknown n → pick_of_first path ts ≡ Some n
-  first_of_some path none n e = absurd (cc)
-  first_of_some path (more t ts) n e = rw (← (value_is path t), ← (pick_is path t)) (most-first (look_of_tree path t) (look_of_some path ts) (pick_of_first path ts) n (first_of_some path ts) e)
-
--- what an unknown walk waits for is an unanswered test of the tree
-least-of : (a b : Looked) (n : ℕ) → look_of_both a b ≡ Unknown n → (a ≡ Unknown n) ⊎ (b ≡ Unknown n)
-least-of Yes b n e = inr e
-least-of No b n e = absurd (cc)
-least-of (Unknown m) Yes n e = inl e
-least-of (Unknown m) No n e = absurd (cc)
-least-of (Unknown m) (Unknown k) n e = inl e
-
-most-of : (a b : Looked) (n : ℕ) → look_of_either a b ≡ Unknown n → (a ≡ Unknown n) ⊎ (b ≡ Unknown n)
-most-of No b n e = inr e
-most-of Yes b n e = absurd (cc)
-most-of (Unknown m) No n e = inl e
-most-of (Unknown m) Yes n e = absurd (cc)
-most-of (Unknown m) (Unknown k) n e = inl e
-
-turned-of : (a : Looked) (n : ℕ) → look_of_not a ≡ Unknown n → a ≡ Unknown n
+turned-of : (a : Look) (n : ℕ) → look_of_not a ≡ Waits n → a ≡ Waits n
 turned-of Yes n e = absurd (cc)
 turned-of No n e = absurd (cc)
-turned-of (Unknown m) n e = cc
+turned-of (Waits m) n e = cc
 
-test-of : (a : Option Bool) (m n : ℕ) → look_of_test a m ≡ Unknown n → (a ≡ None) × (m ≡ n)
+test-of : (a : Option Bool) (m n : ℕ) → look_of_test a m ≡ Waits n → (a ≡ None) × (m ≡ n)
 test-of None m n e = (refl, cc)
 test-of (Some true) m n e = absurd (cc)
 test-of (Some false) m n e = absurd (cc)
 
-mutual
-  pub unanswered : (path : Answers) (t : Tree) (n : ℕ) → look_of_tree path t ≡ Unknown n → answer_of path n ≡ None
-  unanswered path yes n e = absurd (cc)
-  unanswered path no n e = absurd (cc)
-  unanswered path (test m) n e = let both = test-of (answer_of path m) m n e in rw (← both.1) both.0
-  unanswered path (not t) n e = unanswered path t n (turned-of (look_of_tree path t) n e)
-  unanswered path (all ts) n e = unanswered_all path ts n e
-  unanswered path (one_of ts) n e = unanswered_some path ts n e
+module _ (answers : ℕ → Option Bool) where
+  mutual
+    -- a tree that waits for a test has no answer to it
+    pub waits-unanswered : (t : Tree) (n : ℕ) → look_of_tree answers t ≡ Waits n → answers n ≡ None
+    waits-unanswered yes n e = absurd (cc)
+    waits-unanswered no n e = absurd (cc)
+    waits-unanswered (test m) n e = let both = test-of (answers m) m n e in rw (← both.1) both.0
+    waits-unanswered (not t) n e = waits-unanswered t n (turned-of (look_of_tree answers t) n e)
+    waits-unanswered (all ts) n e = unanswered_all ts n e
+    waits-unanswered (one_of ts) n e = unanswered_some ts n e
 
-  unanswered_all : (path : Answers) (ts : Trees) (n : ℕ) → look_of_all path ts ≡ Unknown n → answer_of path n ≡ None
-  unanswered_all path none n e = absurd (cc)
-  unanswered_all path (more t ts) n e = elim (least-of (look_of_tree path t) (look_of_all path ts) n e) [ inl h ↦ unanswered path t n h | inr h ↦ unanswered_all path ts n h ]
+    unanswered_all : (ts : Trees) (n : ℕ) → look_of_all answers ts ≡ Waits n → answers n ≡ None
+    unanswered_all none n e = absurd (cc)
+    unanswered_all (more t ts) n e = elim (both-of (look_of_tree answers t) (look_of_all answers ts) n e) [ inl h ↦ waits-unanswered t n h | inr h ↦ unanswered_all ts n h ]
 
-  unanswered_some : (path : Answers) (ts : Trees) (n : ℕ) → look_of_some path ts ≡ Unknown n → answer_of path n ≡ None
-  unanswered_some path none n e = absurd (cc)
-  unanswered_some path (more t ts) n e = elim (most-of (look_of_tree path t) (look_of_some path ts) n e) [ inl h ↦ unanswered path t n h | inr h ↦ unanswered_some path ts n h ]
+    unanswered_some : (ts : Trees) (n : ℕ) → look_of_some answers ts ≡ Waits n → answers n ≡ None
+    unanswered_some none n e = absurd (cc)
+    unanswered_some (more t ts) n e = elim (either-of (look_of_tree answers t) (look_of_some answers ts) n e) [ inl h ↦ waits-unanswered t n h | inr h ↦ unanswered_some ts n h ]
 
-mutual
-  pub within : (k : ℕ) (path : Answers) (t : Tree) (n : ℕ) → AreBelow k t → look_of_tree path t ≡ Unknown n → n < k
-  within k path yes n h e = absurd (cc)
-  within k path no n h e = absurd (cc)
-  within k path (test m) n h e = let both = test-of (answer_of path m) m n e in rw (← both.1) h
-  within k path (not t) n h e = within k path t n h (turned-of (look_of_tree path t) n e)
-  within k path (all ts) n h e = within_all k path ts n h e
-  within k path (one_of ts) n h e = within_some k path ts n h e
+  module _ (k : ℕ) where
+    mutual
+      -- and the test is one of the tree's
+      pub waits-within : (t : Tree) (n : ℕ) → AreBelow k t → look_of_tree answers t ≡ Waits n → n < k
+      waits-within yes n h e = absurd (cc)
+      waits-within no n h e = absurd (cc)
+      waits-within (test m) n h e = let both = test-of (answers m) m n e in rw (← both.1) h
+      waits-within (not t) n h e = waits-within t n h (turned-of (look_of_tree answers t) n e)
+      waits-within (all ts) n h e = within_all ts n h e
+      waits-within (one_of ts) n h e = within_some ts n h e
 
-  within_all : (k : ℕ) (path : Answers) (ts : Trees) (n : ℕ) → EachBelow k ts → look_of_all path ts ≡ Unknown n → n < k
-  within_all k path none n h e = absurd (cc)
-  within_all k path (more t ts) n h e = elim (least-of (look_of_tree path t) (look_of_all path ts) n e) [ inl g ↦ within k path t n h.0 g | inr g ↦ within_all k path ts n h.1 g ]
+      within_all : (ts : Trees) (n : ℕ) → EachBelow k ts → look_of_all answers ts ≡ Waits n → n < k
+      within_all none n h e = absurd (cc)
+      within_all (more t ts) n h e = elim (both-of (look_of_tree answers t) (look_of_all answers ts) n e) [ inl g ↦ waits-within t n h.0 g | inr g ↦ within_all ts n h.1 g ]
 
-  within_some : (k : ℕ) (path : Answers) (ts : Trees) (n : ℕ) → EachBelow k ts → look_of_some path ts ≡ Unknown n → n < k
-  within_some k path none n h e = absurd (cc)
-  within_some k path (more t ts) n h e = elim (most-of (look_of_tree path t) (look_of_some path ts) n e) [ inl g ↦ within k path t n h.0 g | inr g ↦ within_some k path ts n h.1 g ]
+      within_some : (ts : Trees) (n : ℕ) → EachBelow k ts → look_of_some answers ts ≡ Waits n → n < k
+      within_some none n h e = absurd (cc)
+      within_some (more t ts) n h e = elim (either-of (look_of_tree answers t) (look_of_some answers ts) n e) [ inl g ↦ waits-within t n h.0 g | inr g ↦ within_some ts n h.1 g ]
 
-picked_in : (r : Looked) (n : ℕ) → pick_in r ≡ Some n → r ≡ Unknown n
-picked_in Yes n e = absurd (cc)
-picked_in No n e = absurd (cc)
-picked_in (Unknown m) n e = cc
+module _ (path : Answers) (answers : ℕ → Option Bool) (same : (n : ℕ) → answers n ≡ answer_of path n) where
+  mutual
+    pub value-is : (t : Tree) → value_in (look_of_tree answers t) ≡ value path t
+    value-is yes = refl
+    value-is no = refl
+    value-is (test n) = test-value (answers n) n ∙ ap answer_value (same n)
+    value-is (not t) = turned-value (look_of_tree answers t) ∙ ap kleene_not (value-is t)
+    value-is (all ts) = all-is ts
+    value-is (one_of ts) = some-is ts
 
--- what is picked
-pub pick-looked : (path : Answers) (t : Tree) (n : ℕ) → pick path t ≡ Some n → look_of_tree path t ≡ Unknown n
-pick-looked path t n e = picked_in (look_of_tree path t) n (pick_is path t ∙ e)
+    all-is : (ts : Trees) → value_in (look_of_all answers ts) ≡ value_of_all path ts
+    all-is none = refl
+    all-is (more t ts) = rw (both-value (look_of_tree answers t) (look_of_all answers ts), value-is t, all-is ts) refl
 
-pub pick-unknown : (path : Answers) (t : Tree) (n : ℕ) → pick path t ≡ Some n → value path t ≡ three.Unknown
-pick-unknown path t n e = sym (value_is path t) ∙ ap value_in (pick-looked path t n e)
+    some-is : (ts : Trees) → value_in (look_of_some answers ts) ≡ value_of_some path ts
+    some-is none = refl
+    some-is (more t ts) = rw (either-value (look_of_tree answers t) (look_of_some answers ts), value-is t, some-is ts) refl
 
-pub pick-unanswered : (path : Answers) (t : Tree) (n : ℕ) → pick path t ≡ Some n → answer_of path n ≡ None
-pick-unanswered path t n e = unanswered path t n (pick-looked path t n e)
+  mutual
+    pub pick-is : (t : Tree) → pick_in (look_of_tree answers t) ≡ pick path t
+    pick-is yes = refl
+    pick-is no = refl
+    pick-is (test n) = test-picks (answers n) n ∙ ap (λ (a : Option Bool). if is_unknown (answer_value a) then Some n else None) (same n)
+    pick-is (not t) = turned-picks (look_of_tree answers t) ∙ pick-is t
+    pick-is (all ts) = rw (← (all-is ts)) (picked (look_of_all answers ts) (pick_of_first path ts) (first_of_all ts))
+    pick-is (one_of ts) = rw (← (some-is ts)) (picked (look_of_some answers ts) (pick_of_first path ts) (first_of_some ts))
 
-pub pick-within : (k : ℕ) (path : Answers) (t : Tree) (n : ℕ) → AreBelow k t → pick path t ≡ Some n → n < k
-pick-within k path t n h e = within k path t n h (pick-looked path t n e)
+    first_of_all : (ts : Trees) (n : ℕ) → look_of_all answers ts ≡ Waits n → pick_of_first path ts ≡ Some n
+    first_of_all none n e = absurd (cc)
+    first_of_all (more t ts) n e = rw (← (value-is t), ← (pick-is t)) (both-first (look_of_tree answers t) (look_of_all answers ts) (pick_of_first path ts) n (first_of_all ts) e)
 
--- the clauses on what is picked, of a walk's answer
-pub clause-unknown : (r : Looked) → (IsSome (pick_in r) → value_in r ≡ three.Unknown) × (value_in r ≡ three.Unknown → IsSome (pick_in r))
+    first_of_some : (ts : Trees) (n : ℕ) → look_of_some answers ts ≡ Waits n → pick_of_first path ts ≡ Some n
+    first_of_some none n e = absurd (cc)
+    first_of_some (more t ts) n e = rw (← (value-is t), ← (pick-is t)) (either-first (look_of_tree answers t) (look_of_some answers ts) (pick_of_first path ts) n (first_of_some ts) e)
+
+-- ---- the clauses of what is picked
+
+pub clause-unknown : (r : Look) → (IsSome (pick_in r) → value_in r ≡ three.Unknown) × (value_in r ≡ three.Unknown → IsSome (pick_in r))
 clause-unknown Yes = (λ h. absurd (cc), λ h. absurd (cc))
 clause-unknown No = (λ h. absurd (cc), λ h. absurd (cc))
-clause-unknown (Unknown n) = (λ h. refl, λ h. refl)
+clause-unknown (Waits n) = (λ h. refl, λ h. refl)
 
-pub clause-unanswered : (path : Answers) (r : Looked) → ((n : ℕ) → r ≡ Unknown n → answer_of path n ≡ None) → IfSome (pick_in r) (λ n. answer_of path n ≡ None)
-clause-unanswered path Yes h = tt
-clause-unanswered path No h = tt
-clause-unanswered path (Unknown n) h = h n refl
+pub clause-unanswered : (a : ℕ → Option Bool) (r : Look) → ((n : ℕ) → r ≡ Waits n → a n ≡ None) → IfSome (pick_in r) (λ n. a n ≡ None)
+clause-unanswered a Yes h = tt
+clause-unanswered a No h = tt
+clause-unanswered a (Waits n) h = h n refl
 
-pub clause-within : (t : Tree) (r : Looked) → ((k n : ℕ) → AreBelow k t → r ≡ Unknown n → n < k) → IfSome (pick_in r) (λ n. (k : ℕ) → AreBelow k t → n < k)
+pub clause-within : (t : Tree) (r : Look) → ((k n : ℕ) → AreBelow k t → r ≡ Waits n → n < k) → IfSome (pick_in r) (λ n. (k : ℕ) → AreBelow k t → n < k)
 clause-within t Yes h = tt
 clause-within t No h = tt
-clause-within t (Unknown n) h = λ k b. h k n b refl
+clause-within t (Waits n) h = λ k b. h k n b refl
+
+waits-picked : (r : Look) (n : ℕ) → pick_in r ≡ Some n → r ≡ Waits n
+waits-picked Yes n e = absurd (cc)
+waits-picked No n e = absurd (cc)
+waits-picked (Waits m) n e = cc
+
+-- ---- by paths
+
+pick-looked : (path : Answers) (t : Tree) (n : ℕ) → pick path t ≡ Some n → look_of_tree (answer_of path) t ≡ Waits n
+pick-looked path t n e = waits-picked (look_of_tree (answer_of path) t) n (pick-is path (answer_of path) (λ m. refl) t ∙ e)
+
+pub pick-unknown : (path : Answers) (t : Tree) (n : ℕ) → pick path t ≡ Some n → value path t ≡ three.Unknown
+pick-unknown path t n e = sym (value-is path (answer_of path) (λ m. refl) t) ∙ ap value_in (pick-looked path t n e)
+
+pub pick-unanswered : (path : Answers) (t : Tree) (n : ℕ) → pick path t ≡ Some n → answer_of path n ≡ None
+pick-unanswered path t n e = waits-unanswered (answer_of path) t n (pick-looked path t n e)
+
+pub pick-within : (k : ℕ) (path : Answers) (t : Tree) (n : ℕ) → AreBelow k t → pick path t ≡ Some n → n < k
+pick-within k path t n h e = waits-within (answer_of path) k t n h (pick-looked path t n e)
+
+waits-some : (r : Look) → value_in r ≡ three.Unknown → (n : ℕ) × (pick_in r ≡ Some n)
+waits-some Yes e = absurd (cc)
+waits-some No e = absurd (cc)
+waits-some (Waits n) e = (n, refl)
+
+pub unknown-picks : (path : Answers) (t : Tree) → value path t ≡ three.Unknown → (n : ℕ) × (pick path t ≡ Some n)
+unknown-picks path t e =
+    let (n, is) = waits-some (look_of_tree (answer_of path) t) (value-is path (answer_of path) (λ m. refl) t ∙ e) in
+    (n, sym (pick-is path (answer_of path) (λ m. refl) t) ∙ is)

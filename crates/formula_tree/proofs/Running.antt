@@ -8,12 +8,9 @@ use Rattle.formula_tree.specs.Trees.{Tree}
 use Rattle.formula_tree.specs.Values.{AreBelow, value, pick}
 use Rattle.formula_tree.specs.declared.value.Three.{Three}
 use Rattle.formula_tree.specs.declared.value.Three.TheVariants.{Yes, No, Unknown}
-use Rattle.formula_tree.specs.declared.value.Looked.{Looked}
-use Rattle.formula_tree.specs.declared.value.Looked.TheVariants as looks
-use Rattle.formula_tree.specs.Looks.{value_in, pick_in, look_of_tree}
 use Rattle.formula_tree.proofs.AnswerLists.{answer_of-more, answer_of-besides, answer_of-last, cases_eq}
 use Rattle.formula_tree.proofs.Keeping.{keeps-yes, keeps-no}
-use Rattle.formula_tree.proofs.Looking.{value_is, pick_is, pick-unknown, pick-unanswered, pick-within}
+use Rattle.formula_tree.proofs.Looking.{pick-unanswered, pick-unknown, pick-within, unknown-picks}
 
 -- ---- the open tests of a path
 
@@ -196,14 +193,6 @@ cases_value Yes = inl refl
 cases_value No = inr (inl refl)
 cases_value Unknown = inr (inr refl)
 
-looked-unknown : (r : Looked) → value_in r ≡ Unknown → (n : ℕ) × (pick_in r ≡ Some n)
-looked-unknown looks.Yes e = absurd (cc)
-looked-unknown looks.No e = absurd (cc)
-looked-unknown (looks.Unknown n) e = (n, refl)
-
-some-pick : (p : Answers) (tree : Tree) → value p tree ≡ Unknown → (n : ℕ) × (pick p tree ≡ Some n)
-some-pick p tree e = let (n, is) = looked-unknown (look_of_tree p tree) (value_is p tree ∙ e) in (n, sym (pick_is p tree) ∙ is)
-
 module _ (possible : Answers → Type 0) (tree : Tree) (p : Answers) (n : ℕ) (ok : possible p) (is : pick p tree ≡ Some n) where
   after : ((k : ℕ) → Run possible tree (path_with p n true) false k → ⊥) → ((b : Bool) (m : ℕ) → Run possible tree p b m → ⊥) → (b : Bool) (k : ℕ) → Run possible tree (path_with p n true) b k → ⊥
   after unmet none true k y = none true (k + 1) (yes_side p n k (k + 1) ok is y refl)
@@ -216,7 +205,7 @@ module _ (possible : Answers → Type 0) (tree : Tree) (t : ℕ) (h : AreBelow t
         | inl v ↦ none false 0 (no_by_path p (λ ok. none true 0 (yes_by_value p v ok)))
         | inr (inl v) ↦ none false 0 (no_by_value p v)
         | inr (inr v) ↦
-            let (n, is) = some-pick p tree v in
+            let (n, is) = unknown-picks p tree v in
             let less = unanswered-more p n true t (pick-within t p tree n h is) (pick-unanswered p tree n is) in
             absurd (omega arith)
       ]
@@ -225,7 +214,7 @@ module _ (possible : Answers → Type 0) (tree : Tree) (t : ℕ) (h : AreBelow t
         | inl v ↦ none false 0 (no_by_path p (λ ok. none true 0 (yes_by_value p v ok)))
         | inr (inl v) ↦ none false 0 (no_by_value p v)
         | inr (inr v) ↦
-            let (n, is) = some-pick p tree v in
+            let (n, is) = unknown-picks p tree v in
             let less = unanswered-more p n true t (pick-within t p tree n h is) (pick-unanswered p tree n is) in
             let also = unanswered-more p n false t (pick-within t p tree n h is) (pick-unanswered p tree n is) in
             let yes_left : unanswered_count (path_with p n true) t ≡ u = omega arith in

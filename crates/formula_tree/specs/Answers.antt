@@ -27,7 +27,3 @@ Completes total path = (n : ℕ) (b : Bool) → answer_of path n ≡ Some b → 
 pub record IsByTest (path : Answers) (by_test : List (Option Bool)) : Type 0 where
   pub distinct : IsDistinct path
   pub same : (n : ℕ) → slice_index_or by_test n None ≡ answer_of path n
-
--- answers by test numbers are the same of each test
-abbrev pub AnswerAlike : List (Option Bool) → List (Option Bool) → Type 0
-AnswerAlike old new = (n : ℕ) → slice_index_or new n None ≡ slice_index_or old n None

@@ -2,11 +2,13 @@
 #![tactic(auto)]
 
 mod formula;
+mod looks;
 mod path;
 mod runs;
 mod value;
 
 pub use formula::{Branches, Formula};
+pub use looks::{Look, look_of_both, look_of_either, look_of_not, look_of_test, pick_in, value_in};
 pub use path::Path;
 pub use plain_lists::NoMemory;
 pub use runs::{

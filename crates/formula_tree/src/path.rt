@@ -1,9 +1,9 @@
 //! Paths: lists of answered tests. Beside the list a path keeps its answers by test numbers, so that an
 //! answer is read at once.
 ghost use Rattle.std.specs.Prelude.{◌≡◌, ◌++◌, ◌∷◌, [], ℕ, None, Option, Bool, List, length, slice_get, slice_index_or, option_to_list, OnOk, OnErr, IfOk, ◌<◌, ◌↔◌, IsSome};
-ghost use Rattle.formula_tree.specs.Answers.{AnswerAlike, IsDistinct, answer_of};
+ghost use Rattle.formula_tree.specs.Answers.{IsDistinct, answer_of};
 
-use plain_lists::NoMemory;
+use plain_lists::{NoMemory, fill_to};
 use std::alloc::Global;
 use std::marker::Model;
 
@@ -82,7 +82,7 @@ impl Path {
         ensures ok { OnOk result (self.new ≡ self.old ++ (test, answer) ∷ []) }
         ensures err { OnErr result (self.new ≡ self.old) }
     {
-        make_room(&mut self.by_test, test)?;
+        fill_to(&mut self.by_test, test as usize, None)?;
         self.pairs.push((test, answer))?;
         self.by_test[test as usize] = Some(answer);
         Ok(())
@@ -109,15 +109,4 @@ impl Path {
             by_test: self.by_test.clone()?,
         })
     }
-}
-
-// Makes the answers by test numbers reach to the test. What it adds answers nothing.
-fn make_room(by_test: &mut Vec<Option<bool>>, test: u32) -> Result<(), NoMemory>
-    ensures same { AnswerAlike by_test.old.items by_test.new.items }
-    ensures room { OnOk result (test < length by_test.new.items) }
-{
-    'room: for _ in by_test.len()..test as usize + 1 {
-        by_test.push(None)?;
-    }
-    Ok(())
 }

@@ -3,11 +3,14 @@
 ghost use Rattle.std.specs.Prelude.{◌≡◌, ◌↔◌, None, IsSome, IfSome, true, false};
 ghost use Rattle.formula_tree.specs.Answers.{answer_of};
 ghost use Rattle.formula_tree.specs.Laws.{IsTruth, StaysAlong};
-ghost use Rattle.formula_tree.specs.Looks.{look_of_both, look_of_tree, look_of_all, look_of_some, look_of_either, pick_in, look_of_not, value_in};
+ghost use Rattle.formula_tree.specs.Looks.{look_of_all, look_of_some, look_of_tree};
 ghost use Rattle.formula_tree.specs.Trees.{children_of, tree_of};
 ghost use Rattle.formula_tree.specs.Values.{IsWithin, pick, value};
 
 use crate::formula::{Branches, Formula};
+use crate::looks::{
+    Look, look_of_both, look_of_either, look_of_not, look_of_test, pick_in, value_in,
+};
 use crate::path::Path;
 
 /// A truth value, or that it isn't known yet.
@@ -18,107 +21,46 @@ pub enum Three {
     Unknown,
 }
 
-// A value with the test that an unknown one waits for.
-#[derive(Clone, Copy)]
-enum Looked {
-    Yes,
-    No,
-    Unknown(u32),
-}
-
-fn value_in(looked: Looked) -> Three
-    ensures { result ≡ value_in looked }
-{
-    match looked {
-        Looked::Yes => Three::Yes,
-        Looked::No => Three::No,
-        Looked::Unknown(_) => Three::Unknown,
-    }
-}
-
-fn pick_in(looked: Looked) -> Option<u32>
-    ensures { result ≡ pick_in looked }
-{
-    match looked {
-        Looked::Yes | Looked::No => None,
-        Looked::Unknown(test) => Some(test),
-    }
-}
-
-fn turned(looked: Looked) -> Looked
-    ensures { result ≡ look_of_not looked }
-{
-    match looked {
-        Looked::Yes => Looked::No,
-        Looked::No => Looked::Yes,
-        Looked::Unknown(test) => Looked::Unknown(test),
-    }
-}
-
-fn least(first: Looked, second: Looked) -> Looked
-    ensures { result ≡ look_of_both first second }
-{
-    match (first, second) {
-        (Looked::No, _) | (_, Looked::No) => Looked::No,
-        (Looked::Yes, _) => second,
-        (Looked::Unknown(test), _) => Looked::Unknown(test),
-    }
-}
-
-fn most(first: Looked, second: Looked) -> Looked
-    ensures { result ≡ look_of_either first second }
-{
-    match (first, second) {
-        (Looked::Yes, _) | (_, Looked::Yes) => Looked::Yes,
-        (Looked::No, _) => second,
-        (Looked::Unknown(test), _) => Looked::Unknown(test),
-    }
-}
-
 #[cycle(look)]
-fn look(formula: &Formula, path: &Path) -> Looked
-    ensures { result ≡ look_of_tree path.now (tree_of formula.now) }
+fn look_at(formula: &Formula, path: &Path) -> Look
+    ensures { result ≡ look_of_tree (answer_of path.now) (tree_of formula.now) }
 {
     match formula {
-        Formula::Yes => Looked::Yes,
-        Formula::No => Looked::No,
-        Formula::Test(test) => match path.answer(*test) {
-            Some(true) => Looked::Yes,
-            Some(false) => Looked::No,
-            None => Looked::Unknown(*test),
-        },
-        Formula::Not(inner) => turned(look(inner, path)),
+        Formula::Yes => Look::Yes,
+        Formula::No => Look::No,
+        Formula::Test(test) => look_of_test(path.answer(*test), *test),
+        Formula::Not(inner) => look_of_not(look_at(inner, path)),
         Formula::All(branches) => look_at_all(branches, path),
         Formula::OneOf(branches) => look_at_some(branches, path),
     }
 }
 
 #[cycle(look)]
-fn look_at_all(branches: &Branches, path: &Path) -> Looked
-    ensures { result ≡ look_of_all path.now (children_of branches.now) }
+fn look_at_all(branches: &Branches, path: &Path) -> Look
+    ensures { result ≡ look_of_all (answer_of path.now) (children_of branches.now) }
 {
-    let mut all = Looked::Yes;
+    let mut all = Look::Yes;
     'all: for branch in &branches.items {
-        let next = look(&branch.formula, path);
-        if let Looked::No = next {
-            return Looked::No;
+        let next = look_at(&branch.formula, path);
+        if let Look::No = next {
+            return Look::No;
         }
-        all = least(all, next);
+        all = look_of_both(all, next);
     }
     all
 }
 
 #[cycle(look)]
-fn look_at_some(branches: &Branches, path: &Path) -> Looked
-    ensures { result ≡ look_of_some path.now (children_of branches.now) }
+fn look_at_some(branches: &Branches, path: &Path) -> Look
+    ensures { result ≡ look_of_some (answer_of path.now) (children_of branches.now) }
 {
-    let mut some = Looked::No;
+    let mut some = Look::No;
     'some: for branch in &branches.items {
-        let next = look(&branch.formula, path);
-        if let Looked::Yes = next {
-            return Looked::Yes;
+        let next = look_at(&branch.formula, path);
+        if let Look::Yes = next {
+            return Look::Yes;
         }
-        some = most(some, next);
+        some = look_of_either(some, next);
     }
     some
 }
@@ -129,7 +71,7 @@ fn look_at_some(branches: &Branches, path: &Path) -> Looked
 pub fn value3(formula: &Formula, path: &Path) -> Three
     ensures { result ≡ value path.now (tree_of formula.now) }
 {
-    value_in(look(formula, path))
+    value_in(look_at(formula, path))
 }
 
 /// The test that the formula waits for under the path's answers: an unanswered test is picked
@@ -141,7 +83,7 @@ pub fn pick(formula: &Formula, path: &Path) -> Option<u32>
     ensures unanswered { IfSome result (λ test. answer_of path.now test ≡ None) }
     ensures within { IfSome result (IsWithin (tree_of formula.now)) }
 {
-    pick_in(look(formula, path))
+    pick_in(look_at(formula, path))
 }
 
 /// A value that is yes or no is the tree's truth under each completion of the path, which answers

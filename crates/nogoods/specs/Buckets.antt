@@ -84,7 +84,3 @@ AreSearched lists buckets path found n answers = (k : ℕ) (d : ℕ × Bool) →
 -- the buckets of all the path's answers are searched
 abbrev pub AllSearched : List Answers → List (List Entry) → Answers → ℕ → Type 0
 AllSearched lists buckets path found = AreSearched lists buckets path found (length path) path
-
--- two lists of buckets with the same entries
-abbrev pub HasSameEntries : List (List Entry) → List (List Entry) → Type 0
-HasSameEntries old new = (n : ℕ) → entries_in new n ≡ entries_in old n

@@ -1,10 +1,11 @@
 //! Buckets of entries, by answered tests.
 ghost use Rattle.std.specs.Prelude.{◌≡◌, ◌<◌, ◌^◌, ℕ, List, [], length, OnOk, Contains, MatchOption};
+ghost use Rattle.std.proofs.Common.{rules};
 ghost use Rattle.nogoods.specs.Choices.{AreChoicesOf, IsRarer};
-ghost use Rattle.nogoods.specs.Buckets.{bucket_of, entries_in, HasSameEntries, IsEntered, KeepsEntries, KeepsLists};
+ghost use Rattle.nogoods.specs.Buckets.{bucket_of, entries_in, IsEntered, KeepsEntries, KeepsLists};
 
 use formula_tree::Path;
-use plain_lists::{List, NoMemory};
+use plain_lists::{EqualClone, List, NoMemory, fill_to};
 
 /// The index of a stored list, and one of its answers. A path without that answer doesn't contain
 /// the list, so that most lists are passed over without being read.
@@ -13,6 +14,10 @@ pub(crate) struct Entry {
     pub(crate) index: usize,
     pub(crate) test: u32,
     pub(crate) answer: bool,
+}
+
+impl EqualClone for Entry {
+    ghost clones_are_equal = { Prim.search rules };
 }
 
 /// Buckets of entries.
@@ -137,20 +142,8 @@ fn put(buckets: &mut Buckets, bucket: usize, entry: Entry) -> Result<(), NoMemor
     ensures kept { KeepsEntries buckets.old.items buckets.new.items }
     ensures ok { OnOk result (Contains (entries_in buckets.new.items bucket) entry) }
 {
-    make_room(buckets, bucket)?;
+    let nothing = List::new(*buckets.allocator());
+    fill_to(buckets, bucket, nothing)?;
     buckets[bucket].push(entry)?;
-    Ok(())
-}
-
-// Makes new buckets up to that one, without entries.
-fn make_room(buckets: &mut Buckets, bucket: usize) -> Result<(), NoMemory>
-    requires { bucket < 2 ^ 40 }
-    ensures same { HasSameEntries buckets.old.items buckets.new.items }
-    ensures room { OnOk result (bucket < length buckets.new.items) }
-{
-    let alloc = *buckets.allocator();
-    'room: for _ in buckets.len()..bucket + 1 {
-        buckets.push(List::new(alloc))?;
-    }
     Ok(())
 }

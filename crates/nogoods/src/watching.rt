@@ -9,7 +9,7 @@ ghost use Rattle.nogoods.specs.Joining.{FindsHit, IsPut, Joins, WatchesOn};
 use crate::buckets::bucket_of;
 use crate::lists::has_answer;
 use formula_tree::Path;
-use plain_lists::{List, NoMemory};
+use plain_lists::{List, NoMemory, fill_to};
 
 /// By the bucket of an answer the numbers of the lists that are watched there. A number may stand twice.
 pub(crate) type Watching = Vec<List<usize>>;
@@ -39,21 +39,9 @@ pub(crate) fn watch(
         (Contains (watchers_in watching.new.items (bucket_of test answer)) number) }
 {
     let bucket = bucket_of(test, answer);
-    make_room(watching, bucket)?;
+    let nothing = List::new(*watching.allocator());
+    fill_to(watching, bucket, nothing)?;
     watching[bucket].push(number)?;
-    Ok(())
-}
-
-// Makes new buckets up to that one, without numbers.
-fn make_room(watching: &mut Watching, bucket: usize) -> Result<(), NoMemory>
-    requires { bucket < 2 ^ 40 }
-    ensures same { (n : ℕ) → watchers_in watching.new.items n ≡ watchers_in watching.old.items n }
-    ensures room { OnOk result (bucket < length watching.new.items) }
-{
-    let alloc = *watching.allocator();
-    'room: for _ in watching.len()..bucket + 1 {
-        watching.push(List::new(alloc))?;
-    }
     Ok(())
 }
 

@@ -37,6 +37,14 @@ impl EqualClone for u8 {
     ghost clones_are_equal = { Prim.search rules };
 }
 
+impl EqualClone for u32 {
+    ghost clones_are_equal = { Prim.search rules };
+}
+
 impl EqualClone for usize {
+    ghost clones_are_equal = { Prim.search rules };
+}
+
+impl<T: EqualClone> EqualClone for Option<T> {
     ghost clones_are_equal = { Prim.search rules };
 }

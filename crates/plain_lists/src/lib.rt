@@ -7,8 +7,10 @@ ghost use Rattle.std.specs.Option.{option_copied};
 
 mod equal;
 mod equal_clone;
+mod growing;
 
 pub use equal_clone::EqualClone;
+pub use growing::fill_to;
 use std::alloc::{AllocError, Global};
 use std::marker::Model;
 

@@ -7,65 +7,37 @@ use Rattle.std.proofs.lemmas.List.{take_all}
 use Rattle.std.proofs.lemmas.Option.{slice_get_within}
 use Rattle.formula_tree.specs.Trees.{Tree}
 use Rattle.formula_tree.specs.Trees.{not as negation}
+use Rattle.formula_tree.proofs.Laws.{both-assoc, both-yes, either-assoc, either-no}
 use Rattle.tree_values.specs.Nodes.{AreAt, AreChildrenIn, AreOrdered, AreSettled, IsAt, IsJointNode, IsPrefix, empty_node, empty_seen, has_child, joint_node, joint_seen, joint_tree, joined_seen, leaf_tree, node_seen, seen_at}
-use Rattle.tree_values.specs.Seen.{both_seen, either_seen, tree_seen, turned_seen}
+use Rattle.formula_tree.specs.Looks.{look_of_both, look_of_either, look_of_tree, look_of_not}
 use Rattle.tree_values.specs.declared.node.Node.{Node}
 use Rattle.tree_values.specs.declared.node.Node.TheVariants as node
-use Rattle.tree_values.specs.declared.seen.Seen.{Seen}
-use Rattle.tree_values.specs.declared.seen.Seen.TheVariants.{Yes, No, Waits}
+use Rattle.formula_tree.specs.declared.looks.Look.{Look}
 use Rattle.tree_values.proofs.Walking.{take_next}
 use Rattle.tree_values.proofs.Lists.{get-more, get-push, number-same, or-cases, or-false, same-number}
 
 -- ---- several seen together
 
-both-assoc : (a b c : Seen) → both_seen a (both_seen b c) ≡ both_seen (both_seen a b) c
-both-assoc Yes b c = refl
-both-assoc No b c = refl
-both-assoc (Waits n) Yes c = refl
-both-assoc (Waits n) No c = refl
-both-assoc (Waits n) (Waits m) Yes = refl
-both-assoc (Waits n) (Waits m) No = refl
-both-assoc (Waits n) (Waits m) (Waits k) = refl
-
-either-assoc : (a b c : Seen) → either_seen a (either_seen b c) ≡ either_seen (either_seen a b) c
-either-assoc Yes b c = refl
-either-assoc No b c = refl
-either-assoc (Waits n) No c = refl
-either-assoc (Waits n) Yes c = refl
-either-assoc (Waits n) (Waits m) Yes = refl
-either-assoc (Waits n) (Waits m) No = refl
-either-assoc (Waits n) (Waits m) (Waits k) = refl
-
-joint-assoc : (every : Bool) (a b c : Seen) → joint_seen every a (joint_seen every b c) ≡ joint_seen every (joint_seen every a b) c
+joint-assoc : (every : Bool) (a b c : Look) → joint_seen every a (joint_seen every b c) ≡ joint_seen every (joint_seen every a b) c
 joint-assoc true = both-assoc
 joint-assoc false = either-assoc
 
-joint-empty : (every : Bool) (a : Seen) → joint_seen every (empty_seen every) a ≡ a
+joint-empty : (every : Bool) (a : Look) → joint_seen every (empty_seen every) a ≡ a
 joint-empty true a = refl
 joint-empty false a = refl
 
-both-yes : (a : Seen) → both_seen a Yes ≡ a
-both-yes Yes = refl
-both-yes No = refl
-both-yes (Waits n) = refl
-
-either-no : (a : Seen) → either_seen a No ≡ a
-either-no Yes = refl
-either-no No = refl
-either-no (Waits n) = refl
-
-empty-joint : (every : Bool) (a : Seen) → joint_seen every a (empty_seen every) ≡ a
+empty-joint : (every : Bool) (a : Look) → joint_seen every a (empty_seen every) ≡ a
 empty-joint true = both-yes
 empty-joint false = either-no
 
-joined-append : (every : Bool) (marks : List Seen) (cs ds : List ℕ) → joined_seen every marks (cs ++ ds) ≡ joint_seen every (joined_seen every marks cs) (joined_seen every marks ds)
+joined-append : (every : Bool) (marks : List Look) (cs ds : List ℕ) → joined_seen every marks (cs ++ ds) ≡ joint_seen every (joined_seen every marks cs) (joined_seen every marks ds)
 joined-append every marks [] ds = sym (joint-empty every (joined_seen every marks ds))
 joined-append every marks (c ∷ cs) ds =
     ap (joint_seen every (seen_at marks c)) (joined-append every marks cs ds) ∙ joint-assoc every (seen_at marks c) (joined_seen every marks cs) (joined_seen every marks ds)
 
 -- ---- more nodes leave what the others stand for
 
-settled-prefix : (old new : List Node) (answers : ℕ → Option Bool) (marks : List Seen) → IsPrefix old new → AreSettled new answers marks → AreSettled old answers marks
+settled-prefix : (old new : List Node) (answers : ℕ → Option Bool) (marks : List Look) → IsPrefix old new → AreSettled new answers marks → AreSettled old answers marks
 settled-prefix old new answers marks (rest, is) settled i n there = settled i n (subst (λ (xs : List Node). slice_get xs i ≡ Some n) (sym is) (get-more old rest i n there))
 
 pub prefix-longer : (old new : List Node) (i : ℕ) → IsPrefix old new → i < length old → i < length new
@@ -103,7 +75,7 @@ are-below nodes (t ∷ ts) (c ∷ cs) at (suc k) d lt = are-below nodes ts cs at
 
 -- ---- nodes over children that are there
 
-joint-node : (every : Bool) (answers : ℕ → Option Bool) (marks : List Seen) (a b : ℕ) → node_seen answers marks (joint_node every a b) ≡ joint_seen every (seen_at marks a) (seen_at marks b)
+joint-node : (every : Bool) (answers : ℕ → Option Bool) (marks : List Look) (a b : ℕ) → node_seen answers marks (joint_node every a b) ≡ joint_seen every (seen_at marks a) (seen_at marks b)
 joint-node true answers marks a b = refl
 joint-node false answers marks a b = refl
 
@@ -112,7 +84,7 @@ joint-at old new every a b i grows at front rest f r = (
   slice_get_within new i (joint_node every a b) at,
   λ answers marks settled.
       let before = settled-prefix old new answers marks grows settled in
-      settled i (joint_node every a b) at ∙ joint-node every answers marks a b ∙ ap (λ (x : Seen). joint_seen every x (seen_at marks b)) (f.1 answers marks before) ∙
+      settled i (joint_node every a b) at ∙ joint-node every answers marks a b ∙ ap (λ (x : Look). joint_seen every x (seen_at marks b)) (f.1 answers marks before) ∙
       ap (joint_seen every (joined_seen every marks front)) (r.1 answers marks before) ∙ sym (joined-append every marks front rest),
 )
 
@@ -133,7 +105,7 @@ pub empty-children : (nodes : List Node) (every : Bool) → AreChildrenIn nodes 
 empty-children nodes true c h = absurd (cc)
 empty-children nodes false c h = absurd (cc)
 
-empty-node : (every : Bool) (answers : ℕ → Option Bool) (marks : List Seen) → node_seen answers marks (empty_node every) ≡ empty_seen every
+empty-node : (every : Bool) (answers : ℕ → Option Bool) (marks : List Look) → node_seen answers marks (empty_node every) ≡ empty_seen every
 empty-node true answers marks = refl
 empty-node false answers marks = refl
 
@@ -149,7 +121,7 @@ not-children nodes a lt c h = let same = same-number a c h in omega arith
 pub not-at : (old new : List Node) (a i : ℕ) → IsPrefix old new → slice_get new i ≡ Some (node.Not a) → (t : Tree) → IsAt old t a → IsAt new (negation t) i
 not-at old new a i grows at t is = (
   slice_get_within new i (node.Not a) at,
-  λ answers marks settled. settled i (node.Not a) at ∙ ap turned_seen (is.1 answers marks (settled-prefix old new answers marks grows settled)),
+  λ answers marks settled. settled i (node.Not a) at ∙ ap look_of_not (is.1 answers marks (settled-prefix old new answers marks grows settled)),
 )
 
 self : (a : ℕ) → (a == a) ≡ false → ⊥
@@ -158,7 +130,7 @@ self a e = let same = number-same a in absurd (cc)
 self-first : (a b : ℕ) → ((a == a) || (b == a)) ≡ false → ⊥
 self-first a b e = self a (or-false (a == a) (b == a) e).0
 
-leaf-node : (answers : ℕ → Option Bool) (marks : List Seen) (n : Node) → ((c : ℕ) → has_child n c ≡ false) → node_seen answers marks n ≡ tree_seen answers (leaf_tree n)
+leaf-node : (answers : ℕ → Option Bool) (marks : List Look) (n : Node) → ((c : ℕ) → has_child n c ≡ false) → node_seen answers marks n ≡ look_of_tree answers (leaf_tree n)
 leaf-node answers marks node.Yes h = refl
 leaf-node answers marks node.No h = refl
 leaf-node answers marks (node.Test t) h = refl
@@ -174,18 +146,18 @@ leaf-children nodes n h c is = let free = h c in absurd (cc)
 
 -- ---- the trees of several branches
 
-joined-trees : (every : Bool) (nodes : List Node) (answers : ℕ → Option Bool) (marks : List Seen) → AreSettled nodes answers marks → (ts : List Tree) (cs : List ℕ) → AreAt nodes ts cs →
-    joined_seen every marks cs ≡ tree_seen answers (joint_tree every ts)
+joined-trees : (every : Bool) (nodes : List Node) (answers : ℕ → Option Bool) (marks : List Look) → AreSettled nodes answers marks → (ts : List Tree) (cs : List ℕ) → AreAt nodes ts cs →
+    joined_seen every marks cs ≡ look_of_tree answers (joint_tree every ts)
 joined-trees true nodes answers marks settled [] [] at = refl
 joined-trees true nodes answers marks settled [] (c ∷ cs) at = absurd at
 joined-trees true nodes answers marks settled (t ∷ ts) [] at = absurd at
 joined-trees true nodes answers marks settled (t ∷ ts) (c ∷ cs) at =
-    ap (λ (x : Seen). both_seen x (joined_seen true marks cs)) (at.0.1 answers marks settled) ∙ ap (both_seen (tree_seen answers t)) (joined-trees true nodes answers marks settled ts cs at.1)
+    ap (λ (x : Look). look_of_both x (joined_seen true marks cs)) (at.0.1 answers marks settled) ∙ ap (look_of_both (look_of_tree answers t)) (joined-trees true nodes answers marks settled ts cs at.1)
 joined-trees false nodes answers marks settled [] [] at = refl
 joined-trees false nodes answers marks settled [] (c ∷ cs) at = absurd at
 joined-trees false nodes answers marks settled (t ∷ ts) [] at = absurd at
 joined-trees false nodes answers marks settled (t ∷ ts) (c ∷ cs) at =
-    ap (λ (x : Seen). either_seen x (joined_seen false marks cs)) (at.0.1 answers marks settled) ∙ ap (either_seen (tree_seen answers t)) (joined-trees false nodes answers marks settled ts cs at.1)
+    ap (λ (x : Look). look_of_either x (joined_seen false marks cs)) (at.0.1 answers marks settled) ∙ ap (look_of_either (look_of_tree answers t)) (joined-trees false nodes answers marks settled ts cs at.1)
 
 pub joined-at : (old new : List Node) (every : Bool) (cs : List ℕ) (i : ℕ) → IsPrefix old new → IsJointNode new every cs i → (ts : List Tree) → AreAt old ts cs → IsAt new (joint_tree every ts) i
 joined-at old new every cs i grows (within, at) ts kept =

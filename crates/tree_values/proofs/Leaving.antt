@@ -14,8 +14,8 @@ use Rattle.tree_values.specs.Models.{Answered, IsSet, answer_at, answer_in, answ
 use Rattle.tree_values.specs.Omitting.{path_without}
 use Rattle.tree_values.specs.declared.cut.Sides.{Sides}
 use Rattle.tree_values.proofs.Lists.{number-other, number-same}
-use Rattle.tree_values.specs.Seen.{tree_seen}
-use Rattle.tree_values.specs.declared.seen.Seen.{Seen}
+use Rattle.formula_tree.specs.Looks.{look_of_tree}
+use Rattle.formula_tree.specs.declared.looks.Look.{Look}
 use Rattle.tree_values.proofs.Staying.{given-alike, given-from, given-more, given-on, tree-alike, with-other, with-same, without-fewer, without-other, without-same}
 
 -- ---- what is kept, as a whole
@@ -295,10 +295,10 @@ cut-ok (Ok a) tree path needed test sides answers cut is = subst (IsLeastCut tre
 cut-ok (Err e) tree path needed test sides answers cut is = tt
 
 -- the same of a formula's truth under an answer
-pub seen-with : (old mid : Answered) (test : ℕ) (b : Bool) (s : Seen) → IsSet old mid test (Some b) → s ≡ tree_seen (answer_at mid.answers) (answered_tree mid) → s ≡ tree_seen (with_answer (answer_at old.answers) test b) (answered_tree old)
+pub seen-with : (old mid : Answered) (test : ℕ) (b : Bool) (s : Look) → IsSet old mid test (Some b) → s ≡ look_of_tree (answer_at mid.answers) (answered_tree mid) → s ≡ look_of_tree (with_answer (answer_at old.answers) test b) (answered_tree old)
 seen-with old mid test b s there is =
     is ∙ tree-alike (answer_at mid.answers) (with_answer (answer_at old.answers) test b) (set-with old mid test b there) (answered_tree mid) ∙
-    ap (λ (f : Formula). tree_seen (with_answer (answer_at old.answers) test b) (tree_of f)) there.formula
+    ap (λ (f : Formula). look_of_tree (with_answer (answer_at old.answers) test b) (tree_of f)) there.formula
 
 pub still-push : (answers : List (Option Bool)) (ps : Answers) (k : ℕ) (p : ℕ × Bool) → IsDistinct ps → slice_get ps k ≡ Some p → answer_of (still_answered answers (take k ps)) p.0 ≡ None
 still-push answers ps k p distinct at = still-free answers (take k ps) p.0 (item-first ps k p distinct at)

@@ -5,7 +5,6 @@ mod Joining
 mod Leaving
 pub mod Laws
 mod Lists
-mod Seeing
 mod Staying
 mod Supplying
 mod Walking

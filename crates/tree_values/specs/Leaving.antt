@@ -3,10 +3,10 @@ use Rattle.std.specs.Prelude.{◌≡◌, ◌⊎◌, ◌==◌, ℕ, List, [], ◌
 use Rattle.formula_tree.specs.Answers.{Answers, answer_of}
 use Rattle.formula_tree.specs.Trees.{Tree}
 use Rattle.tree_values.specs.Models.{Answered, answer_at, answer_in, answered_tree}
-use Rattle.tree_values.specs.Seen.{tree_seen}
+use Rattle.formula_tree.specs.Looks.{look_of_tree}
 use Rattle.tree_values.specs.declared.cut.Sides.{Sides}
-use Rattle.tree_values.specs.declared.seen.Seen.{Seen}
-use Rattle.tree_values.specs.declared.seen.Seen.TheVariants as seen
+use Rattle.formula_tree.specs.declared.looks.Look.{Look}
+use Rattle.formula_tree.specs.declared.looks.Look.TheVariants as seen
 
 -- the answers with one more
 abbrev pub with_answer : (ℕ → Option Bool) → ℕ → Bool → ℕ → Option Bool
@@ -17,8 +17,8 @@ abbrev pub without_answer : (ℕ → Option Bool) → ℕ → ℕ → Option Boo
 without_answer answers test n = if test == n then None else answers n
 
 -- what is seen of a tree under the answers and one more
-abbrev pub seen_given : Tree → (ℕ → Option Bool) → ℕ → Bool → Seen
-seen_given tree answers test b = tree_seen (with_answer answers test b) tree
+abbrev pub seen_given : Tree → (ℕ → Option Bool) → ℕ → Bool → Look
+seen_given tree answers test b = look_of_tree (with_answer answers test b) tree
 
 -- the tree is no on each of the wanted sides
 pub record IsNoGiven (tree : Tree) (answers : ℕ → Option Bool) (test : ℕ) (sides : Sides) : Type 0 where

@@ -3,5 +3,4 @@ pub mod Leaving
 pub mod Models
 pub mod Nodes
 pub mod Omitting
-pub mod Seen
 pub mod Supplying

@@ -3,25 +3,25 @@ use Rattle.std.specs.Prelude.{◌≡◌, ◌<◌, ◌==◌, ◌&&◌, ◌||◌, 
 use Rattle.formula_tree.specs.Trees.{Tree, of_list}
 use Rattle.formula_tree.specs.Trees as tree
 use Rattle.tree_values.specs.Models.{answer_at}
-use Rattle.tree_values.specs.Seen.{both_seen, either_seen, test_seen, tree_seen, turned_seen}
+use Rattle.formula_tree.specs.Looks.{look_of_both, look_of_either, look_of_test, look_of_tree, look_of_not}
 use Rattle.tree_values.specs.declared.graph.Graph.{Graph}
 use Rattle.tree_values.specs.declared.node.Node.{Node}
 use Rattle.tree_values.specs.declared.node.Node.TheVariants.{Yes, No, Test, Not, Both, Either}
-use Rattle.tree_values.specs.declared.seen.Seen.{Seen}
-use Rattle.tree_values.specs.declared.seen.Seen.TheVariants as seen
+use Rattle.formula_tree.specs.declared.looks.Look.{Look}
+use Rattle.formula_tree.specs.declared.looks.Look.TheVariants as seen
 
 -- what was seen of the node at an index
-abbrev pub seen_at : List Seen → ℕ → Seen
+abbrev pub seen_at : List Look → ℕ → Look
 seen_at marks i = slice_index_or marks i seen.Yes
 
 -- what is seen of a node by what was seen of its children, and of a test by its answer
-abbrev pub node_seen : (ℕ → Option Bool) → List Seen → Node → Seen
+abbrev pub node_seen : (ℕ → Option Bool) → List Look → Node → Look
 node_seen answers marks Yes = seen.Yes
 node_seen answers marks No = seen.No
-node_seen answers marks (Test n) = test_seen (answers n) n
-node_seen answers marks (Not a) = turned_seen (seen_at marks a)
-node_seen answers marks (Both a b) = both_seen (seen_at marks a) (seen_at marks b)
-node_seen answers marks (Either a b) = either_seen (seen_at marks a) (seen_at marks b)
+node_seen answers marks (Test n) = look_of_test (answers n) n
+node_seen answers marks (Not a) = look_of_not (seen_at marks a)
+node_seen answers marks (Both a b) = look_of_both (seen_at marks a) (seen_at marks b)
+node_seen answers marks (Either a b) = look_of_either (seen_at marks a) (seen_at marks b)
 
 abbrev pub has_child : Node → ℕ → Bool
 has_child Yes c = false
@@ -52,17 +52,17 @@ abbrev pub AreOrdered : List Node → Type 0
 AreOrdered nodes = (i c : ℕ) (node : Node) → slice_get nodes i ≡ Some node → has_child node c ≡ true → c < i
 
 -- each node that isn't among the pending ones agrees with its children
-abbrev pub AreSettledBut : List Node → (ℕ → Option Bool) → List Seen → List ℕ → Type 0
+abbrev pub AreSettledBut : List Node → (ℕ → Option Bool) → List Look → List ℕ → Type 0
 AreSettledBut nodes answers marks pending = (i : ℕ) (node : Node) → slice_get nodes i ≡ Some node → holds_number pending i ≡ false →
     seen_at marks i ≡ node_seen answers marks node
 
-abbrev pub AreSettled : List Node → (ℕ → Option Bool) → List Seen → Type 0
+abbrev pub AreSettled : List Node → (ℕ → Option Bool) → List Look → Type 0
 AreSettled nodes answers marks = (i : ℕ) (node : Node) → slice_get nodes i ≡ Some node → seen_at marks i ≡ node_seen answers marks node
 
 -- the node at the index stands for the tree: where all nodes agree with their children, it is seen as the tree is
 abbrev pub IsAt : List Node → Tree → ℕ → Type 0
 IsAt nodes t i = (i < length nodes) ×
-    ((answers : ℕ → Option Bool) (marks : List Seen) → AreSettled nodes answers marks → seen_at marks i ≡ tree_seen answers t)
+    ((answers : ℕ → Option Bool) (marks : List Look) → AreSettled nodes answers marks → seen_at marks i ≡ look_of_tree answers t)
 
 -- the nodes at the indices stand for the trees
 abbrev pub AreAt : List Node → List Tree → List ℕ → Type 0
@@ -72,15 +72,15 @@ AreAt nodes (t ∷ ts) [] = ⊥
 AreAt nodes (t ∷ ts) (c ∷ cs) = IsAt nodes t c × AreAt nodes ts cs
 
 -- what is seen of several nodes together: of `all` where the Bool is true, else of `one_of`
-abbrev pub joint_seen : Bool → Seen → Seen → Seen
-joint_seen true = both_seen
-joint_seen false = either_seen
+abbrev pub joint_seen : Bool → Look → Look → Look
+joint_seen true = look_of_both
+joint_seen false = look_of_either
 
-abbrev pub empty_seen : Bool → Seen
+abbrev pub empty_seen : Bool → Look
 empty_seen true = seen.Yes
 empty_seen false = seen.No
 
-abbrev pub joined_seen : Bool → List Seen → List ℕ → Seen
+abbrev pub joined_seen : Bool → List Look → List ℕ → Look
 joined_seen every marks [] = empty_seen every
 joined_seen every marks (c ∷ cs) = joint_seen every (seen_at marks c) (joined_seen every marks cs)
 
@@ -109,7 +109,7 @@ leaf_tree (Either a b) = tree.yes
 -- the node at the index stands for several ones together
 abbrev pub IsJointNode : List Node → Bool → List ℕ → ℕ → Type 0
 IsJointNode nodes every cs i = (i < length nodes) ×
-    ((answers : ℕ → Option Bool) (marks : List Seen) → AreSettled nodes answers marks → seen_at marks i ≡ joined_seen every marks cs)
+    ((answers : ℕ → Option Bool) (marks : List Look) → AreSettled nodes answers marks → seen_at marks i ≡ joined_seen every marks cs)
 
 -- each child is one of the nodes
 abbrev pub AreChildrenIn : List Node → Node → Type 0
@@ -145,14 +145,14 @@ abbrev pub IsGraph : Graph → Type 0
 IsGraph g = HasEntered g.nodes.items g.parents.items g.leaves.items (length g.nodes.items)
 
 -- all nodes agree under answers, or all but the pending ones
-abbrev pub IsSettled : Graph → List (Option Bool) → List Seen → Type 0
+abbrev pub IsSettled : Graph → List (Option Bool) → List Look → Type 0
 IsSettled g answers marks = AreSettled g.nodes.items (answer_at answers) marks
 
-abbrev pub IsSettledBut : Graph → List (Option Bool) → List Seen → List ℕ → Type 0
+abbrev pub IsSettledBut : Graph → List (Option Bool) → List Look → List ℕ → Type 0
 IsSettledBut g answers marks pending = AreSettledBut g.nodes.items (answer_at answers) marks pending
 
 -- what is kept of a tree under answers
-pub record AreKept (tree : Tree) (answers : List (Option Bool)) (g : Graph) (marks : List Seen) : Type 0 where
+pub record AreKept (tree : Tree) (answers : List (Option Bool)) (g : Graph) (marks : List Look) : Type 0 where
   pub graph : IsGraph g
   pub root : IsAt g.nodes.items tree g.root
   pub long : length marks ≡ length g.nodes.items

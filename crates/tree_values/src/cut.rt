@@ -5,7 +5,7 @@ ghost use Rattle.tree_values.specs.Cuts.{IsLeastCut, IsNoOn};
 ghost use Rattle.tree_values.specs.Leaving.{AreKeptFor, IsKeptFor, IsLeftOut, IsNoGiven, seen_given, still_answered};
 ghost use Rattle.tree_values.specs.Models.{answer_at, answer_in, answered_tree};
 ghost use Rattle.tree_values.specs.Supplying.{AreGiven, IsGivenSome, IsSupplied};
-ghost use Rattle.tree_values.specs.declared.seen.Seen.TheVariants as seen;
+ghost use Rattle.formula_tree.specs.declared.looks.Look.TheVariants as seen;
 
 use crate::node_values::NodeValues;
 use crate::seen::is_no;

@@ -5,7 +5,7 @@ ghost use Rattle.tree_values.specs.Nodes.{AreOrdered, Enters, IsAt, HasEntered, 
 
 use crate::node::{Node, Nodes, add_formula};
 use formula_tree::Formula;
-use plain_lists::{List, NoMemory};
+use plain_lists::{List, NoMemory, fill_to};
 use std::alloc::Global;
 
 // The graph of a formula. Parents have greater indices than their children.
@@ -48,19 +48,6 @@ fn empty_lists(alloc: Global, count: usize) -> Result<Vec<List<usize>>, NoMemory
         lists.push(List::new(alloc))?;
     }
     Ok(lists)
-}
-
-// Makes new lists up to that of the index, without numbers.
-fn make_room(lists: &mut Vec<List<usize>>, at: usize) -> Result<(), NoMemory>
-    requires { at < 2 ^ 40 }
-    ensures same { (i : ℕ) → list_at lists.new.items i ≡ list_at lists.old.items i }
-    ensures room { OnOk result (at < length lists.new.items) }
-{
-    let alloc = *lists.allocator();
-    'room: for _ in lists.len()..at + 1 {
-        lists.push(List::new(alloc))?;
-    }
-    Ok(())
 }
 
 // Puts the number into the list at the index.
@@ -111,7 +98,8 @@ fn put_with_room(lists: &mut Vec<List<usize>>, at: usize, number: usize) -> Resu
     requires { at < 2 ^ 40 }
     ensures { OnOk result (PutsAt lists.old.items lists.new.items at number) }
 {
-    make_room(lists, at)?;
+    let nothing = List::new(*lists.allocator());
+    fill_to(lists, at, nothing)?;
     put_at(lists, at, number)
 }
 

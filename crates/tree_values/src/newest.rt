@@ -8,8 +8,8 @@ use crate::cut::Sides;
 use crate::graph::Graph;
 use crate::node::Node;
 use crate::node_values::NodeValues;
-use crate::seen::{Seen, is_same};
-use formula_tree::Path;
+use crate::seen::is_same;
+use formula_tree::{Look, Path};
 use plain_lists::NoMemory;
 use std::alloc::Global;
 
@@ -31,7 +31,7 @@ enum Support {
     Some(usize, usize),
 }
 
-fn is_seen(marks: &[Seen], index: usize, wanted: Seen) -> bool {
+fn is_seen(marks: &[Look], index: usize, wanted: Look) -> bool {
     match marks.get(index) {
         Some(seen) => is_same(*seen, wanted),
         None => false,
@@ -40,11 +40,11 @@ fn is_seen(marks: &[Seen], index: usize, wanted: Seen) -> bool {
 
 // What decides a node of two, where one that is seen so decides it alone.
 fn joint_support(
-    marks: &[Seen],
+    marks: &[Look],
     index: usize,
     first: usize,
     second: usize,
-    deciding: Seen,
+    deciding: Look,
 ) -> Support {
     if !is_seen(marks, index, deciding) {
         return Support::Each(first, second);
@@ -58,16 +58,16 @@ fn joint_support(
     Support::Some(first, second)
 }
 
-fn support_of(graph: &Graph, marks: &[Seen], index: usize) -> Support {
+fn support_of(graph: &Graph, marks: &[Look], index: usize) -> Support {
     match graph.nodes.as_slice().get(index) {
         None | Some(Node::Yes) | Some(Node::No) => Support::Nothing,
         Some(Node::Test(test)) => Support::Answer(*test),
         Some(Node::Not(child)) => Support::One(*child),
         Some(Node::Both(first, second)) => {
-            joint_support(marks, index, *first, *second, Seen::No)
+            joint_support(marks, index, *first, *second, Look::No)
         }
         Some(Node::Either(first, second)) => {
-            joint_support(marks, index, *first, *second, Seen::Yes)
+            joint_support(marks, index, *first, *second, Look::Yes)
         }
     }
 }
@@ -77,7 +77,7 @@ fn support_of(graph: &Graph, marks: &[Seen], index: usize) -> Support {
 #[cycle(rank_of)]
 fn rank_of(
     graph: &Graph,
-    marks: &[Seen],
+    marks: &[Look],
     ranks: &[usize],
     index: usize,
     left: &mut usize,
@@ -105,7 +105,7 @@ fn rank_of(
 #[cycle(rank_of)]
 fn rank_below(
     graph: &Graph,
-    marks: &[Seen],
+    marks: &[Look],
     ranks: &[usize],
     above: usize,
     index: usize,

@@ -3,12 +3,11 @@ ghost use Rattle.std.specs.Prelude.{◌≡◌, ◌<◌, IfOk, length};
 ghost use Rattle.formula_tree.specs.Trees.{tree_of};
 ghost use Rattle.tree_values.specs.Models.{IsSet, IsStart, IsUnanswered, answer_at, answer_in, answered_tree};
 ghost use Rattle.tree_values.specs.Nodes.{IsAt, IsGraph};
-ghost use Rattle.tree_values.specs.Seen.{tree_seen};
+ghost use Rattle.formula_tree.specs.Looks.{look_of_tree};
 
 use crate::graph::Graph;
-use crate::seen::Seen;
 use crate::settling::{change_to, first_marks};
-use formula_tree::Formula;
+use formula_tree::{Formula, Look};
 use plain_lists::NoMemory;
 use std::alloc::Global;
 use std::marker::Model;
@@ -20,7 +19,7 @@ pub(crate) struct NodeValues {
     formula: Rc<Formula>,
     pub(crate) graph: Rc<Graph>,
     pub(crate) answers: Vec<Option<bool>>,
-    pub(crate) marks: Vec<Seen>,
+    pub(crate) marks: Vec<Look>,
 }
 
 impl Model for NodeValues {
@@ -77,8 +76,8 @@ impl NodeValues {
     }
 
     /// The formula's value under the answers, and the test that it waits for.
-    pub(crate) fn seen(&self) -> Seen
-        ensures { result ≡ tree_seen (answer_at self.now.answers) (answered_tree self.now) }
+    pub(crate) fn seen(&self) -> Look
+        ensures { result ≡ look_of_tree (answer_at self.now.answers) (answered_tree self.now) }
     {
         self.marks[self.graph.root]
     }

@@ -5,16 +5,17 @@ ghost use Rattle.tree_values.specs.Nodes.{AreOrdered, AreSettled, IsGraph, IsSet
 
 use crate::graph::Graph;
 use crate::node::Node;
-use crate::seen::{Seen, both_seen, either_seen, is_same, test_seen, turned_seen};
+use crate::seen::is_same;
+use formula_tree::{Look, look_of_both, look_of_either, look_of_not, look_of_test};
 use plain_lists::{List, NoMemory};
 use std::alloc::Global;
 
-fn seen_at(marks: &[Seen], index: usize) -> Seen
+fn seen_at(marks: &[Look], index: usize) -> Look
     ensures { result ≡ seen_at marks.now index }
 {
     match marks.get(index) {
         Some(seen) => *seen,
-        None => Seen::Yes,
+        None => Look::Yes,
     }
 }
 
@@ -28,16 +29,19 @@ fn answer_at(answers: &[Option<bool>], test: u32) -> Option<bool>
 }
 
 // What is seen of a node by what was seen of its children.
-fn node_seen(node: Node, answers: &[Option<bool>], marks: &[Seen]) -> Seen
+fn node_seen(node: Node, answers: &[Option<bool>], marks: &[Look]) -> Look
     ensures { result ≡ node_seen (answer_at answers.now) marks.now node }
 {
     match node {
-        Node::Yes => Seen::Yes,
-        Node::No => Seen::No,
-        Node::Test(test) => test_seen(answer_at(answers, test), test),
-        Node::Not(child) => turned_seen(seen_at(marks, child)),
-        Node::Both(first, second) => both_seen(seen_at(marks, first), seen_at(marks, second)),
-        Node::Either(first, second) => either_seen(seen_at(marks, first), seen_at(marks, second)),
+        Node::Yes => Look::Yes,
+        Node::No => Look::No,
+        Node::Test(test) => look_of_test(answer_at(answers, test), test),
+        Node::Not(child) => look_of_not(seen_at(marks, child)),
+        Node::Both(first, second) => look_of_both(seen_at(marks, first), seen_at(marks, second)),
+        Node::Either(first, second) => look_of_either(
+            seen_at(marks, first),
+            seen_at(marks, second),
+        ),
     }
 }
 
@@ -56,7 +60,7 @@ pub(crate) fn first_marks(
     alloc: Global,
     nodes: &[Node],
     answers: &[Option<bool>],
-) -> Result<Vec<Seen>, NoMemory>
+) -> Result<Vec<Look>, NoMemory>
     requires { AreOrdered nodes.now }
     ensures long { IfOk result (λ marks. length marks.items ≡ length nodes.now) }
     ensures settled { IfOk result
@@ -73,7 +77,7 @@ pub(crate) fn first_marks(
 // Looks at a node anew, and where something else is seen of it at its parents. Where it and the
 // pending nodes were all that might not agree with their children, the pending ones are all.
 #[cycle(settle)]
-fn settle(graph: &Graph, answers: &[Option<bool>], marks: &mut Vec<Seen>, index: usize)
+fn settle(graph: &Graph, answers: &[Option<bool>], marks: &mut Vec<Look>, index: usize)
     requires graph { IsGraph graph.now }
     requires within { index < length graph.now.nodes.items }
     requires long { length marks.old.items ≡ length graph.now.nodes.items }
@@ -94,7 +98,7 @@ fn settle(graph: &Graph, answers: &[Option<bool>], marks: &mut Vec<Seen>, index:
 
 // Looks at these nodes anew. Where they were all that might not agree with their children, all
 // nodes agree.
-fn settle_all(graph: &Graph, answers: &[Option<bool>], marks: &mut Vec<Seen>, indices: &[usize])
+fn settle_all(graph: &Graph, answers: &[Option<bool>], marks: &mut Vec<Look>, indices: &[usize])
     requires graph { IsGraph graph.now }
     requires within { All (λ i. i < length graph.now.nodes.items) indices.now }
     requires long { length marks.old.items ≡ length graph.now.nodes.items }
@@ -111,7 +115,7 @@ fn settle_all(graph: &Graph, answers: &[Option<bool>], marks: &mut Vec<Seen>, in
 fn change(
     graph: &Graph,
     answers: &mut Vec<Option<bool>>,
-    marks: &mut Vec<Seen>,
+    marks: &mut Vec<Look>,
     test: u32,
     answer: Option<bool>,
 )
@@ -139,7 +143,7 @@ fn is_same_answer(first: Option<bool>, second: Option<bool>) -> bool
 pub(crate) fn change_to(
     graph: &Graph,
     answers: &mut Vec<Option<bool>>,
-    marks: &mut Vec<Seen>,
+    marks: &mut Vec<Look>,
     test: u32,
     answer: Option<bool>,
 )

@@ -8,8 +8,7 @@ ghost use Rattle.tree_values.specs.Models.{IsAnsweredBy, IsSet, IsStart, answer_
 use crate::cut::Sides;
 use crate::graph::Graph;
 use crate::node_values::NodeValues;
-use crate::seen::{pick_seen, value_seen};
-use formula_tree::{Formula, Path, Three};
+use formula_tree::{Formula, Path, Three, pick_in, value_in};
 use plain_lists::NoMemory;
 use std::alloc::Global;
 use std::marker::Model;
@@ -64,7 +63,7 @@ impl TreeValues {
         ensures { (path : Answers) → IsAnsweredBy self.now path →
             result ≡ value path (answered_tree self.now) }
     {
-        value_seen(self.given.seen())
+        value_in(self.given.seen())
     }
 
     /// The test that the formula waits for under each list of these answers: none exactly where its
@@ -77,7 +76,7 @@ impl TreeValues {
         ensures unanswered { IfSome result (λ test. answer_in self.now test ≡ None) }
         ensures within { IfSome result (IsWithin (answered_tree self.now)) }
     {
-        pick_seen(self.given.seen())
+        pick_in(self.given.seen())
     }
 
     /// Answers of the path, the needed ones among them, under which the formula is still no with

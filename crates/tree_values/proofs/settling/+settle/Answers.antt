@@ -4,8 +4,8 @@ use Rattle.std.proofs.lemmas.Option.{slice_get-get_or, slice_get_within}
 use Rattle.tree_values.specs.Models.{answer_at}
 use Rattle.tree_values.specs.Nodes.{AreSettledBut, holds_number, list_at, node_seen}
 use Rattle.tree_values.specs.declared.node.Node.TheVariants.{Yes}
-use Rattle.tree_values.specs.declared.seen.Seen.{Seen}
-use Rattle.tree_values.specs.declared.seen.Seen.TheVariants as seen
+use Rattle.formula_tree.specs.declared.looks.Look.{Look}
+use Rattle.formula_tree.specs.declared.looks.Look.TheVariants as seen
 use Rattle.tree_values.proofs.Agreeing.{settled-same, settled-write}
 use Rattle.tree_values.proofs.Lists.{listed-at}
 use Rattle.tree_values.proofs.settling.+settle.Goals as goal
@@ -18,7 +18,7 @@ returns-then-is_same-clause-settled t c =
     let answers = answer_at c.args.answers.now in
     let node = get_or nodes index Yes in
     let read = get_or_read nodes index c.index.result.now c.requires.within c.index.ensures Yes in
-    let is = c.node_seen-seen.ensures ∙ ap (λ (ms : List Seen). node_seen answers ms c.index.result.now) c.as_slice.ensures.value ∙ ap (node_seen answers marks) read in
+    let is = c.node_seen-seen.ensures ∙ ap (λ (ms : List Look). node_seen answers ms c.index.result.now) c.as_slice.ensures.value ∙ ap (node_seen answers marks) read in
     let was = get_or_read marks index c.index-2.result.now (omega (arith, c.requires.within, c.requires.long)) c.index-2.ensures seen.Yes in
     settled-same nodes answers marks index node (slice_get-get_or nodes index Yes c.requires.within) (sym was ∙ sym (c.if-is_same.ensures.0 refl) ∙ is)
 
@@ -55,7 +55,7 @@ returns-clause-settled t c =
     let items = c.list_at-parent-items.result.now in
     let k = c.parents.parent-index in
     let read = get_or_read nodes index c.index.result.now c.requires.within c.index.ensures Yes in
-    let is = c.node_seen-seen.ensures ∙ ap (λ (ms : List Seen). node_seen answers ms c.index.result.now) c.as_slice.ensures.value ∙ ap (node_seen answers marks) read in
+    let is = c.node_seen-seen.ensures ∙ ap (λ (ms : List Look). node_seen answers ms c.index.result.now) c.as_slice.ensures.value ∙ ap (node_seen answers marks) read in
     let own = c.list_at-parent-items.ensures ∙ ap (λ (ls : List (List ℕ)). list_at ls index) c.as_slice-2.ensures.value in
     λ pending but.
     subst (λ (xs : List ℕ). AreSettledBut nodes answers c.parents.marks.items (xs ++ pending)) (drop_all k items (omega arith))

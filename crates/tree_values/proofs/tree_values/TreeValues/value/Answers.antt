@@ -1,10 +1,10 @@
 use Rattle.std.proofs.Common.{◌≡◌, ◌∙◌, ap, subst}
 use Rattle.tree_values.specs.Models.{Answered, answer_at, answered_tree}
-use Rattle.tree_values.specs.Seen.{tree_seen, value_seen}
-use Rattle.tree_values.proofs.Seeing.{value-is}
+use Rattle.formula_tree.specs.Looks.{look_of_tree, value_in}
+use Rattle.formula_tree.proofs.Laws.{value-is}
 use Rattle.tree_values.proofs.tree_values.TreeValues.value.Goals as goal
 
 pub returns : goal.returns
 returns c =
-    let seen = subst (λ (a : Answered). c.seen.result ≡ tree_seen (answer_at a.answers) (answered_tree a)) c.self.view_is c.seen.ensures in
-    λ path same. c.value_seen.ensures ∙ ap value_seen seen ∙ value-is path (answer_at c.args.self.now.answers) same (answered_tree c.args.self.now)
+    let seen = subst (λ (a : Answered). c.seen.result ≡ look_of_tree (answer_at a.answers) (answered_tree a)) c.self.view_is c.seen.ensures in
+    λ path same. c.value_in.ensures ∙ ap value_in seen ∙ value-is path (answer_at c.args.self.now.answers) same (answered_tree c.args.self.now)
