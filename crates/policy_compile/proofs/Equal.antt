@@ -17,7 +17,7 @@ use Rattle.policy_compile.specs.declared.nodes.Node.{Node}
 use Rattle.policy_compile.specs.declared.nodes.Node.TheVariants as node
 use Rattle.policy_compile.specs.contracts.nodes.NodePartialEq.TheImpl as nodes
 use Rattle.policy_compile.proofs.Entries.{entries-Decides}
-use Rattle.policy_compile.proofs.Pieces.{pieces-Decides}
+use Rattle.wildcard_lang.proofs.Laws.{pieces-Decides}
 
 keys-Decide : (x y : List ℕ) → Decides (pointwise ◌==◌ x y) (x ≡ y)
 keys-Decide x y = pointwise_decides Decides-eqb x y

@@ -13,7 +13,6 @@ mod Meanings
 mod Members
 mod Operating
 mod Origins
-mod Pieces
 mod Ranges
 mod Single
 mod Standing

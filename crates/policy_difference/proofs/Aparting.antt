@@ -11,7 +11,7 @@ use Rattle.policy_model.specs.declared.set.Document.{Document}
 use Rattle.policy_model.specs.declared.set.PolicySet.{PolicySet}
 use Rattle.policy_model.specs.declared.set.Statement.{Statement}
 use Rattle.policy_difference.specs.Apartness.{ApartStatementsSayNothing, HasSameShape, IsApartFromAllows, IsWithoutApart, MayBeWithoutApart, WithoutApartSaysNoLess}
-use Rattle.policy_difference.specs.Differences.{AreLeft, ClashStatement, FitsToo, IsCut}
+use Rattle.policy_difference.specs.Differences.{AreLeft, ClashStatement, FitsToo, IsCutTo}
 use Rattle.policy_difference.proofs.Cutting.{Found, cut-left, cut-part, cut-whole}
 use Rattle.policy_difference.proofs.Deciding.{clash-apart, each-decides}
 use Rattle.policy_difference.proofs.Leaving.{cases_some, here, none_of_none, there}
@@ -71,7 +71,7 @@ module _ {T : Type 0} (R : T → T → Type 0) where
 
 module _ (first : PolicySet) where
   abbrev Near : Statement → Option Statement → Type 0
-  Near s left = IsCut (IsApartFromAllows first) s left
+  Near s left = IsCutTo (IsApartFromAllows first) s left
 
   -- ---- what decides
 

@@ -6,7 +6,7 @@ use Rattle.policy_model.specs.Sets.{Decides, MatcherHolds}
 use Rattle.policy_model.specs.declared.request.Request.{Request}
 use Rattle.policy_model.specs.declared.schema.Schema.{Schema}
 use Rattle.policy_model.specs.declared.set.Statement.{Statement}
-use Rattle.policy_difference.specs.Differences.{IsCut, IsCutByActions, IsCutWhole, Leaves, some_with, with_actions}
+use Rattle.policy_difference.specs.Differences.{IsCutTo, IsCutByActions, IsCutWhole, Leaves, some_with, with_actions}
 use Rattle.policy_difference.proofs.Leaving.{here, none_of_none, some-left, some-whole}
 
 -- it is the statement with the same or fewer actions
@@ -31,7 +31,7 @@ module _ (P : Statement → Type 0) where
   part-by s true left (inr (against, is)) t e = whole (cc)
   part-by s false left (actions, leaves, is) t e = some-part s actions t (sym is ∙ e)
 
-  pub cut-part : (s t : Statement) → IsCut P s (Some t) → IsPartOf s t
+  pub cut-part : (s t : Statement) → IsCutTo P s (Some t) → IsPartOf s t
   cut-part s t is = part-by s s.action.not (Some t) is t refl
 
   module _ (schema : Schema) (r : Request) where
@@ -76,7 +76,7 @@ module _ (P : Statement → Type 0) where
     left-by allow s left true is left-of decides = whole-left allow s left left-of decides
     left-by allow s left false is left-of decides = actions-left allow s left is left-of decides
 
-    pub cut-left : (allow : Bool) (s : Statement) (left : Option Statement) → IsCut P s left → Decides schema allow r s → Found allow ⊎ MatchOption left ⊥ (Decides schema allow r)
+    pub cut-left : (allow : Bool) (s : Statement) (left : Option Statement) → IsCutTo P s left → Decides schema allow r s → Found allow ⊎ MatchOption left ⊥ (Decides schema allow r)
     cut-left allow s left is decides = left-by allow s left s.action.not refl is decides
 
     -- where what is left of a statement decides it does itself
@@ -104,5 +104,5 @@ module _ (P : Statement → Type 0) where
     whole-by allow s left true lists (inr (against, is)) decides = whole-whole allow s left is decides
     whole-by allow s left false lists left-of decides = actions-whole allow s left lists left-of decides
 
-    pub cut-whole : (allow : Bool) (s : Statement) (left : Option Statement) → IsCut P s left → MatchOption left ⊥ (Decides schema allow r) → Decides schema allow r s
+    pub cut-whole : (allow : Bool) (s : Statement) (left : Option Statement) → IsCutTo P s left → MatchOption left ⊥ (Decides schema allow r) → Decides schema allow r s
     cut-whole allow s left is decides = whole-by allow s left s.action.not refl is decides

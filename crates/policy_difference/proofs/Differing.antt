@@ -7,14 +7,14 @@ use Rattle.policy_model.specs.declared.schema.Schema.{Schema}
 use Rattle.policy_model.specs.declared.set.Document.{Document}
 use Rattle.policy_model.specs.declared.set.PolicySet.{PolicySet}
 use Rattle.policy_model.specs.declared.set.Statement.{Statement}
-use Rattle.policy_difference.specs.Differences.{FitsToo, IsCut, IsDifference, IsLeftOf, IsShared, SharedStatementsAddNothing}
+use Rattle.policy_difference.specs.Differences.{FitsToo, IsCutTo, IsDifference, IsLeftOf, IsShared, SharedStatementsAddNothing}
 use Rattle.policy_difference.proofs.Allowing.{shared-allows}
 use Rattle.policy_difference.proofs.Cutting.{Found, IsPartOf, cut-left, cut-part, cut-whole, whole-part, whole-whole}
 use Rattle.policy_difference.proofs.Remaining.{documents-fit, documents-left, documents-sound, documents-whole, same-count}
 
 module _ (first second : PolicySet) where
   abbrev By : Bool → Statement → Option Statement → Type 0
-  By allow s left = MatchBool allow (IsCut (IsShared first second) s left) (left ≡ Some s)
+  By allow s left = MatchBool allow (IsCutTo (IsShared first second) s left) (left ≡ Some s)
 
   part-by : (s t : Statement) (allow : Bool) → By allow s (Some t) → IsPartOf s t
   part-by s t true is = cut-part (IsShared first second) s t is

@@ -20,3 +20,4 @@ mod Itself
 mod Standing
 mod Going
 mod Covered
+mod Copied

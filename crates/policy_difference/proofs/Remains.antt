@@ -11,7 +11,7 @@ use Rattle.policy_model.specs.declared.set.Statement.{Statement}
 use Rattle.policy_difference.specs.declared.bounds.Bounds.{Bounds}
 use Rattle.policy_difference.specs.declared.rivals.Rivals.{Rivals}
 use Rattle.policy_difference.specs.declared.left.LeftStatement.{LeftStatement}
-use Rattle.policy_difference.specs.Differences.{AreLeft, HasCut, IsCut, IsCutByActions, IsCutWhole, IsShared, Leaves, StatementsAreLeft, before_rest, some_with, with_actions}
+use Rattle.policy_difference.specs.Differences.{AreLeft, HasCut, IsCutTo, IsCutByActions, IsCutWhole, IsShared, Leaves, StatementsAreLeft, before_rest, some_with, with_actions}
 use Rattle.policy_difference.specs.Rivals.{AreBounds, AreRivals, IsAskedOf, IsBound, IsCutRecord, StaysWhole, IsLeftRecord, IsLeftAtOnce, IsLeftByActions, IsLetThrough, item_alone, with_action}
 use Rattle.policy_difference.proofs.Itself.{among-itself}
 use Rattle.policy_difference.proofs.Leaving.{apart, cases_some, here, none_of_none, there}
@@ -130,7 +130,7 @@ module _ (P Q : Statement → Type 0) (same : (s : Statement) → P s ↔ Q s) w
     is,
   )
 
-  pub cut-same : (s : Statement) (left : Option Statement) → IsCut P s left → IsCut Q s left
+  pub cut-same : (s : Statement) (left : Option Statement) → IsCutTo P s left → IsCutTo Q s left
   cut-same s left is = cut-same-by s left s.action.not is
 
   has-same-by : (s : Statement) (not : Bool) → MatchBool not (P s) (Any (λ x. P (with_actions s (x ∷ []))) s.action.items) → MatchBool not (Q s) (Any (λ x. Q (with_actions s (x ∷ []))) s.action.items)

@@ -5,7 +5,7 @@ use Rattle.wildcard_lang.specs.declared.piece.Piece.{Piece}
 use Rattle.policy_model.specs.declared.set.Document.{Document}
 use Rattle.policy_model.specs.declared.set.PolicySet.{PolicySet}
 use Rattle.policy_model.specs.declared.set.Statement.{Statement}
-use Rattle.policy_difference.specs.Differences.{AsksNoMore, EachWith, HasWider, IsDifference, IsCut, IsCutByActions, IsCutWhole, IsHarmless, IsLeftOf, IsShared, Leaves, LetsPass, NoAllowIsLeft, OnlyWidens, StandsIn, some_with, with_actions}
+use Rattle.policy_difference.specs.Differences.{AsksNoMore, EachWith, HasWider, IsDifference, IsCutTo, IsCutByActions, IsCutWhole, IsHarmless, IsLeftOf, IsShared, Leaves, LetsPass, NoAllowIsLeft, OnlyWidens, StandsIn, some_with, with_actions}
 use Rattle.policy_difference.proofs.Itself.{among-itself, asks-itself, asks-of-one}
 use Rattle.policy_difference.proofs.Leaving.{any-any, apart}
 use Rattle.policy_difference.proofs.Remaining.{documents-keep, statements-keep}
@@ -65,7 +65,7 @@ module _ (first second : PolicySet) (widens : OnlyWidens first second) where
   not-allow : (s t : Statement) → IsLeftOf first second s (Some t) → (s.allow ≡ true → StandsIn s second.grants) → t.allow ≡ true → ⊥
   not-allow s t is stands allow = by-effect s.allow refl is
     where
-      by-effect : (effect : Bool) → s.allow ≡ effect → MatchBool effect (IsCut (IsShared first second) s (Some t)) (Some t ≡ Some s) → ⊥
+      by-effect : (effect : Bool) → s.allow ≡ effect → MatchBool effect (IsCutTo (IsShared first second) s (Some t)) (Some t ≡ Some s) → ⊥
       by-effect true e left-of = left-none s t s.action.not refl (stands e) left-of
       by-effect false e left-of = (let same : t ≡ s = cc in apart (sym (subst (λ x. x.allow ≡ true) same allow) ∙ e))
 

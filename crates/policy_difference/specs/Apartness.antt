@@ -6,7 +6,7 @@ use Rattle.policy_model.specs.declared.request.Request.{Request}
 use Rattle.policy_model.specs.declared.schema.Schema.{Schema}
 use Rattle.policy_model.specs.declared.set.PolicySet.{PolicySet}
 use Rattle.policy_model.specs.declared.set.Statement.{Statement}
-use Rattle.policy_difference.specs.Differences.{AreLeft, AskTheSame, ClashStatement, EachWith, FitsToo, IsCut}
+use Rattle.policy_difference.specs.Differences.{AreLeft, AskTheSame, ClashStatement, EachWith, FitsToo, IsCutTo}
 
 -- the statement clashes with each Allow statement of the first set's grants
 abbrev pub IsApartFromAllows : PolicySet → Statement → Type 0
@@ -14,8 +14,8 @@ IsApartFromAllows first s = EachWith true (λ a. ClashStatement a s) first.grant
 
 -- the set without what of its statements is so, Allow and Deny, item by item of an `Action`. Its documents and guards stay
 pub record IsWithoutApart (first set less : PolicySet) : Type 0 where
-  pub grants : AreLeft (IsCut (IsApartFromAllows first)) set.grants less.grants
-  pub guards : AllZip (AreLeft (IsCut (IsApartFromAllows first))) set.guards less.guards
+  pub grants : AreLeft (IsCutTo (IsApartFromAllows first)) set.grants less.grants
+  pub guards : AllZip (AreLeft (IsCutTo (IsApartFromAllows first))) set.guards less.guards
 
 -- of each request that the first set allows the two others allow the same
 abbrev pub AllowAlikeBeside : PolicySet → PolicySet → PolicySet → Type 0

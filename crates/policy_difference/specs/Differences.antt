@@ -109,8 +109,8 @@ abbrev pub IsCutWhole : (Statement → Type 0) → Statement → Option Statemen
 IsCutWhole P s left = (P s × (left ≡ None)) ⊎ ((¬ P s) × (left ≡ Some s))
 
 -- what is left of the statement without that of which P holds
-abbrev pub IsCut : (Statement → Type 0) → Statement → Option Statement → Type 0
-IsCut P s left = MatchBool s.action.not (IsCutWhole P s left) (IsCutByActions P s left)
+abbrev pub IsCutTo : (Statement → Type 0) → Statement → Option Statement → Type 0
+IsCutTo P s left = MatchBool s.action.not (IsCutWhole P s left) (IsCutByActions P s left)
 
 -- P holds of some of the statement: with `Action` of it with an item alone, with `NotAction` of the whole
 abbrev pub HasCut : (Statement → Type 0) → Statement → Type 0
@@ -118,7 +118,7 @@ HasCut P s = MatchBool s.action.not (P s) (Any (λ x. P (with_actions s (x ∷ [
 
 -- what is left of a statement of the first set's grants without that which is shared. A Deny is left whole
 abbrev pub IsLeftOf : PolicySet → PolicySet → Statement → Option Statement → Type 0
-IsLeftOf first second s left = MatchBool s.allow (IsCut (IsShared first second) s left) (left ≡ Some s)
+IsLeftOf first second s left = MatchBool s.allow (IsCutTo (IsShared first second) s left) (left ≡ Some s)
 
 -- the statement before the others, where there is one
 abbrev pub before_rest : Option Statement → List Statement → List Statement

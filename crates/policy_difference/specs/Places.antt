@@ -11,8 +11,8 @@ abbrev pub SomeAsksNoMore : List Statement → Statement → Type 0
 SomeAsksNoMore others s = Any (λ t. AsksNoMore t s) others
 
 -- each of them is one of a document
-abbrev pub HasStatementsOf : List Document → List Statement → Type 0
-HasStatementsOf documents others = (s : Statement) → SomeAsksNoMore others s → Any (λ d. SomeAsksNoMore d.statements s) documents
+abbrev pub AreOfDocuments : List Document → List Statement → Type 0
+AreOfDocuments documents others = (s : Statement) → SomeAsksNoMore others s → Any (λ d. SomeAsksNoMore d.statements s) documents
 
 -- the statement is an Allow with items of its action
 abbrev pub MayGo : Statement → Type 0

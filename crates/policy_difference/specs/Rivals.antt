@@ -13,7 +13,7 @@ use Rattle.policy_model.specs.declared.set.Statement.{Statement}
 use Rattle.policy_difference.specs.Entries.{CoversEntry, ClashEntry}
 use Rattle.policy_difference.specs.Elements.{CoversElement, CoversMatcher, ClashElement, ClashMatcher}
 use Rattle.policy_difference.specs.Implications.{Implies}
-use Rattle.policy_difference.specs.Differences.{AreLeft, ClashStatement, HasCut, HasShared, HasWider, IsCut, IsLeftOf, IsShared, Leaves, StatementsAreLeft, some_with}
+use Rattle.policy_difference.specs.Differences.{AreLeft, ClashStatement, HasCut, HasShared, HasWider, IsCutTo, IsLeftOf, IsShared, Leaves, StatementsAreLeft, some_with}
 use Rattle.policy_difference.specs.Apartness.{IsApartFromAllows}
 use Rattle.policy_difference.specs.declared.bounds.Bounds.{Bounds}
 use Rattle.policy_difference.specs.declared.rivals.Rivals.{Rivals}
@@ -111,7 +111,7 @@ pub record IsLeftByActions (P : List Piece → Type 0) (s : Statement) (left : L
 
 -- what is left of the statement without that of which P holds, and whether P holds of some of it
 pub record IsCutRecord (P : Statement → Type 0) (s : Statement) (left : LeftStatement) : Type 0 where
-  pub statement : IsCut P s left.statement
+  pub statement : IsCutTo P s left.statement
   pub shared : IsTrue left.shared ↔ HasCut P s
 
 -- what is left of a statement, of statements and of documents, and whether some of it is shared

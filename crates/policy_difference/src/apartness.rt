@@ -3,23 +3,27 @@ ghost use Rattle.std.specs.Prelude.{◌≡◌, ◌↔◌, All, IfOk, IfSome, IsS
 ghost use Rattle.std.specs.List.{AllZip};
 ghost use Rattle.policy_model.specs.declared.set.Statement.{Statement as StatementValue};
 ghost use Rattle.policy_difference.specs.Apartness.{IsWithoutApart};
-ghost use Rattle.policy_difference.specs.Differences.{AreLeft, ClashStatement, EachWith, HasFewPairs, IsCut, StatementsAreLeft};
+ghost use Rattle.policy_difference.specs.Differences.{AreLeft, ClashStatement, EachWith, HasFewPairs, IsCutTo, StatementsAreLeft};
 ghost use Rattle.policy_difference.specs.Rivals.{ApartFromEach, BoundTheApart, IsBound};
 
 use crate::bounds::Bounds;
 use crate::left::{add_some, cut};
+use crate::marked::{MarkedDocument, MarkedDocumentList, MarkedSet, MarkedStatement};
 use crate::pairs::have_few_pairs;
 use plain_lists::{List, NoMemory};
-use policy_model::{Document, DocumentList, GuardList, PolicySet, Statement, StatementList};
+use policy_model::{Document, DocumentList, GuardList, PolicySet, StatementList};
 use std::alloc::Global;
 
 // Adds the statement where it allows.
-fn add_allow<'a>(statement: &'a Statement, allows: &mut Vec<&'a Statement>) -> Result<(), NoMemory>
+fn add_allow<'a>(
+    statement: &'a MarkedStatement<'a>,
+    allows: &mut Vec<&'a MarkedStatement<'a>>,
+) -> Result<(), NoMemory>
     ensures { OnOk result ((s : StatementValue) → ApartFromEach allows.new.items s ↔
         (ApartFromEach allows.old.items s ×
         (statement.now.allow ≡ true → ClashStatement statement.now s))) }
 {
-    if !statement.allow {
+    if !statement.allows() {
         return Ok(());
     }
     allows.push(statement)?;
@@ -28,8 +32,8 @@ fn add_allow<'a>(statement: &'a Statement, allows: &mut Vec<&'a Statement>) -> R
 
 // Adds those of the statements.
 fn add_allows<'a>(
-    statements: &'a [Statement],
-    allows: &mut Vec<&'a Statement>,
+    statements: &'a [MarkedStatement<'a>],
+    allows: &mut Vec<&'a MarkedStatement<'a>>,
 ) -> Result<(), NoMemory>
     ensures { OnOk result ((s : StatementValue) → ApartFromEach allows.new.items s ↔
         (ApartFromEach allows.old.items s ×
@@ -42,22 +46,25 @@ fn add_allows<'a>(
 }
 
 // The Allow statements of the documents.
-fn allows_of<'a>(alloc: Global, documents: &'a [Document]) -> Result<Vec<&'a Statement>, NoMemory>
+fn allows_of<'a>(
+    alloc: Global,
+    documents: &'a [MarkedDocument<'a>],
+) -> Result<Vec<&'a MarkedStatement<'a>>, NoMemory>
     ensures { IfOk result (λ allows. (s : StatementValue) →
         ApartFromEach allows.items s ↔ EachWith true (λ a. ClashStatement a s) documents.now) }
 {
     let mut allows = Vec::new(alloc);
     'documents: for document in documents {
-        add_allows(document.statements.as_slice(), &mut allows)?;
+        add_allows(document.as_slice(), &mut allows)?;
     }
     Ok(allows)
 }
 
 // What a statement has to meet so that it is apart from each Allow statement of the set's grants.
-fn apart_bounds<'a>(alloc: Global, first: &'a PolicySet) -> Result<Bounds<'a>, NoMemory>
+fn apart_bounds<'a>(alloc: Global, first: &'a MarkedSet<'a>) -> Result<Bounds<'a>, NoMemory>
     ensures { IfOk result (BoundTheApart first.now) }
 {
-    let denying = allows_of(alloc, first.grants.as_slice())?;
+    let denying = allows_of(alloc, first.grants())?;
     Ok(Bounds {
         allowing: Vec::new(alloc),
         denying,
@@ -68,9 +75,9 @@ fn apart_bounds<'a>(alloc: Global, first: &'a PolicySet) -> Result<Bounds<'a>, N
 fn cut_statements(
     alloc: Global,
     bounds: &Bounds<'_>,
-    statements: &[Statement],
+    statements: &[MarkedStatement<'_>],
 ) -> Result<StatementList, NoMemory>
-    ensures { IfOk result (StatementsAreLeft (IsCut (IsBound bounds.now)) statements.now) }
+    ensures { IfOk result (StatementsAreLeft (IsCutTo (IsBound bounds.now)) statements.now) }
 {
     let mut left = List::new(alloc);
     'statements: for statement in statements {
@@ -84,13 +91,13 @@ fn cut_statements(
 fn cut_documents(
     alloc: Global,
     bounds: &Bounds<'_>,
-    documents: &[Document],
+    documents: &[MarkedDocument<'_>],
 ) -> Result<DocumentList, NoMemory>
-    ensures { IfOk result (AreLeft (IsCut (IsBound bounds.now)) documents.now) }
+    ensures { IfOk result (AreLeft (IsCutTo (IsBound bounds.now)) documents.now) }
 {
     let mut left = List::new(alloc);
     'documents: for document in documents {
-        let statements = cut_statements(alloc, bounds, document.statements.as_slice())?;
+        let statements = cut_statements(alloc, bounds, document.as_slice())?;
         left.push(Document { statements })?;
     }
     Ok(left)
@@ -100,15 +107,25 @@ fn cut_documents(
 fn cut_guards(
     alloc: Global,
     bounds: &Bounds<'_>,
-    guards: &[DocumentList],
+    guards: &[MarkedDocumentList<'_>],
 ) -> Result<GuardList, NoMemory>
-    ensures { IfOk result (AllZip (AreLeft (IsCut (IsBound bounds.now))) guards.now) }
+    ensures { IfOk result (AllZip (AreLeft (IsCutTo (IsBound bounds.now))) guards.now) }
 {
     let mut left = List::new(alloc);
     'guards: for guard in guards {
         left.push(cut_documents(alloc, bounds, guard.as_slice())?)?;
     }
     Ok(left)
+}
+
+// What is left of the set without what is apart from each Allow statement of the first set's grants.
+fn cut_set(alloc: Global, first: &MarkedSet<'_>, set: &MarkedSet<'_>) -> Result<PolicySet, NoMemory>
+    ensures { IfOk result (IsWithoutApart first.now set.now) }
+{
+    let bounds = apart_bounds(alloc, first)?;
+    let grants = cut_documents(alloc, &bounds, set.grants())?;
+    let guards = cut_guards(alloc, &bounds, set.guards())?;
+    Ok(PolicySet { grants, guards })
 }
 
 /// The set without what never applies where the first set allows: of its statements, of grants and of guards,
@@ -128,8 +145,8 @@ pub fn without_apart(
     if !have_few_pairs(first, set) {
         return Ok(None);
     }
-    let bounds = apart_bounds(alloc, first)?;
-    let grants = cut_documents(alloc, &bounds, set.grants.as_slice())?;
-    let guards = cut_guards(alloc, &bounds, set.guards.as_slice())?;
-    Ok(Some(PolicySet { grants, guards }))
+    let first = MarkedSet::of(alloc, first)?;
+    let set = MarkedSet::of(alloc, set)?;
+    let less = cut_set(alloc, &first, &set)?;
+    Ok(Some(less))
 }

@@ -4,32 +4,32 @@ ghost use Rattle.policy_model.specs.declared.set.Statement.{Statement as Stateme
 ghost use Rattle.policy_difference.specs.Differences.{DeniesToo, EachWith, HasWider, IsGuardedToo, IsHarmless, LetsPass};
 ghost use Rattle.policy_difference.specs.Rivals.{AllowedByEach, ApartFromEach, AreBounds};
 
+use crate::marked::{MarkedDocument, MarkedDocumentList, MarkedSet, MarkedStatement};
 use crate::statements::has_wider;
 use plain_lists::NoMemory;
-use policy_model::{Document, DocumentList, PolicySet, Statement};
 use std::alloc::Global;
 
 /// What a statement has to meet so that the second set allows what the first allows by it.
 #[derive(Drop)]
 pub(crate) struct Bounds<'a> {
     /// Lists of documents, of each of which a statement has to ask no more.
-    pub(crate) allowing: Vec<&'a [Document]>,
+    pub(crate) allowing: Vec<&'a [MarkedDocument<'a>]>,
     /// Deny statements, with each of which it has to clash.
-    pub(crate) denying: Vec<&'a Statement>,
+    pub(crate) denying: Vec<&'a MarkedStatement<'a>>,
 }
 
 // Whether the statement, where it allows, asks no less than a statement of the guard.
-fn is_let_pass(guard: &[Document], statement: &Statement) -> bool
+fn is_let_pass(guard: &[MarkedDocument<'_>], statement: &MarkedStatement<'_>) -> bool
     ensures { IsTrue result ↔
         (statement.now.allow ≡ true → HasWider guard.now statement.now) }
 {
-    if !statement.allow {
+    if !statement.allows() {
         return true;
     }
     has_wider(guard, statement)
 }
 
-fn let_each_pass(guard: &[Document], statements: &[Statement]) -> bool
+fn let_each_pass(guard: &[MarkedDocument<'_>], statements: &[MarkedStatement<'_>]) -> bool
     ensures { IsTrue result ↔
         All (λ s. s.allow ≡ true → HasWider guard.now s) statements.now }
 {
@@ -38,14 +38,14 @@ fn let_each_pass(guard: &[Document], statements: &[Statement]) -> bool
         .all(|statement| is_let_pass(guard, statement))
 }
 
-fn let_document_pass(guard: &[Document], document: &Document) -> bool
+fn let_document_pass(guard: &[MarkedDocument<'_>], document: &MarkedDocument<'_>) -> bool
     ensures { IsTrue result ↔
         All (λ s. s.allow ≡ true → HasWider guard.now s) document.now.statements }
 {
-    let_each_pass(guard, document.statements.as_slice())
+    let_each_pass(guard, document.as_slice())
 }
 
-fn let_all_pass(guard: &[Document], documents: &[Document]) -> bool
+fn let_all_pass(guard: &[MarkedDocument<'_>], documents: &[MarkedDocument<'_>]) -> bool
     ensures { IsTrue result ↔ EachWith true (HasWider guard.now) documents.now }
 {
     documents
@@ -54,20 +54,19 @@ fn let_all_pass(guard: &[Document], documents: &[Document]) -> bool
 }
 
 // Whether the guard allows wherever one of the set's guards does.
-fn is_guarded_too(set: &PolicySet, guard: &[Document]) -> bool
+fn is_guarded_too(set: &MarkedSet<'_>, guard: &[MarkedDocument<'_>]) -> bool
     ensures { IsTrue result ↔ IsGuardedToo set.now guard.now }
 {
-    set.guards
-        .as_slice()
+    set.guards()
         .iter()
         .any(|own| let_all_pass(guard, own.as_slice()))
 }
 
 // Adds the guard where the first set isn't guarded by it too.
 fn add_guard<'a>(
-    first: &PolicySet,
-    guard: &'a [Document],
-    lists: &mut Vec<&'a [Document]>,
+    first: &MarkedSet<'_>,
+    guard: &'a [MarkedDocument<'a>],
+    lists: &mut Vec<&'a [MarkedDocument<'a>]>,
 ) -> Result<(), NoMemory>
     ensures { OnOk result ((s : StatementValue) → AllowedByEach lists.new.items s ↔
         (AllowedByEach lists.old.items s × LetsPass first.now s guard.now)) }
@@ -81,9 +80,9 @@ fn add_guard<'a>(
 
 // Adds those of the guards that the first set isn't guarded by too.
 fn add_guards<'a>(
-    first: &PolicySet,
-    guards: &'a [DocumentList],
-    lists: &mut Vec<&'a [Document]>,
+    first: &MarkedSet<'_>,
+    guards: &'a [MarkedDocumentList<'a>],
+    lists: &mut Vec<&'a [MarkedDocument<'a>]>,
 ) -> Result<(), NoMemory>
     ensures { OnOk result ((s : StatementValue) → AllowedByEach lists.new.items s ↔
         (AllowedByEach lists.old.items s × All (LetsPass first.now s) guards.now)) }
@@ -97,20 +96,20 @@ fn add_guards<'a>(
 // The second set's grants, and those of its guards that the first set isn't guarded by too.
 fn allowing_lists<'a>(
     alloc: Global,
-    first: &PolicySet,
-    second: &'a PolicySet,
-) -> Result<Vec<&'a [Document]>, NoMemory>
+    first: &MarkedSet<'_>,
+    second: &'a MarkedSet<'a>,
+) -> Result<Vec<&'a [MarkedDocument<'a>]>, NoMemory>
     ensures { IfOk result (λ lists. (s : StatementValue) → AllowedByEach lists.items s ↔
         (HasWider second.now.grants s × All (LetsPass first.now s) second.now.guards)) }
 {
     let mut lists = Vec::new(alloc);
-    lists.push(second.grants.as_slice())?;
-    add_guards(first, second.guards.as_slice(), &mut lists)?;
+    lists.push(second.grants())?;
+    add_guards(first, second.guards(), &mut lists)?;
     Ok(lists)
 }
 
 // Whether a statement of one of the guards asks no more than this one.
-fn guards_have_wider(guards: &[DocumentList], statement: &Statement) -> bool
+fn guards_have_wider(guards: &[MarkedDocumentList<'_>], statement: &MarkedStatement<'_>) -> bool
     ensures { IsTrue result ↔ Any (λ g. HasWider g statement.now) guards.now }
 {
     guards
@@ -119,22 +118,21 @@ fn guards_have_wider(guards: &[DocumentList], statement: &Statement) -> bool
 }
 
 // Whether the statement, where it denies, asks no less than a statement of the set.
-fn is_denied_too(set: &PolicySet, statement: &Statement) -> bool
+fn is_denied_too(set: &MarkedSet<'_>, statement: &MarkedStatement<'_>) -> bool
     ensures { IsTrue result ↔
         (statement.now.allow ≡ false → DeniesToo set.now statement.now) }
 {
-    if statement.allow {
+    if statement.allows() {
         return true;
     }
-    has_wider(set.grants.as_slice(), statement)
-        || guards_have_wider(set.guards.as_slice(), statement)
+    has_wider(set.grants(), statement) || guards_have_wider(set.guards(), statement)
 }
 
 // Adds the statement where it denies what the first set doesn't deny too.
 fn add_deny<'a>(
-    first: &PolicySet,
-    statement: &'a Statement,
-    denying: &mut Vec<&'a Statement>,
+    first: &MarkedSet<'_>,
+    statement: &'a MarkedStatement<'a>,
+    denying: &mut Vec<&'a MarkedStatement<'a>>,
 ) -> Result<(), NoMemory>
     ensures { OnOk result ((s : StatementValue) → ApartFromEach denying.new.items s ↔
         (ApartFromEach denying.old.items s ×
@@ -149,9 +147,9 @@ fn add_deny<'a>(
 
 // Adds those of the statements.
 fn add_denies<'a>(
-    first: &PolicySet,
-    statements: &'a [Statement],
-    denying: &mut Vec<&'a Statement>,
+    first: &MarkedSet<'_>,
+    statements: &'a [MarkedStatement<'a>],
+    denying: &mut Vec<&'a MarkedStatement<'a>>,
 ) -> Result<(), NoMemory>
     ensures { OnOk result ((s : StatementValue) → ApartFromEach denying.new.items s ↔
         (ApartFromEach denying.old.items s ×
@@ -165,25 +163,25 @@ fn add_denies<'a>(
 
 // Adds those of the documents.
 fn add_denies_of<'a>(
-    first: &PolicySet,
-    documents: &'a [Document],
-    denying: &mut Vec<&'a Statement>,
+    first: &MarkedSet<'_>,
+    documents: &'a [MarkedDocument<'a>],
+    denying: &mut Vec<&'a MarkedStatement<'a>>,
 ) -> Result<(), NoMemory>
     ensures { OnOk result ((s : StatementValue) → ApartFromEach denying.new.items s ↔
         (ApartFromEach denying.old.items s ×
         EachWith false (IsHarmless first.now s) documents.now)) }
 {
     'documents: for document in documents {
-        add_denies(first, document.statements.as_slice(), denying)?;
+        add_denies(first, document.as_slice(), denying)?;
     }
     Ok(())
 }
 
 // Adds those of the guards.
 fn add_denies_of_guards<'a>(
-    first: &PolicySet,
-    guards: &'a [DocumentList],
-    denying: &mut Vec<&'a Statement>,
+    first: &MarkedSet<'_>,
+    guards: &'a [MarkedDocumentList<'a>],
+    denying: &mut Vec<&'a MarkedStatement<'a>>,
 ) -> Result<(), NoMemory>
     ensures { OnOk result ((s : StatementValue) → ApartFromEach denying.new.items s ↔
         (ApartFromEach denying.old.items s ×
@@ -198,24 +196,24 @@ fn add_denies_of_guards<'a>(
 // The Deny statements of the second set that the first doesn't have too.
 fn denying_statements<'a>(
     alloc: Global,
-    first: &PolicySet,
-    second: &'a PolicySet,
-) -> Result<Vec<&'a Statement>, NoMemory>
+    first: &MarkedSet<'_>,
+    second: &'a MarkedSet<'a>,
+) -> Result<Vec<&'a MarkedStatement<'a>>, NoMemory>
     ensures { IfOk result (λ denying. (s : StatementValue) → ApartFromEach denying.items s ↔
         (EachWith false (IsHarmless first.now s) second.now.grants ×
         All (EachWith false (IsHarmless first.now s)) second.now.guards)) }
 {
     let mut denying = Vec::new(alloc);
-    add_denies_of(first, second.grants.as_slice(), &mut denying)?;
-    add_denies_of_guards(first, second.guards.as_slice(), &mut denying)?;
+    add_denies_of(first, second.grants(), &mut denying)?;
+    add_denies_of_guards(first, second.guards(), &mut denying)?;
     Ok(denying)
 }
 
 /// What a statement of the first set has to meet so that the second allows what the first allows by it.
 pub(crate) fn bounds_of<'a>(
     alloc: Global,
-    first: &PolicySet,
-    second: &'a PolicySet,
+    first: &MarkedSet<'_>,
+    second: &'a MarkedSet<'a>,
 ) -> Result<Bounds<'a>, NoMemory>
     ensures { IfOk result (AreBounds first.now second.now) }
 {

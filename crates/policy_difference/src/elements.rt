@@ -3,16 +3,12 @@ ghost use Rattle.std.specs.Prelude.{◌≡◌, ◌↔◌, All, Any, IfNone, IfSo
 ghost use Rattle.policy_difference.specs.Elements.{ClashAll, ClashElement, ClashMatcher, CoverEach, CoversElement, CoversMatcher, element_of};
 
 use crate::items::Item;
-use crate::marks::Marks;
 use crate::places::next_place;
 use policy_model::Matcher;
 use std::marker::Model;
 
 // How many items a list has at least that is gone through side by side with another.
-const MANY_ITEMS: usize = 4;
-
-/// How many items two lists have at least that are gone through by marks.
-pub(crate) const MANY_MARKED: usize = 32;
+const MANY_ITEMS: usize = 16;
 
 /// An element of a statement, or its Not element. Contracts see it as the matcher of its items.
 #[derive(Drop)]
@@ -96,7 +92,7 @@ fn nearest<T: Item>(items: &[T], near: usize, other: &T) -> Option<usize>
 
 // The first of the others that isn't covered where it is looked for, side by side with the items.
 fn first_elsewhere<'a, T: Item>(items: &[T], others: &'a [T]) -> Option<&'a T>
-    ensures some { IfSome result (λ x. CoverEach T.covering items.now others.now →
+    ensures found { IfSome result (λ x. CoverEach T.covering items.now others.now →
         Any (λ y. T.covering y x.now) items.now) }
     ensures none { IfNone result (CoverEach T.covering items.now others.now) }
 {
@@ -118,76 +114,6 @@ fn cover_all<T: Item>(items: &[T], others: &[T]) -> bool
     others.iter().all(|other| some_covers(items, other))
 }
 
-// Whether the item that is likely to be equal to the other covers it.
-fn equal_covers<T: Item>(items: &[T], marks: &Marks, other: &T) -> bool
-    ensures { IsTrue result → Any (λ y. T.covering y other.now) items.now }
-{
-    covers_at(items, marks.place_of(other), other)
-}
-
-// Whether one of the items covers the other that may do so by the marks.
-fn marked_covers<T: Item>(items: &[T], marks: &Marks, other: &T) -> bool
-    ensures { IsTrue result → Any (λ y. T.covering y other.now) items.now }
-{
-    let bits = other.neighbours();
-    'places: for place in 0..items.len() {
-        if marks.may_cover(place, bits) && covers_at(items, place, other) {
-            return true;
-        }
-    }
-    false
-}
-
-// Whether one of the items covers the other, which is looked for by the marks first.
-fn covers_by_marks<T: Item>(items: &[T], marks: &Marks, other: &T) -> bool
-    ensures { IsTrue result ↔ Any (λ y. T.covering y other.now) items.now }
-{
-    if equal_covers(items, marks, other) || marked_covers(items, marks, other) {
-        return true;
-    }
-    some_covers(items, other)
-}
-
-// Where an item that covers the other is, or else the number itself where there is one elsewhere.
-fn place_of<T: Item>(items: &[T], marks: &Marks, near: usize, other: &T) -> Option<usize>
-    ensures { is_some result ≡ true ↔ Any (λ y. T.covering y other.now) items.now }
-{
-    let place = nearest(items, near, other);
-    if place.is_some() {
-        return place;
-    }
-    if covers_by_marks(items, marks, other) {
-        return Some(near);
-    }
-    None
-}
-
-// Whether each of the others is covered by one of the items, where some of them are in another order.
-fn cover_by_marks<T: Item>(items: &[T], others: &[T]) -> bool
-    ensures { IsTrue result ↔ CoverEach T.covering items.now others.now }
-{
-    let marks = Marks::of(items);
-    let mut near = 0;
-    'others: for other in others {
-        let place = place_of(items, &marks, near, other);
-        if place.is_none() {
-            return false;
-        }
-        near = next_place(near, place);
-    }
-    true
-}
-
-// Whether each of the others is covered by one of the items, where they aren't in the same order.
-fn cover_elsewhere<T: Item>(items: &[T], others: &[T]) -> bool
-    ensures { IsTrue result ↔ CoverEach T.covering items.now others.now }
-{
-    if items.len() < MANY_MARKED || others.len() < MANY_MARKED {
-        return cover_all(items, others);
-    }
-    cover_by_marks(items, others)
-}
-
 // Whether each of the others is covered by one of the items. Lists that are nearly the same are gone through side by
 // side. Only where one of the others is covered elsewhere is more done, since most often the first that isn't
 // covered near isn't covered at all.
@@ -203,7 +129,7 @@ fn cover_each<T: Item>(items: &[T], others: &[T]) -> bool
     if !some_covers(items, other) {
         return false;
     }
-    cover_elsewhere(items, others)
+    cover_all(items, others)
 }
 
 // Whether each of the items clashes with the other.

@@ -5,9 +5,8 @@ ghost use Rattle.wildcard_lang.specs.declared.piece.Piece.TheVariants.{Many};
 ghost use Rattle.policy_model.specs.declared.principal.Entry.TheVariants as an;
 ghost use Rattle.policy_difference.specs.Entries.{ClashEntry, CoversEntry, HaveOtherKinds, IsUnnamed, entry_kind};
 
-use crate::marks::{characters_mark, characters_neighbours, pieces_mark, pieces_neighbours};
 use policy_model::{Entry, PrincipalKind, entry_names};
-use wildcard_lang::{Pattern, Piece, Text, clashes, covers};
+use wildcard_lang::{MarkedPattern, Piece, Text};
 
 /// An item of an element of a statement.
 pub(crate) trait Item {
@@ -31,39 +30,25 @@ pub(crate) trait Item {
     /// Whether this item takes all there is.
     fn is_whole(&self) -> bool
         ensures { IsTrue result ↔ (self.now ≡ whole) };
-
-    /// A number that equal items share, and others seldom do.
-    fn mark(&self) -> usize;
-
-    /// Bits that an item which covers this one has none beside.
-    fn neighbours(&self) -> u128;
 }
 
-impl Item for Pattern {
+impl Item for MarkedPattern<'_> {
     ghost covering = { CoversPattern };
 
     ghost clashing = { Clash };
 
     ghost whole = { Many ∷ [] };
 
-    fn covers(&self, other: &Pattern) -> bool {
-        covers(self, other)
+    fn covers(&self, other: &Self) -> bool {
+        MarkedPattern::covers(self, other)
     }
 
-    fn clashes(&self, other: &Pattern) -> bool {
-        clashes(self, other)
+    fn clashes(&self, other: &Self) -> bool {
+        MarkedPattern::clashes(self, other)
     }
 
     fn is_whole(&self) -> bool {
-        is_star(self.as_slice())
-    }
-
-    fn mark(&self) -> usize {
-        pieces_mark(self.as_slice())
-    }
-
-    fn neighbours(&self) -> u128 {
-        pieces_neighbours(self.as_slice())
+        is_star(self.pattern().as_slice())
     }
 }
 
@@ -99,22 +84,6 @@ impl Item for Entry {
 
     fn is_whole(&self) -> bool {
         is_all(self)
-    }
-
-    fn mark(&self) -> usize {
-        match self {
-            Entry::All | Entry::Kind(_) => 0,
-            Entry::Account(account) => characters_mark(account.as_slice()),
-            Entry::Exact(_, id) => characters_mark(id.as_slice()),
-        }
-    }
-
-    fn neighbours(&self) -> u128 {
-        match self {
-            Entry::All | Entry::Kind(_) => 0,
-            Entry::Account(account) => characters_neighbours(account.as_slice()),
-            Entry::Exact(_, id) => characters_neighbours(id.as_slice()),
-        }
     }
 }
 

@@ -6,13 +6,13 @@ ghost use Rattle.policy_difference.specs.Places.{AreWider, GoesWhole};
 ghost use Rattle.policy_difference.specs.Rivals.{AreBounds, AreLeftDocuments, AreLeftStatements, IsAddedUnless, IsBound, IsCutRecord, StaysWhole, IsLeftRecord, IsLeftAtOnce, IsLeftByActions, IsLetThrough, item_alone};
 
 use crate::bounds::Bounds;
-use crate::elements::own_element;
+use crate::marked::{MarkedDocument, MarkedStatement};
 use crate::places::{next_place, others_at, place_of};
 use crate::rivals::{Rivals, item_alone, passes, rivals_of};
 use plain_lists::{EqualClone, List, NoMemory};
 use policy_model::{Document, DocumentList, Matcher, Statement, StatementList};
 use std::alloc::Global;
-use wildcard_lang::{Pattern, PatternList};
+use wildcard_lang::{MarkedPattern, Pattern, PatternList};
 
 /// What is left of a statement, where something is, and whether some of it is shared.
 #[derive(Drop)]
@@ -36,21 +36,25 @@ pub(crate) struct LeftDocuments {
 }
 
 // Whether the statement with this action alone meets what bounds it.
-fn passes_alone(rivals: &Rivals<'_>, action: &Pattern) -> bool
+fn passes_alone(rivals: &Rivals<'_>, action: &MarkedPattern<'_>) -> bool
     ensures { IsTrue result ↔ IsLetThrough rivals.now (item_alone action.now) }
 {
     passes(rivals, &item_alone(action))
 }
 
 // Adds the action, where the statement with it alone doesn't meet what bounds it.
-fn add_action(left: &mut PatternList, rivals: &Rivals<'_>, action: &Pattern) -> Result<(), NoMemory>
+fn add_action(
+    left: &mut PatternList,
+    rivals: &Rivals<'_>,
+    action: &MarkedPattern<'_>,
+) -> Result<(), NoMemory>
     ensures { OnOk result
         (IsAddedUnless (IsLetThrough rivals.now (item_alone action.now)) action.now left.old left.new) }
 {
     if passes_alone(rivals, action) {
         return Ok(());
     }
-    left.push(action.copy()?)?;
+    left.push(action.pattern().copy()?)?;
     Ok(())
 }
 
@@ -58,7 +62,7 @@ fn add_action(left: &mut PatternList, rivals: &Rivals<'_>, action: &Pattern) -> 
 fn left_actions(
     alloc: Global,
     rivals: &Rivals<'_>,
-    actions: &[Pattern],
+    actions: &[MarkedPattern<'_>],
 ) -> Result<PatternList, NoMemory>
     ensures { IfOk result (Leaves (λ x. IsLetThrough rivals.now (item_alone x)) actions.now) }
 {
@@ -81,17 +85,20 @@ fn kept(statement: &Statement) -> Result<LeftStatement, NoMemory>
 }
 
 // What is left of a statement with `NotAction`: the whole, or nothing.
-fn left_whole(rivals: &Rivals<'_>, statement: &Statement) -> Result<LeftStatement, NoMemory>
+fn left_whole(
+    rivals: &Rivals<'_>,
+    statement: &MarkedStatement<'_>,
+) -> Result<LeftStatement, NoMemory>
     ensures { IfOk result
         (IsLeftAtOnce (IsLetThrough rivals.now statement.now.action) statement.now) }
 {
-    if passes(rivals, &own_element(&statement.action)) {
+    if passes(rivals, &statement.action()) {
         return Ok(LeftStatement {
             statement: None,
             shared: true,
         });
     }
-    let left = kept(statement)?;
+    let left = kept(statement.statement())?;
     Ok(left)
 }
 
@@ -111,7 +118,7 @@ fn some_with(statement: &Statement, actions: PatternList) -> Result<Option<State
 }
 
 // Whether some of the actions are gone.
-fn are_fewer(left: &[Pattern], actions: &[Pattern]) -> bool
+fn are_fewer(left: &[Pattern], actions: &[MarkedPattern<'_>]) -> bool
     ensures { IsTrue result ↔ (length left.now < length actions.now) }
 {
     left.len() < actions.len()
@@ -121,15 +128,15 @@ fn are_fewer(left: &[Pattern], actions: &[Pattern]) -> bool
 fn left_by_actions(
     alloc: Global,
     rivals: &Rivals<'_>,
-    statement: &Statement,
+    statement: &MarkedStatement<'_>,
 ) -> Result<LeftStatement, NoMemory>
     ensures { IfOk result
         (IsLeftByActions (λ x. IsLetThrough rivals.now (item_alone x)) statement.now) }
 {
-    let actions = statement.action.items.as_slice();
+    let actions = statement.actions();
     let left = left_actions(alloc, rivals, actions)?;
     let shared = are_fewer(left.as_slice(), actions);
-    let statement = some_with(statement, left)?;
+    let statement = some_with(statement.statement(), left)?;
     Ok(LeftStatement { statement, shared })
 }
 
@@ -137,12 +144,12 @@ fn left_by_actions(
 pub(crate) fn cut(
     alloc: Global,
     bounds: &Bounds<'_>,
-    statement: &Statement,
+    statement: &MarkedStatement<'_>,
 ) -> Result<LeftStatement, NoMemory>
     ensures { IfOk result (IsCutRecord (IsBound bounds.now) statement.now) }
 {
     let rivals = rivals_of(alloc, bounds, statement)?;
-    if statement.action.not {
+    if statement.has_not_action() {
         let left = left_whole(&rivals, statement)?;
         return Ok(left);
     }
@@ -154,13 +161,13 @@ pub(crate) fn cut(
 fn left_of(
     alloc: Global,
     bounds: &Bounds<'_>,
-    statement: &Statement,
+    statement: &MarkedStatement<'_>,
 ) -> Result<LeftStatement, NoMemory>
     ensures { IfOk result (λ left. (first second : PolicySet) →
         AreBounds first second bounds.now → IsLeftRecord first second statement.now left) }
 {
-    if !statement.allow {
-        let left = kept(statement)?;
+    if !statement.allows() {
+        let left = kept(statement.statement())?;
         return Ok(left);
     }
     let left = cut(alloc, bounds, statement)?;
@@ -172,7 +179,7 @@ fn left_beside(
     alloc: Global,
     bounds: &Bounds<'_>,
     goes: bool,
-    statement: &Statement,
+    statement: &MarkedStatement<'_>,
 ) -> Result<LeftStatement, NoMemory>
     ensures { IfOk result (λ left. (first second : PolicySet) →
         AreBounds first second bounds.now →
@@ -216,8 +223,8 @@ fn either(shared: bool, own: bool) -> bool
 fn left_statements(
     alloc: Global,
     bounds: &Bounds<'_>,
-    others: &[Statement],
-    statements: &[Statement],
+    others: &[MarkedStatement<'_>],
+    statements: &[MarkedStatement<'_>],
 ) -> Result<LeftStatements, NoMemory>
     ensures { IfOk result (λ left. (first second : PolicySet) →
         AreBounds first second bounds.now → AreWider bounds.now others.now →
@@ -243,7 +250,7 @@ fn left_statements(
 pub(crate) fn left_documents(
     alloc: Global,
     bounds: &Bounds<'_>,
-    documents: &[Document],
+    documents: &[MarkedDocument<'_>],
 ) -> Result<LeftDocuments, NoMemory>
     ensures { IfOk result (λ left. (first second : PolicySet) →
         AreBounds first second bounds.now → AreLeftDocuments first second documents.now left) }
@@ -254,7 +261,7 @@ pub(crate) fn left_documents(
     'documents: for document in documents {
         let others = others_at(bounds, near);
         near = near.wrapping_add(1);
-        let own = left_statements(alloc, bounds, others, document.statements.as_slice())?;
+        let own = left_statements(alloc, bounds, others, document.as_slice())?;
         shared = either(shared, own.shared);
         left.push(Document {
             statements: own.statements,

@@ -8,7 +8,7 @@ mod elements;
 mod implications;
 mod items;
 mod left;
-mod marks;
+mod marked;
 mod meaning;
 mod operands;
 mod pairs;

@@ -3,24 +3,27 @@ ghost use Rattle.std.specs.Prelude.{◌≡◌, ◌↔◌, [], IsTrue, is_some, t
 ghost use Rattle.policy_model.specs.declared.set.Statement.{Statement as StatementValue};
 ghost use Rattle.policy_difference.specs.Differences.{HasWider};
 ghost use Rattle.policy_difference.specs.Rivals.{AllowedByEach};
-ghost use Rattle.policy_difference.specs.Places.{AreWider, HasPlace, HasStatementsOf, MayGo, SomeAsksNoMore};
+ghost use Rattle.policy_difference.specs.Places.{AreOfDocuments, AreWider, HasPlace, MayGo, SomeAsksNoMore};
 
 use crate::bounds::Bounds;
+use crate::marked::{MarkedDocument, MarkedStatement};
 use crate::statements::asks_no_more;
-use policy_model::{Document, Statement};
 
 // The statements of the document of this number.
-fn statements_at(documents: &[Document], document: usize) -> &[Statement]
-    ensures { HasStatementsOf documents.now result.now }
+fn statements_at<'a>(
+    documents: &'a [MarkedDocument<'a>],
+    document: usize,
+) -> &'a [MarkedStatement<'a>]
+    ensures { AreOfDocuments documents.now result.now }
 {
     match documents.get(document) {
         None => &[],
-        Some(document) => document.statements.as_slice(),
+        Some(document) => document.as_slice(),
     }
 }
 
 // Whether nothing denies.
-fn are_none(denying: &[&Statement]) -> bool
+fn are_none(denying: &[&MarkedStatement<'_>]) -> bool
     ensures { IsTrue result ↔ (denying.now ≡ []) }
 {
     match denying {
@@ -30,7 +33,7 @@ fn are_none(denying: &[&Statement]) -> bool
 }
 
 // The documents, where there is one list of them.
-fn only_list<'a>(lists: &[&'a [Document]]) -> &'a [Document]
+fn only_list<'a>(lists: &[&'a [MarkedDocument<'a>]]) -> &'a [MarkedDocument<'a>]
     ensures { (s : StatementValue) → HasWider result.now s → AllowedByEach lists.now s }
 {
     match lists {
@@ -41,7 +44,7 @@ fn only_list<'a>(lists: &[&'a [Document]]) -> &'a [Document]
 
 /// Statements beside which a statement goes whole where one of them asks no more: those of the document of this
 /// number, where nothing bounds a statement but that list of documents, and else none.
-pub(crate) fn others_at<'a>(bounds: &Bounds<'a>, document: usize) -> &'a [Statement]
+pub(crate) fn others_at<'a>(bounds: &Bounds<'a>, document: usize) -> &'a [MarkedStatement<'a>]
     ensures { AreWider bounds.now result.now }
 {
     if !are_none(bounds.denying.as_slice()) {
@@ -51,7 +54,11 @@ pub(crate) fn others_at<'a>(bounds: &Bounds<'a>, document: usize) -> &'a [Statem
 }
 
 // Whether the statement of this number asks no more than the other.
-fn asks_no_more_at(others: &[Statement], place: usize, statement: &Statement) -> bool
+fn asks_no_more_at(
+    others: &[MarkedStatement<'_>],
+    place: usize,
+    statement: &MarkedStatement<'_>,
+) -> bool
     ensures { IsTrue result → SomeAsksNoMore others.now statement.now }
 {
     match others.get(place) {
@@ -61,14 +68,18 @@ fn asks_no_more_at(others: &[Statement], place: usize, statement: &Statement) ->
 }
 
 // Whether it is an Allow with items of its action.
-fn may_go(statement: &Statement) -> bool
+fn may_go(statement: &MarkedStatement<'_>) -> bool
     ensures { IsTrue result → MayGo statement.now }
 {
-    statement.allow && !statement.action.items.is_empty()
+    statement.allows() && !statement.actions().is_empty()
 }
 
 // The number of a statement that asks no more, near this one.
-fn nearest(others: &[Statement], near: usize, statement: &Statement) -> Option<usize>
+fn nearest(
+    others: &[MarkedStatement<'_>],
+    near: usize,
+    statement: &MarkedStatement<'_>,
+) -> Option<usize>
     ensures { is_some result ≡ true → SomeAsksNoMore others.now statement.now }
 {
     if asks_no_more_at(others, near, statement) {
@@ -87,7 +98,11 @@ fn nearest(others: &[Statement], near: usize, statement: &Statement) -> Option<u
 
 /// The number of one of the others that asks no more than the Allow statement, where there is one at the given
 /// number, or one before or behind it.
-pub(crate) fn place_of(others: &[Statement], near: usize, statement: &Statement) -> Option<usize>
+pub(crate) fn place_of(
+    others: &[MarkedStatement<'_>],
+    near: usize,
+    statement: &MarkedStatement<'_>,
+) -> Option<usize>
     ensures { is_some result ≡ true → HasPlace others.now statement.now }
 {
     if !may_go(statement) {

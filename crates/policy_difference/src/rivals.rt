@@ -6,28 +6,32 @@ ghost use Rattle.policy_difference.specs.Differences.{AsksNoMore, ClashStatement
 ghost use Rattle.policy_difference.specs.Rivals.{AllowedByEach, ApartFromEach, AreRivals, CoversAction, EachClashesWithAction, IsAskedOf, IsLetThrough, SomeCoversAction, item_alone, with_action};
 
 use crate::bounds::Bounds;
-use crate::elements::{Element, MANY_MARKED, element_of};
+use crate::elements::{Element, element_of};
+use crate::marked::{MarkedDocument, MarkedStatement};
 use crate::statements::{asks_no_more_else, clash_else, clashes_with_action, covers_action};
 use plain_lists::NoMemory;
-use policy_model::{Condition, Document, Statement};
+use policy_model::Condition;
 use std::alloc::Global;
 use std::slice::from_ref;
-use wildcard_lang::Pattern;
+use wildcard_lang::MarkedPattern;
 
 // How many pairs of actions are compared at most before the other lists are.
 const FEW_PAIRS: usize = 16;
+
+// How many items another list has at least for that.
+const LONG_LIST: usize = 32;
 
 /// The statements with which one is compared whose action alone is still to be looked at.
 #[derive(Drop)]
 pub(crate) struct Rivals<'a> {
     /// Lists of statements, of each of which the action of one has to cover that of the statement.
-    pub(crate) allowing: Vec<Vec<&'a Statement>>,
+    pub(crate) allowing: Vec<Vec<&'a MarkedStatement<'a>>>,
     /// Statements whose actions have each to clash with that of the statement.
-    pub(crate) denying: Vec<&'a Statement>,
+    pub(crate) denying: Vec<&'a MarkedStatement<'a>>,
 }
 
 /// The element of an item of an `Action` alone.
-pub(crate) fn item_alone(item: &Pattern) -> Element<'_, Pattern>
+pub(crate) fn item_alone<'a>(item: &'a MarkedPattern<'a>) -> Element<'a, MarkedPattern<'a>>
     ensures { result ≡ item_alone item.now }
 {
     Element {
@@ -37,61 +41,60 @@ pub(crate) fn item_alone(item: &Pattern) -> Element<'_, Pattern>
 }
 
 // Whether the other statement's action covers the item.
-fn covers_alone(other: &Statement, item: &Pattern) -> bool
+fn covers_alone(other: &MarkedStatement<'_>, item: &MarkedPattern<'_>) -> bool
     ensures { IsTrue result ↔ CoversAction (item_alone item.now) other.now }
 {
     covers_action(other, &item_alone(item))
 }
 
 // Whether the other statement's action covers one of the items.
-fn covers_some_alone(other: &Statement, items: &[Pattern]) -> bool
+fn covers_some_alone(other: &MarkedStatement<'_>, items: &[MarkedPattern<'_>]) -> bool
     ensures { IsTrue result ↔ Any (λ x. CoversAction (item_alone x) other.now) items.now }
 {
     items.iter().any(|item| covers_alone(other, item))
 }
 
 fn is_long(condition: &Condition) -> bool {
-    condition.values.len() >= MANY_MARKED
+    condition.values.len() >= LONG_LIST
 }
 
 // Whether a list of the statement besides its actions is long.
-fn has_long_list(statement: &Statement) -> bool {
-    element_of(&statement.principal).items.len() >= MANY_MARKED
-        || element_of(&statement.resource).items.len() >= MANY_MARKED
+fn has_long_list(statement: &MarkedStatement<'_>) -> bool {
+    element_of(statement.principal()).items.len() >= LONG_LIST
+        || statement.resource().items.len() >= LONG_LIST
         || statement
-            .conditions
-            .as_slice()
+            .conditions()
             .iter()
             .any(|condition| is_long(condition))
 }
 
 // Whether to compare actions costs less than to compare the other lists: these are long, and effects don't differ.
-fn are_actions_cheaper(other: &Statement, statement: &Statement) -> bool {
-    let others = other.action.items.as_slice().len();
-    let pairs = others.saturating_mul(statement.action.items.as_slice().len());
-    pairs <= FEW_PAIRS && other.allow == statement.allow && has_long_list(statement)
+fn are_actions_cheaper(other: &MarkedStatement<'_>, statement: &MarkedStatement<'_>) -> bool {
+    let others = other.actions().len();
+    let pairs = others.saturating_mul(statement.actions().len());
+    pairs <= FEW_PAIRS && other.allows() == statement.allows() && has_long_list(statement)
 }
 
 // Whether the other statement's action may cover what is asked about of this one. It is told before the other lists
 // are compared only where that costs less.
-fn may_cover_asked(other: &Statement, statement: &Statement) -> bool
+fn may_cover_asked(other: &MarkedStatement<'_>, statement: &MarkedStatement<'_>) -> bool
     ensures { (a : MatcherValue (List Piece)) → IsAskedOf statement.now a →
         CoversAction a other.now → IsTrue result }
 {
-    if statement.action.not {
+    if statement.has_not_action() {
         return true;
     }
     if !are_actions_cheaper(other, statement) {
         return true;
     }
-    covers_some_alone(other, statement.action.items.as_slice())
+    covers_some_alone(other, statement.actions())
 }
 
 // Adds the other statement where it asks no more than this one, whatever their actions are.
 fn add_if_wider<'a>(
-    other: &'a Statement,
-    statement: &Statement,
-    wider: &mut Vec<&'a Statement>,
+    other: &'a MarkedStatement<'a>,
+    statement: &MarkedStatement<'_>,
+    wider: &mut Vec<&'a MarkedStatement<'a>>,
 ) -> Result<(), NoMemory>
     ensures { OnOk result ((a : MatcherValue (List Piece)) → IsAskedOf statement.now a →
         SomeCoversAction wider.new.items a ↔ (SomeCoversAction wider.old.items a ⊎
@@ -109,9 +112,9 @@ fn add_if_wider<'a>(
 
 // Adds those of the statements.
 fn add_wider<'a>(
-    statements: &'a [Statement],
-    statement: &Statement,
-    wider: &mut Vec<&'a Statement>,
+    statements: &'a [MarkedStatement<'a>],
+    statement: &MarkedStatement<'_>,
+    wider: &mut Vec<&'a MarkedStatement<'a>>,
 ) -> Result<(), NoMemory>
     ensures { OnOk result ((a : MatcherValue (List Piece)) → IsAskedOf statement.now a →
         SomeCoversAction wider.new.items a ↔ (SomeCoversAction wider.old.items a ⊎
@@ -126,15 +129,15 @@ fn add_wider<'a>(
 // The statements of the documents that ask no more than this one, whatever their actions are.
 fn wider_of<'a>(
     alloc: Global,
-    documents: &'a [Document],
-    statement: &Statement,
-) -> Result<Vec<&'a Statement>, NoMemory>
+    documents: &'a [MarkedDocument<'a>],
+    statement: &MarkedStatement<'_>,
+) -> Result<Vec<&'a MarkedStatement<'a>>, NoMemory>
     ensures { IfOk result (λ wider. (a : MatcherValue (List Piece)) → IsAskedOf statement.now a →
         SomeCoversAction wider.items a ↔ HasWider documents.now (with_action statement.now a)) }
 {
     let mut wider = Vec::new(alloc);
     'documents: for document in documents {
-        add_wider(document.statements.as_slice(), statement, &mut wider)?;
+        add_wider(document.as_slice(), statement, &mut wider)?;
     }
     Ok(wider)
 }
@@ -142,9 +145,9 @@ fn wider_of<'a>(
 // The same of each of the lists.
 fn wider_of_each<'a>(
     alloc: Global,
-    lists: &[&'a [Document]],
-    statement: &Statement,
-) -> Result<Vec<Vec<&'a Statement>>, NoMemory>
+    lists: &[&'a [MarkedDocument<'a>]],
+    statement: &MarkedStatement<'_>,
+) -> Result<Vec<Vec<&'a MarkedStatement<'a>>>, NoMemory>
     ensures { IfOk result (λ allowing. (a : MatcherValue (List Piece)) →
         IsAskedOf statement.now a → All (λ w. SomeCoversAction w.items a) allowing.items ↔
         AllowedByEach lists.now (with_action statement.now a)) }
@@ -159,9 +162,9 @@ fn wider_of_each<'a>(
 
 // Adds the other statement where it doesn't clash with this one, whatever their actions are.
 fn add_if_near<'a>(
-    other: &'a Statement,
-    statement: &Statement,
-    near: &mut Vec<&'a Statement>,
+    other: &'a MarkedStatement<'a>,
+    statement: &MarkedStatement<'_>,
+    near: &mut Vec<&'a MarkedStatement<'a>>,
 ) -> Result<(), NoMemory>
     ensures { OnOk result ((a : MatcherValue (List Piece)) →
         EachClashesWithAction near.new.items a ↔ (EachClashesWithAction near.old.items a ×
@@ -177,9 +180,9 @@ fn add_if_near<'a>(
 // Those of the statements that don't clash with this one, whatever their actions are.
 fn not_clashing<'a>(
     alloc: Global,
-    statements: &[&'a Statement],
-    statement: &Statement,
-) -> Result<Vec<&'a Statement>, NoMemory>
+    statements: &[&'a MarkedStatement<'a>],
+    statement: &MarkedStatement<'_>,
+) -> Result<Vec<&'a MarkedStatement<'a>>, NoMemory>
     ensures { IfOk result (λ near. (a : MatcherValue (List Piece)) →
         EachClashesWithAction near.items a ↔
         ApartFromEach statements.now (with_action statement.now a)) }
@@ -195,7 +198,7 @@ fn not_clashing<'a>(
 pub(crate) fn rivals_of<'a>(
     alloc: Global,
     bounds: &Bounds<'a>,
-    statement: &Statement,
+    statement: &MarkedStatement<'_>,
 ) -> Result<Rivals<'a>, NoMemory>
     ensures { IfOk result (AreRivals bounds.now statement.now) }
 {
@@ -205,7 +208,10 @@ pub(crate) fn rivals_of<'a>(
 }
 
 // Whether the action of one of the statements covers the element.
-fn some_covers_action(statements: &[&Statement], action: &Element<'_, Pattern>) -> bool
+fn some_covers_action(
+    statements: &[&MarkedStatement<'_>],
+    action: &Element<'_, MarkedPattern<'_>>,
+) -> bool
     ensures { IsTrue result ↔ SomeCoversAction statements.now action.now }
 {
     statements
@@ -214,14 +220,20 @@ fn some_covers_action(statements: &[&Statement], action: &Element<'_, Pattern>) 
 }
 
 // The same of a list.
-fn list_covers_action(statements: &Vec<&Statement>, action: &Element<'_, Pattern>) -> bool
+fn list_covers_action(
+    statements: &Vec<&MarkedStatement<'_>>,
+    action: &Element<'_, MarkedPattern<'_>>,
+) -> bool
     ensures { IsTrue result ↔ SomeCoversAction statements.now.items action.now }
 {
     some_covers_action(statements.as_slice(), action)
 }
 
 // Whether in each of the lists the action of one of the statements covers the element.
-fn each_covers_action(lists: &[Vec<&Statement>], action: &Element<'_, Pattern>) -> bool
+fn each_covers_action(
+    lists: &[Vec<&MarkedStatement<'_>>],
+    action: &Element<'_, MarkedPattern<'_>>,
+) -> bool
     ensures { IsTrue result ↔ All (λ w. SomeCoversAction w.items action.now) lists.now }
 {
     lists
@@ -230,7 +242,10 @@ fn each_covers_action(lists: &[Vec<&Statement>], action: &Element<'_, Pattern>) 
 }
 
 // Whether the action of each of the statements clashes with the element.
-fn each_clashes_with_action(statements: &[&Statement], action: &Element<'_, Pattern>) -> bool
+fn each_clashes_with_action(
+    statements: &[&MarkedStatement<'_>],
+    action: &Element<'_, MarkedPattern<'_>>,
+) -> bool
     ensures { IsTrue result ↔ EachClashesWithAction statements.now action.now }
 {
     statements
@@ -239,7 +254,7 @@ fn each_clashes_with_action(statements: &[&Statement], action: &Element<'_, Patt
 }
 
 /// Whether the statement with this action meets what bounds it.
-pub(crate) fn passes(rivals: &Rivals<'_>, action: &Element<'_, Pattern>) -> bool
+pub(crate) fn passes(rivals: &Rivals<'_>, action: &Element<'_, MarkedPattern<'_>>) -> bool
     ensures { IsTrue result ↔ IsLetThrough rivals.now action.now }
 {
     each_covers_action(rivals.allowing.as_slice(), action)

@@ -4,12 +4,11 @@ ghost use Rattle.policy_difference.specs.Differences.{AsksNoMore, ClashStatement
 ghost use Rattle.policy_difference.specs.Implications.{Implies};
 ghost use Rattle.policy_difference.specs.Rivals.{AsksNoMoreElse, ClashElse, ClashesWithAction, CoversAction};
 
-use crate::elements::{
-    Element, clash_elements, clash_optional, covers_element, covers_optional, own_element,
-};
+use crate::elements::{Element, clash_elements, clash_optional, covers_element, covers_optional};
 use crate::implications::implies;
-use policy_model::{Condition, Document, Statement};
-use wildcard_lang::Pattern;
+use crate::marked::{MarkedDocument, MarkedStatement};
+use policy_model::Condition;
+use wildcard_lang::MarkedPattern;
 
 // Whether one of the conditions implies the other.
 fn some_implies(conditions: &[Condition], other: &Condition) -> bool
@@ -26,47 +25,56 @@ fn imply_each(conditions: &[Condition], others: &[Condition]) -> bool
 }
 
 /// Whether the statement asks no more than the other, whatever their actions are.
-pub(crate) fn asks_no_more_else(statement: &Statement, other: &Statement) -> bool
+pub(crate) fn asks_no_more_else(
+    statement: &MarkedStatement<'_>,
+    other: &MarkedStatement<'_>,
+) -> bool
     ensures { IsTrue result ↔ AsksNoMoreElse statement.now other.now }
 {
-    if statement.allow != other.allow {
+    if statement.allows() != other.allows() {
         return false;
     }
-    if !covers_optional(&statement.principal, &other.principal) {
+    if !covers_optional(statement.principal(), other.principal()) {
         return false;
     }
-    if !covers_optional(&statement.resource, &other.resource) {
+    if !covers_element(&statement.resource(), &other.resource()) {
         return false;
     }
-    imply_each(other.conditions.as_slice(), statement.conditions.as_slice())
+    imply_each(other.conditions(), statement.conditions())
 }
 
 /// Whether the statement's action takes whatever the element takes.
-pub(crate) fn covers_action(statement: &Statement, action: &Element<'_, Pattern>) -> bool
+pub(crate) fn covers_action(
+    statement: &MarkedStatement<'_>,
+    action: &Element<'_, MarkedPattern<'_>>,
+) -> bool
     ensures { IsTrue result ↔ CoversAction action.now statement.now }
 {
-    covers_element(&own_element(&statement.action), action)
+    covers_element(&statement.action(), action)
 }
 
 /// Whether the statement's action and the element take nothing together.
-pub(crate) fn clashes_with_action(statement: &Statement, action: &Element<'_, Pattern>) -> bool
+pub(crate) fn clashes_with_action(
+    statement: &MarkedStatement<'_>,
+    action: &Element<'_, MarkedPattern<'_>>,
+) -> bool
     ensures { IsTrue result ↔ ClashesWithAction action.now statement.now }
 {
-    clash_elements(&own_element(&statement.action), action)
+    clash_elements(&statement.action(), action)
 }
 
 /// Whether the statement has the other's effect and applies wherever the other does.
-pub(crate) fn asks_no_more(statement: &Statement, other: &Statement) -> bool
+pub(crate) fn asks_no_more(statement: &MarkedStatement<'_>, other: &MarkedStatement<'_>) -> bool
     ensures { IsTrue result ↔ AsksNoMore statement.now other.now }
 {
-    if !covers_action(statement, &own_element(&other.action)) {
+    if !covers_action(statement, &other.action()) {
         return false;
     }
     asks_no_more_else(statement, other)
 }
 
 // Whether one of the statements asks no more than the other.
-fn some_asks_no_more(statements: &[Statement], other: &Statement) -> bool
+fn some_asks_no_more(statements: &[MarkedStatement<'_>], other: &MarkedStatement<'_>) -> bool
     ensures { IsTrue result ↔ Any (λ t. AsksNoMore t other.now) statements.now }
 {
     statements
@@ -75,16 +83,16 @@ fn some_asks_no_more(statements: &[Statement], other: &Statement) -> bool
 }
 
 /// Whether a statement of one of the documents asks no more than this one.
-pub(crate) fn has_wider(documents: &[Document], statement: &Statement) -> bool
+pub(crate) fn has_wider(documents: &[MarkedDocument<'_>], statement: &MarkedStatement<'_>) -> bool
     ensures { IsTrue result ↔ HasWider documents.now statement.now }
 {
-    documents.iter().any(|document| some_asks_no_more(document.statements.as_slice(), statement))
+    documents.iter().any(|document| some_asks_no_more(document.as_slice(), statement))
 }
 
 /// Whether the statements never apply both, whatever their actions are.
-pub(crate) fn clash_else(statement: &Statement, other: &Statement) -> bool
+pub(crate) fn clash_else(statement: &MarkedStatement<'_>, other: &MarkedStatement<'_>) -> bool
     ensures { IsTrue result ↔ ClashElse statement.now other.now }
 {
-    clash_optional(&statement.principal, &other.principal)
-        || clash_optional(&statement.resource, &other.resource)
+    clash_optional(statement.principal(), other.principal())
+        || clash_elements(&statement.resource(), &other.resource())
 }

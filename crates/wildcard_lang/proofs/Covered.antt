@@ -1,6 +1,5 @@
 -- The test whether a pattern covers another answers the relation.
-use Rattle.std.proofs.Common.{◌≡◌, ◌+◌, ◌-◌, ◌<◌, Bool, true, false, cond, not, ◌||◌, ◌&&◌, List, [], ◌∷◌, ◌++◌, length, take, get_or, refl, sym, ap, ◌∙◌, inl, inr, arith}
-use Rattle.std.proofs.lemmas.List.{take_more, take_all}
+use Rattle.std.proofs.Common.{◌≡◌, Bool, true, false, not, ◌&&◌, List, [], ◌∷◌, refl, sym, ◌∙◌, inl, inr, arith}
 use Rattle.std.proofs.lemmas.Bool.{cases_Bool, or_cases, and_parts}
 use Rattle.std.proofs.lemmas.Bool.Decides.{Decides-at}
 use Rattle.std.proofs.lemmas.Grind.{common_steps}
@@ -9,9 +8,8 @@ use Rattle.std.specs.Cmp.Lexicographic.{pointwise, pointwise_decides}
 use Rattle.wildcard_lang.specs.contracts.piece.PiecePartialEq.TheImpl.{eq-value}
 use Rattle.wildcard_lang.specs.declared.piece.Piece.{Piece}
 use Rattle.wildcard_lang.specs.Matching.{is_many}
-use Rattle.wildcard_lang.specs.Accepts.{accepts_by, accepts_many, accepts_one}
+use Rattle.wildcard_lang.specs.Accepts.{accepts_many, accepts_one}
 use Rattle.wildcard_lang.specs.Covering.{CoversPattern, no_pieces, takes_one, is_done, takes_more, covers, takes_piece, takes_next}
-use Rattle.wildcard_lang.proofs.Accept.{accepts-snoc}
 use Rattle.wildcard_lang.proofs.Sharing.{Decides-takes_piece}
 use Rattle.wildcard_lang.proofs.Including.{covers-itself, not_true}
 
@@ -67,7 +65,7 @@ answer_covers b q p pieces others same own e =
     let same_test : covers pieces others ≡ covers q p = rw (same, own) refl in
     Decides-at _ _ (e ∙ same_test) (Decides-covers q p)
 
-pieces-Decides : (a b : Piece) → Decides (eq-value.it a b) (a ≡ b)
+pub pieces-Decides : (a b : Piece) → Decides (eq-value.it a b) (a ≡ b)
 pieces-Decides a b = grind (arith, common_steps)
 
 -- equal pieces cover each other

@@ -33,6 +33,8 @@ pub use Rattle.wildcard_lang.proofs.Including.{literals-covered}
 -- the tests whether a pattern covers another, and whether it clashes with it, answer that
 pub use Rattle.wildcard_lang.proofs.Covered.{Decides-covers}
 pub use Rattle.wildcard_lang.proofs.Including.{Decides-clashes}
+-- equality of pieces, as it is computed, is equality
+pub use Rattle.wildcard_lang.proofs.Covered.{pieces-Decides}
 -- what is written of a pattern is a text
 pub use Rattle.wildcard_lang.proofs.Written.{IsText-written, IsText-action}
 -- a pattern that was read is what its written form is read as

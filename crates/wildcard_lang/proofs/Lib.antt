@@ -18,3 +18,6 @@ mod Including
 mod Covered
 mod Narrowing
 mod Ends
+mod Refusing
+mod Neighbours
+mod FrontSums

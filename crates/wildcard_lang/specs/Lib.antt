@@ -4,6 +4,7 @@ pub mod Patterns
 pub mod Limits
 pub mod Accepts
 pub mod Window
+pub mod Runs
 pub mod Symbols
 pub mod Reading
 pub mod SymbolFaults
@@ -14,3 +15,5 @@ pub mod Meanings
 pub mod Escapes
 pub mod Places
 pub mod Covering
+pub mod Neighbours
+pub mod FrontSums

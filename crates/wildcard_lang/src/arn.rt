@@ -14,7 +14,7 @@ use std::alloc::{AllocError, Global};
 const COLONS: usize = 5;
 
 // The wildcard that takes no colon in place of one that takes any character.
-fn narrow(piece: Piece) -> Piece
+fn narrow_piece(piece: Piece) -> Piece
     ensures { result ≡ narrow_piece piece }
 {
     match piece {
@@ -32,7 +32,7 @@ fn is_colon(piece: Piece) -> bool
 }
 
 // How many plain colons there are.
-fn colons_in(pieces: &[Piece]) -> usize
+fn colons(pieces: &[Piece]) -> usize
     ensures { result ≡ colons pieces.now }
 {
     let mut found = 0;
@@ -48,11 +48,15 @@ fn colons_in(pieces: &[Piece]) -> usize
 fn narrow_before(left: usize, piece: Piece) -> Piece
     ensures { result ≡ narrow_before left piece }
 {
-    if left == 0 { piece } else { narrow(piece) }
+    if left == 0 {
+        piece
+    } else {
+        narrow_piece(piece)
+    }
 }
 
 // How many of them are still to come behind the piece.
-fn left_behind(left: usize, piece: Piece) -> usize
+fn colons_left(left: usize, piece: Piece) -> usize
     ensures { result ≡ colons_left left piece }
 {
     if left > 0 && is_colon(piece) {
@@ -70,7 +74,7 @@ fn narrow_parts(alloc: Global, pieces: &[Piece]) -> Result<Vec<Piece>, AllocErro
     let mut left = COLONS;
     for piece in pieces {
         parts.push(narrow_before(left, *piece))?;
-        left = left_behind(left, *piece);
+        left = colons_left(left, *piece);
     }
     Ok(parts)
 }
@@ -91,7 +95,7 @@ pub fn read_arn(alloc: Global, text: &str, escapes: bool) -> Result<Pattern, Pat
     let symbols = symbols_of(alloc, &text, escapes)?;
     let wide = wildcards_of(alloc, false, symbols.as_slice())?;
     let pieces = narrow_parts(alloc, wide.as_slice())?;
-    if colons_in(pieces.as_slice()) < COLONS {
+    if colons(pieces.as_slice()) < COLONS {
         return Err(PatternFault::ArnParts);
     }
     if pieces.len() > MOST_PIECES {

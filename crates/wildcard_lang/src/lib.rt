@@ -5,6 +5,7 @@ mod arn;
 mod covering;
 mod equal;
 mod fault;
+mod marked;
 mod matching;
 mod meanings;
 mod order;
@@ -12,6 +13,7 @@ mod pattern;
 mod piece;
 mod places;
 mod reading;
+mod runs;
 mod source;
 mod symbol;
 mod taken;
@@ -26,6 +28,7 @@ pub use covering::{
     literals_are_covered,
 };
 pub use fault::PatternFault;
+pub use marked::MarkedPattern;
 pub use matching::{accepts_is_matches, matches, matches_str};
 pub use meanings::{
     arn_matches_its_parts, glob_matches_its_form, literal_matches_itself, symbols_are_read,

@@ -1,14 +1,17 @@
 //! Whether a pattern matches a text. The pieces behind the last for any number are compared one by one
-//! from the end, and those in front of the first from the front. What is between is matched by keeping
-//! the places of the pattern and stepping through the text once.
-ghost use Rattle.std.specs.Prelude.{◌≡◌, ◌≤◌, ◌↔◌, ℕ, List, IsTrue, length, chars};
+//! from the end, and those in front of the first from the front. What is between is matched run by run
+//! from star to star, and, from the first run that ends at a piece for any number but the colon, by
+//! keeping the places of the pattern and stepping through the text once.
+ghost use Rattle.std.specs.Prelude.{◌≡◌, ◌≤◌, ◌↔◌, ℕ, List, IsTrue, true, length, slice_index_or, chars};
 ghost use Rattle.wildcard_lang.specs.declared.piece.Piece.{Piece};
+ghost use Rattle.wildcard_lang.specs.declared.piece.Piece.TheVariants.{One};
 ghost use Rattle.wildcard_lang.specs.Accepts.{accepts, accepts_by};
-ghost use Rattle.wildcard_lang.specs.Matching.{Matches};
+ghost use Rattle.wildcard_lang.specs.Matching.{Matches, is_many};
 
 use crate::pattern::{MOST_PIECES, Pattern};
 use crate::piece::Piece;
 use crate::places::start;
+use crate::runs::{first_start, has_star_first, split_run};
 use crate::source::Source;
 use crate::taken::Taken;
 use crate::text::Text;
@@ -69,7 +72,7 @@ fn matches_front<X: Taken, S: Source<X>>(pieces: &[Piece], text: S) -> bool
             return left.next_item().is_none();
         };
         if piece.is_many() {
-            return matches_places::<X, S>(rest, left);
+            return matches_runs::<X, S>(rest, left);
         }
         let Some(x) = left.next_item() else {
             return false;
@@ -81,17 +84,41 @@ fn matches_front<X: Taken, S: Source<X>>(pieces: &[Piece], text: S) -> bool
     }
 }
 
+// Looks for each run of pieces between two stars where the text first has it. What stands behind the
+// run decides from there on: a later place leaves less to the second star, which takes anything.
+fn matches_runs<X: Taken, S: Source<X>>(pieces: &[Piece], text: S) -> bool
+    requires first { is_many (slice_index_or pieces.now 0 One) ≡ true }
+    requires most { length pieces.now ≤ MOST_PIECES }
+    ensures { result ≡ accepts_by X.taken pieces.now (S.left text) }
+{
+    let mut rest = pieces;
+    let mut left = text;
+    'runs: loop {
+        if let [piece] = rest {
+            if is_star(*piece) {
+                return true;
+            }
+        }
+        let Some((first, run, behind)) = split_run(rest) else {
+            return left.next_item().is_none();
+        };
+        let Some(found) = first_start::<X, S>(first, run, left) else {
+            return false;
+        };
+        if !has_star_first(behind) {
+            return matches_places::<X, S>(rest, found.start);
+        }
+        left = found.behind;
+        rest = behind;
+    }
+}
+
 // Keeps the places of the pieces, of which the first is for any number.
 fn matches_places<X: Taken, S: Source<X>>(pieces: &[Piece], text: S) -> bool
     requires nonempty { 1 ≤ length pieces.now }
     requires most { length pieces.now ≤ MOST_PIECES }
     ensures { result ≡ accepts_by X.taken pieces.now (S.left text) }
 {
-    if let [piece] = pieces {
-        if is_star(*piece) {
-            return true;
-        }
-    }
     let mut places = [false; MOST_PIECES + 1];
     start::<X>(pieces, &mut places);
     let mut window = Window {

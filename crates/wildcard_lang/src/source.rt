@@ -3,7 +3,7 @@ ghost use Rattle.std.specs.Prelude.{◌≡◌, ℕ, List, [], ◌∷◌, ◌++�
 ghost use Rattle.std.specs.Str.{chars};
 
 // What gives items one by one. Matching goes over it, so that a `Text`, a `str` and a pattern share it.
-pub(crate) trait Source<X>: Drop {
+pub(crate) trait Source<X>: Copy {
     // The items that are left.
     ghost left: { Self → List X };
 

@@ -25,14 +25,14 @@ pub(crate) fn is_mark(c: char) -> bool
 }
 
 // Whether a `{` stands at the front.
-fn opens(rest: &[char]) -> bool
+fn opens_brace(rest: &[char]) -> bool
     ensures { result ≡ opens_brace rest.now }
 {
     matches!(rest, ['{', ..])
 }
 
 // The plain character for which a `$` and what is behind it stand.
-fn escaped(rest: &[char]) -> Option<char>
+fn escaped_character(rest: &[char]) -> Option<char>
     ensures { result ≡ escaped_character rest.now }
 {
     match rest {
@@ -48,8 +48,8 @@ fn next_symbol(chars: &[char]) -> Option<(Symbol, usize)>
 {
     let c = chars[0];
     let rest = &chars[1..];
-    if c == '$' && opens(rest) {
-        let plain = escaped(rest)?;
+    if c == '$' && opens_brace(rest) {
+        let plain = escaped_character(rest)?;
         return Some((Symbol::Escaped(plain), 4));
     }
     Some((Symbol::Written(c), 1))

@@ -8,5 +8,5 @@ use Rattle.policy_difference.proofs.bounds.allowing_lists.Goals as goal
 pub returns : goal.returns
 returns c s =
     let start = subst (λ gs. AllowedByEach gs s) (sym c.new-lists.ensures.items) (All-nil (λ g. HasWider g.now s)) in
-    let first = pushed-all (λ g. HasWider g.now s) _ _ _ (HasWider c.as_slice.result.now s) c.in_ok-push.ensures.items (λ wider. wider, λ wider. wider) in
-    joined (λ ds. HasWider ds s) (All (LetsPass c.args.first.now s)) _ _ _ _ _ _ _ c.as_slice.ensures c.as_slice-2.ensures start first (c.in_ok-add_guards.ensures s)
+    let first = pushed-all (λ g. HasWider g.now s) _ _ _ (HasWider c.grants.result.now s) c.in_ok-push.ensures.items (λ wider. wider, λ wider. wider) in
+    joined (λ ds. HasWider ds s) (All (LetsPass c.args.first.now s)) _ _ _ _ _ _ _ c.grants.ensures c.guards.ensures start first (c.in_ok-add_guards.ensures s)

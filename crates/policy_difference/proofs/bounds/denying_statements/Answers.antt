@@ -8,4 +8,4 @@ use Rattle.policy_difference.proofs.bounds.denying_statements.Goals as goal
 pub returns : goal.returns
 returns c s =
     let start = subst (λ ds. ApartFromEach ds s) (sym c.new-denying.ensures.items) (All-nil (λ d. ClashStatement d.now s)) in
-    joined (EachWith false (IsHarmless c.args.first.now s)) (All (EachWith false (IsHarmless c.args.first.now s))) _ _ _ _ _ _ _ c.as_slice.ensures c.as_slice-2.ensures start (c.in_ok-add_denies_of.ensures s) (c.in_ok-add_denies_of_guards.ensures s)
+    joined (EachWith false (IsHarmless c.args.first.now s)) (All (EachWith false (IsHarmless c.args.first.now s))) _ _ _ _ _ _ _ c.grants.ensures c.guards.ensures start (c.in_ok-add_denies_of.ensures s) (c.in_ok-add_denies_of_guards.ensures s)

@@ -8,5 +8,5 @@ returns-in_default g c = (λ e. c.in_default.ensures.none, λ all. refl)
 pub returns-then-not-some_covers : goal.returns-then-not-some_covers
 returns-then-not-some_covers g c = (
   λ e. absurd (apart (sym e)),
-  λ all. absurd (apart (sym (c.some_covers.ensures.1 (c.in-Some.ensures.some all)) ∙ c.if-not-some_covers.true)),
+  λ all. absurd (apart (sym (c.some_covers.ensures.1 (c.in-Some.ensures.found all)) ∙ c.if-not-some_covers.true)),
 )

@@ -11,8 +11,8 @@ others-preserved g c =
     let P : g.row.T.Denot → Type 0 = λ x. Any (λ y. g.T.Item.covering y x) c.args.items.now in
     covered-next P c.args.others.now c.others.other-index c.other-item.result c.others-test.true c.other-item.is c.others.invariant (c.nearest-place.ensures c.if-is_none.ensures)
 
-pub returns-then-is_none-clause-some : goal.returns-then-is_none-clause-some
-returns-then-is_none-clause-some g c all =
+pub returns-then-is_none-clause-found : goal.returns-then-is_none-clause-found
+returns-then-is_none-clause-found g c all =
     let P : g.row.T.Denot → Type 0 = λ x. Any (λ y. g.T.Item.covering y x) c.args.items.now in
     covered-at P c.args.others.now c.others.other-index c.other-item.result c.others-test.true c.other-item.is all
 

@@ -8,5 +8,5 @@ returns-then-passes_alone c = inl (c.passes_alone.ensures.0 c.if-passes_alone.tr
 pub returns : goal.returns
 returns c = inr (
   λ passed. apart (sym (c.passes_alone.ensures.1 passed) ∙ c.if-passes_alone.false),
-  c.in_ok-push.ensures.ok ∙ ap (λ y. c.args.left.now ++ y ∷ []) c.in_ok-copy.ensures,
+  c.in_ok-push.ensures.ok ∙ ap (λ y. c.args.left.now ++ y ∷ []) (c.in_ok-copy.ensures ∙ c.pattern.ensures),
 )

@@ -6,7 +6,7 @@ use Rattle.policy_difference.proofs.statements.asks_no_more.Goals as goal
 pub returns-then-not-covers_action : goal.returns-then-not-covers_action
 returns-then-not-covers_action c = (
   λ e. absurd (apart (sym e)),
-  λ more. absurd (apart (sym (c.covers_action.ensures.1 (subst (λ a. CoversAction a c.args.statement.now) (sym c.own_element.ensures) more.action)) ∙ c.if-not-covers_action.true)),
+  λ more. absurd (apart (sym (c.covers_action.ensures.1 (subst (λ a. CoversAction a c.args.statement.now) (sym c.action.ensures) more.action)) ∙ c.if-not-covers_action.true)),
 )
 
 pub returns : goal.returns
@@ -15,7 +15,7 @@ returns c = (
       (let more = c.asks_no_more_else.ensures.0 yes in record {
         allow = more.allow;
         principal = more.principal;
-        action = subst (λ a. CoversAction a c.args.statement.now) c.own_element.ensures (c.covers_action.ensures.0 c.if-not-covers_action.false);
+        action = subst (λ a. CoversAction a c.args.statement.now) c.action.ensures (c.covers_action.ensures.0 c.if-not-covers_action.false);
         resource = more.resource;
         conditions = more.conditions;
       }),

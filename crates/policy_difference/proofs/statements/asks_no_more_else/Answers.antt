@@ -1,19 +1,37 @@
-use Rattle.std.proofs.Common.{All, Any, List, rules, sym}
+use Rattle.std.proofs.Common.{All, Any, List, [], ◌∷◌, rules, sym, ◌∙◌}
+use Rattle.wildcard_lang.specs.Covering.{CoversPattern, Clash}
+use Rattle.wildcard_lang.specs.declared.piece.Piece.TheVariants.{Many}
 use Rattle.policy_model.specs.declared.operator.Condition.{Condition}
+use Rattle.policy_model.specs.declared.principal.Entry.TheVariants.{All as AnyPrincipal}
+use Rattle.policy_difference.specs.Elements.{CoversElement, CoversMatcher}
+use Rattle.policy_difference.specs.Entries.{CoversEntry, ClashEntry}
 use Rattle.policy_difference.specs.Implications.{Implies}
+use Rattle.policy_difference.proofs.Leaving.{apart}
 use Rattle.policy_difference.proofs.Seen.{moved}
 use Rattle.policy_difference.proofs.statements.asks_no_more_else.Goals as goal
 
 abbrev ImplyEach : List Condition → List Condition → Type 0
 ImplyEach own others = All (λ d. Any (λ x. Implies x d) own) others
 
+pub returns-then-not-covers_optional : goal.returns-then-not-covers_optional
+returns-then-not-covers_optional c = (
+  λ e. absurd (apart (sym e)),
+  λ more. absurd (apart (sym (c.covers_optional.ensures.1 (moved (CoversElement CoversEntry ClashEntry AnyPrincipal) _ _ _ _ (sym c.principal.ensures) (sym c.principal-2.ensures) more.principal)) ∙ c.if-not-covers_optional.true)),
+)
+
+pub returns-then-not-covers_element : goal.returns-then-not-covers_element
+returns-then-not-covers_element c = (
+  λ e. absurd (apart (sym e)),
+  λ more. absurd (apart (sym (c.covers_element.ensures.1 (moved (CoversMatcher CoversPattern Clash (Many ∷ [])) _ _ _ _ (sym c.resource.ensures) (sym c.resource-2.ensures) more.resource)) ∙ c.if-not-covers_element.true)),
+)
+
 pub returns : goal.returns
 returns c = (
   λ yes. record {
     allow = search rules;
-    principal = c.covers_optional.ensures.0 c.if-not-covers_optional.false;
-    resource = c.covers_optional-2.ensures.0 c.if-not-covers_optional-2.false;
-    conditions = moved ImplyEach _ _ _ _ c.as_slice.ensures c.as_slice-2.ensures (c.imply_each.ensures.0 yes);
+    principal = moved (CoversElement CoversEntry ClashEntry AnyPrincipal) _ _ _ _ c.principal.ensures c.principal-2.ensures (c.covers_optional.ensures.0 c.if-not-covers_optional.false);
+    resource = moved (CoversMatcher CoversPattern Clash (Many ∷ [])) _ _ _ _ c.resource.ensures c.resource-2.ensures (c.covers_element.ensures.0 c.if-not-covers_element.false);
+    conditions = moved ImplyEach _ _ _ _ c.conditions.ensures c.conditions-2.ensures (c.imply_each.ensures.0 yes);
   },
-  λ more. c.imply_each.ensures.1 (moved ImplyEach _ _ _ _ (sym c.as_slice.ensures) (sym c.as_slice-2.ensures) more.conditions),
+  λ more. c.imply_each.ensures.1 (moved ImplyEach _ _ _ _ (sym c.conditions.ensures) (sym c.conditions-2.ensures) more.conditions),
 )

@@ -5,4 +5,4 @@ use Rattle.policy_difference.proofs.statements.clashes_with_action.Goals as goal
 
 pub returns : goal.returns
 returns c =
-    subst (λ m. IsTrue c.clash_elements.result ↔ ClashMatcher CoversPattern Clash m c.args.action.now) c.own_element.ensures c.clash_elements.ensures
+    subst (λ m. IsTrue c.clash_elements.result ↔ ClashMatcher CoversPattern Clash m c.args.action.now) c.action.ensures c.clash_elements.ensures

@@ -6,4 +6,4 @@ use Rattle.policy_difference.proofs.statements.covers_action.Goals as goal
 
 pub returns : goal.returns
 returns c =
-    subst (λ m. IsTrue c.covers_element.result ↔ CoversMatcher CoversPattern Clash (Many ∷ []) m c.args.action.now) c.own_element.ensures c.covers_element.ensures
+    subst (λ m. IsTrue c.covers_element.result ↔ CoversMatcher CoversPattern Clash (Many ∷ []) m c.args.action.now) c.action.ensures c.covers_element.ensures

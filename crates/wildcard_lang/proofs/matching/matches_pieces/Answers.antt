@@ -1,5 +1,4 @@
-use Rattle.std.proofs.Common.{sym, ap, ◌∙◌, ◌≡◌, false, ◌≤◌, length, take, arith, ◌-◌, length-take-le}
-use Rattle.wildcard_lang.specs.Accepts.{accepts_by}
+use Rattle.std.proofs.Common.{sym, ◌∙◌, length, arith, ◌-◌, length-take-le}
 use Rattle.wildcard_lang.proofs.Ends.{last_left, last_refused, last_untaken}
 use Rattle.wildcard_lang.proofs.matching.matches_pieces.Goals as goal
 

@@ -1,11 +1,6 @@
 use Rattle.std.proofs.Common.{refl, [], ◌∷◌, ◌++◌, ap, sym, ◌∙◌, append_assoc}
-use Rattle.wildcard_lang.proofs.Fronts.{star_alone_at}
 use Rattle.wildcard_lang.proofs.Narrowing.{whole_window, star_reached, mark_answers}
 use Rattle.wildcard_lang.proofs.matching.matches_places.Goals as goal
-
-pub returns-then-is_star : goal.returns-then-is_star
-returns-then-is_star g c =
-    star_alone_at g.X.Taken.taken g.met.X.Taken.star _ _ _ c.in-len1.len_at_least c.in-len1.len_below (c.is_star.ensures.0 c.if-is_star.true)
 
 pub text-init : goal.text-init
 text-init g c = ([], refl, whole_window g.X.Taken.taken _ _ c.start.ensures)
@@ -28,4 +23,4 @@ text-preserved g c =
 pub returns : goal.returns
 returns g c =
     let done = c.text.invariant.0 in
-    mark_answers g.X.Taken.taken _ done _ _ _ (c.text.invariant.1 ∙ ap (λ u. done ++ u) c.in_default-next_item.ensures.none) c.text.invariant.2
+    mark_answers g.X.Taken.taken _ done _ _ _ (c.text.invariant.1 ∙ ap (λ u. done ++ u) c.in_default.ensures.none) c.text.invariant.2

@@ -1,0 +1,14 @@
+use Rattle.std.proofs.Common.{Any, inl, inr, subst, sym, ◌∙◌}
+use Rattle.policy_difference.specs.Differences.{HasWider}
+use Rattle.policy_difference.proofs.Leaving.{apart}
+use Rattle.policy_difference.proofs.bounds.is_denied_too.Goals as goal
+
+pub returns-else-has_wider : goal.returns-else-has_wider
+returns-else-has_wider c =
+    let d = c.args.statement.now in (
+      λ e denies. inr (subst (Any (λ g. HasWider g d)) c.guards.ensures (c.guards_have_wider.ensures.0 e)),
+      λ denied. elim (denied (sym c.allows.ensures ∙ c.if-allows.false)) [
+        | inl granted ↦ absurd (apart (sym (c.has_wider.ensures.1 (subst (λ ds. HasWider ds d) (sym c.grants.ensures) granted)) ∙ c.if-has_wider.false))
+        | inr guarded ↦ c.guards_have_wider.ensures.1 (subst (Any (λ g. HasWider g d)) (sym c.guards.ensures) guarded)
+      ],
+    )
