@@ -1,4 +1,5 @@
 mod Counted
+mod Barring
 mod Compared
 mod Covered
 mod Covering
@@ -22,6 +23,7 @@ mod Passing
 mod Plainly
 mod Plans
 mod Whole
+mod Saying
 mod Sets
 mod Standings
 mod Stepping

@@ -81,6 +81,9 @@ module _ (schema : Schema) (set : PolicySet) (base : Query) (strata : Strata) (m
   pub made-numbered : AreNumberedBelow strata.dimensions
   made-numbered = all-numbered schema base.tests strata.dimensions made.are.each (subst (λ (slots : List Slot). All (λ s. ¬ NamesTooMany base.tests s) slots) (sym made.are.on) made.named)
 
+  pub made-few : length base.tests < 2 ^ 32
+  made-few = omega (arith, made.query.few)
+
   pub base-suits : TestsOfSetQueriesSuit → All (TestSuits schema) base.tests
   base-suits law = law schema set base.tests made.fits made.query.tests
 

@@ -16,3 +16,5 @@ pub mod StandingSummaries
 pub mod CoverLaws
 pub mod Judging
 pub mod Nobody
+pub mod KnownAnswers
+pub mod Screening

@@ -55,6 +55,17 @@ fn parted(
     Ok((open, marked))
 }
 
+// Whether the finding is that of every request. Right under it each predicate stands alone, and hardly one has
+// nobody.
+fn is_first(finding: &Finding) -> bool {
+    'numbers: for number in finding.as_slice() {
+        if *number != 0 {
+            return false;
+        }
+    }
+    true
+}
+
 // Whether there is a mark at the index.
 fn is_marked(marks: &[bool], i: usize) -> bool {
     i < marks.len() && marks[i]
@@ -172,6 +183,9 @@ impl Samples {
         ensures states { D.states asks.new ≡ D.states asks.old }
     {
         if finding.len() < 2 || under.len() < FEWEST_TOGETHER {
+            return Ok(under);
+        }
+        if is_first(finding) {
             return Ok(under);
         }
         let mut marks = self.marks(strata, finding, &under)?;

@@ -105,7 +105,7 @@ impl Numbering {
             (number_plan stratum.now number) (tree_of f.value)) }
     {
         let predicate = &stratum.predicates.as_slice()[number];
-        let test = test_of(self.alloc, &stratum.slot, predicate)?;
+        let test = test_of(&stratum.slot, predicate)?;
         self.ask(test)
     }
 

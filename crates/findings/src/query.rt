@@ -4,12 +4,15 @@ ghost use Rattle.formula_tree.specs.Trees.{tree_of, trees_of};
 ghost use Rattle.findings.specs.Asked.{AsksOwn, HoldsForOwn, IsAskableFor};
 ghost use Rattle.findings.specs.Asking.{ArePartsAsked, IsOwnAnswered, IsWholeAsked};
 ghost use Rattle.findings.specs.Findings.{IsFinding};
+ghost use Rattle.findings.specs.KnownAnswers.{AreKnownAnswers};
 ghost use Rattle.findings.specs.Queries.{AreMade, AreMadeUnder};
 
 use crate::decide::{Asked, Decide};
 use crate::granted::granted_request;
+use crate::known::KnownAnswers;
 use crate::numbering::Numbering;
 use crate::outcome::Finding;
+use crate::screening::is_plainly_no;
 use formula_tree::{Branches, Formula};
 use plain_lists::NoMemory;
 use policy_compile::{Query, tests_of_set_queries_suit};
@@ -89,10 +92,12 @@ pub(crate) fn answer_on<D: Decide>(
     alloc: Global,
     strata: &Strata,
     base: &Query,
+    known: &KnownAnswers,
     asks: &mut D,
     finding: &Finding,
 ) -> Result<Asked, NoMemory>
     requires made { AreMadeUnder (D.schema asks.old) base.now strata.now }
+    requires known { AreKnownAnswers base.now strata.now known.now }
     requires finding { IsFinding strata.now.dimensions finding.now }
     ensures answer { IfOk result (IsOwnAnswered (D.schema asks.old)
         (D.splits asks.old) (D.states asks.old) base.now strata.now finding.now) }
@@ -102,6 +107,10 @@ pub(crate) fn answer_on<D: Decide>(
 {
     if let Some(request) = granted_request(alloc, strata, base, asks, finding)? {
         return Ok(Asked::Met(request));
+    }
+    let path = known.own_answers(alloc, strata, finding)?;
+    if is_plainly_no(base, &path) {
+        return Ok(Asked::Nobody);
     }
     let query = finding_query(alloc, strata, base, finding)?;
     asks.ask(alloc, &query)

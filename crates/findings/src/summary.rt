@@ -6,11 +6,13 @@ ghost use Rattle.std.specs.Ordering.{nat_cmp};
 ghost use Rattle.policy_model.specs.declared.set.PolicySet.{PolicySet};
 ghost use Rattle.findings.specs.Answers.{IsSummarised};
 ghost use Rattle.findings.specs.Ending.{HasEnded, SummaryFails};
+ghost use Rattle.findings.specs.KnownAnswers.{AreKnownAnswers};
 ghost use Rattle.findings.specs.Queries.{AreMadeFor, AreMadeUnder};
 ghost use Rattle.findings.specs.Summaries.{findings_of};
 ghost use Rattle.findings.specs.Walked.{StartsAt, found_by};
 
 use crate::decide::Decide;
+use crate::known::KnownAnswers;
 use crate::outcome::{Summary, SummaryFault};
 use crate::walk::Walk;
 use plain_lists::{List, NoMemory};
@@ -36,10 +38,12 @@ fn look_at_each<D: Decide>(
     walk: &mut Walk,
     strata: &Strata,
     base: &Query,
+    known: &KnownAnswers,
     asks: &mut D,
     findings: u32,
 ) -> Result<(), SummaryFault>
     requires made { AreMadeUnder (D.schema asks.old) base.now strata.now }
+    requires known { AreKnownAnswers base.now strata.now known.now }
     requires start { StartsAt strata.now.dimensions walk.old }
     ensures ended { OnOk result
         (HasEnded (D.schema asks.old) base.now strata.now walk.new) }
@@ -54,7 +58,7 @@ fn look_at_each<D: Decide>(
         let Some(finding) = walk.next(strata)? else {
             return Ok(());
         };
-        walk.look_at(strata, base, asks, finding)?;
+        walk.look_at(strata, base, known, asks, finding)?;
     }
     let further = walk.next(strata)?;
     match further {
@@ -87,7 +91,8 @@ pub fn summarise<D: Decide>(
     ensures splits { D.splits asks.new ≡ D.splits asks.old }
     ensures states { D.states asks.new ≡ D.states asks.old }
 {
+    let known = KnownAnswers::new(alloc, strata, base)?;
     let mut walk = Walk::start(alloc, strata)?;
-    look_at_each(&mut walk, strata, base, asks, findings)?;
+    look_at_each(&mut walk, strata, base, &known, asks, findings)?;
     Ok(found_in(alloc, walk)?)
 }

@@ -3,15 +3,18 @@
 //! an irreducible one above.
 ghost use Rattle.std.specs.Prelude.{◌≡◌, ◌++◌, ◌∷◌, [], IfErr, IfOk, MatchBool, OnOk};
 ghost use Rattle.findings.specs.Findings.{IsFinding};
+ghost use Rattle.findings.specs.KnownAnswers.{AreKnownAnswers};
 ghost use Rattle.findings.specs.Queries.{AreMadeUnder};
 ghost use Rattle.findings.specs.Steps.{AreNumberedBelow};
 ghost use Rattle.findings.specs.Walks.{first_finding};
 
 use crate::decide::{Asked, Decide};
 use crate::inhabited::Samples;
+use crate::known::KnownAnswers;
 use crate::outcome::{Finding, FindingList, SummaryFault};
 use crate::query::answer_on;
 use crate::reading::is_among;
+use crate::screening::without_nobody;
 use crate::steps::{add_copies, add_under, are_above_in, copy_of};
 use indexmap::IndexSet;
 use plain_lists::{List, NoMemory};
@@ -105,10 +108,12 @@ impl Walk {
         &mut self,
         strata: &Strata,
         base: &Query,
+        known: &KnownAnswers,
         asks: &mut D,
         finding: Finding,
     ) -> Result<(), SummaryFault>
         requires made { AreMadeUnder (D.schema asks.old) base.now strata.now }
+        requires known { AreKnownAnswers base.now strata.now known.now }
         requires due { IsTaken (D.schema asks.old) base.now strata.now self.old finding }
         ensures looked { OnOk result (self.new.looked.keys ≡ self.old.looked.keys ++ finding ∷ []) }
         ensures stands { OnOk result
@@ -119,14 +124,14 @@ impl Walk {
         ensures splits { D.splits asks.new ≡ D.splits asks.old }
         ensures states { D.states asks.new ≡ D.states asks.old }
     {
-        let answer = answer_on(self.alloc, strata, base, asks, &finding)?;
+        let answer = answer_on(self.alloc, strata, base, known, asks, &finding)?;
         match answer {
             Asked::Met(request) => {
                 self.add_found(finding, request)?;
                 Ok(())
             }
             Asked::Nobody => {
-                self.go_below(strata, base, asks, finding)?;
+                self.go_below(strata, base, known, asks, finding)?;
                 Ok(())
             }
             Asked::OutOfSplits => Err(SummaryFault::OutOfSplits(finding)),
@@ -149,10 +154,12 @@ impl Walk {
         &mut self,
         strata: &Strata,
         base: &Query,
+        known: &KnownAnswers,
         asks: &mut D,
         finding: Finding,
     ) -> Result<(), NoMemory>
         requires made { AreMadeUnder (D.schema asks.old) base.now strata.now }
+        requires known { AreKnownAnswers base.now strata.now known.now }
         requires finding { IsFinding strata.now.dimensions finding }
         requires numbered { AreNumberedBelow strata.now.dimensions }
         ensures below { OnOk result
@@ -164,7 +171,10 @@ impl Walk {
         let mut under = Vec::new(self.alloc);
         add_under(self.alloc, &mut under, strata, &finding)?;
         let under = List::from_vec(under);
-        let inhabited = self.samples.inhabited(strata, base, asks, &finding, under)?;
+        let likely = without_nobody(self.alloc, known, base, &finding, under)?;
+        let inhabited = self
+            .samples
+            .inhabited(strata, base, asks, &finding, likely)?;
         self.add_reducible(finding, &inhabited)
     }
 

@@ -7,8 +7,7 @@ use Rattle.std.specs.Cmp.Lexicographic.{pointwise, pointwise_decides}
 use Rattle.std.proofs.lemmas.Bool.Decides.{Decides-eqb}
 use Rattle.cidr_bits.proofs.Laws.{blocks-Decides}
 use Rattle.intervals.proofs.Laws.{bytes-Decides, compares-Decides, scaled-Decides}
-use Rattle.wildcard_lang.specs.contracts.piece.PiecePartialEq.TheImpl as pieces
-use Rattle.wildcard_lang.specs.declared.piece.Piece.{Piece}
+use Rattle.wildcard_lang.proofs.Laws.{pieces-Decides}
 use Rattle.policy_model.specs.declared.cond.Cond.{Cond}
 use Rattle.policy_model.specs.declared.cond.Cond.TheVariants as cond
 use Rattle.policy_model.specs.contracts.cond.CondPartialEq.TheImpl as conds
@@ -20,9 +19,6 @@ use Rattle.policy_model.specs.contracts.principal.EntryPartialEq.TheImpl as entr
 use Rattle.strata.specs.declared.predicate.Predicate.{Predicate}
 use Rattle.strata.specs.declared.predicate.Predicate.TheVariants.{Every, Principal, Word, Meets}
 use Rattle.strata.specs.contracts.predicate.PredicatePartialEq.TheImpl as predicate
-
-pieces-Decides : (a b : Piece) → Decides (pieces.eq-value.it a b) (a ≡ b)
-pieces-Decides a b = grind (arith, common_steps)
 
 kinds-Decide : (a b : PrincipalKind) → Decides (kind.eq-value.it a b) (a ≡ b)
 kinds-Decide a b = grind (arith, common_steps)

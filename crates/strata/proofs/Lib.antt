@@ -1,4 +1,5 @@
 mod Answering
+mod Comparing
 mod Determined
 mod Equal
 mod Gathering

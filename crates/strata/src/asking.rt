@@ -45,7 +45,7 @@ pub(crate) fn is_met<I: Inclusion>(
     settled(slot, answer)
 }
 
-fn is_equal(one: &Predicate, other: &Predicate) -> bool
+pub(crate) fn is_equal(one: &Predicate, other: &Predicate) -> bool
     ensures { IsTrue result ↔ (one.now ≡ other.now) }
 {
     one == other

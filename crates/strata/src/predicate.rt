@@ -5,7 +5,6 @@ ghost use Rattle.strata.specs.Predicates.{test_of};
 
 use plain_lists::{EqualClone, List, NoMemory};
 use policy_model::{Cond, Entry, Slot, Test};
-use std::alloc::Global;
 use wildcard_lang::Pattern;
 
 /// What is asked of one dimension of a request: of the principal, the action, the resource, or the
@@ -31,7 +30,7 @@ pub type PredicateList = List<Predicate>;
 
 /// The test that a request passes where it meets the predicate in the slot. There is none for
 /// `Every`, nor for a predicate that isn't of the slot's form.
-pub fn test_of(_alloc: Global, slot: &Slot, predicate: &Predicate) -> Result<Option<Test>, NoMemory>
+pub fn test_of(slot: &Slot, predicate: &Predicate) -> Result<Option<Test>, NoMemory>
     ensures { IfOk result (λ t. t ≡ test_of slot.now predicate.now) }
 {
     match (slot, predicate) {

@@ -1,6 +1,5 @@
 mod Answering
 mod Patterns
-mod Plainly
 mod Within
 mod Deciding
 mod Coming

@@ -13,7 +13,7 @@ use Rattle.strata.specs.declared.predicate.Predicate.{Predicate}
 use Rattle.strata.specs.declared.predicate.Predicate.TheVariants.{Every}
 use Rattle.strata.specs.Asking.{AnswersMet, AnswersWithin}
 use Rattle.strata.specs.Predicates.{SuitsSlot, test_of}
-use Rattle.summary_search.specs.Plain.{IsPlainlyBelow}
+use Rattle.strata.specs.Plain.{IsPlainlyBelow}
 use Rattle.summary_search.specs.Questions.{DecidesEscape, DecidesPossible, opposite_answer}
 use Rattle.summary_search.proofs.Answering.{by-test, no-test, not-not, of-test, one-answered, one-possible, two-no, two-possible, two-yes, test-on}
 use Rattle.summary_search.proofs.Patterns.{asked-both, asked-met, asked-missed}

@@ -5,13 +5,12 @@ ghost use Rattle.policy_model.specs.Soundness.{SchemaIsSound};
 ghost use Rattle.slot_theory.specs.Slots.{SlotIsIn};
 ghost use Rattle.summary_search.specs.Questions.{IsTestOnSlot, DecidesEscape, opposite_answer};
 
-use crate::plain::is_plainly_below;
 use crate::questions::{ask_escape, ask_missed, ask_passed};
 use plain_lists::NoMemory;
 use policy_model::{Schema, Slot, Test};
 use request_build::sound_schemas_have_requests;
 use std::alloc::Global;
-use strata::{Inclusion, Predicate, Within, test_of};
+use strata::{Inclusion, Predicate, Within, is_plainly_below, test_of};
 
 /// Answers questions on predicates, where nothing else tells by products of patterns, of so many states at
 /// most.
@@ -34,7 +33,7 @@ impl<'a> ByProducts<'a> {
 }
 
 // The answer to the contrary question.
-fn opposite(answer: Within) -> Within
+fn opposite_answer(answer: Within) -> Within
     ensures { result ≡ opposite_answer answer }
 {
     match answer {
@@ -73,7 +72,7 @@ impl<'a> Inclusion for ByProducts<'a> {
 
     fn met(&mut self, alloc: Global, slot: &Slot, one: &Predicate) -> Result<Within, NoMemory> {
         sound_schemas_have_requests();
-        match test_of(alloc, slot, one)? {
+        match test_of(slot, one)? {
             Some(test) => ask_passed(alloc, self.schema, slot, test, self.states),
             None => Ok(Within::Yes),
         }
@@ -89,11 +88,11 @@ impl<'a> Inclusion for ByProducts<'a> {
         if is_plainly_below(one, other) {
             return Ok(Within::Yes);
         }
-        let Some(test) = test_of(alloc, slot, other)? else {
+        let Some(test) = test_of(slot, other)? else {
             return Ok(Within::Yes);
         };
-        let first = test_of(alloc, slot, one)?;
+        let first = test_of(slot, one)?;
         let escaped = escapes(alloc, self.schema, slot, first, test, self.states)?;
-        Ok(opposite(escaped))
+        Ok(opposite_answer(escaped))
     }
 }

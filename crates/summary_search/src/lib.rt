@@ -6,7 +6,6 @@ mod asking;
 mod finding;
 mod inclusion;
 mod outcome;
-mod plain;
 mod questions;
 mod samples;
 

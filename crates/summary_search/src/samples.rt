@@ -133,6 +133,7 @@ pub fn sample_passes(
         IsPossible schema.now (test.now ∷ []) ((0, true) ∷ [])) }
 {
     // The schema's keys are in order, so a value that it permits is part of a valid request.
+    // `len` tells that the keys are in order: the proof that the sample's request is valid rests on it.
     let _keys = schema.len();
     let Some(value) = sample_of(alloc, schema, test)? else {
         return Ok(false);
@@ -153,6 +154,7 @@ pub fn stated_misses(
     ensures { IfOk result (λ is. IsTrue is →
         IsPossible schema.now (test.now ∷ []) ((0, false) ∷ [])) }
 {
+    // `len` tells that the keys are in order: the proof that the sample's request is valid rests on it.
     let _keys = schema.len();
     let value = stated_value(alloc, schema, slot)?;
     Ok(!meets(&value, test))
@@ -172,6 +174,7 @@ pub fn sample_escapes(
     ensures { IfOk result (λ is. IsTrue is → IsPossible schema.now
         (yes.now ∷ no.now ∷ []) ((0, true) ∷ (1, false) ∷ [])) }
 {
+    // `len` tells that the keys are in order: the proof that the sample's request is valid rests on it.
     let _keys = schema.len();
     let Some(value) = sample_of(alloc, schema, yes)? else {
         return Ok(false);

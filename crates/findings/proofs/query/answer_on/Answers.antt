@@ -5,6 +5,7 @@ use Rattle.policy_model.specs.declared.request.Request.{Request}
 use Rattle.policy_model.specs.declared.schema.Schema.{Schema}
 use Rattle.findings.specs.Answers.{QueryIsAskable}
 use Rattle.findings.specs.Asking.{IsOwnOf}
+use Rattle.findings.proofs.Barring.{plainly-reducible}
 use Rattle.findings.proofs.Plainly.{query-tells}
 use Rattle.findings.proofs.query.answer_on.Goals as goal
 
@@ -12,6 +13,10 @@ pub ask-requires : goal.ask-requires
 ask-requires g c =
     let askable = c.in_ok-query.ensures.askable (g.D.Decide.schema c.args.asks.now) c.requires.made.0 c.requires.made.1 in
     record { askable = subst (λ (s : Schema). QueryIsAskable s c.in_ok-query.query) (sym c.granted_request.ensures.schema) askable }
+
+pub returns-then-is_plainly_no-clause-answer : goal.returns-then-is_plainly_no-clause-answer
+returns-then-is_plainly_no-clause-answer g c = λ set made.
+    plainly-reducible (g.D.Decide.schema c.args.asks.now) set c.args.base.now c.args.strata.now c.args.known.now c.args.finding.now c.in_ok-path.path made c.requires.known c.requires.finding c.in_ok-path.ensures (c.is_plainly_no.ensures (cc))
 
 pub returns-in-Some-clause-answer : goal.returns-in-Some-clause-answer
 returns-in-Some-clause-answer g c =

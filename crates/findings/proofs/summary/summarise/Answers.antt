@@ -1,7 +1,11 @@
 use Rattle.std.proofs.lemmas.Result.{err_from_is_err_and}
 use Rattle.findings.proofs.Counted.{few-found}
+use Rattle.findings.proofs.Made.{made-few}
 use Rattle.findings.proofs.Summing.{all-summarised}
 use Rattle.findings.proofs.summary.summarise.Goals as goal
+
+pub new-requires : goal.new-requires
+new-requires g c = record { few = made-few (g.D.Decide.schema c.args.asks.now) c.requires.made.0 c.args.base.now c.args.strata.now c.requires.made.1 }
 
 pub returns-in_err-look_at_each-clause-summary : goal.returns-in_err-look_at_each-clause-summary
 returns-in_err-look_at_each-clause-summary g c =

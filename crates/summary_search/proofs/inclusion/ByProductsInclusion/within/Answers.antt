@@ -19,5 +19,5 @@ returns-clause-answer c =
     let by = c.args.self.now in
     let s = c.args.slot.now in
     let e : test_of s c.args.other.now ≡ Some c.in-Some.test = sym c.in_ok-test.ensures ∙ c.in-Some.is in
-    subst (λ (w : Within). AnswersWithin by.schema.now by.states s c.args.one.now c.args.other.now w) (sym c.opposite.ensures)
+    subst (λ (w : Within). AnswersWithin by.schema.now by.states s c.args.one.now c.args.other.now w) (sym c.opposite_answer.ensures)
     (below-by-test by.schema.now by.states s c.args.one.now c.args.other.now c.in-Some.test c.requires.one e c.in_ok-first.first c.in_ok-first.ensures c.in_ok-escaped.escaped c.in_ok-escaped.ensures)

@@ -1,0 +1,157 @@
+-- What the predicates say, as the table grows and as answers are joined.
+use Rattle.std.proofs.Common.{◌≡◌, ◌≢◌, ◌↔◌, ℕ, zero, suc, ◌<◌, Bool, true, false, List, [], ◌∷◌, ◌++◌, Option, Some, None, length, get_or, inl, inr, refl, sym, ap, subst, ◌∙◌}
+use Rattle.std.specs.Prelude.{Contains, MatchBool, MatchOption, slice_get}
+use Rattle.std.proofs.lemmas.Bool.{cases_eq}
+use Rattle.std.proofs.lemmas.List.Elements.{All-nil, All-push}
+use Rattle.std.proofs.lemmas.Option.{slice_get-get_or}
+use Rattle.formula_tree.specs.Answers.{Answers, answer_of}
+use Rattle.formula_tree.proofs.Laws.{answer_of-besides, answer_of-last}
+use Rattle.policy_model.specs.declared.request.Request.{Request}
+use Rattle.policy_model.specs.declared.test.Slot.{Slot}
+use Rattle.policy_model.specs.declared.test.Slot.TheVariants as slot
+use Rattle.policy_model.specs.declared.test.Test.{Test}
+use Rattle.policy_model.specs.Tests.{TestHolds}
+use Rattle.strata.specs.declared.predicate.Predicate.{Predicate}
+use Rattle.strata.specs.declared.predicate.Predicate.TheVariants.{Every, Principal, Word, Meets}
+use Rattle.strata.specs.declared.stratum.Stratum.{Stratum}
+use Rattle.strata.specs.Covers.{predicate_at}
+use Rattle.strata.specs.Predicates.{MeetsPredicate, test_of}
+use Rattle.findings.specs.declared.known.KnownAnswers.{KnownAnswers}
+use Rattle.findings.specs.Queries.{numbers_below}
+use Rattle.findings.specs.Steps.{predicate_number_at}
+use Rattle.findings.specs.KnownAnswers.{AddsFinerAt, AddsTestAnswer, AreOwnAnswers, AreInsideAnswers, ArePassedWhereMet, IsPassedWhereMet, JoinsAnswers, AreGivenByEach, AreGivenForNamed, AreGivenInDimension, DecidesOther, IsAnswerTable, answers_in}
+
+-- ---- lists that grow
+
+other-index : {T : Type 0} (xs : List T) (x d : T) (k : ℕ) → k ≢ length xs → get_or (xs ++ x ∷ []) k d ≡ get_or xs k d
+other-index [] x d zero ne = absurd (ne refl)
+other-index [] x d (suc k) ne = refl
+other-index (y ∷ xs) x d zero ne = refl
+other-index (y ∷ xs) x d (suc k) ne = other-index xs x d k (λ e. ne (ap suc e))
+
+last-index : {T : Type 0} (xs : List T) (x d : T) → get_or (xs ++ x ∷ []) (length xs) d ≡ x
+last-index [] x d = refl
+last-index (y ∷ xs) x d = last-index xs x d
+
+-- what holds at each index, also of the default behind the end, holds at each where one more item is there
+each-pushed : {T : Type 0} (P : ℕ → T → Type 0) (d : T) (xs ys : List T) (x : T) (n : ℕ) → length xs ≡ n → ys ≡ xs ++ x ∷ [] → ((k : ℕ) → P k (get_or xs k d)) → P n x → (k : ℕ) → P k (get_or ys k d)
+each-pushed {T} P d xs ys x n count is before here k = elim (cases_eq k (length xs)) [
+  | inl same ↦ (
+      let read : get_or ys k d ≡ x = ap (λ (zs : List T). get_or zs k d) is ∙ ap (λ (j : ℕ). get_or (xs ++ x ∷ []) j d) same ∙ last-index xs x d in
+      let at : k ≡ n = same ∙ count in
+      subst (P k) (sym read) (subst (λ (j : ℕ). P j x) (sym at) here))
+  | inr other ↦ (
+      let read : get_or ys k d ≡ get_or xs k d = ap (λ (zs : List T). get_or zs k d) is ∙ other-index xs x d k other in
+      subst (P k) (sym read) (before k))
+]
+
+-- ---- what one predicate says
+
+-- a test is passed where its predicate is met
+test-meets : (s : Slot) (p : Predicate) (t : Test) (r : Request) → test_of s p ≡ Some t → (MeetsPredicate s p r ↔ TestHolds r t)
+test-meets slot.Principal Every t r is = absurd (cc)
+test-meets slot.Action Every t r is = absurd (cc)
+test-meets slot.Resource Every t r is = absurd (cc)
+test-meets (slot.Key key) Every t r is = absurd (cc)
+test-meets s (Principal e) t r is = subst (λ (o : Option Test). MatchOption o ⊥ (TestHolds r) ↔ TestHolds r t) (sym is) (λ h. h, λ h. h)
+test-meets s (Word w) t r is = subst (λ (o : Option Test). MatchOption o ⊥ (TestHolds r) ↔ TestHolds r t) (sym is) (λ h. h, λ h. h)
+test-meets s (Meets c) t r is = subst (λ (o : Option Test). MatchOption o ⊥ (TestHolds r) ↔ TestHolds r t) (sym is) (λ h. h, λ h. h)
+
+turned : (b : Bool) {P Q : Type 0} → (P ↔ Q) → MatchBool b P (¬ P) → MatchBool b Q (¬ Q)
+turned true same h = same.0 h
+turned false same h = λ q. h (same.1 q)
+
+pub named-none : (s : Slot) (tests : List Test) (named : List (ℕ × Predicate)) → named ≡ [] → ArePassedWhereMet s tests named
+named-none s tests named empty = subst (ArePassedWhereMet s tests) (sym empty) (All-nil (IsPassedWhereMet s tests))
+
+pub named-next : (s : Slot) (tests : List Test) (old new : List (ℕ × Predicate)) (i n : ℕ) (p : Predicate) (t : Test) → ArePassedWhereMet s tests old → i < length tests → t ≡ get_or tests i t → n ≡ i → test_of s p ≡ Some t → new ≡ old ++ (n, p) ∷ [] → ArePassedWhereMet s tests new
+named-next s tests old new i n p t before within at number is grows =
+    let there : slice_get tests i ≡ Some t = slice_get-get_or tests i t within ∙ ap Some (sym at) in
+    subst (ArePassedWhereMet s tests) (sym grows) (All-push (IsPassedWhereMet s tests) old (n, p) before (λ u read. (
+    let own : slice_get tests i ≡ Some u = subst (λ (k : ℕ). slice_get tests k ≡ Some u) number read in
+    is ∙ sym there ∙ own)))
+
+pub no-answers : (met : Bool) (s : Slot) (p : Predicate) (tests : List Test) → AreGivenByEach met s p tests []
+no-answers met s p tests r stands n b t at is = absurd (cc)
+
+pub says-none : (named : List (ℕ × Predicate)) (met : Bool) (p : Predicate) (path : Answers) → path ≡ [] → AreGivenForNamed named met p path
+says-none named met p path empty = subst (AreGivenForNamed named met p) (sym empty) (λ s tests are. no-answers met s p tests)
+
+pub says-next : (named : List (ℕ × Predicate)) (met : Bool) (p : Predicate) (old new : Answers) (i : ℕ) (q : ℕ × Predicate) (b : Bool) → AreGivenForNamed named met p old → i < length named → q ≡ get_or named i q → DecidesOther met p q.1 b → AddsTestAnswer old q.0 b new → AreGivenForNamed named met p new
+says-next named met p old new i q b before within at says adds s tests are r stands n c t answered there = elim (adds n c answered) [
+  | inl was ↦ before s tests are r stands n c t was there
+  | inr this ↦ (
+      let passed : IsPassedWhereMet s tests q = subst (IsPassedWhereMet s tests) (sym at) (are i q within) in
+      let own : slice_get tests q.0 ≡ Some t = subst (λ (k : ℕ). slice_get tests k ≡ Some t) this.0 there in
+      subst (λ (x : Bool). MatchBool x (TestHolds r t) (¬ TestHolds r t)) (sym this.1) (turned b (test-meets s q.1 t r (passed t own)) (says s r stands)))
+]
+
+-- ---- the table
+
+pub none-say : (met : Bool) (d : Stratum) (tests : List Test) (paths : List Answers) → paths ≡ [] → AreGivenInDimension met d tests paths
+none-say met d tests paths empty = subst (AreGivenInDimension met d tests) (sym empty) (λ n. no-answers met d.slot (predicate_at d.predicates n) tests)
+
+pub paths-say : (met : Bool) (d : Stratum) (tests : List Test) (old new : List Answers) (path : Answers) (n : ℕ) → length old ≡ n → new ≡ old ++ path ∷ [] → AreGivenInDimension met d tests old → AreGivenByEach met d.slot (predicate_at d.predicates n) tests path → AreGivenInDimension met d tests new
+paths-say met d tests old new path n count grows before here =
+    each-pushed (λ k p. AreGivenByEach met d.slot (predicate_at d.predicates k) tests p) [] old new path n count grows before here
+
+pub table-none : (met : Bool) (ds : List Stratum) (tests : List Test) (table : List (List Answers)) → table ≡ [] → IsAnswerTable met ds tests table
+table-none met ds tests table empty = subst (IsAnswerTable met ds tests) (sym empty) (λ i d at n. no-answers met d.slot (predicate_at d.predicates n) tests)
+
+pub table-says : (met : Bool) (ds : List Stratum) (tests : List Test) (old new : List (List Answers)) (paths : List Answers) (n : ℕ) (d : Stratum) → length old ≡ n → new ≡ old ++ paths ∷ [] → IsAnswerTable met ds tests old → slice_get ds n ≡ Some d → AreGivenInDimension met d tests paths → IsAnswerTable met ds tests new
+table-says met ds tests old new paths n d count grows before at here =
+    each-pushed (λ k ps. (e : Stratum) → slice_get ds k ≡ Some e → AreGivenInDimension met e tests ps) [] old new paths n count grows before
+    (λ e there. (let same : d ≡ e = cc in subst (λ (x : Stratum). AreGivenInDimension met x tests paths) same here))
+
+-- ---- answers that are added
+
+pub adds-none : (old : Answers) (test : ℕ) (answer : Bool) → AddsTestAnswer old test answer old
+adds-none old test answer n b h = inl h
+
+pub adds-last : (old new : Answers) (test : ℕ) (answer : Bool) → answer_of old test ≡ None → new ≡ old ++ (test, answer) ∷ [] → AddsTestAnswer old test answer new
+adds-last old new test answer fresh is n b h =
+    let has : answer_of (old ++ (test, answer) ∷ []) n ≡ Some b = subst (λ (p : Answers). answer_of p n ≡ Some b) is h in
+    elim (cases_eq n test) [
+      | inl same ↦ (
+          let own : answer_of (old ++ (test, answer) ∷ []) test ≡ Some b = subst (λ (k : ℕ). answer_of (old ++ (test, answer) ∷ []) k ≡ Some b) same has in
+          let last = answer_of-last old test answer fresh in
+          let is_b : b ≡ answer = cc in
+          inr (same, is_b))
+      | inr other ↦ inl (sym (answer_of-besides old test answer n other) ∙ has)
+    ]
+
+pub joins-none : (old more : Answers) → JoinsAnswers old more old
+joins-none old more n b h = inl h
+
+pub joins-next : (start more old new : Answers) (test : ℕ) (b : Bool) → JoinsAnswers start more old → answer_of more test ≡ Some b → AddsTestAnswer old test b new → JoinsAnswers start more new
+joins-next start more old new test b before has adds n c h = elim (adds n c h) [
+  | inl was ↦ before n c was
+  | inr this ↦ inr (subst (λ (k : ℕ). answer_of more k ≡ Some c) (sym this.0) (subst (λ (x : Bool). answer_of more test ≡ Some x) (sym this.1) has))
+]
+
+pub met-none : (known : KnownAnswers) (f : List ℕ) (path : Answers) → path ≡ [] → AreInsideAnswers known f path
+met-none known f path empty = subst (AreInsideAnswers known f) (sym empty) (λ n b h. absurd (cc))
+
+pub met-next : (known : KnownAnswers) (f : List ℕ) (old new : Answers) (i n : ℕ) → AreInsideAnswers known f old → i < length f → n ≡ predicate_number_at f i → JoinsAnswers old (answers_in known.met i n) new → AreInsideAnswers known f new
+met-next known f old new i n before within number joins k b h = elim (joins k b h) [
+  | inl was ↦ before k b was
+  | inr more ↦ record { dimension = i; inside = within; has = subst (λ (m : ℕ). answer_of (answers_in known.met i m) k ≡ Some b) number more }
+]
+
+pub finer-none : (known : KnownAnswers) (d : Stratum) (f : List ℕ) (i : ℕ) (old : Answers) → AddsFinerAt known d f i old old
+finer-none known d f i old n b h = inl h
+
+pub finer-next : (known : KnownAnswers) (d : Stratum) (f : List ℕ) (i : ℕ) (start old new : Answers) (lower : ℕ) → AddsFinerAt known d f i start old → Contains (numbers_below d (predicate_number_at f i)) lower → JoinsAnswers old (answers_in known.missed i lower) new → AddsFinerAt known d f i start new
+finer-next known d f i start old new lower before among joins n b h = elim (joins n b h) [
+  | inl was ↦ before n b was
+  | inr more ↦ inr (record { lower = lower; among = among; has = more })
+]
+
+pub lying-first : (known : KnownAnswers) (ds : List Stratum) (f : List ℕ) (path : Answers) → AreInsideAnswers known f path → AreOwnAnswers known ds f path
+lying-first known ds f path are n b h = inl (are n b h)
+
+pub lying-next : (known : KnownAnswers) (ds : List Stratum) (f : List ℕ) (old new : Answers) (i : ℕ) (d : Stratum) → AreOwnAnswers known ds f old → slice_get ds i ≡ Some d → AddsFinerAt known d f i old new → AreOwnAnswers known ds f new
+lying-next known ds f old new i d before at adds n b h = elim (adds n b h) [
+  | inl was ↦ before n b was
+  | inr finer ↦ inr (record { dimension = i; stratum = d; at = at; finer = finer })
+]

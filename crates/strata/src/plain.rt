@@ -1,0 +1,76 @@
+//! Predicates of which one plainly lies below the other or apart from it, without a product.
+ghost use Rattle.std.specs.Prelude.{IsTrue};
+ghost use Rattle.strata.specs.Plain.{EachMeets, EachNames, IsPlainlyApart, IsPlainlyBelow, SharesNone};
+
+use crate::asking::is_equal;
+use crate::predicate::Predicate;
+use policy_model::{Cond, Entry, PrincipalKind, entry_names};
+use wildcard_lang::{clashes, covers};
+
+// Whether each principal of the one entry plainly is one of the other.
+fn is_entry_below(one: &Entry, other: &Entry) -> bool
+    ensures { IsTrue result → EachNames one.now other.now }
+{
+    match (one, other) {
+        (_, Entry::All) => true,
+        (Entry::Exact(kind, id), _) => entry_names(other, *kind, id),
+        (Entry::Account(_), Entry::Kind(kind)) => *kind == PrincipalKind::Aws,
+        _ => false,
+    }
+}
+
+// Whether no principal plainly is one of both entries.
+fn are_entries_apart(one: &Entry, other: &Entry) -> bool
+    ensures { IsTrue result → SharesNone one.now other.now }
+{
+    match (one, other) {
+        (Entry::Exact(kind, id), _) => !entry_names(other, *kind, id),
+        (_, Entry::Exact(kind, id)) => !entry_names(one, *kind, id),
+        (Entry::Kind(first), Entry::Kind(second)) => first != second,
+        _ => false,
+    }
+}
+
+// Whether each value that meets the one condition plainly meets the other.
+fn is_condition_below(one: &Cond, other: &Cond) -> bool
+    ensures { IsTrue result → EachMeets one.now other.now }
+{
+    match (one, other) {
+        (Cond::Matches(first), Cond::Matches(second)) => covers(second, first),
+        _ => false,
+    }
+}
+
+/// Whether every request that meets the one plainly meets the other: a predicate lies below an equal one
+/// and below `Every`, entries lie below one another by kind and account, and a pattern lies below one that
+/// covers it.
+pub fn is_plainly_below(one: &Predicate, other: &Predicate) -> bool
+    ensures { IsTrue result → IsPlainlyBelow one.now other.now }
+{
+    if is_equal(one, other) {
+        return true;
+    }
+    match (one, other) {
+        (_, Predicate::Every) => true,
+        (Predicate::Principal(first), Predicate::Principal(second)) => {
+            is_entry_below(first, second)
+        }
+        (Predicate::Word(first), Predicate::Word(second)) => covers(second, first),
+        (Predicate::Meets(first), Predicate::Meets(second)) => is_condition_below(first, second),
+        _ => false,
+    }
+}
+
+/// Whether no request plainly meets both: entries are apart by kind, account and id, and patterns that
+/// clash are.
+pub fn are_plainly_apart(one: &Predicate, other: &Predicate) -> bool
+    ensures { IsTrue result → IsPlainlyApart one.now other.now }
+{
+    match (one, other) {
+        (Predicate::Principal(first), Predicate::Principal(second)) => {
+            are_entries_apart(first, second)
+        }
+        (Predicate::Word(first), Predicate::Word(second)) => clashes(first, second),
+        _ => false,
+    }
+}
