@@ -1,6 +1,6 @@
 -- What is written of a number is read as that number.
-use Rattle.std.proofs.Common.{◌≡◌, ℕ, ◌^◌, ◌<◌, Bool, true, false, not, ◌&&◌, List, [], ◌∷◌, length, map, codes, bytes_eq, eqb, get_or, decimal, Some, None, Option, All, refl, ap, ◌∙◌, arith, inl, inr, ne_eqb, if◌then◌else◌}
-use Rattle.std.proofs.lemmas.Bool.{cases_lt}
+use Rattle.std.proofs.Common.{◌≡◌, ℕ, ◌^◌, ◌<◌, ◌++◌, Ok, Bool, true, false, not, ◌&&◌, List, [], ◌∷◌, length, map, codes, bytes_eq, eqb, get_or, decimal, Some, None, Option, All, refl, ap, ◌∙◌, arith, inl, inr, ne_eqb, if◌then◌else◌}
+use Rattle.std.proofs.lemmas.Bool.{cases_lt, le-leb}
 use Rattle.std.proofs.lemmas.Str.Parse.{IsNumeralModel, numerals_by_value, tells_all_ascii_digits, digit_at}
 use Rattle.std.proofs.lemmas.Fmt.{digits_decimal, digits_value-decimal, first_decimal, decimal_digit, decimal_nonempty}
 use Rattle.std.proofs.lemmas.List.Elements.{All-from_get_or, All-head, All-tail, All-nil, All-cons, All-weaker}
@@ -11,6 +11,8 @@ use Rattle.std.specs.List.{join_with_byte}
 use Rattle.formula_tree.specs.Answers.{Answers}
 use Rattle.proof_text.specs.LineForms.{all_given, answer_said, answers_of, is_plain_front, lists_of_places, number_said, numbers_of, places_in, signed_answer}
 use Rattle.proof_text.specs.Lines.{answer_part, places_part}
+use Rattle.proof_text.specs.Steps.{IsListPut, is_small}
+use Rattle.proof_text.specs.declared.limits.TheConstants.{MOST_NUMBER}
 use Rattle.proof_text.proofs.Cutting.{IsFree, joined-free, split-join}
 
 own : IsNumeralModel (λ ds. all_ascii_digits ds ≡ true) (digits_value 10)
@@ -82,6 +84,13 @@ places-written (n ∷ ns) small =
     let dashless : IsFree 45 (join_with_byte 44 (map decimal (n ∷ ns))) = joined-free 45 44 (map decimal (n ∷ ns)) refl (decimals-free 45 (n ∷ ns) (omega arith) small) in
     rw (no-dash (join_with_byte 44 (map decimal (n ∷ ns))) dashless)
     (ap numbers_of (split-join 44 (decimal n) (map decimal ns) (decimals-free 44 (n ∷ ns) (omega arith) small)) ∙ numbers-written (n ∷ ns) small)
+
+-- one place, put behind other lists
+pub one-place : (part : List ℕ) (n : ℕ) (old new : List (List ℕ)) → part ≡ decimal n → n < 2 ^ 32 → new ≡ old ++ (n ∷ []) ∷ [] → IsListPut (places_in part) old new (Ok true)
+one-place part n old new is small grows =
+    let said = ap places_in is ∙ places-written (n ∷ []) (All-cons (λ m. m < 2 ^ 64) n [] (omega (arith, small)) (All-nil (λ m. m < 2 ^ 64))) in
+    let holds : is_small n ≡ true = le-leb n MOST_NUMBER (omega (arith, small)) in
+    (n ∷ [], said, ap (λ b. b && true) holds, grows)
 
 pub places-free : (c : ℕ) (ns : List ℕ) → eqb 44 c ≡ false → eqb 45 c ≡ false → c < 48 → All (λ n. n < 2 ^ 64) ns → IsFree c (places_part ns)
 places-free c [] comma dash below small = All-cons (λ x. eqb x c ≡ false) 45 [] dash (All-nil (λ x. eqb x c ≡ false))

@@ -1,10 +1,10 @@
 -- Parts that are read one by one.
-use Rattle.std.proofs.Common.{◌≡◌, ℕ, Bool, true, false, ◌&&◌, List, [], ◌∷◌, ◌++◌, map, Option, Some, None, Ok, Err, Bor, eqb, option_map, append_assoc, append-nil, subst, length, ◌+◌, refl, sym, ap, ◌∙◌}
+use Rattle.std.proofs.Common.{◌≡◌, ℕ, Bool, true, false, if◌then◌else◌, ◌&&◌, List, [], ◌∷◌, ◌++◌, map, Option, Some, None, Ok, Err, Bor, eqb, option_map, append_assoc, append-nil, subst, length, ◌+◌, refl, sym, ap, ◌∙◌}
 use Rattle.std.proofs.lemmas.List.Folds.{list_all-append}
 use Rattle.std.specs.List.{list_all, slice_split}
 use Rattle.std.specs.Option.{option_copied}
-use Rattle.proof_text.specs.LineForms.{all_given}
-use Rattle.proof_text.specs.Steps.{IsSmallRead, parts_left}
+use Rattle.proof_text.specs.LineForms.{all_given, lists_of_places, places_in}
+use Rattle.proof_text.specs.Steps.{IsListPut, IsSmallRead, are_lists_small, are_small, parts_left}
 use Rattle.proof_text.specs.declared.fault.LineAnswer.{LineAnswer}
 use Rattle.proof_text.specs.declared.fault.LineAnswer.TheVariants.{Fails, NoMemory as NoLineMemory}
 
@@ -139,6 +139,23 @@ pub loop-stop : {X : Type 0} (f : List ℕ → Option X) (small : X → Bool) (b
 loop-stop f small between all large got rest more text part (Fails code) so_far is cut read =
     (read-stop f small all (parts_left between (option_copied rest)) (parts_left between (option_copied more)) large got part.now so_far (left-is between rest more text part is cut) read.0, read.1)
 loop-stop f small between all large got rest more text part NoLineMemory so_far is cut read = tt
+
+-- ---- a loop that puts lists of places
+
+module _ (all : List (List ℕ)) (large : Bool) (got grown : List (List ℕ)) (rest more : Option (Bor (List ℕ))) (text part : Bor (List ℕ))
+    (so_far : IsReadSoFar places_in are_small all (parts_left 32 (option_copied rest)) large got) (is : rest ≡ Some text)
+    (cut : slice_split (λ b. eqb b 32) text.now ≡ part.now ∷ parts_left 32 (option_copied more)) where
+  pub put-next : (small after : Bool) → IsListPut (places_in part.now) got grown (Ok small) → after ≡ (if small then large else true) → IsReadSoFar places_in are_small all (parts_left 32 (option_copied more)) after grown
+  put-next true after (ns, said, holds, grows) same =
+      subst (λ (b : Bool). IsReadSoFar places_in are_small all (parts_left 32 (option_copied more)) b grown) (sym same)
+      (loop-small places_in are_small 32 all large got grown rest more text part (Some ns) ns so_far is cut (said, holds) refl grows)
+  put-next false after (ns, said, fails) same =
+      subst (λ (b : Bool). IsReadSoFar places_in are_small all (parts_left 32 (option_copied more)) b grown) (sym same)
+      (read-large places_in are_small all (parts_left 32 (option_copied rest)) (parts_left 32 (option_copied more)) large got grown part.now ns so_far (left-is 32 rest more text part is cut) said fails)
+
+  pub put-stop : (answer : LineAnswer) → IsListPut (places_in part.now) got grown (Err answer) → IsSmallRead are_lists_small (lists_of_places all) (Err answer)
+  put-stop (Fails code) put = loop-stop places_in are_small 32 all large got rest more text part (Fails code) so_far is cut put
+  put-stop NoLineMemory put = tt
 
 end-left : (between : ℕ) (rest : Option (Bor (List ℕ))) → rest ≡ None → parts_left between (option_copied rest) ≡ []
 end-left between rest is = ap (λ (o : Option (Bor (List ℕ))). parts_left between (option_copied o)) is

@@ -65,6 +65,14 @@ IsSmallRead {X} small said (Ok None) = (x : X) × (said ≡ Some x) × (small x 
 IsSmallRead small said (Err (Fails code)) = (said ≡ None) × (code ≡ C1Syntax)
 IsSmallRead small said (Err NoLineMemory) = Unit {0}
 
+-- what putting the list that a part says behind others answers: whether its numbers are small, and then it is there; or C1 where the part
+-- isn't of its form
+abbrev pub IsListPut : Option (List ℕ) → List (List ℕ) → List (List ℕ) → Result Bool LineAnswer → Type 0
+IsListPut said old new (Ok true) = (ns : List ℕ) × (said ≡ Some ns) × (are_small ns ≡ true) × (new ≡ old ++ ns ∷ [])
+IsListPut said old new (Ok false) = (ns : List ℕ) × (said ≡ Some ns) × (are_small ns ≡ false)
+IsListPut said old new (Err (Fails code)) = (said ≡ None) × (code ≡ C1Syntax)
+IsListPut said old new (Err NoLineMemory) = Unit {0}
+
 -- what a reader of a line answers, where this must stand and so many labels began before: what the line says, which passes each check, or
 -- the first check that it fails
 abbrev pub IsLineRead : {X : Type 0} → (X → Line) → Limits → ℕ → Expected → Option Line → Result X LineAnswer → Type 0

@@ -42,7 +42,7 @@ pub(crate) fn fault(number: u32, code: ProofCode) -> ProofAnswer
 }
 
 /// What a reader of lines answers, at a line.
-pub(crate) fn answer_at(number: u32, answer: LineAnswer) -> ProofAnswer
+pub(crate) fn answer_here(number: u32, answer: LineAnswer) -> ProofAnswer
     ensures { result ≡ answer_here number answer }
 {
     match answer {

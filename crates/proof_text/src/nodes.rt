@@ -11,7 +11,7 @@ ghost use Rattle.proof_text.specs.Steps.{HasLineRoom, ArePartsRead};
 use crate::fault::ProofAnswer;
 use crate::limits::{Limits, MOST_NESTING};
 use crate::lines::{Around, NodeLine, node_line};
-use crate::location::{Location, answer_at, line_at, with_label};
+use crate::location::{Location, answer_here, line_at, with_label};
 use crate::read::LineList;
 use crate::slots::read_slot_proof;
 use plain_lists::NoMemory;
@@ -135,6 +135,6 @@ pub(crate) fn read_node<'a>(
             behind,
         )),
         Ok(NodeLine::Reuse(number)) => Ok((shared(alloc, Refutation::Reuse { number })?, behind)),
-        Err(answer) => Err(answer_at(location.number, answer)),
+        Err(answer) => Err(answer_here(location.number, answer)),
     }
 }

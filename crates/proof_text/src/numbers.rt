@@ -27,7 +27,7 @@ fn all_digits(part: &[u8]) -> bool
 }
 
 // Whether the part is decimal digits, at least one, without zeros in front.
-fn is_decimal(part: &[u8]) -> bool
+fn is_number(part: &[u8]) -> bool
     ensures { result ≡ is_number part.now }
 {
     if part.is_empty() {
@@ -61,7 +61,7 @@ fn value_of(digits: &[u8]) -> Option<u32>
 pub fn decimal_in(text: &[u8]) -> Option<u32>
     ensures { MatchOption result (IsNoDecimal text.now) (λ n. text.now ≡ decimal n) }
 {
-    if !is_decimal(text) {
+    if !is_number(text) {
         return None;
     }
     value_of(text)
@@ -71,7 +71,7 @@ pub fn decimal_in(text: &[u8]) -> Option<u32>
 pub(crate) fn number_in(part: &[u8]) -> Result<Option<u32>, LineAnswer>
     ensures { IsSmallRead is_small (number_said part.now) result }
 {
-    if !is_decimal(part) {
+    if !is_number(part) {
         return Err(LineAnswer::Fails(ProofCode::C1Syntax));
     }
     Ok(value_of(part))

@@ -8,7 +8,7 @@ use crate::fault::ProofAnswer;
 use crate::limits::{Limits, MOST_PROOF_BYTES};
 use crate::lines::version_line;
 use crate::location::{
-    Location, answer_at, first_location, line_at, location_of_line, require_end,
+    Location, answer_here, first_location, line_at, location_of_line, require_end,
 };
 use crate::nodes::{Trail, read_node, shared};
 use plain_lists::List;
@@ -80,7 +80,7 @@ fn read_at(alloc: Global, limits: Limits, start: Location<'_>) -> Result<ReadPro
 {
     let (line, behind) = line_at(start)?;
     if let Err(answer) = version_line(limits, line) {
-        return Err(answer_at(start.number, answer));
+        return Err(answer_here(start.number, answer));
     }
     let mut trail = Trail {
         inside: Vec::new(alloc),

@@ -10,7 +10,7 @@ ghost use Rattle.proof_text.specs.Steps.{HasLineRoom, IsLineRead, ArePartsRead, 
 
 use crate::fault::{LineAnswer, ProofAnswer, ProofCode};
 use crate::limits::Limits;
-use crate::location::{Location, answer_at, line_at};
+use crate::location::{Location, answer_here, line_at};
 use crate::numbers::one_number;
 use crate::parts::{content_of, cut};
 use crate::states::{closed_count, read_closed, read_states};
@@ -167,7 +167,7 @@ fn read_kind<'a>(
             let (closed, end) = read_states(alloc, limits, count, behind)?;
             Ok((KindProof::Closed(closed), end))
         }
-        Err(answer) => Err(answer_at(location.number, answer)),
+        Err(answer) => Err(answer_here(location.number, answer)),
     }
 }
 
@@ -220,6 +220,6 @@ pub(crate) fn read_slot_proof<'a>(
             let (closed, end) = read_closed(alloc, limits, behind)?;
             Ok((SlotProof::SomeMember(closed), end))
         }
-        Err(answer) => Err(answer_at(location.number, answer)),
+        Err(answer) => Err(answer_here(location.number, answer)),
     }
 }

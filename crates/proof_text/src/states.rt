@@ -1,16 +1,16 @@
 //! Product states: lines of lists of places.
-ghost use Rattle.std.specs.Prelude.{◌≡◌, ◌≤◌, ◌∷◌, [], IfOk, length, map, option_map, replicate};
+ghost use Rattle.std.specs.Prelude.{◌≡◌, ◌≤◌, ◌∷◌, [], IfOk, if◌then◌else◌, length, map, option_map, replicate, true};
 ghost use Rattle.std.specs.Option.{option_copied};
 ghost use Rattle.pattern_automata.specs.Closed.{all_rise};
 ghost use Rattle.proof_text.specs.LineForms.{ExpectClosedSet, ExpectKindProof, ExpectSlotProof, ExpectState, line_said, lists_of_places, places_in, with_number};
 ghost use Rattle.proof_text.specs.Lines.{closed_line, places_line};
 ghost use Rattle.proof_text.specs.Spelling.{closed_lines};
-ghost use Rattle.proof_text.specs.Steps.{HasLineRoom, IsLineRead, ArePartsRead, IsSmallRead, are_lists_small, are_small, parts_left};
+ghost use Rattle.proof_text.specs.Steps.{HasLineRoom, IsLineRead, IsListPut, ArePartsRead, IsSmallRead, are_lists_small, are_small, parts_left};
 
 use crate::fault::{LineAnswer, ProofAnswer, ProofCode};
 use crate::limits::Limits;
-use crate::location::{Location, answer_at, line_at};
-use crate::numbers::{numbers_in, one_number, rises};
+use crate::location::{Location, answer_here, line_at};
+use crate::numbers::{decimal_in, numbers_in, one_number, rises};
 use crate::parts::{content_of, cut};
 use pattern_automata::{Closed, PlaceList, PlaceLists};
 use std::alloc::Global;
@@ -23,6 +23,31 @@ fn places_in(alloc: Global, part: &[u8]) -> Result<Option<PlaceList>, LineAnswer
         return Ok(Some(PlaceList::new(alloc)));
     }
     numbers_in(alloc, Some(part), b',')
+}
+
+// Puts the places of one pattern behind those before: whether all of their numbers are small. Most often it is one
+// place, and that takes no list of its own.
+fn push_places(alloc: Global, part: &[u8], lists: &mut PlaceLists) -> Result<bool, LineAnswer>
+    ensures { IsListPut (places_in part.now) lists.old lists.new result }
+{
+    if let Some(place) = decimal_in(part) {
+        lists.push(&[place])?;
+        return Ok(true);
+    }
+    match places_in(alloc, part)? {
+        Some(places) => {
+            lists.push(places.as_slice())?;
+            Ok(true)
+        }
+        None => Ok(false),
+    }
+}
+
+// Whether a number is too large, where one of those before was, and those of one pattern more are small or not.
+fn is_large(before: bool, small: bool) -> bool
+    ensures { result ≡ (if small then before else true) }
+{
+    if small { before } else { true }
 }
 
 /// The places of each pattern, or none where a number is too large.
@@ -38,10 +63,8 @@ pub(crate) fn lists_in(
     let mut rest = behind;
     while let Some(text) = rest {
         let (part, more) = cut(text, b' ');
-        match places_in(alloc, part)? {
-            Some(places) => lists.push(places.as_slice())?,
-            None => large = true,
-        }
+        let small = push_places(alloc, part, &mut lists)?;
+        large = is_large(large, small);
         rest = more;
     }
     if large {
@@ -115,7 +138,7 @@ fn read_state<'a>(
     let (line, behind) = line_at(location)?;
     match state_line(alloc, limits, location.begun, line) {
         Ok(lists) => Ok((lists, behind)),
-        Err(answer) => Err(answer_at(location.number, answer)),
+        Err(answer) => Err(answer_here(location.number, answer)),
     }
 }
 
@@ -190,6 +213,6 @@ pub(crate) fn read_closed<'a>(
     let (line, behind) = line_at(location)?;
     match set_line(limits, location.begun, line) {
         Ok(count) => read_states(alloc, limits, count, behind),
-        Err(answer) => Err(answer_at(location.number, answer)),
+        Err(answer) => Err(answer_here(location.number, answer)),
     }
 }

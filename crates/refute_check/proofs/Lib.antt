@@ -1,3 +1,4 @@
+mod Accepting
 mod Agreeing
 mod Closed
 mod Deciding
@@ -9,6 +10,7 @@ mod Failing
 mod Labelling
 pub mod Laws
 mod Meeting
+mod NoValue
 mod Picking
 mod Ranges
 mod Walking

@@ -4,6 +4,7 @@ pub mod Queries
 pub mod Laws
 pub mod Verdicts
 pub mod Labels
+pub mod Accepted
 pub mod Walks
 pub mod Propagated
 pub mod RunLaws

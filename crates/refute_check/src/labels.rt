@@ -1,5 +1,5 @@
 //! The labels that stand before a node in reading order.
-ghost use Rattle.std.specs.Prelude.{◌≡◌, ◌<◌, ◌↔◌, All, IfOk, IsTrue, None, OnOk, length, map, slice_index_or};
+ghost use Rattle.std.specs.Prelude.{◌≡◌, ◌<◌, ◌↔◌, [], All, IfOk, IsTrue, None, OnOk, length, map, slice_index_or};
 ghost use Rattle.pattern_automata.specs.Closed.{rises_from};
 ghost use Rattle.refute_check.specs.Closing.{IsLabel, IsReuse, Rise, at_first, inside_label};
 ghost use Rattle.refute_check.specs.Labels.{HasNotEnded, IsAnswered, with_ended};
@@ -121,7 +121,7 @@ fn is_answered(pair: (u32, bool), path: &Path) -> bool
 }
 
 // Whether the path has each of the answers.
-fn are_answered(answers: &[(u32, bool)], path: &Path) -> bool
+pub(crate) fn are_answered(answers: &[(u32, bool)], path: &Path) -> bool
     ensures { IsTrue result ↔ All (IsAnswered path.now) answers.now }
 {
     'pairs: for pair in answers {
@@ -132,14 +132,46 @@ fn are_answered(answers: &[(u32, bool)], path: &Path) -> bool
     true
 }
 
-// The path of the answers.
-pub(crate) fn path_of(alloc: Global, answers: &[(u32, bool)]) -> Result<Path, NoMemory>
+// The path of the answers, in place of the one without answers.
+pub(crate) fn path_of(empty: Path, answers: &[(u32, bool)]) -> Result<Path, NoMemory>
     requires rise { Rise answers.now }
+    requires empty { empty ≡ [] }
     ensures { IfOk result (λ path. path ≡ answers.now) }
 {
-    let mut path = Path::new(alloc);
+    let mut path = empty;
     'pairs: for pair in answers {
         path.push(pair.0, pair.1)?;
     }
     Ok(path)
+}
+
+/// A path without answers: one of those that are spare, since a new one takes time by the greatest test in it.
+pub(crate) fn empty_path(alloc: Global, spare: &mut Vec<Path>) -> Path
+    ensures { result ≡ [] }
+{
+    match spare.pop() {
+        Some(path) => if_empty(alloc, path),
+        None => Path::new(alloc),
+    }
+}
+
+// The path, where it has no answers, or a new one.
+fn if_empty(alloc: Global, path: Path) -> Path
+    ensures { result ≡ [] }
+{
+    if path.len() == 0 {
+        path
+    } else {
+        Path::new(alloc)
+    }
+}
+
+/// Keeps the path for later, without its answers.
+pub(crate) fn set_aside(spare: &mut Vec<Path>, path: Path) -> Result<(), NoMemory> {
+    let mut empty = path;
+    'answers: while empty.len() > 0 {
+        empty.pop();
+    }
+    spare.push(empty)?;
+    Ok(())
 }

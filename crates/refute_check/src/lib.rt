@@ -1,8 +1,10 @@
 //! Refutations of queries, and their check.
 #![tactic(auto)]
 
+mod accepted;
 mod closing;
 mod labels;
+mod no_value;
 mod refutation;
 mod runs;
 mod sharing;

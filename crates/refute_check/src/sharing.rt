@@ -98,11 +98,16 @@ impl SharedProofs {
     }
 }
 
+/// A guess with one word more.
+pub(crate) fn mixed(guess: u64, word: u32) -> u64 {
+    (guess ^ u64::from(word)).wrapping_mul(1_099_511_628_211)
+}
+
 impl Print {
     // Takes in one word more.
     fn with(self, word: u32) -> Print {
         Print {
-            hash: (self.hash ^ u64::from(word)).wrapping_mul(1_099_511_628_211),
+            hash: mixed(self.hash, word),
             words: self.words.saturating_add(1),
         }
     }
@@ -193,7 +198,7 @@ fn are_kinds_equal(one: &KindProof, other: &KindProof) -> bool
     }
 }
 
-fn are_equal(one: &SlotProof, other: &SlotProof) -> bool
+pub(crate) fn are_equal(one: &SlotProof, other: &SlotProof) -> bool
     ensures { IsTrue result → one.now ≡ other.now }
 {
     match (one, other) {

@@ -4,22 +4,26 @@ ghost use Rattle.formula_tree.specs.Runs.{path_with};
 ghost use Rattle.formula_tree.specs.Trees.{tree_of};
 ghost use Rattle.policy_model.specs.Soundness.{SchemaIsSound, TestSuits};
 ghost use Rattle.slot_theory.specs.Possible.{PathInRange};
+ghost use Rattle.slot_theory.specs.Cores.{Accepts};
 ghost use Rattle.refute_check.specs.Closing.{Rise};
 ghost use Rattle.refute_check.specs.Laws.{TreeInRange};
 ghost use Rattle.refute_check.specs.Proofs.{proof_of, size, split};
 ghost use Rattle.refute_check.specs.Queries.{ClosesQuery, HoldsHere};
 ghost use Rattle.refute_check.specs.Verdicts.{IsVerdict};
-ghost use Rattle.refute_check.specs.Walks.{IsCheckable, IsLabelWalked, IsOpenTest, IsWalked, IsWholeWalk, raised_walk};
+ghost use Rattle.refute_check.specs.Walks.{HasAccepted, IsCheckable, IsLabelWalked, IsOpenTest, IsWalked, IsWholeWalk, raised_walk};
 
-use crate::labels::{Labels, path_of};
+use crate::accepted::AcceptedCores;
+use crate::labels::{Labels, empty_path, path_of, set_aside};
+use crate::no_value::LastYes;
 use crate::refutation::{AnswerList, Refutation};
 use cnf_clauses::{Clauses, clauses_of, replay};
-use formula_tree::{Path, Three, value3};
+use formula_tree::Path;
 use plain_lists::{List, NoMemory};
 use policy_compile::Query;
 use policy_model::Schema;
-use slot_theory::accepts;
+use slot_theory::{Core, SlotProof, accepts};
 use std::alloc::Global;
+use std::rc::Rc;
 
 /// What a check answers.
 #[derive(Clone, Copy, PartialEq, Eq)]
@@ -40,6 +44,15 @@ enum Walked {
     Failed(u32),
 }
 
+/// What a walk has passed: labels, and cores that were accepted.
+#[derive(Drop)]
+struct Passed {
+    labels: Labels,
+    cores: AcceptedCores,
+    /// Paths that are free for the labels that follow.
+    spare: Vec<Path>,
+}
+
 /// What a check is of.
 #[derive(Drop)]
 struct Checking<'a> {
@@ -48,22 +61,30 @@ struct Checking<'a> {
     query: &'a Query,
     /// The clauses of the query's formula, made once.
     clauses: Clauses,
+    /// By which branch the value was no last.
+    last_yes: LastYes,
 }
 
 impl<'a> Checking<'a> {
     /// Whether the node's own rule holds under the path, what is below it aside.
-    fn holds_here(&self, node: &Refutation, path: &Path, labels: &Labels) -> Result<bool, NoMemory>
+    fn holds_here(
+        &self,
+        node: &Refutation,
+        path: &Path,
+        labels: &Labels,
+        cores: &mut AcceptedCores,
+    ) -> Result<bool, NoMemory>
         requires ready { IsCheckable self.now }
         requires range { PathInRange self.now.query.now.tests path.now }
-        ensures { IfOk result (λ yes. IsTrue yes ↔
+        requires known { HasAccepted self.now cores.old }
+        ensures holds { IfOk result (λ yes. IsTrue yes ↔
             HoldsHere self.now.schema.now self.now.query.now labels.now node.now path.now) }
+        ensures known { OnOk result (HasAccepted self.now cores.new) }
     {
         let tests = &self.query.tests;
         match node {
-            Refutation::ByValue => Ok(value3(&self.query.formula, path) == Three::No),
-            Refutation::BySlot { core, proof } => {
-                accepts(self.alloc, self.schema, tests, path, core, proof)
-            }
+            Refutation::ByValue => Ok(self.last_yes.is_no(&self.query.formula, path)),
+            Refutation::BySlot { core, proof } => self.accepts_core(path, core, proof, cores),
             Refutation::ByClauses { hints } => replay(self.alloc, &self.clauses, path, hints),
             Refutation::Split { test, .. } => {
                 Ok((*test as usize) < tests.len() && path.answer(*test).is_none())
@@ -77,6 +98,32 @@ impl<'a> Checking<'a> {
         }
     }
 
+    /// Whether the core and its proof are accepted under the path. One that was isn't looked at again.
+    fn accepts_core(
+        &self,
+        path: &Path,
+        core: &Core,
+        proof: &Rc<SlotProof>,
+        cores: &mut AcceptedCores,
+    ) -> Result<bool, NoMemory>
+        requires ready { IsCheckable self.now }
+        requires range { PathInRange self.now.query.now.tests path.now }
+        requires known { HasAccepted self.now cores.old }
+        ensures accepted { IfOk result (λ yes. IsTrue yes ↔ Accepts
+            self.now.schema.now self.now.query.now.tests path.now core.now proof.now.value) }
+        ensures known { OnOk result (HasAccepted self.now cores.new) }
+    {
+        if cores.has(path, core, proof) {
+            return Ok(true);
+        }
+        let tests = &self.query.tests;
+        let accepted = accepts(self.alloc, self.schema, tests, path, core, proof)?;
+        if accepted {
+            cores.keep(self.alloc, path, core, proof)?;
+        }
+        Ok(accepted)
+    }
+
     /// The part under the path, which is as before. Where the part closes, its labels stand before
     /// what follows it.
     #[cycle(walk)]
@@ -84,24 +131,26 @@ impl<'a> Checking<'a> {
         &self,
         part: &Refutation,
         path: &mut Path,
-        labels: &mut Labels,
+        passed: &mut Passed,
     ) -> Result<Walked, NoMemory>
         requires ready { IsCheckable self.now }
         requires range { PathInRange self.now.query.now.tests path.old }
+        requires known { HasAccepted self.now passed.old.cores }
         ensures walked { IfOk result (IsWalked self.now.schema.now self.now.query.now
-            labels.old (proof_of part.now) path.old labels.new) }
+            passed.old.labels (proof_of part.now) path.old passed.new.labels) }
         ensures path { OnOk result (path.new ≡ path.old) }
+        ensures known { OnOk result (HasAccepted self.now passed.new.cores) }
     {
-        if !self.holds_here(part, path, labels)? {
+        if !self.holds_here(part, path, &passed.labels, &mut passed.cores)? {
             return Ok(Walked::Failed(0));
         }
         match part {
-            Refutation::Split { test, yes, no } => self.walk_sides(*test, yes, no, path, labels),
+            Refutation::Split { test, yes, no } => self.walk_sides(*test, yes, no, path, passed),
             Refutation::Label {
                 number,
                 answers,
                 inner,
-            } => self.walk_label(*number, answers, inner, labels),
+            } => self.walk_label(*number, answers, inner, passed),
             Refutation::ByValue => Ok(Walked::Closed(1)),
             Refutation::BySlot { .. } => Ok(Walked::Closed(1)),
             Refutation::ByClauses { .. } => Ok(Walked::Closed(1)),
@@ -117,21 +166,24 @@ impl<'a> Checking<'a> {
         yes: &Refutation,
         no: &Refutation,
         path: &mut Path,
-        labels: &mut Labels,
+        passed: &mut Passed,
     ) -> Result<Walked, NoMemory>
         requires ready { IsCheckable self.now }
         requires range { PathInRange self.now.query.now.tests path.old }
+        requires known { HasAccepted self.now passed.old.cores }
         requires open { IsOpenTest self.now.query.now test path.old }
         ensures walked { IfOk result (IsWalked self.now.schema.now self.now.query.now
-            labels.old (split test (proof_of yes.now) (proof_of no.now)) path.old labels.new) }
+            passed.old.labels (split test (proof_of yes.now) (proof_of no.now))
+            path.old passed.new.labels) }
         ensures path { OnOk result (path.new ≡ path.old) }
+        ensures known { OnOk result (HasAccepted self.now passed.new.cores) }
     {
-        let first = self.walk_side(test, true, yes, path, labels)?;
+        let first = self.walk_side(test, true, yes, path, passed)?;
         match first {
-            Walked::Failed(_) => Ok(raised(first, 0)),
+            Walked::Failed(_) => Ok(raised_walk(first, 0)),
             Walked::Closed(nodes) => {
-                let second = self.walk_side(test, false, no, path, labels)?;
-                Ok(raised(second, nodes))
+                let second = self.walk_side(test, false, no, path, passed)?;
+                Ok(raised_walk(second, nodes))
             }
         }
     }
@@ -144,17 +196,20 @@ impl<'a> Checking<'a> {
         answer: bool,
         side: &Refutation,
         path: &mut Path,
-        labels: &mut Labels,
+        passed: &mut Passed,
     ) -> Result<Walked, NoMemory>
         requires ready { IsCheckable self.now }
         requires range { PathInRange self.now.query.now.tests path.old }
+        requires known { HasAccepted self.now passed.old.cores }
         requires open { IsOpenTest self.now.query.now test path.old }
         ensures walked { IfOk result (IsWalked self.now.schema.now self.now.query.now
-            labels.old (proof_of side.now) (path_with path.old test answer) labels.new) }
+            passed.old.labels (proof_of side.now)
+            (path_with path.old test answer) passed.new.labels) }
         ensures path { OnOk result (path.new ≡ path.old) }
+        ensures known { OnOk result (HasAccepted self.now passed.new.cores) }
     {
         path.push(test, answer)?;
-        let walked = self.walk(side, path, labels)?;
+        let walked = self.walk(side, path, passed)?;
         path.pop();
         Ok(walked)
     }
@@ -166,30 +221,34 @@ impl<'a> Checking<'a> {
         number: u32,
         answers: &AnswerList,
         inner: &Refutation,
-        labels: &mut Labels,
+        passed: &mut Passed,
     ) -> Result<Walked, NoMemory>
         requires ready { IsCheckable self.now }
         requires range { PathInRange self.now.query.now.tests answers.now }
-        requires next { number ≡ labels.old.begun }
+        requires known { HasAccepted self.now passed.old.cores }
+        requires next { number ≡ passed.old.labels.begun }
         requires rise { Rise answers.now }
-        ensures { IfOk result (IsLabelWalked self.now.schema.now self.now.query.now
-            labels.old number answers.now (proof_of inner.now) labels.new) }
+        ensures walked { IfOk result (IsLabelWalked self.now.schema.now self.now.query.now
+            passed.old.labels number answers.now (proof_of inner.now) passed.new.labels) }
+        ensures known { OnOk result (HasAccepted self.now passed.new.cores) }
     {
-        labels.begin()?;
-        let mut own = path_of(self.alloc, answers.as_slice())?;
-        let walked = self.walk(inner, &mut own, labels)?;
+        passed.labels.begin()?;
+        let empty = empty_path(self.alloc, &mut passed.spare);
+        let mut own = path_of(empty, answers.as_slice())?;
+        let walked = self.walk(inner, &mut own, passed)?;
+        set_aside(&mut passed.spare, own)?;
         match walked {
-            Walked::Failed(_) => Ok(raised(walked, 0)),
+            Walked::Failed(_) => Ok(raised_walk(walked, 0)),
             Walked::Closed(_) => {
-                labels.end(number, copy(self.alloc, answers)?)?;
-                Ok(raised(walked, 0))
+                passed.labels.end(number, copy(self.alloc, answers)?)?;
+                Ok(raised_walk(walked, 0))
             }
         }
     }
 }
 
 // What the walk of a part says of the node above it, which has so many nodes before the part.
-fn raised(walked: Walked, before: u32) -> Walked
+fn raised_walk(walked: Walked, before: u32) -> Walked
     ensures { result ≡ raised_walk walked before }
 {
     match walked {
@@ -224,9 +283,14 @@ fn walk_whole(
         schema,
         query,
         clauses,
+        last_yes: LastYes::new(),
     };
-    let mut labels = Labels::new(alloc);
-    checking.walk(refutation, path, &mut labels)
+    let mut passed = Passed {
+        labels: Labels::new(alloc),
+        cores: AcceptedCores::new(alloc),
+        spare: Vec::new(alloc),
+    };
+    checking.walk(refutation, path, &mut passed)
 }
 
 /// Whether the refutation closes the query under the path.

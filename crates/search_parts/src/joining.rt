@@ -71,8 +71,10 @@ fn learn(
     let (yes, no) = (&halves.yes.needs, &halves.no.needs);
     let answers = least_answers(alloc, path, halves.test, yes, no, values)?;
     let number = learned.len() as u32;
-    let part = labelled(alloc, number, &answers, halves)?;
-    learned.learn(answers)?;
+    // What stays is a copy, which has no more room than it needs.
+    let kept = answers.copy()?;
+    let part = labelled(alloc, number, answers, halves)?;
+    learned.learn(kept)?;
     Ok(part)
 }
 
@@ -88,15 +90,13 @@ fn bare(alloc: Global, halves: Halves) -> Result<Part, NoMemory>
 }
 
 // The split as the node of a label.
-fn labelled(alloc: Global, number: u32, answers: &Path, halves: Halves) -> Result<Part, NoMemory>
+fn labelled(alloc: Global, number: u32, needs: Path, halves: Halves) -> Result<Part, NoMemory>
     ensures { IfOk result (IsPartOf
-        (label number answers.now
-        (split halves.test (part_proof halves.yes) (part_proof halves.no)))
-        (Just answers.now)) }
+        (label number needs (split halves.test (part_proof halves.yes) (part_proof halves.no)))
+        (Just needs)) }
 {
     let inner = both(alloc, halves)?;
-    let needs = answers.copy()?;
-    let answers = List::from_vec(Vec::from_slice(alloc, answers.as_slice())?);
+    let answers = List::from_vec(Vec::from_slice(alloc, needs.as_slice())?);
     Ok(Part {
         refutation: Rc::new(
             alloc,

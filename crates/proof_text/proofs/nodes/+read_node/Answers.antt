@@ -138,4 +138,4 @@ pub returns-in-Err-clause-read : goal.returns-in-Err-clause-read
 returns-in-Err-clause-read t c =
     let inside = c.args.trail.now.inside.items in
     let read = subst (λ (ns : List ℕ). IsLineRead node_line_value c.args.limits c.args.location.begun (ExpectNode c.args.depth ns) (line_said (ExpectNode c.args.depth ns) c.in_ok-line.line.now) (Err c.in-Err.answer)) c.as_slice.ensures.value c.in-Err.ensures in
-    line-refused node_line_value c.args.limits (ExpectNode c.args.depth inside) c.args.location c.in_ok-line.behind c.in_ok-line.line.now 0 c.in-Err.answer c.answer_at.result c.in_ok-line.ensures read c.answer_at.ensures
+    line-refused node_line_value c.args.limits (ExpectNode c.args.depth inside) c.args.location c.in_ok-line.behind c.in_ok-line.line.now 0 c.in-Err.answer c.answer_here.result c.in_ok-line.ensures read c.answer_here.ensures

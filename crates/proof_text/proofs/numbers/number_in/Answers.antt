@@ -3,4 +3,4 @@ use Rattle.proof_text.proofs.Bytes.{number-read}
 use Rattle.proof_text.proofs.numbers.number_in.Goals as goal
 
 pub returns : goal.returns
-returns c = number-read c.args.part.now c.value_of.result (sym c.is_decimal.ensures ∙ c.if-not-is_decimal.false) c.value_of.ensures
+returns c = number-read c.args.part.now c.value_of.result (sym c.is_number.ensures ∙ c.if-not-is_number.false) c.value_of.ensures

@@ -17,7 +17,7 @@ returns-in_err-line-clause-read c =
 pub returns-in-Err-clause-read : goal.returns-in-Err-clause-read
 returns-in-Err-clause-read c =
     let limits : Limits = c.args.limits in
-    version-refused limits c.args.start c.in_ok-line.behind c.in_ok-line.line.now c.in-Err.answer c.answer_at.result c.requires.first c.in_ok-line.ensures c.in-Err.ensures c.answer_at.ensures
+    version-refused limits c.args.start c.in_ok-line.behind c.in_ok-line.line.now c.in-Err.answer c.answer_here.result c.requires.first c.in_ok-line.ensures c.in-Err.ensures c.answer_here.ensures
 
 pub returns-in_err-refutation-clause-read : goal.returns-in_err-refutation-clause-read
 returns-in_err-refutation-clause-read c =

@@ -1,6 +1,6 @@
 -- The search finds this unasked; asked for here, a wrong body is refused without a longer search.
 use Rattle.std.proofs.Common.{rules}
-use Rattle.proof_text.proofs.numbers.is_decimal.Goals as goal
+use Rattle.proof_text.proofs.numbers.is_number.Goals as goal
 
 pub returns : goal.returns
 returns c = search rules
