@@ -17,7 +17,7 @@ use Rattle.wildcard_lang.specs.Places.{ShowWider, contains_place, passing_number
 use Rattle.pattern_automata.specs.Closed.{InRange, Meets, lists_meet, IsRepresentative, rises_from, all_rise, IsShaped, IsClosed}
 use Rattle.pattern_automata.specs.Marks.{all_marks, mark_count}
 use Rattle.pattern_automata.specs.Packed.{all_words, pack, words_for}
-use Rattle.pattern_automata.specs.Tree.{IsEnds, IsMet, IsFull, IsLeft, IsOver, IsOutcome, Spells, words_meet}
+use Rattle.pattern_automata.specs.Tree.{IsEnds, IsMet, IsFull, IsLeftOpen, IsOver, IsOutcome, Spells, words_meet}
 use Rattle.pattern_automata.specs.Machine.{StandForAll}
 use Rattle.pattern_automata.specs.Answer.{IsProduct, AreLists, AreTexts, IsReport}
 use Rattle.wildcard_lang.specs.Text.{IsText}
@@ -73,7 +73,7 @@ module _ (patterns : List (List Piece)) (ends : List ℕ) (clauses : List (List 
     (are-ends : IsEnds patterns ends) (range : InRange (length patterns) clauses) where
   -- the search begins
   pub begins : (found : List (List ℕ)) (parents : List Parent) → found ≡ all_words patterns [] ∷ [] → length parents ≡ 1 → 1 ≤ limit →
-      words_meet ends clauses (all_words patterns []) ≡ false → IsLeft patterns ends clauses characters found parents 0 limit
+      words_meet ends clauses (all_words patterns []) ≡ false → IsLeftOpen patterns ends clauses characters found parents 0 limit
   begins found parents is one some none =
       let first : get_or found 0 [] ≡ all_words patterns [] = ap (λ x. get_or x 0 []) is in
       let size : length found ≡ 1 = ap length is in

@@ -10,7 +10,7 @@ use Rattle.pattern_automata.specs.declared.tree.Parent.{Parent}
 use Rattle.wildcard_lang.specs.Places.{contains_place}
 use Rattle.pattern_automata.specs.Marks.{mark_count}
 use Rattle.pattern_automata.specs.Packed.{words_for}
-use Rattle.pattern_automata.specs.Tree.{LeadsTo, IsLed, AreDifferent, IsSearch, IsTurn, IsBase, IsFull, IsMet, IsVisited, IsLeft, words_meet}
+use Rattle.pattern_automata.specs.Tree.{LeadsTo, IsLed, AreDifferent, IsSearch, IsTurn, IsBase, IsFull, IsMet, IsVisited, IsLeftOpen, words_meet}
 use Rattle.pattern_automata.proofs.Packing.{length-all_words}
 use Rattle.pattern_automata.proofs.Searching.{text}
 
@@ -125,7 +125,7 @@ module _ (patterns : List (List Piece)) (ends : List ℕ) (clauses : List (List 
 -- the next state
 pub left : (patterns : List (List Piece)) (ends : List ℕ) (clauses : List (List Literal)) (characters here : List ℕ) (found : List (List ℕ)) (parents : List Parent) (i limit : ℕ) →
     here ≡ characters → IsBase patterns ends clauses found parents limit → IsSearch patterns ends clauses characters found i here →
-    IsLeft patterns ends clauses characters found parents (i + 1) limit
+    IsLeftOpen patterns ends clauses characters found parents (i + 1) limit
 left patterns ends clauses characters here found parents i limit all base search = record {
   base = base;
   search = record {

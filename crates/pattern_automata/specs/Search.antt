@@ -10,7 +10,7 @@ use Rattle.pattern_automata.specs.declared.tree.Step.{Step}
 use Rattle.pattern_automata.specs.Marks.{all_reached, mark_count}
 use Rattle.pattern_automata.specs.Moves.{characters_of}
 use Rattle.pattern_automata.specs.Packed.{all_words, pack}
-use Rattle.pattern_automata.specs.Tree.{IsTree, IsTurn, IsBase, IsVisit, IsLeft, IsExpansion, IsOutcome}
+use Rattle.pattern_automata.specs.Tree.{IsTree, IsTurn, IsBase, IsVisit, IsLeftOpen, IsExpansion, IsOutcome}
 
 -- the search has found the product state of the empty text alone
 pub record HasBegun (patterns : List (List Piece)) (s : Search) : Type 0 where
@@ -45,7 +45,7 @@ Visits w m old new i step limit =
     IsVisit w.patterns m.ends.items w.clauses old.found new.found new.parents.items i step.character limit
 
 abbrev pub IsLeftAt : Wants → Machine → Search → ℕ → ℕ → Type 0
-IsLeftAt w m s i limit = IsLeft w.patterns m.ends.items w.clauses (characters_of m.moves.items) s.found s.parents.items i limit
+IsLeftAt w m s i limit = IsLeftOpen w.patterns m.ends.items w.clauses (characters_of m.moves.items) s.found s.parents.items i limit
 
 abbrev pub Expands : Wants → Machine → Search → ℕ → ℕ → Step → Type 0
 Expands w m s i limit =

@@ -114,7 +114,7 @@ IsVisit patterns ends clauses old found parents i c limit Met = IsMet patterns e
 IsVisit patterns ends clauses old found parents i c limit Full = IsFull patterns found parents limit
 
 -- the state at i was left by each character
-pub record IsLeft (patterns : List (List Piece)) (ends : List ℕ) (clauses : List (List Literal))
+pub record IsLeftOpen (patterns : List (List Piece)) (ends : List ℕ) (clauses : List (List Literal))
     (characters : List ℕ) (found : List (List ℕ)) (parents : List Parent) (i limit : ℕ) : Type 0 where
   pub base : IsBase patterns ends clauses found parents limit
   pub search : IsSearch patterns ends clauses characters found i []
@@ -123,7 +123,7 @@ abbrev pub IsExpansion :
     List (List Piece) → List ℕ → List (List Literal) →
     List ℕ → List (List ℕ) → List Parent → ℕ → ℕ → Step → Type 0
 IsExpansion patterns ends clauses characters found parents i limit Left =
-    IsLeft patterns ends clauses characters found parents (i + 1) limit
+    IsLeftOpen patterns ends clauses characters found parents (i + 1) limit
 IsExpansion patterns ends clauses characters found parents i limit Met = IsMet patterns ends clauses found parents
 IsExpansion patterns ends clauses characters found parents i limit Full = IsFull patterns found parents limit
 
@@ -132,7 +132,7 @@ pub record IsOver (patterns : List (List Piece)) (ends : List ℕ) (clauses : Li
     (characters : List ℕ) (found : List (List ℕ)) (parents : List Parent) (limit : ℕ) : Type 0 where
   pub last : ℕ
   pub all : length found ≤ last
-  pub left : IsLeft patterns ends clauses characters found parents last limit
+  pub left : IsLeftOpen patterns ends clauses characters found parents last limit
 
 abbrev pub IsOutcome :
     List (List Piece) → List ℕ → List (List Literal) →

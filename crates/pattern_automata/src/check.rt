@@ -81,7 +81,7 @@ fn at_most(places: &[u32], most: usize) -> bool
 }
 
 /// Whether each place is at most the number of its pattern's pieces.
-fn all_fit(patterns: &[Pattern], state: &State<'_>) -> bool
+fn places_fit(patterns: &[Pattern], state: &State<'_>) -> bool
     requires { length state.now ≡ length patterns.now }
     ensures { result ≡ places_fit patterns.now state.now }
 {
@@ -174,7 +174,7 @@ fn add_member(
     ensures { OnOk result (TakesIn patterns.now state.now members.old members.new) }
 {
     let words = words_of(alloc, patterns, state)?;
-    if all_fit(patterns, state) {
+    if places_fit(patterns, state) {
         keep(words, &mut members.fitting)?;
         return Ok(());
     }

@@ -7,8 +7,8 @@ ghost use Rattle.pattern_automata.specs.Machine.{IsMachine};
 ghost use Rattle.pattern_automata.specs.Search.{GrowsTree, HasTree};
 
 use crate::left::words_left;
-use crate::machine::Machine;
-use crate::proposal::verified;
+use crate::machine::{Machine, machine_of};
+use crate::proposal::{proposed, verified};
 use crate::search::{Search, begin, leads_as_first, turn};
 use crate::tree::text_of;
 use crate::waiting::Waiting;
@@ -20,6 +20,9 @@ use wildcard_lang::Text;
 /// How many product states are found for each that is looked at, on the whole: one may lead to a new one
 /// by each character that a pattern names.
 const FOUND_FOR_EACH: usize = 16;
+
+/// How many product states are looked at where only a text that is near is worth having.
+const NEAR: usize = 64;
 
 /// Whether the last product state meets the wants. If not it is to wait, unless no text from there on
 /// meets them.
@@ -135,4 +138,18 @@ pub fn eager_text(
     let last = search.parents.len() - 1;
     let text = text_of(alloc, search.parents.as_slice(), last)?;
     Ok(verified(wants, text))
+}
+
+/// A text that meets the wants, where one is found soon. Where none is found nothing follows.
+///
+/// Each literal names one of the patterns. The only error is want of memory.
+pub fn text_soon(alloc: Global, wants: &Wants) -> Result<Option<Text>, NoMemory>
+    requires range { InRange (length wants.now.patterns) wants.now.clauses }
+    ensures { IfOk result (λ found. IfSome found (IsTextFor wants.now)) }
+{
+    if let Some(text) = proposed(alloc, wants)? {
+        return Ok(Some(text));
+    }
+    let machine = machine_of(alloc, wants.patterns.as_slice())?;
+    eager_text(alloc, wants, &machine, NEAR)
 }

@@ -40,7 +40,7 @@ fn piece_test(kind: Kind, piece: Piece) -> bool
 }
 
 /// Whether there is a piece before the mark, and does this.
-fn does(fronts: &[Option<Piece>], mark: usize, kind: Kind) -> bool
+fn piece_does(fronts: &[Option<Piece>], mark: usize, kind: Kind) -> bool
     ensures { result ≡ piece_does kind fronts.now mark }
 {
     match fronts.get(mark) {
@@ -84,7 +84,7 @@ pub fn word_at(fronts: &[Option<Piece>], index: usize, kind: Kind) -> u64
     let mut i = 64;
     while i > 0 {
         i -= 1;
-        word = word * 2 + u64::from(does(fronts, 64 * index + i, kind));
+        word = word * 2 + u64::from(piece_does(fronts, 64 * index + i, kind));
     }
     word
 }

@@ -25,6 +25,7 @@ mod wants;
 mod words;
 
 pub use check::{is_closed, rises};
+pub use eager::text_soon;
 pub use outcome::Product;
 pub use search::product;
 pub use states::{Closed, PlaceList, PlaceLists, State};

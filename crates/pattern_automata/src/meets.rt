@@ -49,7 +49,7 @@ pub fn ends_of(alloc: Global, patterns: &[Pattern]) -> Result<Vec<usize>, NoMemo
 }
 
 /// Whether a literal of the clause is met.
-fn clause_met(ends: &[usize], literals: &[Literal], words: &[u64]) -> bool
+fn words_meet_clause(ends: &[usize], literals: &[Literal], words: &[u64]) -> bool
     requires range { All (λ l. l.pattern < length ends.now) literals.now }
     requires within { All (λ e. e < 64 * length words.now) ends.now }
     ensures { result ≡ words_meet_clause ends.now literals.now words.now }
@@ -69,7 +69,7 @@ pub fn clauses_met(ends: &[usize], clauses: &[LiteralList], words: &[u64]) -> bo
     ensures { result ≡ words_meet ends.now clauses.now words.now }
 {
     for clause in clauses {
-        if !clause_met(ends, clause.as_slice(), words) {
+        if !words_meet_clause(ends, clause.as_slice(), words) {
             return false;
         }
     }

@@ -25,7 +25,7 @@ pub fn has_mark(words: &[u64], mark: usize) -> bool
 }
 
 /// The word with these bits.
-fn word_of(marks: &[bool]) -> u64
+fn word_with(marks: &[bool]) -> u64
     requires { length marks.now ≤ 64 }
     ensures { result ≡ word_with marks.now }
 {
@@ -46,10 +46,10 @@ pub fn pack(alloc: Global, marks: &[bool]) -> Result<Vec<u64>, NoMemory>
     let mut rest = marks;
     for block in 0..marks.len() / 64 {
         let (first, more) = rest.split_at(64);
-        words.push(word_of(first))?;
+        words.push(word_with(first))?;
         rest = more;
     }
-    words.push(word_of(rest))?;
+    words.push(word_with(rest))?;
     Ok(words)
 }
 

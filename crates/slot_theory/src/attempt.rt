@@ -12,7 +12,7 @@ use crate::question::Question;
 use crate::slots::shape_at;
 use crate::steps::{Attempt, KindAttempt};
 use crate::trial::tried;
-use crate::wants::solve;
+use crate::wants::{has_text_soon, solve};
 use pattern_automata::Product;
 use plain_lists::NoMemory;
 use policy_model::PrincipalKind::{self, Aws, CanonicalUser, Federated, Service};
@@ -31,6 +31,15 @@ fn attempt_word(alloc: Global, question: &Question<'_>, core: &[u32]) -> Result<
         Product::TooMany(texts) => Ok(Attempt::Full(texts)),
         Product::Found(text) => Ok(tried(question, SlotValue::Word(text))),
     }
+}
+
+/// Whether a word for the core is found soon. That is a proposal: nothing is promised of it.
+pub fn has_word_soon(alloc: Global, question: &Question<'_>, core: &[u32]) -> Result<bool, NoMemory>
+    requires slot { IsWordSlot question.now.slot.now }
+    requires core { IsCoreOf question.now core.now }
+{
+    let shape = shape_at(question.schema, question.slot);
+    has_text_soon(alloc, question, core, shape)
 }
 
 /// A principal of the kind for the core, tried on all answered tests of the slot.

@@ -9,7 +9,7 @@ ghost use Rattle.slot_theory.specs.Wants.{IsClosedFor, IsWants, patterns_of, sha
 use crate::question::Question;
 use crate::slots::pattern_of;
 use pattern_automata::{
-    ClauseList, Closed, Literal, LiteralList, Product, Wants, is_closed, product,
+    ClauseList, Closed, Literal, LiteralList, Product, Wants, is_closed, product, text_soon,
 };
 use plain_lists::NoMemory;
 use std::alloc::{AllocError, Global};
@@ -139,6 +139,21 @@ pub fn solve(
 {
     let wants = wants_of(alloc, question, numbers, shape)?;
     product(alloc, &wants, question.states)
+}
+
+/// Whether a text that meets what the tests of these numbers want is found soon. That is a proposal: nothing is
+/// promised of it.
+pub fn has_text_soon(
+    alloc: Global,
+    question: &Question<'_>,
+    numbers: &[u32],
+    shape: &Option<Pattern>,
+) -> Result<bool, NoMemory>
+    requires wanted { AreWanted question.now numbers.now }
+{
+    let wants = wants_of(alloc, question, numbers, shape)?;
+    let text = text_soon(alloc, &wants)?;
+    Ok(text.is_some())
 }
 
 /// Whether the set is closed for what the tests of these numbers want.

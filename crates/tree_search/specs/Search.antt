@@ -89,7 +89,7 @@ abbrev pub IsOneLonger : Search → State → ℕ → Bool → Type 0
 IsOneLonger s state test answer = IsLonger s.schema.now s.query.now state.path state.values test answer
 
 -- and unit propagation doesn't follow its last answer yet
-pub record IsAhead (s : Search) (state : State) (test : ℕ) (answer : Bool) : Type 0 where
+pub record IsSideAhead (s : Search) (state : State) (test : ℕ) (answer : Bool) : Type 0 where
   pub longer : IsOneLonger s state test answer
   pub behind : state.clauses ≡ followed_at s.query.now longer.before
 

@@ -8,7 +8,7 @@ ghost use Rattle.formula_tree.specs.declared.value.Three.TheVariants.{No, Yes};
 ghost use Rattle.policy_compile.specs.Queries.{asked_tree};
 ghost use Rattle.search_parts.specs.Joining.{AreReady};
 ghost use Rattle.slot_theory.specs.Slots.{slot_of, test_at};
-ghost use Rattle.tree_search.specs.Search.{Carries, CarriesWith, IsAhead, IsAtPath, IsFoundHere, IsFoundThere, IsJoinedHere, IsMetHere, IsOneLonger, IsOpenAt, IsReady, IsRestored, IsSide, MayBeYes, SaysIfClosed, Stands};
+ghost use Rattle.tree_search.specs.Search.{Carries, CarriesWith, IsSideAhead, IsAtPath, IsFoundHere, IsFoundThere, IsJoinedHere, IsMetHere, IsOneLonger, IsOpenAt, IsReady, IsRestored, IsSide, MayBeYes, SaysIfClosed, Stands};
 ghost use Rattle.tree_search.specs.Values.{IsIndexOf};
 
 use crate::found::Found;
@@ -137,7 +137,7 @@ impl<'a> Search<'a> {
     fn enter(&self, state: &mut State, test: u32, answer: bool) -> Result<Found, NoMemory>
         requires ready { IsReady self.now }
         requires stands { Stands self.now state.old }
-        requires ahead { IsAhead self.now state.old test answer }
+        requires ahead { IsSideAhead self.now state.old test answer }
         ensures found { IfOk result (IsFoundHere self.now state.old state.new) }
         ensures restored { OnOk result (IsRestored self.now state.old state.new) }
     {

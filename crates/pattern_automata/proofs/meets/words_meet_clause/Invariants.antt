@@ -1,7 +1,7 @@
 use Rattle.std.proofs.Common.{◌≡◌, get_or, drop}
 use Rattle.pattern_automata.specs.Closed.{clause_holds}
 use Rattle.pattern_automata.specs.Packed.{word_mark}
-use Rattle.pattern_automata.proofs.meets.clause_met.Given as goal
+use Rattle.pattern_automata.proofs.meets.words_meet_clause.Given as goal
 
 abbrev pub invariant-loop-literal : goal.invariant-loop-literal
 invariant-loop-literal l =
