@@ -81,12 +81,12 @@ fn block_at(address: Address, prefix: u8) -> Block
     ensures first { result.first ≡ network_address address prefix }
     ensures prefix { result.prefix ≡ prefix }
 {
-    let first = cleared_address(address, prefix);
+    let first = network_address(address, prefix);
     Block { first, prefix }
 }
 
 // The address with each bit after the first `prefix` ones set to zero.
-fn cleared_address(address: Address, prefix: u8) -> Address
+fn network_address(address: Address, prefix: u8) -> Address
     requires { prefix ≤ width address }
     ensures { result ≡ network_address address prefix }
 {

@@ -32,7 +32,7 @@ fn names_arg<'a>(alloc: Global, id: &'a str) -> Arg<'a>
 }
 
 // The numbers from 1 to `most`.
-fn up_to<'a>(most: u32) -> ValueParser<'a>
+fn numbers_up_to<'a>(most: u32) -> ValueParser<'a>
     ensures { result ≡ numbers_up_to most }
 {
     value_parser!(u32).range(1..=i64::from(most))
@@ -45,7 +45,7 @@ fn amount_arg<'a>(alloc: Global, id: &'a str, most: u32) -> Arg<'a>
     Arg::new(alloc, id)
         .required(true)
         .action(ArgAction::Set)
-        .value_parser(up_to(most))
+        .value_parser(numbers_up_to(most))
 }
 
 fn file_arg<'a>(alloc: Global, id: &'a str) -> Arg<'a>
@@ -62,7 +62,7 @@ fn number_arg<'a>(alloc: Global, id: &'a str, most: u32) -> Arg<'a>
     Arg::new(alloc, id)
         .long(id)
         .action(ArgAction::Set)
-        .value_parser(up_to(most))
+        .value_parser(numbers_up_to(most))
 }
 
 fn flag_arg<'a>(alloc: Global, id: &'a str) -> Arg<'a>

@@ -23,6 +23,7 @@ fn texts_of_dimension(alloc: Global, stratum: &Stratum) -> Result<List<String>, 
     let mut texts = List::new(alloc);
     for predicate in stratum.predicates.as_slice() {
         let text = predicate_text(alloc, predicate)?;
+        // `as_str` tells that a string is UTF-8: `utf8` rests on it.
         let _words = text.as_str();
         texts.push(text)?;
     }

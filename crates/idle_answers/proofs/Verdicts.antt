@@ -34,7 +34,7 @@ use Rattle.tree_search.specs.declared.outcome.Decided.TheVariants as decided
 use Rattle.tree_search.specs.Decisions.{IsDecision}
 use Rattle.idle_answers.specs.declared.answer.UseAnswer.{UseAnswer}
 use Rattle.idle_answers.specs.declared.answer.UseAnswer.TheVariants as answer
-use Rattle.idle_answers.specs.Deciding.{IsAskedFor, IsIdleAnswer, IsPairWithoutApart, IsSettledVerdict, IsSmallerFor, IsAnswerToUse, IsUseVerdict, settled_of}
+use Rattle.idle_answers.specs.Deciding.{IsAskedWithout, IsIdleAnswer, IsPairWithoutApart, IsSettledVerdict, IsSmallerFor, IsAnswerToUse, IsUseVerdict, settled_of}
 use Rattle.idle_answers.specs.UseAnswers.{CertifiesChange, IsUseAnswer, IsUseAnswerAt}
 
 -- what is decided of a query settles it
@@ -52,14 +52,14 @@ there_is : (one : OneSet) (name : StatementName) → IsNameIn one.set name → (
 there_is one name (k, n, within, at, same) = (n.1, subst (λ (m : StatementName). Contains (named_set one.set) (m, n.1)) same (k, within, at))
 
 -- the query of two sets that are asked in place of the set and the set without the statement
-pub is_smaller : (one : OneSet) (name : StatementName) (asked : AskedPair) (q : Query) → FitsItsSchema one → IsAskedFor one name asked
+pub is_smaller : (one : OneSet) (name : StatementName) (asked : AskedPair) (q : Query) → FitsItsSchema one → IsAskedWithout one name asked
     → IsQuery (query_plan one.schema asked.less asked.rest) q → IsSmallerFor one name q
 is_smaller one name asked q fitting (s, there, pair) is = (s, asked, record { fits = fitting.fits; named_there = there; pair = pair; is = is })
 
 -- what is left and the set without the statement, both maybe without what is apart
 pub difference_asks : SharedStatementsAddNothing → ApartStatementsSayNothing → WithoutStaysSound → (one : OneSet) (name : StatementName) (left : PolicySet) (asked : AskedPair)
     → FitsItsSchema one → IsNameIn one.set name → OfNamed one.set name (λ s. s.allow ≡ true) → IsDifference one.set (without_statement one.set name) left
-    → IsPairWithoutApart left (without_statement one.set name) asked → IsAskedFor one name asked
+    → IsPairWithoutApart left (without_statement one.set name) asked → IsAskedWithout one name asked
 difference_asks shared apart stays one name left asked fitting named allow difference may =
     let there = there_is one name named in
     let part = without_statement one.set name in
@@ -94,7 +94,7 @@ narrowed_deny set name t part is same deny (Some asked) n = λ s there.
 
 -- what can apply with the statement
 pub narrowed_asks : NarrowedPairsAskTheSame → (one : OneSet) (name : StatementName) (asked : AskedPair) → FitsItsSchema one → IsNameIn one.set name
-    → OfNamed one.set name (λ s. IsNarrowedChange one.set name s asked) → IsAskedFor one name asked
+    → OfNamed one.set name (λ s. IsNarrowedChange one.set name s asked) → IsAskedWithout one name asked
 narrowed_asks law one name asked fitting named change =
     let there = there_is one name named in
     (there.0, there.1, law one.schema one.set name there.0 asked fitting.fits there.1 (change there.0 there.1))

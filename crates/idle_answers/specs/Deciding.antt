@@ -52,8 +52,8 @@ abbrev pub IsPairWithoutApart : PolicySet → PolicySet → AskedPair → Type 0
 IsPairWithoutApart left second asked = MayBeWithoutApart left left asked.less × MayBeWithoutApart left second asked.rest
 
 -- the same is asked of the two sets as of the set and the set without the statement of this name
-abbrev pub IsAskedFor : OneSet → StatementName → AskedPair → Type 0
-IsAskedFor one name asked =
+abbrev pub IsAskedWithout : OneSet → StatementName → AskedPair → Type 0
+IsAskedWithout one name asked =
     (s : Statement) × Contains (named_set one.set) (name, s) × AsksTheChange one.schema one.set name s asked
 
 -- the query is that of two such sets

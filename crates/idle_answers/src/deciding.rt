@@ -7,7 +7,7 @@ ghost use Rattle.refute_check.specs.Proofs.{proof_of};
 ghost use Rattle.run_sets.specs.OneSets.{FitsItsSchema};
 ghost use Rattle.set_questions.specs.Idle.{IsNameIn, OfNamed};
 ghost use Rattle.set_questions.specs.Narrowing.{IsNarrowedChange};
-ghost use Rattle.idle_answers.specs.Deciding.{IsAskedFor, IsIdleAnswer, IsPairWithoutApart, IsSettledVerdict, IsSmallerFor, IsAnswerToUse, IsUseVerdict};
+ghost use Rattle.idle_answers.specs.Deciding.{IsAskedWithout, IsIdleAnswer, IsPairWithoutApart, IsSettledVerdict, IsSmallerFor, IsAnswerToUse, IsUseVerdict};
 ghost use Rattle.idle_answers.specs.UseAnswers.{IsUseAnswerAt};
 
 use crate::answer::UseAnswer;
@@ -113,7 +113,7 @@ fn pair_answer(
     budgets: Budgets,
 ) -> Result<Option<UseAnswer>, NoMemory>
     requires fitting { FitsItsSchema one.now }
-    requires asked { IsAskedFor one.now name asked.now }
+    requires asked { IsAskedWithout one.now name asked.now }
     requires splits { 1 ≤ budgets.splits }
     requires states { 1 ≤ budgets.states }
     ensures { IfOk result (λ answer. IfSome answer (IsUseVerdict one.now name)) }

@@ -17,28 +17,28 @@ pub(crate) fn civil(text: &[u8]) -> Option<i128>
 {
     let (year, text) = four_digits(text)?;
     let (month, text) = field(text, b'-')?;
-    behind_month(year, month, text)
+    after_month(year, month, text)
 }
 
 // A year and a month and what stands behind them: nothing, or a day and what may stand behind it.
-fn behind_month(year: u16, month: u8, text: &[u8]) -> Option<i128>
+fn after_month(year: u16, month: u8, text: &[u8]) -> Option<i128>
     requires year_in { year < 10_000 }
     requires month_in { month < 100 }
     ensures value { result ≡ after_month year month text.now }
     ensures small { IfSome result (λ units. unsigned_abs units < 10_000_000_000_000_000_000_000) }
 {
     match text {
-        [] => midnight(year, month, 1),
+        [] => midnight_of(year, month, 1),
         _ => {
             let (day, rest) = field(text, b'-')?;
-            let start = midnight(year, month, day)?;
-            behind_day(start, rest)
+            let start = midnight_of(year, month, day)?;
+            after_day(start, rest)
         }
     }
 }
 
 // The first instant of a day and what stands behind its date: nothing, or a time of day.
-fn behind_day(start: i128, text: &[u8]) -> Option<i128>
+fn after_day(start: i128, text: &[u8]) -> Option<i128>
     requires { unsigned_abs start < 1_000_000_000_000_000_000_000 }
     ensures value { result ≡ after_day start text.now }
     ensures small { IfSome result (λ units. unsigned_abs units < 10_000_000_000_000_000_000_000) }
@@ -50,7 +50,7 @@ fn behind_day(start: i128, text: &[u8]) -> Option<i128>
 }
 
 // The first instant in UTC of a date, where the calendar has it.
-fn midnight(year: u16, month: u8, day: u8) -> Option<i128>
+fn midnight_of(year: u16, month: u8, day: u8) -> Option<i128>
     requires year_in { year < 10_000 }
     requires month_in { month < 100 }
     requires day_in { day < 100 }

@@ -4,7 +4,7 @@ ghost use Rattle.intervals.specs.declared.units.TheConstants.{UNITS_OF_MINUTE};
 ghost use Rattle.intervals.specs.Moments.{units_of_minute};
 ghost use Rattle.intervals.specs.MomentTexts.{read_view, fraction_after, after_second, second_of, seconds_of, whole_clock, offset_of, time_of};
 
-use crate::digits::{fraction, leading_digits};
+use crate::digits::{digit_run, fraction};
 use crate::fields::{clock, two_digits};
 use crate::units::{UNITS, UNITS_OF_MINUTE};
 
@@ -56,7 +56,7 @@ fn behind_second(second: u8, text: &[u8]) -> Option<(u64, &[u8])>
     let units = u64::from(second) * UNITS;
     match text {
         [b'.', rest @ ..] => {
-            let (digits, rest) = rest.split_at(leading_digits(rest));
+            let (digits, rest) = rest.split_at(digit_run(rest));
             Some((units + fraction(digits)?, rest))
         }
         _ => Some((units, text)),

@@ -5,7 +5,7 @@ ghost use Rattle.intervals.specs.declared.units.TheConstants.{SIZE_LIMIT, UNITS}
 ghost use Rattle.intervals.specs.Decimals.{WritesDecimal};
 ghost use Rattle.intervals.specs.DecimalTexts.{has_sign, after_sign, size_of, tail_of, decimal_of};
 
-use crate::digits::{fraction, leading_digits, number};
+use crate::digits::{digit_run, fraction, number};
 use crate::scaled::{BadNumber, Scaled};
 use crate::units::UNITS;
 
@@ -48,7 +48,7 @@ fn size(text: &[u8]) -> Option<u128>
     ensures value { result ≡ size_of text.now }
     ensures small { IfSome result (λ n. n < SIZE_LIMIT) }
 {
-    let (digits, rest) = text.split_at(leading_digits(text));
+    let (digits, rest) = text.split_at(digit_run(text));
     let whole = number(digits, 18)?;
     let units = tail(rest)?;
     Some(u128::from(whole) * u128::from(UNITS) + u128::from(units))

@@ -35,7 +35,7 @@ pub(crate) fn fraction(text: &[u8]) -> Option<u64>
 }
 
 /// How many digits the text begins with.
-pub(crate) fn leading_digits(text: &[u8]) -> usize
+pub(crate) fn digit_run(text: &[u8]) -> usize
     ensures value { result ≡ digit_run text.now }
     ensures within { result ≤ length text.now }
 {

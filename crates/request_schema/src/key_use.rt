@@ -77,7 +77,7 @@ fn more_use(known: Option<KeyUse>, operator: Operator) -> KeyUse
 }
 
 // What the operators on a key come to, where there are some.
-fn found_at(table: &Table<KeyUse>, key: &Text) -> Option<KeyUse>
+fn item_at(table: &Table<KeyUse>, key: &Text) -> Option<KeyUse>
     ensures { result ≡ item_at key.now table.now }
 {
     table.get(key).copied()
@@ -91,7 +91,7 @@ fn add_use(table: &mut Table<KeyUse>, condition: &Condition) -> Result<(), NoMem
         return Ok(());
     }
     let key = condition.key.copy()?;
-    let key_use = more_use(found_at(table, &key), condition.operator);
+    let key_use = more_use(item_at(table, &key), condition.operator);
     table.insert(key, key_use)
 }
 
@@ -110,7 +110,7 @@ pub(crate) fn summarise(alloc: Global, uses: &[FoundUse]) -> Result<Table<KeyUse
 pub(crate) fn kind_fixed(table: &Table<KeyUse>, key: &Text) -> Kind
     ensures { result ≡ kind_fixed (item_at key.now table.now) }
 {
-    match found_at(table, key) {
+    match item_at(table, key) {
         None => Kind::Text,
         Some(key_use) => group_kind(key_use.first),
     }
@@ -120,7 +120,7 @@ pub(crate) fn kind_fixed(table: &Table<KeyUse>, key: &Text) -> Kind
 pub(crate) fn rule_made(table: &Table<KeyUse>, key: &Text) -> KeyRule
     ensures { result ≡ rule_made (item_at key.now table.now) }
 {
-    match found_at(table, key) {
+    match item_at(table, key) {
         None => plain_rule(Kind::Text, true),
         Some(key_use) if key_use.bools => plain_rule(Kind::Truth, key_use.prefixed),
         Some(key_use) => plain_rule(group_kind(key_use.first), key_use.prefixed),

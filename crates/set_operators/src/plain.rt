@@ -61,7 +61,7 @@ pub fn plain_kind(kind: Kind) -> Option<PlainKind>
 }
 
 // The value of a key.
-fn value_of(value: PlainValue) -> Value
+fn as_value(value: PlainValue) -> Value
     ensures { result ≡ as_value value }
 {
     match value {
@@ -101,7 +101,7 @@ pub fn points_of(
     let wants = plain_wants(alloc, kind, asks, Choice::Each)?;
     if wants.is_proper() {
         for point in sample_points(alloc, kind, wants.conds.as_slice())?.into_vec() {
-            values.push(Some(value_of(point)))?;
+            values.push(Some(as_value(point)))?;
         }
     }
     Ok(values)
@@ -122,7 +122,7 @@ fn point_for(
     meets_is_meaning();
     let wants = plain_wants(alloc, kind, asks, choice)?;
     match solve(alloc, &wants)? {
-        Solved::Found(value) => Ok(Some(value_of(value))),
+        Solved::Found(value) => Ok(Some(as_value(value))),
         Solved::Empty => Ok(None),
     }
 }

@@ -60,7 +60,7 @@ fn push_first(
             points.push(PlainValue::Address(Address::V4(0)))?;
             points.push(PlainValue::Address(Address::V6(0)))
         }
-        PlainKind::Bytes => points.push(PlainValue::Bytes(zeros(alloc, longest_of(conds))?)),
+        PlainKind::Bytes => points.push(PlainValue::Bytes(zeros(alloc, longest_length(conds))?)),
     }
 }
 
@@ -95,7 +95,7 @@ fn zeros(alloc: Global, count: usize) -> Result<ByteList, NoMemory>
 }
 
 // The length of the longest byte string that a condition names.
-fn longest_of(conds: &[PlainCond]) -> usize
+fn longest_length(conds: &[PlainCond]) -> usize
     ensures { result ≡ longest_length conds.now }
 {
     conds.iter().fold(0, |most, cond| most.max(length_of(cond)))

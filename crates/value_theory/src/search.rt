@@ -125,7 +125,7 @@ fn first_meeting(
     ensures { IsFirstMeeting points.now conds.now clauses.now result }
 {
     for (index, point) in points.iter().enumerate() {
-        if passes(point, index, known, conds, clauses) {
+        if meets_clauses(point, index, known, conds, clauses) {
             return Some(index);
         }
     }
@@ -133,7 +133,7 @@ fn first_meeting(
 }
 
 // Whether the point at the index meets the clauses, which most points of long lists are known not to.
-fn passes(
+fn meets_clauses(
     point: &PlainValue,
     index: usize,
     known: &Known,
@@ -166,7 +166,7 @@ fn is_refused(
 {
     match guess {
         Some(index) if index < clauses.len() => {
-            !clause_meets(point, conds, clauses[index].as_slice())
+            !meets_clause(point, conds, clauses[index].as_slice())
         }
         _ => false,
     }
@@ -177,7 +177,7 @@ fn point_meets(point: &PlainValue, conds: &[PlainCond], clauses: &[LiteralList])
     ensures { result ≡ meets_clauses conds.now clauses.now point.now }
 {
     for clause in clauses {
-        if !clause_meets(point, conds, clause.as_slice()) {
+        if !meets_clause(point, conds, clause.as_slice()) {
             return false;
         }
     }
@@ -185,7 +185,7 @@ fn point_meets(point: &PlainValue, conds: &[PlainCond], clauses: &[LiteralList])
 }
 
 // Answers to all conditions in advance would be wasted: most points fail at their first clauses.
-fn clause_meets(point: &PlainValue, conds: &[PlainCond], literals: &[Literal]) -> bool
+fn meets_clause(point: &PlainValue, conds: &[PlainCond], literals: &[Literal]) -> bool
     requires { All (λ l. l.pattern < length conds.now) literals.now }
     ensures { result ≡ meets_clause conds.now point.now literals.now }
 {

@@ -11,8 +11,8 @@ solve-requires c =
 
 pub returns-in-Found : goal.returns-in-Found
 returns-in-Found c =
-    found-at c.meets_is_meaning.ensures c.args.kind (chosen_asks c.args.asks.now c.args.choice) c.in_ok-wants.wants c.in_ok-value.field-0 c.in-Found.value c.value_of.result c.in_ok-wants.ensures
-    (chosen-there c.args.asks.now c.args.choice c.requires.choice c.requires.there) c.in-Found.is c.in_ok-value.ensures.answer c.value_of.ensures
+    found-at c.meets_is_meaning.ensures c.args.kind (chosen_asks c.args.asks.now c.args.choice) c.in_ok-wants.wants c.in_ok-value.field-0 c.in-Found.value c.as_value.result c.in_ok-wants.ensures
+    (chosen-there c.args.asks.now c.args.choice c.requires.choice c.requires.there) c.in-Found.is c.in_ok-value.ensures.answer c.as_value.ensures
 
 pub returns : goal.returns
 returns c =

@@ -4,7 +4,7 @@ use Rattle.std.proofs.lemmas.Int.{ints, to_z-of_z}
 use Rattle.jiff_core.specs.Date.{IsYmd}
 use Rattle.intervals.specs.Moments.{units_of_day}
 use Rattle.intervals.proofs.Dates.{midnight_of_date}
-use Rattle.intervals.proofs.civil.midnight.Goals as goal
+use Rattle.intervals.proofs.civil.midnight_of.Goals as goal
 
 pub returns-in-Ok-clause-value : goal.returns-in-Ok-clause-value
 returns-in-Ok-clause-value c =
