@@ -52,10 +52,9 @@ pub fn print_pair(
     ensures { IfPrinted result (IsPairPrinted certified budgets pair.now) }
 {
     let answer = compare(alloc, pair, budgets, certified)?;
-    Ok(Printed {
-        text: comparison_text(alloc, &answer)?,
-        status: comparison_status(&answer),
-    })
+    let status = comparison_status(&answer);
+    let text = comparison_text(alloc, answer)?;
+    Ok(Printed { text, status })
 }
 
 /// What is printed to a comparison of files that were read, those of two sets and that of a schema where one

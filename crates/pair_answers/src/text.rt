@@ -1,5 +1,6 @@
 //! The texts of the answers.
-ghost use Rattle.std.specs.Prelude.{◌≡◌, IfOk, string_bytes};
+ghost use Rattle.std.specs.Prelude.{◌≡◌, ◌++◌, IfOk, string_bytes};
+ghost use Rattle.proof_text.specs.Lines.{verdict_line};
 ghost use Rattle.pair_answers.specs.Texts.{check_text, comparison_text};
 
 use crate::answer::{CheckAnswer, ComparisonAnswer};
@@ -7,23 +8,30 @@ use request_json::write_request;
 use run_sets::{accepted_line, not_closing_line, proof_fault_text, shortage_text};
 use std::alloc::{AllocError, Global};
 
+// A certificate behind the line of the verdict. It is put in front of it in place, since a certificate may have
+// many megabytes.
+fn behind_verdict(proof: String) -> Result<String, AllocError>
+    ensures { IfOk result (λ s. string_bytes s ≡ verdict_line ++ string_bytes proof) }
+{
+    let mut text = proof;
+    text.insert_str(0, "not more permissive\n")?;
+    Ok(text)
+}
+
 /// The text of an answer to a comparison: one line, for `More` the request on a second one, and for `Proved`
 /// the certificate behind the line.
 #[tactic(auto, unfolding(crate::specs::Texts::comparison_text))]
-pub fn comparison_text(alloc: Global, answer: &ComparisonAnswer) -> Result<String, AllocError>
-    ensures { IfOk result (λ s. string_bytes s ≡ comparison_text answer.now) }
+pub fn comparison_text(alloc: Global, answer: ComparisonAnswer) -> Result<String, AllocError>
+    ensures { IfOk result (λ s. string_bytes s ≡ comparison_text answer) }
 {
     match answer {
         ComparisonAnswer::NotMore => String::from_str(alloc, "not more permissive\n"),
         ComparisonAnswer::More(request) => {
-            let request = write_request(alloc, request)?;
+            let request = write_request(alloc, &request)?;
             format!(in alloc; "more permissive\n{request}\n")
         }
-        ComparisonAnswer::Proved(proof) => {
-            let proof = proof.as_str();
-            format!(in alloc; "not more permissive\n{proof}")
-        }
-        ComparisonAnswer::Undecided(shortage) => shortage_text(alloc, shortage),
+        ComparisonAnswer::Proved(proof) => behind_verdict(proof),
+        ComparisonAnswer::Undecided(shortage) => shortage_text(alloc, &shortage),
     }
 }
 
