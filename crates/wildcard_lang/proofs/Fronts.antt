@@ -9,7 +9,7 @@ use Rattle.wildcard_lang.proofs.Accept.{Decides-accepts, accepts-same}
 use Rattle.wildcard_lang.specs.Accepts.{accepts, accepts_by}
 
 -- a star alone takes all
-star_alone : {X : Type 0} (taken : Piece → X → Bool) → ((x : X) → taken Many x ≡ true) → (t : List X) → accepts_by taken (Many ∷ []) t ≡ true
+pub star_alone : {X : Type 0} (taken : Piece → X → Bool) → ((x : X) → taken Many x ≡ true) → (t : List X) → accepts_by taken (Many ∷ []) t ≡ true
 star_alone taken star [] = refl
 star_alone taken star (x ∷ t) = rw (star x) (star_alone taken star t)
 

@@ -19,5 +19,6 @@ mod Covered
 mod Narrowing
 mod Ends
 mod Refusing
+mod Deciding
 mod Neighbours
 mod FrontSums

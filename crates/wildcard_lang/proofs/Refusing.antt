@@ -1,6 +1,7 @@
 -- Where a run of pieces for one item each is refused, and what a star behind it makes of the first place that takes it.
-use Rattle.std.proofs.Common.{◌≡◌, ℕ, zero, suc, ◌+◌, ◌-◌, ◌<◌, ◌≤◌, List, [], ◌∷◌, ◌++◌, length, drop, get_or, Bool, true, false, refl, sym, ap, subst, ◌∙◌, inl, inr, arith, add-one}
+use Rattle.std.proofs.Common.{◌≡◌, ℕ, zero, suc, ◌+◌, ◌-◌, ◌<◌, ◌≤◌, List, [], ◌∷◌, ◌++◌, length, drop, get_or, Bool, true, false, not, slice_get, Some, refl, sym, ap, subst, ◌∙◌, inl, inr, arith, add-one}
 use Rattle.std.proofs.lemmas.List.{drop_more, drop_all, get_or_default}
+use Rattle.std.proofs.lemmas.Option.{slice_get_within, get_or_from_slice_get}
 use Rattle.std.proofs.lemmas.List.Elements.{All-head, All-tail, All-get_or}
 use Rattle.std.proofs.lemmas.Bool.{or_cases, or_left, or_right, and_parts, not-true, both_ways}
 use Rattle.wildcard_lang.specs.declared.piece.Piece.{Piece}
@@ -16,17 +17,17 @@ one-taken : {X : Type 0} (taken : Piece → X → Bool) (p : Piece) (ps : List P
 one-taken taken p ps [] one h = absurd (both_ways _ h refl)
 one-taken taken p ps (x ∷ t) one h = let is : taken p x ≡ true = grind (arith, h) in rw (one, is) refl
 
-one-refused : {X : Type 0} (taken : Piece → X → Bool) (p : Piece) (ps : List Piece) (t : List X) → is_many p ≡ false → refuses taken p t ≡ true →
+pub one-refused : {X : Type 0} (taken : Piece → X → Bool) (p : Piece) (ps : List Piece) (t : List X) → is_many p ≡ false → refuses taken p t ≡ true →
     accepts_by taken (p ∷ ps) t ≡ false
 one-refused taken p ps [] one h = rw one refl
 one-refused taken p ps (x ∷ t) one h = let is : taken p x ≡ false = not-true (taken p x) h in rw (one, is) refl
 
 -- ---- a run
 
-run-head : (p : Piece) (run : List Piece) → IsRun (p ∷ run) → is_many p ≡ false
+pub run-head : (p : Piece) (run : List Piece) → IsRun (p ∷ run) → is_many p ≡ false
 run-head p run ones = All-head (λ q. is_many q ≡ false) p run ones
 
-run-tail : (p : Piece) (run : List Piece) → IsRun (p ∷ run) → IsRun run
+pub run-tail : (p : Piece) (run : List Piece) → IsRun (p ∷ run) → IsRun run
 run-tail p run ones = All-tail (λ q. is_many q ≡ false) p run ones
 
 pub refused_at : {X : Type 0} (taken : Piece → X → Bool) (run : List Piece) (place : ℕ) (d : Piece) (t : List X) → IsRun run → place < length run →
@@ -45,7 +46,14 @@ pub refuted : {X : Type 0} (taken : Piece → X → Bool) (run : List Piece) (pl
 refuted taken run place d ahead answer ones within is h t at =
     refused_at taken run place d t ones within (ap (refuses taken (get_or run place d)) (sym at) ∙ sym is ∙ h)
 
-drop-nil : {X : Type 0} (i : ℕ) → drop {A = X} i [] ≡ []
+-- the item at the place was found by its index
+pub refused_where : {X : Type 0} (taken : Piece → X → Bool) (run : List Piece) (place : ℕ) (d : Piece) (x : X) (t : List X) → IsRun run → place < length run →
+    slice_get t place ≡ Some x → not (taken (get_or run place d) x) ≡ true → IsRefused taken run t
+refused_where taken run place d x t ones within is h =
+    let here : drop place t ≡ x ∷ drop (place + 1) t = drop_more t place x (slice_get_within t place x is) ∙ ap (λ y. y ∷ drop (place + 1) t) (get_or_from_slice_get t place x x is) in
+    refused_at taken run place d t ones within (ap (refuses taken (get_or run place d)) here ∙ h)
+
+pub drop-nil : {X : Type 0} (i : ℕ) → drop {A = X} i [] ≡ []
 drop-nil zero = refl
 drop-nil (suc i) = refl
 
@@ -102,7 +110,7 @@ left_behind taken run place t ahead whole r =
 
 -- ---- a star behind the run
 
-run_taken : {X : Type 0} (taken : Piece → X → Bool) (run ps : List Piece) (t : List X) → IsRun run → accepts_by taken (run ++ ps) t ≡ true →
+pub run_taken : {X : Type 0} (taken : Piece → X → Bool) (run ps : List Piece) (t : List X) → IsRun run → accepts_by taken (run ++ ps) t ≡ true →
     accepts_by taken ps (drop (length run) t) ≡ true
 run_taken taken [] ps t ones h = h
 run_taken taken (p ∷ run) ps [] ones h = absurd (both_ways _ (one-refused taken p (run ++ ps) [] (run-head p run ones) refl) h)
@@ -137,13 +145,20 @@ same_truth true b to from = sym (to refl)
 same_truth false true to from = from refl
 same_truth false false to from = refl
 
+-- what the run leaves decides, where each later place of the run leaves what is matched here as well
+pub decided_by : {X : Type 0} (taken : Piece → X → Bool) (first : Piece) (run behind : List Piece) (t u : List X) → is_many first ≡ true → IsLeft taken run t u →
+    (accepts_many (accepts_by taken (run ++ behind)) (taken first) t ≡ true → accepts_by taken behind (drop (length run) t) ≡ true) →
+    accepts_by taken (first ∷ (run ++ behind)) t ≡ accepts_by taken behind u
+decided_by taken first run behind t u many is later =
+    let whole : accepts_by taken (first ∷ (run ++ behind)) t ≡ accepts_many (accepts_by taken (run ++ behind)) (taken first) t = rw many refl in
+    whole ∙ same_truth _ _
+    (λ h. subst (λ v. accepts_by taken behind v ≡ true) (sym is.0) (later h))
+    (λ h. many_done (accepts_by taken (run ++ behind)) (taken first) t (is.1 behind ∙ h))
+
 pub first_ends : {X : Type 0} (taken : Piece → X → Bool) → ((x : X) → taken Many x ≡ true) → (first : Piece) (run : List Piece) (t behind : List X) → is_many first ≡ true → IsRun run →
     IsLeft taken run t behind → (ps : List Piece) → accepts_by taken (first ∷ (run ++ Many ∷ ps)) t ≡ accepts_by taken (Many ∷ ps) behind
 first_ends taken star first run t behind many ones is ps =
-    let whole : accepts_by taken (first ∷ (run ++ Many ∷ ps)) t ≡ accepts_many (accepts_by taken (run ++ Many ∷ ps)) (taken first) t = rw many refl in
-    whole ∙ same_truth _ _
-    (λ h. subst (λ u. accepts_by taken (Many ∷ ps) u ≡ true) (sym is.0) (run_later taken star first run ps t ones h))
-    (λ h. many_done (accepts_by taken (run ++ Many ∷ ps)) (taken first) t (is.1 (Many ∷ ps) ∙ h))
+    decided_by taken first run (Many ∷ ps) t behind many is (run_later taken star first run ps t ones)
 
 -- ---- the next start
 

@@ -1,11 +1,11 @@
 -- A run of pieces for one item each behind a piece for any number, and where it takes what a text has.
 use Rattle.std.specs.Prelude.{◌≡◌, ℕ, ◌<◌, ◌≤◌, List, [], ◌∷◌, ◌++◌, length, drop, slice_index_or, Bool, true, false, not, All}
 use Rattle.wildcard_lang.specs.declared.piece.Piece.{Piece}
-use Rattle.wildcard_lang.specs.declared.piece.Piece.TheVariants.{One, Many}
+use Rattle.wildcard_lang.specs.declared.piece.Piece.TheVariants.{Lit, One, Many, ManyNoColon}
 use Rattle.wildcard_lang.specs.declared.runs.Found.{Found}
 use Rattle.wildcard_lang.specs.declared.runs.Probe.{Probe}
 use Rattle.wildcard_lang.specs.declared.runs.Probes.{Probes}
-use Rattle.wildcard_lang.specs.Matching.{is_many}
+use Rattle.wildcard_lang.specs.Matching.{takes, is_many}
 use Rattle.wildcard_lang.specs.Accepts.{accepts_by}
 
 -- each of the pieces is for one item
@@ -22,6 +22,16 @@ abbrev pub behind_first : {X : Type 0} → List X → List X
 behind_first [] = []
 behind_first (x ∷ t) = t
 
+-- the piece takes no colon
+abbrev pub is_narrow : Piece → Bool
+is_narrow p = not (takes p 58)
+
+-- what a piece takes that takes no colon, a narrow star takes, and it takes nothing that a plain colon takes
+abbrev pub IsNarrowing : {X : Type 0} → (Piece → X → Bool) → Type 0
+IsNarrowing {X} taken =
+    ((p : Piece) (x : X) → is_narrow p ≡ true → taken p x ≡ true → taken ManyNoColon x ≡ true) ×
+    ((x : X) → taken (Lit 58) x ≡ true → taken ManyNoColon x ≡ false)
+
 -- pieces that begin with these don't match the items, whatever stands behind them
 abbrev pub IsRefused : {X : Type 0} → (Piece → X → Bool) → List Piece → List X → Type 0
 IsRefused taken run t = (ps : List Piece) → accepts_by taken (run ++ ps) t ≡ false
@@ -29,6 +39,10 @@ IsRefused taken run t = (ps : List Piece) → accepts_by taken (run ++ ps) t ≡
 -- the run takes first items, and leaves these to what stands behind it
 abbrev pub IsLeft : {X : Type 0} → (Piece → X → Bool) → List Piece → List X → List X → Type 0
 IsLeft taken run t behind = (behind ≡ drop (length run) t) × ((ps : List Piece) → accepts_by taken (run ++ ps) t ≡ accepts_by taken ps behind)
+
+-- the run decides: once it takes the items, what stands behind it matches what it leaves, or nothing matches
+abbrev pub IsDecisive : {X : Type 0} → (Piece → X → Bool) → Piece → List Piece → List Piece → Type 0
+IsDecisive {X} taken first run behind = (t u : List X) → IsLeft taken run t u → accepts_by taken (first ∷ (run ++ behind)) t ≡ accepts_by taken behind u
 
 -- the first pieces of the run, `place` of them, take first items, and the next piece, where there is one, doesn't take the next item
 pub record IsReached {X : Type 0} (taken : Piece → X → Bool) (run : List Piece) (t : List X) (place : ℕ) (ahead : List X) : Type 0 where

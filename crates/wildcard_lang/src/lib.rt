@@ -5,6 +5,7 @@ mod arn;
 mod covering;
 mod equal;
 mod fault;
+mod guesses;
 mod marked;
 mod matching;
 mod meanings;

@@ -1,7 +1,7 @@
 //! Whether a pattern matches a text. The pieces behind the last for any number are compared one by one
-//! from the end, and those in front of the first from the front. What is between is matched run by run
-//! from star to star, and, from the first run that ends at a piece for any number but the colon, by
-//! keeping the places of the pattern and stepping through the text once.
+//! from the end, and those in front of the first from the front. What is between is matched run by run,
+//! each at the first place that takes it. From a run on whose first place doesn't decide, the places of
+//! the pattern are kept in steps through the text; no pattern that was read has such a run.
 ghost use Rattle.std.specs.Prelude.{◌≡◌, ◌≤◌, ◌↔◌, ℕ, List, IsTrue, true, length, slice_index_or, chars};
 ghost use Rattle.wildcard_lang.specs.declared.piece.Piece.{Piece};
 ghost use Rattle.wildcard_lang.specs.declared.piece.Piece.TheVariants.{One};
@@ -11,7 +11,7 @@ ghost use Rattle.wildcard_lang.specs.Matching.{Matches, is_many};
 use crate::pattern::{MOST_PIECES, Pattern};
 use crate::piece::Piece;
 use crate::places::start;
-use crate::runs::{first_start, has_star_first, split_run};
+use crate::runs::{first_start, is_decisive, split_run};
 use crate::source::Source;
 use crate::taken::Taken;
 use crate::text::Text;
@@ -29,7 +29,8 @@ pub fn matches(pattern: &Pattern, text: &Text) -> bool
     matches_pieces::<char, _>(pattern.as_slice(), text.as_slice())
 }
 
-/// Whether the pattern matches the characters of the string. It takes no memory.
+/// Whether the pattern matches the characters of the string. It takes no memory. A pattern of hundreds of
+/// pieces may take longer than with a text, whose characters are found by their index.
 pub fn matches_str(pattern: &Pattern, text: &str) -> bool
     ensures { IsTrue result ↔ Matches pattern.now (chars text.now) }
 {
@@ -84,8 +85,8 @@ fn matches_front<X: Taken, S: Source<X>>(pieces: &[Piece], text: S) -> bool
     }
 }
 
-// Looks for each run of pieces between two stars where the text first has it. What stands behind the
-// run decides from there on: a later place leaves less to the second star, which takes anything.
+// Looks for each run of pieces between two wildcards for any number where the text first has it. Where
+// that place decides, what stands behind the run goes on from there.
 fn matches_runs<X: Taken, S: Source<X>>(pieces: &[Piece], text: S) -> bool
     requires first { is_many (slice_index_or pieces.now 0 One) ≡ true }
     requires most { length pieces.now ≤ MOST_PIECES }
@@ -105,7 +106,7 @@ fn matches_runs<X: Taken, S: Source<X>>(pieces: &[Piece], text: S) -> bool
         let Some(found) = first_start::<X, S>(first, run, left) else {
             return false;
         };
-        if !has_star_first(behind) {
+        if !is_decisive::<X>(first, run, behind) {
             return matches_places::<X, S>(rest, found.start);
         }
         left = found.behind;

@@ -1,13 +1,15 @@
 //! Where a run of pieces for one item each, behind a piece for any number, first takes what a text has.
 //! A long run that fails at its end would be compared whole at each item of the text. So the place of
 //! the run and the item of the text at which it failed before are asked first: mostly one of them
-//! refuses the next start too, and a text is gone through once.
-ghost use Rattle.std.specs.Prelude.{◌≡◌, ◌≤◌, ◌∷◌, ◌++◌, List, [], true, IsTrue, IfSome, IfNone, IfOk, IfErr, length, take};
+//! refuses the next start too, and a text is gone through once. Where starts are refused far into the run,
+//! at many places and by many items in turn, more of them are remembered.
+ghost use Rattle.std.specs.Prelude.{◌≡◌, ◌<◌, ◌≤◌, ◌∷◌, ◌++◌, List, [], true, IsTrue, IfSome, IfNone, IfOk, IfErr, length, take, All, slice_index_or};
 ghost use Rattle.wildcard_lang.specs.declared.piece.Piece.{Piece};
-ghost use Rattle.wildcard_lang.specs.declared.piece.Piece.TheVariants.{Many};
+ghost use Rattle.wildcard_lang.specs.declared.piece.Piece.TheVariants.{Lit, One, Many, ManyNoColon};
 ghost use Rattle.wildcard_lang.specs.Matching.{is_many};
-ghost use Rattle.wildcard_lang.specs.Runs.{IsRun, IsRefused, IsLeft, IsReached, IsFirst, IsAhead, AreAhead, Refutes, refuses, behind_first};
+ghost use Rattle.wildcard_lang.specs.Runs.{IsRun, IsRefused, IsLeft, IsReached, IsFirst, IsAhead, AreAhead, Refutes, IsDecisive, is_narrow, refuses, behind_first};
 
+use crate::guesses::{Guesses, NUMBERS};
 use crate::piece::Piece;
 use crate::source::Source;
 use crate::taken::Taken;
@@ -26,6 +28,16 @@ pub(crate) struct Probes<S> {
     pub(crate) last_place: Probe<S>,
     pub(crate) older_place: Probe<S>,
     pub(crate) last_item: Probe<S>,
+}
+
+// A refusal so many places into the run is far: it is remembered.
+const FAR: usize = 16;
+
+// The places of the run at which starts were refused, and the items of the text, by their index.
+#[derive(Clone, Copy)]
+struct Refusals {
+    places: Guesses,
+    items: Guesses,
 }
 
 // The first start at which a run takes what the text has, and what it leaves.
@@ -62,10 +74,84 @@ pub(crate) fn split_run(pieces: &[Piece]) -> Option<(Piece, &[Piece], &[Piece])>
 }
 
 // Whether the first of the pieces is a star.
-pub(crate) fn has_star_first(pieces: &[Piece]) -> bool
+fn has_star_first(pieces: &[Piece]) -> bool
     ensures { IsTrue result → (more : List Piece) × (pieces.now ≡ Many ∷ more) }
 {
     matches!(pieces, [Piece::Many, ..])
+}
+
+// Whether the first of the pieces is for any number.
+fn has_many_first(pieces: &[Piece]) -> bool
+    ensures { IsTrue result → is_many (slice_index_or pieces.now 0 One) ≡ true }
+{
+    let [piece, ..] = pieces else {
+        return false;
+    };
+    piece.is_many()
+}
+
+// Whether the first of the pieces is a star that takes no colon.
+fn has_narrow_star_first(pieces: &[Piece]) -> bool
+    ensures { IsTrue result → (more : List Piece) × (pieces.now ≡ ManyNoColon ∷ more) }
+{
+    matches!(pieces, [Piece::ManyNoColon, ..])
+}
+
+// Whether the piece takes no colon.
+fn is_narrow(piece: Piece) -> bool
+    ensures { result ≡ is_narrow piece }
+{
+    !piece.takes(':')
+}
+
+// How many of the first pieces take no colon.
+fn narrow_length(pieces: &[Piece]) -> usize
+    ensures most { result ≤ length pieces.now }
+    ensures narrow { All (λ p. is_narrow p ≡ true) (take result pieces.now) }
+{
+    'pieces: for i in 0..pieces.len() {
+        if !is_narrow(pieces[i]) {
+            return i;
+        }
+    }
+    pieces.len()
+}
+
+// Whether the piece at the place is a plain colon.
+fn has_colon_at(pieces: &[Piece], place: usize) -> bool
+    ensures within { IsTrue result → place < length pieces.now }
+    ensures colon { IsTrue result → slice_index_or pieces.now place One ≡ Lit 58 }
+{
+    if place >= pieces.len() {
+        return false;
+    }
+    matches!(pieces[place], Piece::Lit(':'))
+}
+
+// Whether the first place that takes the run decides. A star behind the run takes whatever is left more there.
+// Within a part of an ARN so does a star that takes no colon; and where the run leads on to the next part, its
+// colon stands at one place of the text alone.
+pub(crate) fn is_decisive<X: Taken>(first: Piece, run: &[Piece], behind: &[Piece]) -> bool
+    requires many { is_many first ≡ true }
+    requires run { IsRun run.now }
+    ensures decisive { IsTrue result → IsDecisive X.taken first run.now behind.now }
+    ensures many { IsTrue result → is_many (slice_index_or behind.now 0 One) ≡ true }
+{
+    if !has_many_first(behind) {
+        return false;
+    }
+    if has_star_first(behind) {
+        return true;
+    }
+    if !is_narrow(first) {
+        return false;
+    }
+    X::narrows();
+    let narrow = narrow_length(run);
+    if has_colon_at(run, narrow) {
+        return true;
+    }
+    narrow == run.len() && has_narrow_star_first(behind)
 }
 
 // Whether the piece doesn't take the first item of the text, or there is none.
@@ -119,11 +205,70 @@ fn is_refuted<X: Taken, S: Source<X>>(run: &[Piece], probe: Probe<S>) -> bool
     is_refused::<X, S>(run[probe.place], probe.ahead)
 }
 
+// Whether the piece at the place of the run is seen not to take the item that stands there.
+fn is_refused_at<X: Taken, S: Source<X>>(run: &[Piece], text: S, place: usize) -> bool
+    requires { IsRun run.now }
+    ensures { IsTrue result → IsRefused X.taken run.now (S.left text) }
+{
+    if place >= run.len() {
+        return false;
+    }
+    let Some(x) = text.item_at(place) else {
+        return false;
+    };
+    !x.is_taken(run[place])
+}
+
+// Whether one of the places or items at which earlier starts were refused refuses the run at this one too.
+#[inline(never)]
+fn is_refused_again<X: Taken, S: Source<X>>(
+    run: &[Piece],
+    text: S,
+    index: usize,
+    refusals: &mut Refusals,
+) -> bool
+    requires { IsRun run.now }
+    ensures { IsTrue result → IsRefused X.taken run.now (S.left text) }
+{
+    'guesses: for i in 0..refusals.places.count() {
+        if is_refused_at::<X, S>(run, text, refusals.places.get(i)) {
+            refusals.places.prefer(i);
+            return true;
+        }
+        let place = refusals.items.get(i).wrapping_sub(index) % NUMBERS;
+        if is_refused_at::<X, S>(run, text, place) {
+            refusals.items.prefer(i);
+            return true;
+        }
+    }
+    false
+}
+
+// Remembers where the start of this index was refused. Near refusals alone cost little, and nothing is kept of them.
+#[inline(never)]
+fn keep_refusal(refusals: &mut Option<Refusals>, place: usize, index: usize) {
+    if refusals.is_none() {
+        if place < FAR {
+            return;
+        }
+        *refusals = Some(Refusals {
+            places: Guesses::none(),
+            items: Guesses::none(),
+        });
+    }
+    if let Some(known) = refusals {
+        known.places.keep(place);
+        known.items.keep(index.wrapping_add(place));
+    }
+}
+
 // What the run leaves of the text where it takes its first items, or else what refuses it there.
 fn take_run<X: Taken, S: Source<X>>(
     run: &[Piece],
     text: S,
+    index: usize,
     probes: Probes<S>,
+    refusals: &mut Option<Refusals>,
 ) -> Result<S, Probes<S>>
     requires run { IsRun run.now }
     requires ahead { AreAhead S.left (S.left text) probes }
@@ -140,10 +285,16 @@ fn take_run<X: Taken, S: Source<X>>(
     if is_refuted::<X, S>(run, probes.older_place) {
         return Err(probes);
     }
+    if let Some(known) = refusals {
+        if is_refused_again::<X, S>(run, text, index, known) {
+            return Err(probes);
+        }
+    }
     let reached = reach::<X, S>(run, text);
     if reached.place == run.len() {
         return Ok(reached.ahead);
     }
+    keep_refusal(refusals, reached.place, index);
     Err(Probes {
         last_place: reached,
         older_place: probes.last_place,
@@ -197,6 +348,7 @@ pub(crate) fn first_start<X: Taken, S: Source<X>>(
     requires many { is_many first ≡ true }
     requires run { IsRun run.now }
     ensures found { IfSome result (IsFirst X.taken S.left first run.now (S.left text)) }
+    ensures left { IfSome result (λ f. IsLeft X.taken run.now (S.left f.start) (S.left f.behind)) }
     ensures none { IfNone result (IsRefused X.taken (first ∷ run.now) (S.left text)) }
 {
     let here = Probe {
@@ -208,9 +360,11 @@ pub(crate) fn first_start<X: Taken, S: Source<X>>(
         older_place: here,
         last_item: here,
     };
+    let mut refusals = None;
+    let mut index: usize = 0;
     let mut start = text;
     'starts: loop {
-        match take_run::<X, S>(run, start, probes) {
+        match take_run::<X, S>(run, start, index, probes, &mut refusals) {
             Ok(behind) => return Some(Found { start, behind }),
             Err(refused) => probes = moved_on::<X, S>(refused),
         }
@@ -220,5 +374,6 @@ pub(crate) fn first_start<X: Taken, S: Source<X>>(
         if !x.is_taken(first) {
             return None;
         }
+        index = index.wrapping_add(1);
     }
 }

@@ -1,5 +1,5 @@
 //! The characters of a text or the pieces of a pattern, taken from the front or the end one by one.
-ghost use Rattle.std.specs.Prelude.{◌≡◌, ℕ, List, [], ◌∷◌, ◌++◌, IfSome, IfNone};
+ghost use Rattle.std.specs.Prelude.{◌≡◌, ℕ, List, [], ◌∷◌, ◌++◌, IfSome, IfNone, slice_get, Some};
 ghost use Rattle.std.specs.Str.{chars};
 
 // What gives items one by one. Matching goes over it, so that a `Text`, a `str` and a pattern share it.
@@ -14,6 +14,10 @@ pub(crate) trait Source<X>: Copy {
     fn last_item(&mut self) -> Option<X>
         ensures split { IfSome result (λ x. left self.old ≡ left self.new ++ x ∷ []) }
         ensures none { IfNone result (left self.old ≡ []) };
+
+    // The item at an index, counted from 0, where it is found in one step.
+    fn item_at(&self, i: usize) -> Option<X>
+        ensures { IfSome result (λ x. slice_get (left self.now) i ≡ Some x) };
 }
 
 impl<'a, X: Copy> Source<X> for &'a [X] {
@@ -30,6 +34,10 @@ impl<'a, X: Copy> Source<X> for &'a [X] {
         *self = rest;
         Some(*x)
     }
+
+    fn item_at(&self, i: usize) -> Option<X> {
+        self.get(i).copied()
+    }
 }
 
 impl<'a> Source<char> for &'a str {
@@ -45,6 +53,11 @@ impl<'a> Source<char> for &'a str {
         let (c, rest) = split_last(*self)?;
         *self = rest;
         Some(c)
+    }
+
+    // A string finds none: its characters are of different lengths.
+    fn item_at(&self, _i: usize) -> Option<char> {
+        None
     }
 }
 

@@ -4,6 +4,7 @@ ghost use Rattle.wildcard_lang.specs.declared.piece.Piece.{Piece};
 ghost use Rattle.wildcard_lang.specs.declared.piece.Piece.TheVariants.{Lit, LitFold, One, Many, OneNoColon, ManyNoColon};
 ghost use Rattle.wildcard_lang.specs.Matching.{takes};
 ghost use Rattle.wildcard_lang.specs.Covering.{takes_next};
+ghost use Rattle.wildcard_lang.specs.Runs.{IsNarrowing};
 
 use crate::covering::takes_next;
 use crate::piece::Piece;
@@ -16,6 +17,10 @@ pub(crate) trait Taken: Copy {
     fn is_taken(self, piece: Piece) -> bool
         ensures { result ≡ taken piece self };
 
+    // What a piece takes that takes no colon, a star that takes none takes too.
+    fn narrows()
+        ensures { IsNarrowing taken };
+
     // A star takes it.
     ghost star: { (x : Self) → taken Many x ≡ true };
 }
@@ -27,6 +32,8 @@ impl Taken for char {
         piece.takes(self)
     }
 
+    fn narrows() {}
+
     ghost star = { λ x. refl };
 }
 
@@ -36,6 +43,8 @@ impl Taken for Piece {
     fn is_taken(self, piece: Piece) -> bool {
         takes_next(piece, self)
     }
+
+    fn narrows() {}
 
     ghost star = { λ x. elim x as (λ k. takes_next Many k ≡ true) [ Lit c ↦ refl | LitFold c ↦ refl | One ↦ refl | Many ↦ refl | OneNoColon ↦ refl | ManyNoColon ↦ refl ] };
 }
