@@ -22,10 +22,6 @@ IsProduct patterns clauses limit (Found t) = Meets patterns clauses t × IsText 
 IsProduct patterns clauses limit (Empty closed) = IsClosed patterns clauses closed × (length closed ≤ limit)
 IsProduct patterns clauses limit (TooMany texts) = ShowWider patterns limit texts
 
--- the product may answer so at this limit and at each greater one
-abbrev pub IsProductFrom : Wants → ℕ → Product → Type 0
-IsProductFrom wants least answer = (limit : ℕ) → least ≤ limit → IsProduct wants.patterns wants.clauses limit answer
-
 -- the text meets the wants
 abbrev pub IsTextFor : Wants → List ℕ → Type 0
 IsTextFor wants t = Meets wants.patterns wants.clauses t × IsText t

@@ -1,5 +1,5 @@
 //! A text that is tried before any product is made: a shortest one of the pattern that asks for most
-//! characters. Where it meets all clauses it is the text that the search would find.
+//! characters, whose last wildcards take what the other patterns name.
 ghost use Rattle.std.specs.Prelude.{◌≡◌, ◌↔◌, ◌<◌, length, All, Any, IfOk, IfSome, IsTrue, OnOk};
 ghost use Rattle.std.specs.Char.{IsScalar};
 ghost use Rattle.pattern_automata.specs.Closed.{InRange, IsLiteralMet, Meets};
@@ -98,12 +98,14 @@ fn is_named(patterns: &[Pattern]) -> bool {
     patterns.iter().any(|p| names_any(p))
 }
 
+/// Whether the piece takes any one character, but for a colon maybe.
+fn is_one(piece: Piece) -> bool {
+    matches!(piece, Piece::One | Piece::OneNoColon)
+}
+
 /// Whether a piece takes any one character.
 fn asks_any(pattern: &Pattern) -> bool {
-    pattern
-        .as_slice()
-        .iter()
-        .any(|p| matches!(p, Piece::One | Piece::OneNoColon))
+    pattern.as_slice().iter().any(|p| is_one(*p))
 }
 
 /// The character that stands for those that a wildcard of the pattern takes: the one by which a search
@@ -133,13 +135,58 @@ fn push_least(piece: Piece, any: char, text: &mut Vec<char>) -> Result<(), NoMem
     Ok(())
 }
 
-/// A shortest text that the pattern matches, of the given character where a wildcard takes one.
-fn shortest(alloc: Global, pattern: &Pattern, any: char) -> Result<Text, NoMemory> {
-    let mut chars = Vec::with_capacity(alloc, pattern.len())?;
+/// How many of the pieces take any one character.
+fn wildcards_of(pattern: &Pattern) -> usize {
+    let mut count: usize = 0;
     for piece in pattern.as_slice() {
-        push_least(*piece, any, &mut chars)?;
+        count = count.saturating_add(usize::from(is_one(*piece)));
+    }
+    count
+}
+
+/// What a wildcard takes before which there are so many: from the first on the named ones in turn.
+fn taken_at(passed: usize, first: usize, any: char, named: &[char]) -> char {
+    if passed < first {
+        return any;
+    }
+    *named.get(passed - first).unwrap_or(&any)
+}
+
+/// A shortest text that the pattern matches: its last wildcards for one character take the named ones in
+/// turn, and those before them the given one.
+fn shortest(alloc: Global, pattern: &Pattern, any: char, named: &[char]) -> Result<Text, NoMemory> {
+    let mut chars = Vec::with_capacity(alloc, pattern.len())?;
+    let first = wildcards_of(pattern).saturating_sub(named.len());
+    let mut passed: usize = 0;
+    for piece in pattern.as_slice() {
+        push_least(*piece, taken_at(passed, first, any, named), &mut chars)?;
+        passed = passed.saturating_add(usize::from(is_one(*piece)));
     }
     Ok(Text::from_chars(chars))
+}
+
+/// Adds the characters that the pattern's pieces name, in their order.
+fn push_named(pattern: &Pattern, named: &mut Vec<char>) -> Result<(), NoMemory> {
+    for piece in pattern.as_slice() {
+        if let Piece::Lit(c) | Piece::LitFold(c) = piece {
+            named.push(*c)?;
+        }
+    }
+    Ok(())
+}
+
+/// What the patterns name that are to match, and don't match the text.
+fn missing(alloc: Global, wants: &Wants, text: &Text) -> Result<Vec<char>, NoMemory> {
+    let mut named = Vec::new(alloc);
+    let patterns = wants.patterns.as_slice();
+    for clause in wants.clauses.as_slice() {
+        if let Some(pattern) = wanted(patterns, clause.as_slice()) {
+            if !matches(pattern, text) {
+                push_named(pattern, &mut named)?;
+            }
+        }
+    }
+    Ok(named)
 }
 
 /// The text, where it meets the wants and isn't empty.
@@ -169,5 +216,18 @@ pub fn proposed(alloc: Global, wants: &Wants) -> Result<Option<Text>, NoMemory>
     let Some(any) = any_of(alloc, wants.patterns.as_slice(), pattern)? else {
         return Ok(None);
     };
-    Ok(verified(wants, shortest(alloc, pattern, any)?))
+    let text = shortest(alloc, pattern, any, &[])?;
+    let wildcards = wildcards_of(pattern);
+    if wildcards == 0 {
+        return Ok(verified(wants, text));
+    }
+    let named = missing(alloc, wants, &text)?;
+    if named.is_empty() {
+        return Ok(verified(wants, text));
+    }
+    if named.len() > wildcards {
+        return Ok(None);
+    }
+    let text = shortest(alloc, pattern, any, named.as_slice())?;
+    Ok(verified(wants, text))
 }

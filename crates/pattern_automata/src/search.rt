@@ -1,5 +1,5 @@
 //! The search over product states, as words of marks.
-ghost use Rattle.std.specs.Prelude.{◌≡◌, List, Bool, ◌+◌, ◌∷◌, ◌<◌, ◌≤◌, ℕ, [], length, slice_index_or, All, IfOk, IfSome, IsTrue, OnOk};
+ghost use Rattle.std.specs.Prelude.{◌≡◌, List, Bool, ◌+◌, ◌∷◌, ◌<◌, ◌≤◌, ℕ, [], length, slice_index_or, All, IfNone, IfOk, IfSome, IsTrue, OnOk};
 ghost use Rattle.pattern_automata.specs.Marks.{mark_count};
 ghost use Rattle.pattern_automata.specs.Tree.{IsRooted, IsTree, words_meet};
 ghost use Rattle.pattern_automata.specs.Moves.{IsMove, fronts};
@@ -7,7 +7,7 @@ ghost use Rattle.pattern_automata.specs.Packed.{all_words, words_for};
 ghost use Rattle.pattern_automata.specs.Closed.{InRange};
 ghost use Rattle.pattern_automata.specs.Machine.{IsMachine};
 ghost use Rattle.pattern_automata.specs.Search.{Ends, Expands, HasBegun, IsLeftAt, IsUnderWay, LeadsInto, StepsAsFirst, Turns, Visits};
-ghost use Rattle.pattern_automata.specs.Answer.{HaveWords, IsProduct, IsProductFrom, IsReport};
+ghost use Rattle.pattern_automata.specs.Answer.{HaveWords, IsProduct, IsReport, IsTextFor};
 
 use crate::eager::eager_text;
 use crate::found::Found;
@@ -179,27 +179,52 @@ fn expand(
     Ok(Step::Left)
 }
 
-/// The turns of each product state.
+/// The turns of each product state from one on up to another. None where it goes on from there.
 fn explore(
     wants: &Wants,
     machine: &Machine,
     search: &mut Search,
+    from: usize,
+    to: usize,
     limit: usize,
-) -> Result<Step, NoMemory>
+) -> Result<Option<Step>, NoMemory>
     requires machine { IsMachine wants.now.patterns machine.now }
-    requires left { IsLeftAt wants.now machine.now search.old 0 limit }
-    ensures { IfOk result (Ends wants.now machine.now search.new limit) }
+    requires left { IsLeftAt wants.now machine.now search.old from limit }
+    requires rising { from ≤ to }
+    ensures ended { IfOk result
+        (λ step. IfSome step (Ends wants.now machine.now search.new limit)) }
+    ensures left { IfOk result
+        (λ step. IfNone step (IsLeftAt wants.now machine.now search.new to limit)) }
 {
-    for i in 0..limit {
+    for i in from..to {
         if i >= search.found.len() {
-            return Ok(Step::Left);
+            return Ok(Some(Step::Left));
         }
         match expand(wants, machine, search, i, limit)? {
             Step::Left => {}
-            end => return Ok(end),
+            end => return Ok(Some(end)),
         }
     }
-    Ok(Step::Left)
+    Ok(None)
+}
+
+/// The turns of each product state from one on.
+fn explore_all(
+    wants: &Wants,
+    machine: &Machine,
+    search: &mut Search,
+    from: usize,
+    limit: usize,
+) -> Result<Step, NoMemory>
+    requires machine { IsMachine wants.now.patterns machine.now }
+    requires left { IsLeftAt wants.now machine.now search.old from limit }
+    requires within { from ≤ limit }
+    ensures { IfOk result (Ends wants.now machine.now search.new limit) }
+{
+    match explore(wants, machine, search, from, limit, limit)? {
+        Some(step) => Ok(step),
+        None => Ok(Step::Left),
+    }
 }
 
 /// The words alone.
@@ -272,6 +297,86 @@ fn answer(
     }
 }
 
+/// Up to this limit the search in the order of finding answers alone.
+const FEW: usize = 2_000;
+
+/// How many product states are looked at before a search that looks first where the fewest pieces are left
+/// is tried.
+const SOON: usize = 256;
+
+/// That search is tried again each time that so many times as many product states have been looked at, and
+/// looks itself at one for so many of them, so that it costs little where there is no text.
+const IN_EACH: usize = 4;
+
+/// A text that meets the wants, where the search in the order of finding has come to a limit that isn't small,
+/// and the one that looks first where the fewest pieces are left finds one.
+fn text_at_limit(
+    alloc: Global,
+    wants: &Wants,
+    machine: &Machine,
+    step: Step,
+    limit: usize,
+) -> Result<Option<Text>, NoMemory>
+    requires range { InRange (length wants.now.patterns) wants.now.clauses }
+    requires machine { IsMachine wants.now.patterns machine.now }
+    ensures { IfOk result (λ found. IfSome found (IsTextFor wants.now)) }
+{
+    match step {
+        Step::Full if limit > FEW => eager_text(alloc, wants, machine, FEW),
+        _ => Ok(None),
+    }
+}
+
+/// The product, from what the search came to.
+fn told(
+    alloc: Global,
+    wants: &Wants,
+    machine: &Machine,
+    search: &Search,
+    step: Step,
+    limit: usize,
+) -> Result<Product, NoMemory>
+    requires range { InRange (length wants.now.patterns) wants.now.clauses }
+    requires machine { IsMachine wants.now.patterns machine.now }
+    requires ends { Ends wants.now machine.now search.now limit step }
+    ensures { IfOk result (IsProduct wants.now.patterns wants.now.clauses limit) }
+{
+    if let Some(text) = text_at_limit(alloc, wants, machine, step, limit)? {
+        return Ok(Product::Found(text));
+    }
+    answer(alloc, wants.patterns.as_slice(), search, step)
+}
+
+/// The product by a search in the order of finding, unless the one that looks first where the fewest pieces
+/// are left finds a text on the way.
+fn solve_on(
+    alloc: Global,
+    wants: &Wants,
+    machine: &Machine,
+    search: &mut Search,
+    limit: usize,
+) -> Result<Product, NoMemory>
+    requires range { InRange (length wants.now.patterns) wants.now.clauses }
+    requires machine { IsMachine wants.now.patterns machine.now }
+    requires left { IsLeftAt wants.now machine.now search.old 0 limit }
+    ensures { IfOk result (IsProduct wants.now.patterns wants.now.clauses limit) }
+{
+    let mut from = 0;
+    let mut to = if limit > FEW { SOON } else { limit };
+    'farther: while to < limit {
+        if let Some(step) = explore(wants, machine, search, from, to, limit)? {
+            return told(alloc, wants, machine, search, step, limit);
+        }
+        if let Some(text) = eager_text(alloc, wants, machine, to / IN_EACH)? {
+            return Ok(Product::Found(text));
+        }
+        from = to;
+        to = to.saturating_mul(IN_EACH);
+    }
+    let step = explore_all(wants, machine, search, from, limit)?;
+    told(alloc, wants, machine, search, step, limit)
+}
+
 /// The product, from a search that has found the product state of the empty text.
 fn solve_from(
     alloc: Global,
@@ -289,11 +394,10 @@ fn solve_from(
     if is_met(wants, machine, search.room.words.as_slice()) {
         return Ok(Product::Found(Text::from_chars(Vec::new(alloc))));
     }
-    let step = explore(wants, machine, search, limit)?;
-    answer(alloc, wants.patterns.as_slice(), search, step)
+    solve_on(alloc, wants, machine, search, limit)
 }
 
-/// The product, from what there is to know of the patterns, by a search in the order of finding.
+/// The product, from what there is to know of the patterns.
 fn solve(alloc: Global, wants: &Wants, machine: &Machine, limit: usize) -> Result<Product, NoMemory>
     requires range { InRange (length wants.now.patterns) wants.now.clauses }
     requires positive { 1 ≤ limit }
@@ -302,46 +406,6 @@ fn solve(alloc: Global, wants: &Wants, machine: &Machine, limit: usize) -> Resul
 {
     let mut search = begin(alloc, wants.patterns.as_slice(), machine.count)?;
     solve_from(alloc, wants, machine, &mut search, limit)
-}
-
-/// How many product states are looked at before the search that looks first where the fewest pieces are
-/// left, and from how many of them that one goes on.
-const FEW: usize = 2000;
-
-/// The product, where few product states show it, or a text where it is found soon.
-fn solve_soon(alloc: Global, wants: &Wants, machine: &Machine) -> Result<Option<Product>, NoMemory>
-    requires range { InRange (length wants.now.patterns) wants.now.clauses }
-    requires machine { IsMachine wants.now.patterns machine.now }
-    ensures { IfOk result (λ found. IfSome found (IsProductFrom wants.now FEW)) }
-{
-    match solve(alloc, wants, machine, FEW)? {
-        Product::Found(text) => Ok(Some(Product::Found(text))),
-        Product::Empty(closed) => Ok(Some(Product::Empty(closed))),
-        Product::TooMany(_) => match eager_text(alloc, wants, machine, FEW)? {
-            Some(text) => Ok(Some(Product::Found(text))),
-            None => Ok(None),
-        },
-    }
-}
-
-/// The product, from what there is to know of the patterns.
-fn solve_by(
-    alloc: Global,
-    wants: &Wants,
-    machine: &Machine,
-    limit: usize,
-) -> Result<Product, NoMemory>
-    requires range { InRange (length wants.now.patterns) wants.now.clauses }
-    requires positive { 1 ≤ limit }
-    requires machine { IsMachine wants.now.patterns machine.now }
-    ensures { IfOk result (IsProduct wants.now.patterns wants.now.clauses limit) }
-{
-    if limit > FEW {
-        if let Some(answer) = solve_soon(alloc, wants, machine)? {
-            return Ok(answer);
-        }
-    }
-    solve(alloc, wants, machine, limit)
 }
 
 /// Answers a text that meets the wants; or a closed set of at most `limit` product states, so that no
@@ -354,12 +418,11 @@ pub fn product(alloc: Global, wants: &Wants, limit: u32) -> Result<Product, NoMe
     requires positive { 1 ≤ limit }
     ensures { IfOk result (IsProduct wants.now.patterns wants.now.clauses limit) }
 {
-    // Under a smaller limit the search in the order of finding answers alone.
     if limit as usize > FEW {
         if let Some(text) = proposed(alloc, wants)? {
             return Ok(Product::Found(text));
         }
     }
     let machine = machine_of(alloc, wants.patterns.as_slice())?;
-    solve_by(alloc, wants, &machine, limit as usize)
+    solve(alloc, wants, &machine, limit as usize)
 }
