@@ -1,5 +1,5 @@
 -- Cores that were accepted, as a check keeps them.
-use Rattle.std.specs.Prelude.{◌≡◌, ℕ, List, Bool, All, IsSome}
+use Rattle.std.specs.Prelude.{◌≡◌, ℕ, List, All, IsSome}
 use Rattle.formula_tree.specs.Answers.{Answers, answer_of}
 use Rattle.policy_model.specs.declared.schema.Schema.{Schema}
 use Rattle.policy_model.specs.declared.test.Test.{Test}

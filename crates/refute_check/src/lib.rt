@@ -9,6 +9,7 @@ mod refutation;
 mod runs;
 mod sharing;
 mod verdict;
+mod yes_parts;
 
 pub use closing::{closed_paths_are_no, closed_queries_are_no, verdicts_are_equal};
 pub use refutation::{AnswerList, Refutation};

@@ -49,6 +49,8 @@ enum Walked {
 struct Passed {
     labels: Labels,
     cores: AcceptedCores,
+    /// By which branch the value was no last.
+    last_yes: LastYes,
     /// Paths that are free for the labels that follow.
     spare: Vec<Path>,
 }
@@ -61,8 +63,6 @@ struct Checking<'a> {
     query: &'a Query,
     /// The clauses of the query's formula, made once.
     clauses: Clauses,
-    /// By which branch the value was no last.
-    last_yes: LastYes,
 }
 
 impl<'a> Checking<'a> {
@@ -73,6 +73,7 @@ impl<'a> Checking<'a> {
         path: &Path,
         labels: &Labels,
         cores: &mut AcceptedCores,
+        last_yes: &mut LastYes,
     ) -> Result<bool, NoMemory>
         requires ready { IsCheckable self.now }
         requires range { PathInRange self.now.query.now.tests path.now }
@@ -83,7 +84,7 @@ impl<'a> Checking<'a> {
     {
         let tests = &self.query.tests;
         match node {
-            Refutation::ByValue => Ok(self.last_yes.is_no(&self.query.formula, path)),
+            Refutation::ByValue => Ok(last_yes.is_no(&self.query.formula, path)),
             Refutation::BySlot { core, proof } => self.accepts_core(path, core, proof, cores),
             Refutation::ByClauses { hints } => replay(self.alloc, &self.clauses, path, hints),
             Refutation::Split { test, .. } => {
@@ -141,7 +142,8 @@ impl<'a> Checking<'a> {
         ensures path { OnOk result (path.new ≡ path.old) }
         ensures known { OnOk result (HasAccepted self.now passed.new.cores) }
     {
-        if !self.holds_here(part, path, &passed.labels, &mut passed.cores)? {
+        let cores = &mut passed.cores;
+        if !self.holds_here(part, path, &passed.labels, cores, &mut passed.last_yes)? {
             return Ok(Walked::Failed(0));
         }
         match part {
@@ -283,11 +285,11 @@ fn walk_whole(
         schema,
         query,
         clauses,
-        last_yes: LastYes::new(),
     };
     let mut passed = Passed {
         labels: Labels::new(alloc),
         cores: AcceptedCores::new(alloc),
+        last_yes: LastYes::new(alloc, &query.formula, query.tests.len())?,
         spare: Vec::new(alloc),
     };
     checking.walk(refutation, path, &mut passed)
