@@ -1,5 +1,5 @@
 -- What the search decides of a query, and what a certificate shows of it, says what the sets allow.
-use Rattle.std.proofs.Common.{◌≡◌, ◌^◌, ◌≤◌, ℕ, Bool, List, [], ◌∷◌, ◌++◌, length, All, Option, Some, IfSome, false, slice_get, refl, ap, inl, inr, subst, sym, arith, Err}
+use Rattle.std.proofs.Common.{◌≡◌, ◌≢◌, ◌^◌, ◌≤◌, ℕ, Bool, List, [], ◌∷◌, ◌++◌, length, All, Option, Some, None, IfSome, IfOk, false, slice_get, refl, ap, inl, inr, subst, sym, arith, Result, Ok, Err}
 use Rattle.std.specs.Prelude.{string_bytes}
 use Rattle.std.proofs.Math.Pow.{pow_mono}
 use Rattle.std.proofs.lemmas.Bool.{cases_Bool}
@@ -48,10 +48,11 @@ use Rattle.pair_answers.specs.declared.answer.CheckAnswer.{CheckAnswer}
 use Rattle.pair_answers.specs.declared.answer.CheckAnswer.TheVariants as check
 use Rattle.pair_answers.specs.declared.answer.ComparisonAnswer.{ComparisonAnswer}
 use Rattle.pair_answers.specs.declared.answer.ComparisonAnswer.TheVariants as answer
+use Rattle.pair_answers.specs.declared.search.SearchAnswer.{SearchAnswer}
 use Rattle.run_sets.specs.ClosedQueries.{ClosesAll}
 use Rattle.pair_answers.specs.Certified.{Certifies, ClosesBy, FailsAtLine}
-use Rattle.pair_answers.specs.Comparison.{Covers, FewTestsAreDecided, IsWitness, plan_of}
-use Rattle.pair_answers.specs.Decided.{IsChecked, IsComparison, IsDecisionAnswer, IsRefutedAnswer, IsVerdictOn, IsVerdictAnswer, IsVerdictIn}
+use Rattle.pair_answers.specs.Comparison.{Covers, FewTestsAreDecided, IsWitness, NeedsStates, plan_of}
+use Rattle.pair_answers.specs.Decided.{IsChecked, IsComparison, IsDecisionAnswer, IsRefutedAnswer, IsSearchOf, IsVerdictOn, IsVerdictAnswer, IsVerdictIn}
 
 pub query_tests : (pair : Pair) (q : Query) → IsFitting pair → IsQuery (plan_of pair) q → All (TestSuits pair.schema) q.tests
 query_tests pair q fitting is = All-collects (TestSuits pair.schema) [] (tests_in (plan_of pair)) q.tests is.tests (All-nil (TestSuits pair.schema)) (suit-query pair.schema pair.first pair.second fitting.first fitting.second)
@@ -130,19 +131,54 @@ witness-too pair first second r same found =
     let only = same.only pair.schema r found.allowed found.refused in
     record { kept = found.kept; again = found.again; valid = found.valid; allowed = only.0; refused = only.1 }
 
-pub verdict_if_decided : ClosedQueriesAreNo → WrittenRequestsAreReadAgain → (pair : Pair) (first second : PolicySet) (q : Query) (budgets : Budgets) (d : Decided) → IsFitting (pair_of_sets pair.schema first second) → AskTheSamePair pair.first pair.second first second → IsQuery (plan_of (pair_of_sets pair.schema first second)) q → IsDecision pair.schema q budgets d → (o : Option ComparisonAnswer) → IsVerdictIn d o → IfSome o (IsVerdictOn pair)
-verdict_if_decided law written pair first second q budgets (decided.Refuted r) fitting same is h o v =
-    subst (λ (x : Option ComparisonAnswer). IfSome x (IsVerdictOn pair)) (sym v) (covers-too pair first second same (covers_if_closed law (pair_of_sets pair.schema first second) q (proof_of r.value) fitting is h.closes))
-verdict_if_decided law written pair first second q budgets (decided.Met r) fitting same is h o v =
-    subst (λ (x : Option ComparisonAnswer). IfSome x (IsVerdictOn pair)) (sym v.0) (witness-too pair first second r same (witness_if_met written (pair_of_sets pair.schema first second) q r fitting is h.valid h.meets v.1))
-verdict_if_decided law written pair first second q budgets decided.OutOfSplits fitting same is h o v = subst (λ (x : Option ComparisonAnswer). IfSome x (IsVerdictOn pair)) (sym v) tt
-verdict_if_decided law written pair first second q budgets (decided.OutOfStates w) fitting same is h o v = subst (λ (x : Option ComparisonAnswer). IfSome x (IsVerdictOn pair)) (sym v) tt
+-- a verdict on a smaller pair is one on the pair
+pub verdict-too : (pair : Pair) (first second : PolicySet) (a : ComparisonAnswer) → AskTheSamePair pair.first pair.second first second → IsVerdictOn (pair_of_sets pair.schema first second) a → IsVerdictOn pair a
+verdict-too pair first second answer.NotMore same v = covers-too pair first second same v
+verdict-too pair first second (answer.More r) same v = witness-too pair first second r same v
+verdict-too pair first second _ same v = absurd v
+
+-- a pair asks the same as itself
+pub itself : (first second : PolicySet) → IsSmallerPair first second first second
+itself first second = record {
+  asks = record { covers = λ schema r allows gives. gives allows; only = λ schema r allows refused. (allows, refused) };
+  first_fits = λ schema fits. fits;
+  second_fits = λ schema fits. fits;
+}
+
+pub search_if_decided : ClosedQueriesAreNo → WrittenRequestsAreReadAgain → (pair : Pair) (q : Query) (budgets : Budgets) (d : Decided) → IsFitting pair → IsQuery (plan_of pair) q → IsDecision pair.schema q budgets d → (a : SearchAnswer) → IsVerdictIn d a → IsSearchOf pair a
+search_if_decided law written pair q budgets (decided.Refuted r) fitting is h a v =
+    subst (IsSearchOf pair) (sym v) (covers_if_closed law pair q (proof_of r.value) fitting is h.closes)
+search_if_decided law written pair q budgets (decided.Met r) fitting is h a v =
+    subst (IsSearchOf pair) (sym v.0) (witness_if_met written pair q r fitting is h.valid h.meets v.1)
+search_if_decided law written pair q budgets decided.OutOfSplits fitting is h a v = subst (IsSearchOf pair) (sym v) tt
+search_if_decided law written pair q budgets (decided.OutOfStates w) fitting is h a v = subst (IsSearchOf pair) (sym v) tt
+
+-- a decision within few splits is a comparison within more, where it didn't run out of them
+quick-refuted : (pair : Pair) → HasValidRequest pair.schema → (q : Query) (budgets : Budgets) (version : ℕ) (p : Proof) → IsQuery (plan_of pair) q → Covers pair → (a : ComparisonAnswer) → IsRefutedAnswer false version p a → IsComparison false budgets pair a
+quick-refuted pair some q budgets version p is covers answer.NotMore v = (refl, (q, is), (covers, some))
+quick-refuted pair some q budgets version p is covers (answer.Proved text) v = absurd (cc)
+quick-refuted pair some q budgets version p is covers _ v = absurd v
+
+pub comparison_if_quick : ClosedQueriesAreNo → WrittenRequestsAreReadAgain → (pair : Pair) → HasValidRequest pair.schema → (q : Query) (few budgets : Budgets) (d : Decided) → IsFitting pair → IsQuery (plan_of pair) q → few.states ≡ budgets.states → d ≢ decided.OutOfSplits → IsDecision pair.schema q few d → (a : ComparisonAnswer) → IsDecisionAnswer false pair.schema.version budgets d a → IsComparison false budgets pair a
+comparison_if_quick law written pair some q few budgets (decided.Refuted r) fitting is states ended h a v = quick-refuted pair some q budgets pair.schema.version (proof_of r.value) is (covers_if_closed law pair q (proof_of r.value) fitting is h.closes) a v
+comparison_if_quick law written pair some q few budgets (decided.Met r) fitting is states ended h a v = subst (λ (x : ComparisonAnswer). IsComparison false budgets pair x) (sym v.0) ((q, is), witness_if_met written pair q r fitting is h.valid h.meets v.1)
+comparison_if_quick law written pair some q few budgets decided.OutOfSplits fitting is states ended h a v = absurd (ended refl)
+comparison_if_quick law written pair some q few budgets (decided.OutOfStates w) fitting is states ended h a v =
+    subst (λ (x : ComparisonAnswer). IsComparison false budgets pair x) (sym v) (refl, subst (λ (n : ℕ). NeedsStates pair n w.slot) states (record { query = q; is = is; path = w.path; node = h.node; not_no = h.not_no; asked = h.asked; wider = (w.texts, h.texts) }))
 
 -- a verdict is a comparison, where the pair has a query
 pub comparison_if_verdict : (pair : Pair) → HasValidRequest pair.schema → (q : Query) (budgets : Budgets) → IsQuery (plan_of pair) q → (a : ComparisonAnswer) → IsVerdictOn pair a → IsComparison false budgets pair a
 comparison_if_verdict pair some q budgets is answer.NotMore v = (refl, (q, is), (v, some))
 comparison_if_verdict pair some q budgets is (answer.More r) v = ((q, is), v)
 comparison_if_verdict pair some q budgets is _ v = absurd v
+
+comparisons-if-verdicts : (pair : Pair) → HasValidRequest pair.schema → (q : Query) (budgets : Budgets) → IsQuery (plan_of pair) q → (o : Option ComparisonAnswer) → IfSome o (IsVerdictOn pair) → IfSome o (IsComparison false budgets pair)
+comparisons-if-verdicts pair some q budgets is None v = tt
+comparisons-if-verdicts pair some q budgets is (Some a) v = comparison_if_verdict pair some q budgets is a v
+
+pub comparison_if_parts : {E : Type 0} (pair : Pair) → HasValidRequest pair.schema → (q : Query) (budgets : Budgets) → IsQuery (plan_of pair) q → (result : Result (Option ComparisonAnswer) E) → IfOk result (λ o. IfSome o (IsVerdictOn pair)) → IfOk result (λ o. IfSome o (IsComparison false budgets pair))
+comparison_if_parts pair some q budgets is (Ok o) v = comparisons-if-verdicts pair some q budgets is o v
+comparison_if_parts pair some q budgets is (Err e) v = tt
 
 -- what a certificate that was read says of the sets
 pub checked_if_read : ClosedQueriesAreNo → (pair : Pair) → HasValidRequest pair.schema → (q : Query) (bytes : List ℕ) (read : ReadProof) → IsFitting pair → IsQuery (plan_of pair) q → IsReadFrom (limits_of q.tests pair.schema.version) bytes read → (a : CheckAnswer) → IsVerdictAnswer pair.schema q read a → IsChecked bytes pair a

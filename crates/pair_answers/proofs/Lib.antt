@@ -1,3 +1,4 @@
 mod Accepting
 mod Comparing
+mod Parts
 pub mod Laws

@@ -1,5 +1,5 @@
 -- What a comparison of two sets may answer, and a check of a certificate.
-use Rattle.std.specs.Prelude.{◌≡◌, ◌≤◌, ℕ, List, slice_get, Bool, true, false, Option, Some, None, string_bytes}
+use Rattle.std.specs.Prelude.{◌≡◌, ◌≤◌, ⊤, ℕ, List, slice_get, Bool, true, false, Some, string_bytes}
 use Rattle.policy_compile.specs.declared.outcome.Query.{Query}
 use Rattle.policy_model.specs.declared.schema.Schema.{Schema}
 use Rattle.proof_text.specs.Laws.{HoldsSmallNumbers}
@@ -18,6 +18,8 @@ use Rattle.pair_answers.specs.declared.answer.CheckAnswer.{CheckAnswer}
 use Rattle.pair_answers.specs.declared.answer.CheckAnswer.TheVariants.{Accepted, NotClosing, BadProof}
 use Rattle.pair_answers.specs.declared.answer.ComparisonAnswer.{ComparisonAnswer}
 use Rattle.pair_answers.specs.declared.answer.ComparisonAnswer.TheVariants.{NotMore, Proved, More, Undecided}
+use Rattle.pair_answers.specs.declared.search.SearchAnswer.{SearchAnswer}
+use Rattle.pair_answers.specs.declared.search.SearchAnswer.TheVariants as search
 use Rattle.run_sets.specs.ClosedQueries.{ClosesAll, FailsAll}
 use Rattle.run_sets.specs.PastLimits.{IsPlanPastLimit}
 use Rattle.pair_answers.specs.Certified.{Certifies, ClosesBy, FailsAtLine, HasProofFault}
@@ -64,12 +66,18 @@ IsVerdictOn pair NotMore = Covers pair
 IsVerdictOn pair (More q) = IsWitness pair q
 IsVerdictOn pair _ = ⊥
 
--- the verdict in what a search decided, where there is one
-abbrev pub IsVerdictIn : Decided → Option ComparisonAnswer → Type 0
-IsVerdictIn (decided.Refuted r) answer = answer ≡ Some NotMore
-IsVerdictIn (decided.Met q) answer = (answer ≡ Some (More q)) × IsWellKept q
-IsVerdictIn decided.OutOfSplits answer = answer ≡ None
-IsVerdictIn (decided.OutOfStates w) answer = answer ≡ None
+-- what a search tells of two sets
+abbrev pub IsSearchOf : Pair → SearchAnswer → Type 0
+IsSearchOf pair (search.Told answer) = IsVerdictOn pair answer
+IsSearchOf pair search.OutOfSplits = ⊤
+IsSearchOf pair search.PastLimit = ⊤
+
+-- what a search comes to by what it decided
+abbrev pub IsVerdictIn : Decided → SearchAnswer → Type 0
+IsVerdictIn (decided.Refuted r) answer = answer ≡ search.Told NotMore
+IsVerdictIn (decided.Met q) answer = (answer ≡ search.Told (More q)) × IsWellKept q
+IsVerdictIn decided.OutOfSplits answer = answer ≡ search.OutOfSplits
+IsVerdictIn (decided.OutOfStates w) answer = answer ≡ search.PastLimit
 
 -- the answer to a certificate that was read
 abbrev pub IsVerdictAnswer : Schema → Query → ReadProof → CheckAnswer → Type 0

@@ -3,5 +3,6 @@ pub mod Checks
 pub mod Comparison
 pub mod Complete
 pub mod Decided
+pub mod Parts
 pub mod Printed
 pub mod Texts

@@ -1,6 +1,7 @@
 //! Compares two sets by the search, and checks certificates of it.
-ghost use Rattle.std.specs.Prelude.{◌≡◌, ◌<◌, ◌≤◌, ◌^◌, All, IfOk, length};
+ghost use Rattle.std.specs.Prelude.{◌≡◌, ◌<◌, ◌≤◌, ◌^◌, All, IfOk, IfSome, false, length};
 ghost use Rattle.formula_tree.specs.Trees.{tree_of};
+ghost use Rattle.policy_model.specs.Requests.{HasValidRequest};
 ghost use Rattle.policy_model.specs.Soundness.{SchemaIsSound, TestSuits};
 ghost use Rattle.proof_text.specs.declared.limits.TheConstants.{MOST_PROOF_BYTES};
 ghost use Rattle.refute_check.specs.Laws.{TreeInRange};
@@ -13,6 +14,8 @@ ghost use Rattle.pair_answers.specs.Comparison.{FewTestsAreDecided, plan_of};
 ghost use Rattle.pair_answers.specs.Decided.{IsChecked, IsComparison, IsDecisionAnswer, IsPastLimit, IsRefutedAnswer, IsVerdictAnswer};
 
 use crate::answer::{CheckAnswer, ComparisonAnswer};
+use crate::part_search::{first_budgets, parts_answer};
+use crate::search::is_out_of_splits;
 use crate::smaller::difference_answer;
 use policy_compile::{Query, QueryFault, query};
 use policy_model::Schema;
@@ -81,6 +84,54 @@ fn decision_answer(
     }
 }
 
+// The answer, where few splits tell it, or the parts of the sets.
+fn quick_answer(
+    alloc: Global,
+    pair: &Pair,
+    query: &Query,
+    budgets: Budgets,
+) -> Result<Option<ComparisonAnswer>, AllocError>
+    requires fitting { IsFitting pair.now }
+    requires asked { IsQuery (plan_of pair.now) query.now }
+    requires valid { HasValidRequest pair.now.schema }
+    requires splits { 1 ≤ budgets.splits }
+    requires states { 1 ≤ budgets.states }
+    ensures { IfOk result (λ answer. IfSome answer (IsComparison false budgets pair.now)) }
+{
+    let few = first_budgets(&pair.first, &pair.second, budgets);
+    if budgets.splits <= few.splits {
+        return Ok(None);
+    }
+    let decided = decide(alloc, &pair.schema, query, few)?;
+    if is_out_of_splits(&decided) {
+        return parts_answer(alloc, pair, &pair.first, &pair.second, budgets);
+    }
+    written_requests_are_read_again();
+    closed_queries_are_no();
+    let answer = decision_answer(alloc, decided, pair.schema.version, budgets, false)?;
+    Ok(Some(answer))
+}
+
+// The answer, where it takes no search of the whole query with all splits.
+fn short_answer(
+    alloc: Global,
+    pair: &Pair,
+    query: &Query,
+    budgets: Budgets,
+) -> Result<Option<ComparisonAnswer>, AllocError>
+    requires fitting { IsFitting pair.now }
+    requires asked { IsQuery (plan_of pair.now) query.now }
+    requires valid { HasValidRequest pair.now.schema }
+    requires splits { 1 ≤ budgets.splits }
+    requires states { 1 ≤ budgets.states }
+    ensures { IfOk result (λ answer. IfSome answer (IsComparison false budgets pair.now)) }
+{
+    if let Some(answer) = difference_answer(alloc, pair, budgets)? {
+        return Ok(Some(answer));
+    }
+    quick_answer(alloc, pair, query, budgets)
+}
+
 /// Whether the first set allows a request, valid under the schema, that the second doesn't, within the
 /// budgets; with a certificate that it allows none, where one is asked for.
 pub fn compare(
@@ -98,7 +149,7 @@ pub fn compare(
     let query = query_of(alloc, pair)?;
     sound_schemas_have_requests();
     if !certified {
-        if let Some(answer) = difference_answer(alloc, pair, budgets)? {
+        if let Some(answer) = short_answer(alloc, pair, &query, budgets)? {
             return Ok(answer);
         }
     }

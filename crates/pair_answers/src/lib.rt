@@ -5,7 +5,9 @@
 mod answer;
 mod certificates;
 mod decision;
+mod part_search;
 mod printing;
+mod search;
 mod smaller;
 mod text;
 

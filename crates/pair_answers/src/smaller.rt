@@ -2,19 +2,18 @@
 ghost use Rattle.std.specs.Prelude.{◌≡◌, ◌≤◌, IfOk, IfSome, unwrap_or};
 ghost use Rattle.policy_difference.specs.Apartness.{IsSmallerPair, IsWithoutApart};
 ghost use Rattle.run_sets.specs.Pairs.{IsFitting};
-ghost use Rattle.pair_answers.specs.Decided.{IsVerdictOn, IsVerdictIn};
+ghost use Rattle.pair_answers.specs.Decided.{IsVerdictOn};
 
 use crate::answer::ComparisonAnswer;
-use policy_compile::{QueryFault, query};
+use crate::part_search::{first_budgets, parts_answer};
+use crate::search::{SearchAnswer, searched};
 use policy_difference::{
     apart_statements_say_nothing, shared_statements_add_nothing, without_apart, without_shared,
 };
 use policy_model::{Document, PolicySet};
-use refute_check::closed_queries_are_no;
-use request_json::written_requests_are_read_again;
 use run_sets::Pair;
 use std::alloc::{AllocError, Global};
-use tree_search::{Budgets, Decided, decide};
+use tree_search::Budgets;
 
 // A set without a part of it, or the set itself, where there is no such.
 fn or_whole<'a>(less: &'a Option<PolicySet>, set: &'a PolicySet) -> &'a PolicySet
@@ -36,8 +35,8 @@ fn has_allows_alone(document: &Document) -> bool {
     true
 }
 
-// Whether a statement of the set may be apart from the Allow statements of its grants: none of these is.
-fn may_have_apart(set: &PolicySet) -> bool {
+/// Whether the set may deny what a statement of its grants allows: it has a Deny statement or a guard.
+pub(crate) fn may_deny(set: &PolicySet) -> bool {
     for document in set.grants.as_slice() {
         if !has_allows_alone(document) {
             return true;
@@ -50,7 +49,7 @@ fn may_have_apart(set: &PolicySet) -> bool {
 fn without_own_apart(alloc: Global, set: &PolicySet) -> Result<Option<PolicySet>, AllocError>
     ensures { IfOk result (λ less. IfSome less (IsWithoutApart set.now set.now)) }
 {
-    if may_have_apart(set) {
+    if may_deny(set) {
         without_apart(alloc, set, set)
     } else {
         Ok(None)
@@ -82,7 +81,7 @@ pub(crate) fn difference_answer(
     smaller_answer(alloc, pair, first, second, budgets)
 }
 
-// The answer, where a smaller pair of sets has a query that tells it.
+// The answer, where a smaller pair of sets tells it: by few splits, part by part, or by all splits.
 fn smaller_answer(
     alloc: Global,
     pair: &Pair,
@@ -96,29 +95,21 @@ fn smaller_answer(
     requires states { 1 ≤ budgets.states }
     ensures { IfOk result (λ answer. IfSome answer (IsVerdictOn pair.now)) }
 {
-    let smaller = match query(alloc, &pair.schema, first, second) {
-        Ok(query) => query,
-        Err(QueryFault::TooManyTests) => return Ok(None),
-        Err(QueryFault::TooManyPieces) => return Ok(None),
-        Err(QueryFault::NoMemory) => return Err(AllocError),
-    };
-    let decided = decide(alloc, &pair.schema, &smaller, budgets)?;
-    written_requests_are_read_again();
-    closed_queries_are_no();
-    Ok(verdict_in(decided))
-}
-
-// The verdict in what a search decided, where there is one.
-fn verdict_in(decided: Decided) -> Option<ComparisonAnswer>
-    ensures { IsVerdictIn decided result }
-{
-    match decided {
-        Decided::Refuted(_) => Some(ComparisonAnswer::NotMore),
-        Decided::Met(request) => {
-            request.keys_are_well_kept();
-            Some(ComparisonAnswer::More(request))
-        }
-        Decided::OutOfSplits => None,
-        Decided::OutOfStates(_) => None,
+    let few = first_budgets(first, second, budgets);
+    match searched(alloc, &pair.schema, first, second, few)? {
+        SearchAnswer::Told(answer) => return Ok(Some(answer)),
+        SearchAnswer::PastLimit => return Ok(None),
+        SearchAnswer::OutOfSplits => {}
+    }
+    if budgets.splits <= few.splits {
+        return Ok(None);
+    }
+    if let Some(answer) = parts_answer(alloc, pair, first, second, budgets)? {
+        return Ok(Some(answer));
+    }
+    match searched(alloc, &pair.schema, first, second, budgets)? {
+        SearchAnswer::Told(answer) => Ok(Some(answer)),
+        SearchAnswer::PastLimit => Ok(None),
+        SearchAnswer::OutOfSplits => Ok(None),
     }
 }

@@ -9,6 +9,8 @@ mod Cutting
 mod Remaining
 mod Differing
 mod Aparting
+mod Alone
+mod Fewer
 mod Sizes
 mod Seen
 mod Tested

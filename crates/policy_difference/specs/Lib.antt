@@ -3,6 +3,7 @@ pub mod Elements
 pub mod Implications
 pub mod Differences
 pub mod Apartness
+pub mod Parts
 pub mod Rivals
 pub mod Places
 pub mod Capped

@@ -12,6 +12,7 @@ mod marked;
 mod meaning;
 mod operands;
 mod pairs;
+mod parts;
 mod places;
 mod rivals;
 mod statements;
@@ -19,6 +20,8 @@ mod statements;
 pub use apartness::without_apart;
 pub use difference::{MOST_PAIRS, difference_limits, without_shared};
 pub use meaning::{
-    apart_statements_say_nothing, no_allow_is_left, shared_statements_add_nothing,
+    apart_statements_say_nothing, fewer_allows_allow_no_more, no_allow_is_left,
+    shared_statements_add_nothing, statements_fit_alone, statements_tell_alone,
     without_apart_says_no_less,
 };
+pub use parts::{statement_alone, with_named_allows};

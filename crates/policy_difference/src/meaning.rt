@@ -1,6 +1,7 @@
 //! What shared statements mean for a comparison.
 ghost use Rattle.policy_difference.specs.Apartness.{ApartStatementsSayNothing, WithoutApartSaysNoLess};
 ghost use Rattle.policy_difference.specs.Differences.{NoAllowIsLeft, SharedStatementsAddNothing};
+ghost use Rattle.policy_difference.specs.Parts.{FewerAllowsAllowNoMore, StatementsFitAlone, StatementsTellAlone};
 
 /// What a first set allows and a second doesn't is what is left of the first without statements that both share
 /// allows and the second doesn't, under each schema; and a schema that answers for the first answers for what is
@@ -25,4 +26,21 @@ pub fn without_apart_says_no_less()
 /// second doesn't, where both are without what is apart from the Allow statements that are left.
 pub fn apart_statements_say_nothing()
     ensures { ApartStatementsSayNothing }
+{}
+
+/// What a set allows an Allow statement of its grants alone allows: where another set allows what each of them alone
+/// allows, it allows what the set allows.
+pub fn statements_tell_alone()
+    ensures { StatementsTellAlone }
+{}
+
+/// A schema that answers for a set answers for each statement of its grants alone.
+pub fn statements_fit_alone()
+    ensures { StatementsFitAlone }
+{}
+
+/// A set with fewer Allow statements in its grants allows no more, and a schema that answers for the set answers for it
+/// too.
+pub fn fewer_allows_allow_no_more()
+    ensures { FewerAllowsAllowNoMore }
 {}

@@ -1,7 +1,7 @@
 use Rattle.std.proofs.Common.{rules, ◌≡◌, Bool, false, subst, sym}
 use Rattle.std.proofs.lemmas.Result.{err_from_is_err_and}
-use Rattle.pair_answers.specs.Decided.{IsComparison, IsVerdictOn}
-use Rattle.pair_answers.proofs.Comparing.{comparison_if_decided, comparison_if_verdict, query_below, query_tests}
+use Rattle.pair_answers.specs.Decided.{IsComparison}
+use Rattle.pair_answers.proofs.Comparing.{comparison_if_decided, query_below, query_tests}
 use Rattle.pair_answers.proofs.decision.compare.Goals as goal
 
 pub decide-requires-clause-suit : goal.decide-requires-clause-suit
@@ -12,9 +12,9 @@ decide-requires-clause-below c = query_below c.args.pair.now c.in_ok-query.query
 
 pub returns-in-Some : goal.returns-in-Some
 returns-in-Some c =
-    let verdict : IsVerdictOn c.args.pair.now c.in-Some.answer = search rules in
+    let is : IsComparison false c.args.budgets c.args.pair.now c.in-Some.answer = search rules in
     let plain : c.args.certified ≡ false = search rules in
-    subst (λ (b : Bool). IsComparison b c.args.budgets c.args.pair.now c.in-Some.answer) (sym plain) (comparison_if_verdict c.args.pair.now (c.sound_schemas_have_requests.ensures c.args.pair.now.schema c.requires.fitting.sound) c.in_ok-query.query c.args.budgets c.in_ok-query.ensures c.in-Some.answer verdict)
+    subst (λ (b : Bool). IsComparison b c.args.budgets c.args.pair.now c.in-Some.answer) (sym plain) is
 
 pub returns : goal.returns
 returns c =

@@ -1,17 +1,21 @@
+use Rattle.std.proofs.Common.{subst}
 use Rattle.run_sets.specs.Pairs.{pair_of_sets}
-use Rattle.pair_answers.proofs.Comparing.{query_below, query_tests, smaller-fits, verdict_if_decided}
+use Rattle.pair_answers.specs.Decided.{IsSearchOf}
+use Rattle.pair_answers.proofs.Comparing.{smaller-fits, verdict-too}
 use Rattle.pair_answers.proofs.smaller.smaller_answer.Goals as goal
 
-pub decide-requires-clause-suit : goal.decide-requires-clause-suit
-decide-requires-clause-suit c =
-    query_tests (pair_of_sets c.args.pair.now.schema c.args.first.now c.args.second.now) c.in-Ok.query
-    (smaller-fits c.args.pair.now c.args.first.now c.args.second.now c.requires.smaller c.requires.fitting) c.in-Ok.ensures
+pub searched-requires-clause-fitting : goal.searched-requires-clause-fitting
+searched-requires-clause-fitting c = smaller-fits c.args.pair.now c.args.first.now c.args.second.now c.requires.smaller c.requires.fitting
 
-pub decide-requires-clause-below : goal.decide-requires-clause-below
-decide-requires-clause-below c =
-    query_below (pair_of_sets c.args.pair.now.schema c.args.first.now c.args.second.now) c.in-Ok.query c.in-Ok.ensures
+pub returns-in-Told : goal.returns-in-Told
+returns-in-Told c =
+    let pair = pair_of_sets c.args.pair.now.schema c.args.first.now c.args.second.now in
+    verdict-too c.args.pair.now c.args.first.now c.args.second.now c.in-Told.answer c.requires.smaller.asks (subst (IsSearchOf pair) c.in-Told.is c.in_ok-answer.ensures)
 
-pub returns : goal.returns
-returns c =
-    verdict_if_decided c.closed_queries_are_no.ensures c.written_requests_are_read_again.ensures c.args.pair.now c.args.first.now c.args.second.now c.in-Ok.query c.args.budgets c.in_ok-decided.decided
-    (smaller-fits c.args.pair.now c.args.first.now c.args.second.now c.requires.smaller c.requires.fitting) c.requires.smaller.asks c.in-Ok.ensures c.in_ok-decided.ensures.decision c.verdict_in.result c.verdict_in.ensures
+pub searched-requires-2-clause-fitting : goal.searched-requires-2-clause-fitting
+searched-requires-2-clause-fitting c = smaller-fits c.args.pair.now c.args.first.now c.args.second.now c.requires.smaller c.requires.fitting
+
+pub returns-in-Told-2 : goal.returns-in-Told-2
+returns-in-Told-2 c =
+    let pair = pair_of_sets c.args.pair.now.schema c.args.first.now c.args.second.now in
+    verdict-too c.args.pair.now c.args.first.now c.args.second.now c.in-Told-2.answer c.requires.smaller.asks (subst (IsSearchOf pair) c.in-Told-2.is c.in_ok-answer-3.ensures)

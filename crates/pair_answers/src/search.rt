@@ -1,0 +1,74 @@
+//! What a search tells of two sets, as a step towards an answer.
+ghost use Rattle.std.specs.Prelude.{◌≡◌, ◌↔◌, ◌≤◌, IfOk, IsTrue};
+ghost use Rattle.run_sets.specs.Pairs.{IsFitting, pair_of_sets};
+ghost use Rattle.tree_search.specs.declared.outcome.Decided.TheVariants.{OutOfSplits};
+ghost use Rattle.pair_answers.specs.Decided.{IsSearchOf, IsVerdictIn};
+
+use crate::answer::ComparisonAnswer;
+use policy_compile::{QueryFault, query};
+use policy_model::{PolicySet, Schema};
+use refute_check::closed_queries_are_no;
+use request_json::written_requests_are_read_again;
+use std::alloc::{AllocError, Global};
+use tree_search::{Budgets, Decided, decide};
+
+/// What a search of two sets within budgets comes to.
+#[derive(Drop)]
+pub(crate) enum SearchAnswer {
+    /// Whether the second set allows all that the first allows, or a request that shows that it doesn't.
+    Told(ComparisonAnswer),
+    /// More splits are needed.
+    OutOfSplits,
+    /// The query is past a limit, or a slot needs more states.
+    PastLimit,
+}
+
+/// What a search of two sets within the budgets comes to.
+pub(crate) fn searched(
+    alloc: Global,
+    schema: &Schema,
+    first: &PolicySet,
+    second: &PolicySet,
+    budgets: Budgets,
+) -> Result<SearchAnswer, AllocError>
+    requires fitting { IsFitting (pair_of_sets schema.now first.now second.now) }
+    requires splits { 1 ≤ budgets.splits }
+    requires states { 1 ≤ budgets.states }
+    ensures { IfOk result (IsSearchOf (pair_of_sets schema.now first.now second.now)) }
+{
+    let asked = match query(alloc, schema, first, second) {
+        Ok(query) => query,
+        Err(QueryFault::TooManyTests) => return Ok(SearchAnswer::PastLimit),
+        Err(QueryFault::TooManyPieces) => return Ok(SearchAnswer::PastLimit),
+        Err(QueryFault::NoMemory) => return Err(AllocError),
+    };
+    let decided = decide(alloc, schema, &asked, budgets)?;
+    written_requests_are_read_again();
+    closed_queries_are_no();
+    Ok(verdict_in(decided))
+}
+
+// What a search comes to by what it decided.
+fn verdict_in(decided: Decided) -> SearchAnswer
+    ensures { IsVerdictIn decided result }
+{
+    match decided {
+        Decided::Refuted(_) => SearchAnswer::Told(ComparisonAnswer::NotMore),
+        Decided::Met(request) => {
+            request.keys_are_well_kept();
+            SearchAnswer::Told(ComparisonAnswer::More(request))
+        }
+        Decided::OutOfSplits => SearchAnswer::OutOfSplits,
+        Decided::OutOfStates(_) => SearchAnswer::PastLimit,
+    }
+}
+
+/// Whether the search ran out of splits.
+pub(crate) fn is_out_of_splits(decided: &Decided) -> bool
+    ensures { IsTrue result ↔ (decided.now ≡ OutOfSplits) }
+{
+    match decided {
+        Decided::OutOfSplits => true,
+        _ => false,
+    }
+}
