@@ -32,13 +32,13 @@ entry_text (Kind kind) = codes "kind " ++ kind_word kind
 entry_text (Exact kind id) = kind_word kind ++ codes " " ++ encode_utf8_all id
 
 -- a wildcard that takes no colon
-abbrev pub is_narrow : Piece → Bool
-is_narrow (Lit c) = false
-is_narrow (LitFold c) = false
-is_narrow One = false
-is_narrow Many = false
-is_narrow OneNoColon = true
-is_narrow ManyNoColon = true
+abbrev pub is_narrow_wildcard : Piece → Bool
+is_narrow_wildcard (Lit c) = false
+is_narrow_wildcard (LitFold c) = false
+is_narrow_wildcard One = false
+is_narrow_wildcard Many = false
+is_narrow_wildcard OneNoColon = true
+is_narrow_wildcard ManyNoColon = true
 
 -- a letter that is taken in either case
 abbrev pub takes_either_case : Piece → Bool
@@ -52,7 +52,7 @@ takes_either_case ManyNoColon = false
 -- `arn` where a wildcard takes no colon, else `fold` where a letter is taken in either case, else `like`
 abbrev pub pattern_word : List Piece → List ℕ
 pattern_word ps =
-    (if list_any is_narrow ps then codes "arn "
+    (if list_any is_narrow_wildcard ps then codes "arn "
     else (if list_any takes_either_case ps then codes "fold " else codes "like "))
 
 abbrev pub pattern_text : List Piece → List ℕ

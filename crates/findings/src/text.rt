@@ -4,7 +4,7 @@ ghost use Rattle.std.specs.List.{list_any};
 ghost use Rattle.serde_json.specs.Data.{string};
 ghost use Rattle.serde_json.specs.View.{view};
 ghost use Rattle.findings.specs.Findings.{IsFinding};
-ghost use Rattle.findings.specs.Texts.{compare_word, cond_text, entry_text, finding_data, finding_text, flag_text, number_text, pattern_text, pattern_word, predicate_text, takes_either_case, is_narrow};
+ghost use Rattle.findings.specs.Texts.{compare_word, cond_text, entry_text, finding_data, finding_text, flag_text, number_text, pattern_text, pattern_word, predicate_text, takes_either_case, is_narrow_wildcard};
 
 use crate::outcome::Finding;
 use crate::reading::{dimension_at, predicate_number_at};
@@ -44,8 +44,8 @@ fn entry_text(alloc: Global, entry: &Entry) -> Result<String, NoMemory>
     }
 }
 
-fn is_narrow(piece: Piece) -> bool
-    ensures { result ≡ is_narrow piece }
+fn is_narrow_wildcard(piece: Piece) -> bool
+    ensures { result ≡ is_narrow_wildcard piece }
 {
     match piece {
         Piece::OneNoColon | Piece::ManyNoColon => true,
@@ -63,9 +63,9 @@ fn takes_either_case(piece: Piece) -> bool
 }
 
 fn some_is_narrow(pieces: &[Piece]) -> bool
-    ensures { result ≡ list_any is_narrow pieces.now }
+    ensures { result ≡ list_any is_narrow_wildcard pieces.now }
 {
-    pieces.iter().any(|piece| is_narrow(*piece))
+    pieces.iter().any(|piece| is_narrow_wildcard(*piece))
 }
 
 fn some_takes_either_case(pieces: &[Piece]) -> bool

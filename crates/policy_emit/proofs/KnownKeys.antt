@@ -31,7 +31,7 @@ use Rattle.strata.specs.declared.predicate.Predicate.TheVariants.{Every, Princip
 use Rattle.strata.specs.declared.stratum.Strata.{Strata}
 use Rattle.strata.specs.declared.stratum.Stratum.{Stratum}
 use Rattle.strata.specs.Covers.{predicate_at}
-use Rattle.findings.specs.Texts.{is_narrow, takes_either_case}
+use Rattle.findings.specs.Texts.{is_narrow_wildcard, takes_either_case}
 use Rattle.std.specs.List.{list_any}
 use Rattle.read_predicates.specs.KnownKeys.{EachConditionIn, EachConditionOf, IsOperatorOn, KnownKeysKeepSchemas, StandsForPredicate}
 use Rattle.policy_emit.specs.Emitted.{cond_base, condition_on, conditions_in, emitted_document, emitted_set, emitted_statement, has_several, key_conditions, numeric_base}
@@ -59,7 +59,7 @@ number-base how.Greater = record { compares = refl; takes = refl; truth = λ is.
 number-base how.GreaterOrEqual = record { compares = refl; takes = refl; truth = λ is. absurd (cc) }
 
 base-on : (c : Cond) → IsBaseOn (cond_kind c) (cond_base c)
-base-on (Matches pattern) = text-base (list_any is_narrow pattern) (list_any takes_either_case pattern)
+base-on (Matches pattern) = text-base (list_any is_narrow_wildcard pattern) (list_any takes_either_case pattern)
 base-on (Compares compare bound) = number-base compare
 base-on (Inside block) = record { compares = refl; takes = refl; truth = λ is. absurd (cc) }
 base-on (Flag at_true at_false) = record { compares = refl; takes = refl; truth = λ is. refl }

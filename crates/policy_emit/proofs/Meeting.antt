@@ -24,7 +24,7 @@ use Rattle.policy_model.specs.Operators.{cond_of, compare_of, is_negated, is_nul
 use Rattle.policy_model.specs.Requests.{IsValid}
 use Rattle.policy_model.specs.Soundness.{IsKeyWith}
 use Rattle.policy_model.proofs.Laws.{Any-here, Any-later, Any-nil, Any-split, values-permitted}
-use Rattle.findings.specs.Texts.{is_narrow, takes_either_case}
+use Rattle.findings.specs.Texts.{is_narrow_wildcard, takes_either_case}
 use Rattle.policy_emit.specs.Emitted.{cond_base, cond_operands, condition_on, has_several, key_quantifier, numeric_base}
 
 -- ---- the operators
@@ -47,7 +47,7 @@ numeric-plain how.Greater = record { asks = refl; plain = refl }
 numeric-plain how.GreaterOrEqual = record { asks = refl; plain = refl }
 
 cond-plain : (c : Cond) → IsPlainBase (cond_base c)
-cond-plain (Matches p) = pattern-plain (list_any is_narrow p) (list_any takes_either_case p)
+cond-plain (Matches p) = pattern-plain (list_any is_narrow_wildcard p) (list_any takes_either_case p)
 cond-plain (Compares c bound) = numeric-plain c
 cond-plain (Inside block) = record { asks = refl; plain = refl }
 cond-plain (Flag at_true at_false) = record { asks = refl; plain = refl }

@@ -33,7 +33,7 @@ use Rattle.strata.specs.declared.predicate.Predicate.{Predicate}
 use Rattle.strata.specs.declared.predicate.Predicate.TheVariants.{Every, Principal, Word, Meets}
 use Rattle.strata.specs.declared.stratum.Stratum.{Stratum}
 use Rattle.strata.specs.Covers.{predicate_at}
-use Rattle.findings.specs.Texts.{is_narrow, takes_either_case}
+use Rattle.findings.specs.Texts.{is_narrow_wildcard, takes_either_case}
 use Rattle.read_predicates.specs.Laws.{PredicatesAreOfWrittenForms}
 use Rattle.read_predicates.specs.WrittenForms.{AreOfWrittenForms, IsWrittenCond, IsWrittenForm, IsWrittenOf}
 use Rattle.policy_emit.specs.declared.part.Part.TheVariants as part
@@ -79,7 +79,7 @@ truths-again false false = tt
 
 module _ (known : Known) where
   values-again : (c : Cond) → IsWrittenCond c → Each OperandIsKept (cond_operands c) → AreAgain (cond_base c) (cond_operands c)
-  values-again (Matches p) written kept = (classed-again (list_any is_narrow p) (list_any takes_either_case p) p (All-head OperandIsKept (operand.Pattern p) [] kept) written.classed, tt)
+  values-again (Matches p) written kept = (classed-again (list_any is_narrow_wildcard p) (list_any takes_either_case p) p (All-head OperandIsKept (operand.Pattern p) [] kept) written.classed, tt)
   values-again (Compares c bound) written kept = (number-again (numeric_base c) bound written (numeric c), tt)
   values-again (Inside own) written kept = (block-again known.form known.spelled own written, tt)
   values-again (Flag at_true at_false) written kept = truths-again at_true at_false
@@ -100,7 +100,7 @@ numeric-utf8 how.Greater = IsUtf8-are_ascii (codes "NumericGreaterThan") refl
 numeric-utf8 how.GreaterOrEqual = IsUtf8-are_ascii (codes "NumericGreaterThanEquals") refl
 
 base-utf8 : (c : Cond) → IsUtf8 (base_text (cond_base c))
-base-utf8 (Matches p) = pattern-utf8 (list_any is_narrow p) (list_any takes_either_case p)
+base-utf8 (Matches p) = pattern-utf8 (list_any is_narrow_wildcard p) (list_any takes_either_case p)
 base-utf8 (Compares c bound) = numeric-utf8 c
 base-utf8 (Inside own) = IsUtf8-are_ascii (codes "IpAddress") refl
 base-utf8 (Flag at_true at_false) = IsUtf8-are_ascii (codes "Bool") refl
@@ -123,7 +123,7 @@ asks-number how.Greater = λ e. cc
 asks-number how.GreaterOrEqual = λ e. cc
 
 asks-values : (c : Cond) → cond_base c ≢ base.Null
-asks-values (Matches p) = asks-pattern (list_any is_narrow p) (list_any takes_either_case p)
+asks-values (Matches p) = asks-pattern (list_any is_narrow_wildcard p) (list_any takes_either_case p)
 asks-values (Compares c bound) = asks-number c
 asks-values (Inside own) = λ e. cc
 asks-values (Flag at_true at_false) = λ e. cc

@@ -35,7 +35,7 @@ use Rattle.strata.specs.declared.predicate.Predicate.{Predicate}
 use Rattle.strata.specs.declared.predicate.Predicate.TheVariants.{Every, Principal, Word, Meets}
 use Rattle.strata.specs.declared.stratum.Stratum.{Stratum}
 use Rattle.strata.specs.Covers.{predicate_at}
-use Rattle.findings.specs.Texts.{is_narrow, takes_either_case}
+use Rattle.findings.specs.Texts.{is_narrow_wildcard, takes_either_case}
 use Rattle.policy_emit.specs.declared.fault.EmitFault.{EmitFault}
 use Rattle.policy_emit.specs.declared.fault.EmitFault.TheVariants.{TooManyStatements, NoMemory}
 use Rattle.policy_emit.specs.declared.part.Part.{Part}
@@ -89,7 +89,7 @@ resource_of_finding ds f = pattern_in (predicate_of part.Resource ds f)
 -- taken in either case
 abbrev pub pattern_base : List Piece → Base
 pattern_base ps =
-    (if list_any is_narrow ps then base.ArnLike
+    (if list_any is_narrow_wildcard ps then base.ArnLike
     else (if list_any takes_either_case ps then base.StringEqualsIgnoreCase else base.StringLike))
 
 -- the operator of a comparison

@@ -1,7 +1,7 @@
 //! The operators of conditions.
 ghost use Rattle.std.specs.Prelude.{◌≡◌, false, IfOk, string_bytes};
 ghost use Rattle.std.specs.List.{list_any};
-ghost use Rattle.findings.specs.Texts.{is_narrow, takes_either_case};
+ghost use Rattle.findings.specs.Texts.{is_narrow_wildcard, takes_either_case};
 ghost use Rattle.policy_json.specs.OperatorNames.{base_text, operator_text, operator_with, quantifier_text};
 ghost use Rattle.policy_emit.specs.Emitted.{cond_base, has_several, key_quantifier, numeric_base, pattern_base};
 
@@ -11,8 +11,8 @@ use policy_model::{Cond, Schema};
 use std::alloc::Global;
 use wildcard_lang::{Pattern, Piece, Text};
 
-fn is_narrow(piece: Piece) -> bool
-    ensures { result ≡ is_narrow piece }
+fn is_narrow_wildcard(piece: Piece) -> bool
+    ensures { result ≡ is_narrow_wildcard piece }
 {
     match piece {
         Piece::OneNoColon | Piece::ManyNoColon => true,
@@ -30,9 +30,9 @@ fn takes_either_case(piece: Piece) -> bool
 }
 
 fn some_is_narrow(pieces: &[Piece]) -> bool
-    ensures { result ≡ list_any is_narrow pieces.now }
+    ensures { result ≡ list_any is_narrow_wildcard pieces.now }
 {
-    pieces.iter().any(|piece| is_narrow(*piece))
+    pieces.iter().any(|piece| is_narrow_wildcard(*piece))
 }
 
 fn some_takes_either_case(pieces: &[Piece]) -> bool

@@ -27,7 +27,7 @@ use Rattle.policy_model.specs.declared.principal.PrincipalKind.TheVariants.{Aws,
 use Rattle.policy_model.specs.declared.test.Slot.TheVariants as slot
 use Rattle.strata.specs.declared.predicate.Predicate.{Predicate}
 use Rattle.strata.specs.declared.predicate.Predicate.TheVariants.{Every, Principal, Word, Meets}
-use Rattle.findings.specs.Texts.{compare_word, cond_text, entry_text, flag_text, is_narrow, pattern_text, predicate_text, takes_either_case}
+use Rattle.findings.specs.Texts.{compare_word, cond_text, entry_text, flag_text, is_narrow_wildcard, pattern_text, predicate_text, takes_either_case}
 use Rattle.read_predicates.specs.Laws.{PredicatesAreWrittenApart}
 use Rattle.read_predicates.specs.WrittenForms.{IsWrittenCond, IsWrittenForm, IsWrittenPattern}
 use Rattle.read_predicates.proofs.Blocks.{blocks-apart}
@@ -158,7 +158,7 @@ same-class false false false true rest other e = absurd (differ 0 e refl)
 same-class false false false false rest other e = record { narrow = refl; either = λ no. refl; rest_is = cc }
 
 abbrev SameText : List Piece → List Piece → Type 0
-SameText p q = SameClass (list_any is_narrow p) (list_any takes_either_case p) (list_any is_narrow q) (list_any takes_either_case q) (encode_utf8_all (written_form p)) (encode_utf8_all (written_form q))
+SameText p q = SameClass (list_any is_narrow_wildcard p) (list_any takes_either_case p) (list_any is_narrow_wildcard q) (list_any takes_either_case q) (encode_utf8_all (written_form p)) (encode_utf8_all (written_form q))
 
 same-text : (p q : List Piece) → pattern_text p ≡ pattern_text q → SameText p q
 same-text p q e = same-class _ _ _ _ (encode_utf8_all (written_form p)) (encode_utf8_all (written_form q)) e
@@ -185,7 +185,7 @@ classes-apart false false false false p q first other narrow either same = globs
 patterns-told : (p q : List Piece) → IsWrittenPattern p → IsWrittenPattern q → pattern_text p ≡ pattern_text q → p ≡ q
 patterns-told p q first other e =
     let same = same-text p q e in
-    classes-apart (list_any is_narrow p) (list_any takes_either_case p) (list_any is_narrow q) (list_any takes_either_case q) p q first.classed other.classed same.narrow same.either (same-form p q same)
+    classes-apart (list_any is_narrow_wildcard p) (list_any takes_either_case p) (list_any is_narrow_wildcard q) (list_any takes_either_case q) p q first.classed other.classed same.narrow same.either (same-form p q same)
 
 any-no-class : (n f : Bool) (rest : List ℕ) → codes "any" ≡ class_word n f ++ rest → ⊥
 any-no-class true f rest e = absurd (differ 1 e refl)
@@ -193,7 +193,7 @@ any-no-class false true rest e = absurd (differ 0 e refl)
 any-no-class false false rest e = absurd (differ 0 e refl)
 
 any-no-pattern : (p : List Piece) → codes "any" ≡ pattern_text p → ⊥
-any-no-pattern p e = any-no-class (list_any is_narrow p) (list_any takes_either_case p) (encode_utf8_all (written_form p)) e
+any-no-pattern p e = any-no-class (list_any is_narrow_wildcard p) (list_any takes_either_case p) (encode_utf8_all (written_form p)) e
 
 -- ---- what is asked of a value: the first two characters tell what it is
 
@@ -229,7 +229,7 @@ flag-tag false true = refl
 flag-tag false false = refl
 
 cond-tag : (c : Cond) → tag (cond_text c) ≡ number_of c
-cond-tag (cond.Matches p) = class-tag (list_any is_narrow p) (list_any takes_either_case p) (encode_utf8_all (written_form p))
+cond-tag (cond.Matches p) = class-tag (list_any is_narrow_wildcard p) (list_any takes_either_case p) (encode_utf8_all (written_form p))
 cond-tag (cond.Compares how bound) = compare-tag how (written_decimal bound)
 cond-tag (cond.Inside block) = refl
 cond-tag (cond.Flag a b) = flag-tag a b

@@ -17,13 +17,13 @@ use Rattle.policy_model.specs.declared.operator.Base.{Base}
 use Rattle.policy_model.specs.declared.operator.Base.TheVariants as base
 use Rattle.policy_model.specs.Operators.{truth_word}
 use Rattle.policy_json.specs.ReadForms.{IsPatternOf}
-use Rattle.findings.specs.Texts.{is_narrow, takes_either_case}
+use Rattle.findings.specs.Texts.{is_narrow_wildcard, takes_either_case}
 use Rattle.read_predicates.specs.WrittenForms.{IsClassed, IsWrittenPattern}
 
 -- ---- patterns with wildcards
 
 -- such a pattern has neither a wildcard that takes no colon nor a letter in either case
-glob-wide : (p : List Piece) → list_all is_glob_piece p ≡ true → (list_any is_narrow p ≡ false) × (list_any takes_either_case p ≡ false)
+glob-wide : (p : List Piece) → list_all is_glob_piece p ≡ true → (list_any is_narrow_wildcard p ≡ false) × (list_any takes_either_case p ≡ false)
 glob-wide [] e = (refl, refl)
 glob-wide (Lit c ∷ p) e = glob-wide p e
 glob-wide (LitFold c ∷ p) e = absurd (cc)
@@ -36,7 +36,7 @@ glob-wide (ManyNoColon ∷ p) e = absurd (cc)
 abbrev ClassedBy : Bool → Bool → List Piece → Type 0
 ClassedBy narrow either p = MatchBool narrow (IsArnOf true p) (MatchBool either (IsLiteralOf true true p) (IsGlobOf false true p))
 
-classed-by : (p : List Piece) (narrow either : Bool) → list_any is_narrow p ≡ narrow → list_any takes_either_case p ≡ either → ClassedBy narrow either p → IsClassed p
+classed-by : (p : List Piece) (narrow either : Bool) → list_any is_narrow_wildcard p ≡ narrow → list_any takes_either_case p ≡ either → ClassedBy narrow either p → IsClassed p
 classed-by p narrow either n e is =
     subst (λ (b : Bool). ClassedBy b (list_any takes_either_case p) p) (sym n) (subst (λ (b : Bool). ClassedBy narrow b p) (sym e) is)
 
@@ -45,7 +45,7 @@ glob-classed p is = let wide = glob-wide p ((globs-pieces p).0 is) in classed-by
 
 -- ---- literals without regard to case
 
-literal-narrow : (b : Bool) (c : ℕ) → is_narrow (if b then LitFold (to_ascii_lowercase c) else Lit c) ≡ false
+literal-narrow : (b : Bool) (c : ℕ) → is_narrow_wildcard (if b then LitFold (to_ascii_lowercase c) else Lit c) ≡ false
 literal-narrow true c = refl
 literal-narrow false c = refl
 
@@ -53,7 +53,7 @@ literal-plain : (b : Bool) (c : ℕ) → takes_either_case (if b then LitFold (t
 literal-plain true c e = absurd (cc)
 literal-plain false c e = refl
 
-symbol-narrow : (s : Symbol) → is_narrow (literal_of true s) ≡ false
+symbol-narrow : (s : Symbol) → is_narrow_wildcard (literal_of true s) ≡ false
 symbol-narrow (Written c) = literal-narrow (is_ascii_alphabetic c) c
 symbol-narrow (Escaped c) = literal-narrow (is_ascii_alphabetic c) c
 
@@ -65,7 +65,7 @@ neither : (a b : Bool) → (a || b) ≡ false → (a ≡ false) × (b ≡ false)
 neither true b e = absurd (cc)
 neither false b e = (refl, e)
 
-literals-wide : (ss : List Symbol) → list_any is_narrow (map (literal_of true) ss) ≡ false
+literals-wide : (ss : List Symbol) → list_any is_narrow_wildcard (map (literal_of true) ss) ≡ false
 literals-wide [] = refl
 literals-wide (s ∷ ss) = rw (symbol-narrow s, literals-wide ss) refl
 
@@ -86,8 +86,8 @@ literal-classed p is = by (list_any takes_either_case p) refl
     found : (ss : List Symbol) × (map (literal_of true) ss ≡ p)
     found = of-symbols (symbols true is.0) p is.1
 
-    wide : list_any is_narrow p ≡ false
-    wide = subst (λ (q : List Piece). list_any is_narrow q ≡ false) found.1 (literals-wide found.0)
+    wide : list_any is_narrow_wildcard p ≡ false
+    wide = subst (λ (q : List Piece). list_any is_narrow_wildcard q ≡ false) found.1 (literals-wide found.0)
 
     plain : list_any takes_either_case p ≡ false → list_all is_glob_piece p ≡ true
     plain = subst (λ (q : List Piece). list_any takes_either_case q ≡ false → list_all is_glob_piece q ≡ true) found.1 (literals-plain found.0)
@@ -98,7 +98,7 @@ literal-classed p is = by (list_any takes_either_case p) refl
 
 -- ---- patterns of ARNs
 
-not-narrow : (p : List Piece) → list_any is_narrow p ≡ false → list_all is_not_narrow p ≡ true
+not-narrow : (p : List Piece) → list_any is_narrow_wildcard p ≡ false → list_all is_not_narrow p ≡ true
 not-narrow [] e = refl
 not-narrow (Lit c ∷ p) e = not-narrow p e
 not-narrow (LitFold c ∷ p) e = not-narrow p e
@@ -108,9 +108,9 @@ not-narrow (OneNoColon ∷ p) e = absurd (cc)
 not-narrow (ManyNoColon ∷ p) e = absurd (cc)
 
 arn-classed : (p : List Piece) → IsArnOf true p → IsClassed p
-arn-classed p is = by (list_any is_narrow p) refl
+arn-classed p is = by (list_any is_narrow_wildcard p) refl
   where
-    by : (narrow : Bool) → list_any is_narrow p ≡ narrow → IsClassed p
+    by : (narrow : Bool) → list_any is_narrow_wildcard p ≡ narrow → IsClassed p
     by true n = classed-by p true (list_any takes_either_case p) n refl is
     by false n = glob-classed p (arns-globs true p is (not-narrow p n))
 

@@ -18,7 +18,7 @@ use Rattle.policy_json.specs.ReadForms.{IsReadAction, IsReadEntry, IsReadResourc
 use Rattle.strata.specs.declared.predicate.Predicate.{Predicate}
 use Rattle.strata.specs.declared.predicate.Predicate.TheVariants.{Every, Principal, Word, Meets}
 use Rattle.strata.specs.declared.stratum.Stratum.{Stratum}
-use Rattle.findings.specs.Texts.{is_narrow, takes_either_case}
+use Rattle.findings.specs.Texts.{is_narrow_wildcard, takes_either_case}
 
 -- an entry that a file gives, other than that of every principal
 pub record IsWrittenEntry (e : Entry) : Type 0 where
@@ -29,7 +29,7 @@ pub record IsWrittenEntry (e : Entry) : Type 0 where
 -- regard to case where a letter is taken in either case, else as a pattern with wildcards
 abbrev pub IsClassed : List Piece → Type 0
 IsClassed p =
-    MatchBool (list_any is_narrow p) (IsArnOf true p)
+    MatchBool (list_any is_narrow_wildcard p) (IsArnOf true p)
     (MatchBool (list_any takes_either_case p) (IsLiteralOf true true p) (IsGlobOf false true p))
 
 -- a pattern of the values of a key
