@@ -1,5 +1,5 @@
 -- The last character of a text, and the last piece of a pattern that is for one character.
-use Rattle.std.proofs.Common.{◌≡◌, ℕ, ◌+◌, ◌-◌, ◌≤◌, List, [], ◌∷◌, ◌++◌, length, take, get_or, Bool, true, false, ◌&&◌, IsUtf8, refl, sym, ap, ◌∙◌, arith}
+use Rattle.std.proofs.Common.{◌≡◌, ℕ, ◌+◌, ◌-◌, ◌≤◌, List, [], ◌∷◌, ◌++◌, length, take, drop, get_or, Bool, true, false, ◌&&◌, IsUtf8, refl, sym, ap, ◌∙◌, arith}
 use Rattle.std.proofs.lemmas.List.{take_more, take_all, append-nil, nil_from_length}
 use Rattle.std.proofs.lemmas.Str.{chars-nil, chars_from_encodes, encodes-append, encodes-chars}
 use Rattle.std.specs.Str.{chars}
@@ -18,38 +18,40 @@ last_character bytes front c whole part is =
     let same : encodes (chars front ++ c ∷ []) ≡ bytes = encodes-append (chars front) (c ∷ []) ∙ (rw (encodes-chars front part, spelt) (sym is)) in
     sym (chars_from_encodes (chars front ++ c ∷ []) bytes whole same)
 
-last_split : (ps : List Piece) (d : Piece) → 1 ≤ length ps → ps ≡ take (length ps - 1) ps ++ get_or ps (length ps - 1) d ∷ []
+pub last_split : (ps : List Piece) (d : Piece) → 1 ≤ length ps → ps ≡ take (length ps - 1) ps ++ get_or ps (length ps - 1) d ∷ []
 last_split ps d some =
     let m : length ps ≡ length ps - 1 + 1 = omega arith in
     sym (take_all (length ps) ps (omega arith)) ∙ ap (λ n. take n ps) m ∙ take_more ps (length ps - 1) d (omega arith)
 
 -- the last piece takes the last item, or nothing
-last_taken : {X : Type 0} (taken : Piece → X → Bool) (ps : List Piece) (d : Piece) (x : X) (t : List X) → 1 ≤ length ps →
-    is_many (get_or ps (length ps - 1) d) ≡ false →
-    accepts_by taken ps (t ++ x ∷ []) ≡ (taken (get_or ps (length ps - 1) d) x && accepts_by taken (take (length ps - 1) ps) t)
-last_taken {X} taken ps d x t some one =
-    ap (λ (qs : List Piece). accepts_by taken qs (t ++ x ∷ [])) (last_split ps d some) ∙
-    accepts-snoc taken (take (length ps - 1) ps) (get_or ps (length ps - 1) d) x t ∙ (rw one refl)
+last_taken : {X : Type 0} (taken : Piece → X → Bool) (more : List Piece) (p : Piece) (x : X) (t : List X) → is_many p ≡ false →
+    accepts_by taken (more ++ p ∷ []) (t ++ x ∷ []) ≡ (taken p x && accepts_by taken more t)
+last_taken taken more p x t one = accepts-snoc taken more p x t ∙ (rw one refl)
 
-pub last_left : {X : Type 0} (taken : Piece → X → Bool) (ps : List Piece) (d : Piece) (x : X) (t rest : List X) (answer : Bool) → 1 ≤ length ps →
-    is_many (get_or ps (length ps - 1) d) ≡ false → rest ≡ t ++ x ∷ [] → taken (get_or ps (length ps - 1) d) x ≡ true →
-    accepts_by taken ps rest ≡ answer → accepts_by taken (take (length ps - 1) ps) t ≡ answer
-last_left taken ps d x t rest answer some one is h so_far =
-    let step : accepts_by taken ps rest ≡ accepts_by taken (take (length ps - 1) ps) t = rw is (last_taken taken ps d x t some one ∙ (rw h refl)) in
+pub last_left : {X : Type 0} (taken : Piece → X → Bool) (ps more : List Piece) (p : Piece) (x : X) (t rest : List X) (answer : Bool) → ps ≡ more ++ p ∷ [] →
+    is_many p ≡ false → rest ≡ t ++ x ∷ [] → taken p x ≡ true → accepts_by taken ps rest ≡ answer → accepts_by taken more t ≡ answer
+last_left taken ps more p x t rest answer parts one is h so_far =
+    let step : accepts_by taken ps rest ≡ accepts_by taken more t = rw (parts, is) (last_taken taken more p x t one ∙ (rw h refl)) in
     sym step ∙ so_far
 
-pub last_refused : {X : Type 0} (taken : Piece → X → Bool) (ps : List Piece) (d : Piece) (x : X) (t rest : List X) (answer : Bool) → 1 ≤ length ps →
-    is_many (get_or ps (length ps - 1) d) ≡ false → rest ≡ t ++ x ∷ [] → taken (get_or ps (length ps - 1) d) x ≡ false →
-    accepts_by taken ps rest ≡ answer → false ≡ answer
-last_refused taken ps d x t rest answer some one is h so_far =
-    let step : accepts_by taken ps rest ≡ false = rw is (last_taken taken ps d x t some one ∙ (rw h refl)) in
+pub last_refused : {X : Type 0} (taken : Piece → X → Bool) (ps more : List Piece) (p : Piece) (x : X) (t rest : List X) (answer : Bool) → ps ≡ more ++ p ∷ [] →
+    is_many p ≡ false → rest ≡ t ++ x ∷ [] → taken p x ≡ false → accepts_by taken ps rest ≡ answer → false ≡ answer
+last_refused taken ps more p x t rest answer parts one is h so_far =
+    let step : accepts_by taken ps rest ≡ false = rw (parts, is) (last_taken taken more p x t one ∙ (rw h refl)) in
     sym step ∙ so_far
 
-pub last_untaken : {X : Type 0} (taken : Piece → X → Bool) (ps : List Piece) (d : Piece) (rest : List X) (answer : Bool) → 1 ≤ length ps →
-    is_many (get_or ps (length ps - 1) d) ≡ false → rest ≡ [] → accepts_by taken ps rest ≡ answer → false ≡ answer
-last_untaken {X} taken ps d rest answer some one is so_far =
-    let nothing : List X = [] in
-    let step : accepts_by taken ps rest ≡ false =
-    rw is (ap (λ (qs : List Piece). accepts_by taken qs nothing) (last_split ps d some) ∙
-    accepts-at_nil taken (take (length ps - 1) ps) (get_or ps (length ps - 1) d) ∙ (rw one refl)) in
-    sym step ∙ so_far
+pub last_untaken : {X : Type 0} (taken : Piece → X → Bool) (ps more : List Piece) (p : Piece) (rest : List X) (answer : Bool) → ps ≡ more ++ p ∷ [] →
+    is_many p ≡ false → rest ≡ [] → accepts_by taken ps rest ≡ answer → false ≡ answer
+last_untaken taken ps more p rest answer parts one is so_far =
+    let step : accepts_by taken ps rest ≡ false = rw (parts, is) (accepts-at_nil taken more p ∙ (rw one refl)) in sym step ∙ so_far
+
+-- ---- the first piece, where it is for one item
+
+pub first_split : (ps : List Piece) (d : Piece) → 1 ≤ length ps → ps ≡ get_or ps 0 d ∷ take (length ps - 1) (drop 1 ps)
+first_split [] d some = absurd (omega arith)
+first_split (p ∷ ps) d some = ap (λ qs. p ∷ qs) (sym (take_all (length (p ∷ ps) - 1) ps (omega arith)))
+
+pub first_left : {X : Type 0} (taken : Piece → X → Bool) (ps more : List Piece) (p : Piece) (x : X) (t rest : List X) (answer : Bool) → ps ≡ p ∷ more →
+    is_many p ≡ false → rest ≡ x ∷ t → taken p x ≡ true → accepts_by taken ps rest ≡ answer → accepts_by taken more t ≡ answer
+first_left taken ps more p x t rest answer parts one is h so_far =
+    let step : accepts_by taken ps rest ≡ accepts_by taken more t = rw (parts, is) (rw (one, h) refl) in sym step ∙ so_far

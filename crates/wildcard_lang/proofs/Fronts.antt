@@ -1,5 +1,5 @@
 -- The test whether pieces match a text, where a star stands alone, and as the answer of the relation.
-use Rattle.std.proofs.Common.{◌≡◌, ℕ, ◌≤◌, ◌<◌, Bool, true, List, [], ◌∷◌, length, get_or, refl, sym, ◌∙◌, arith}
+use Rattle.std.proofs.Common.{◌≡◌, ℕ, Bool, true, List, [], ◌∷◌, refl, sym, ◌∙◌}
 use Rattle.std.specs.Bool.{Decides}
 use Rattle.std.proofs.lemmas.Bool.Decides.{Decides-at}
 use Rattle.wildcard_lang.specs.declared.piece.Piece.{Piece}
@@ -13,11 +13,8 @@ pub star_alone : {X : Type 0} (taken : Piece → X → Bool) → ((x : X) → ta
 star_alone taken star [] = refl
 star_alone taken star (x ∷ t) = rw (star x) (star_alone taken star t)
 
-pub star_alone_at : {X : Type 0} (taken : Piece → X → Bool) → ((x : X) → taken Many x ≡ true) → (ps : List Piece) (t : List X) (d : Piece) →
-    1 ≤ length ps → length ps < 2 → get_or ps 0 d ≡ Many → true ≡ accepts_by taken ps t
-star_alone_at taken star [] t d some few e = absurd (omega arith)
-star_alone_at taken star (p ∷ []) t d some few e = rw e (sym (star_alone taken star t))
-star_alone_at taken star (p ∷ q ∷ ps) t d some few e = absurd (omega arith)
+pub star_takes_rest : {X : Type 0} (taken : Piece → X → Bool) → ((x : X) → taken Many x ≡ true) → (p : Piece) (t : List X) → p ≡ Many → true ≡ accepts_by taken (p ∷ []) t
+star_takes_rest taken star p t is = rw is (sym (star_alone taken star t))
 
 -- the answer of the test is that of the relation
 pub answer_matches : (b : Bool) (ps qs : List Piece) (t u : List ℕ) → qs ≡ ps → u ≡ t → b ≡ accepts_by takes qs u → Decides b (Matches ps t)

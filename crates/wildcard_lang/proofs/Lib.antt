@@ -16,9 +16,9 @@ mod Stepping
 mod Sharing
 mod Including
 mod Covered
-mod Narrowing
 mod Ends
 mod Refusing
 mod Deciding
+mod PatternParts
 mod Neighbours
 mod FrontSums

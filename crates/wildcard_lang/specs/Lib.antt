@@ -3,7 +3,6 @@ pub mod Matching
 pub mod Patterns
 pub mod Limits
 pub mod Accepts
-pub mod Window
 pub mod Runs
 pub mod Symbols
 pub mod Reading

@@ -54,3 +54,7 @@ pub record IsPattern (ps : List Piece) : Type 0 where
   pub scalars : IsText (flat_map own_character ps)
   pub lower : list_all is_lower ps ≡ true
   pub narrow : narrow_first ps ≡ true
+
+-- what is so of each part of a pattern: its folded pieces hold lower-case letters, and its wildcards that take no colon stand before those that do
+abbrev pub IsPatternPart : List Piece → Type 0
+IsPatternPart ps = (list_all is_lower ps ≡ true) × (narrow_first ps ≡ true)

@@ -22,7 +22,7 @@ pub data Leads : List Piece → List ℕ → ℕ → ℕ → Type 0 where
   goes_on : {ps : List Piece} {places : List ℕ} {c j : ℕ} → j < length ps → is_many (slice_index_or ps j One) ≡ true →
       Leads ps places c j → Leads ps places c (suc j)
 
--- whether j is in the list
+-- whether the number j is in the list. Lists of places are asked so, and by upper crates lists of other numbers, as of characters
 abbrev pub contains_place : List ℕ → ℕ → Bool
 contains_place is j = list_any (λ i. i == j) is
 

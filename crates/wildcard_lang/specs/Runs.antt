@@ -12,6 +12,11 @@ use Rattle.wildcard_lang.specs.Accepts.{accepts_by}
 abbrev pub IsRun : List Piece → Type 0
 IsRun run = All (λ p. is_many p ≡ false) run
 
+-- the last of the pieces, or another where there is none
+abbrev pub last_or : Piece → List Piece → Piece
+last_or d [] = d
+last_or d (p ∷ ps) = last_or p ps
+
 -- whether the piece takes no first item: it takes another, or there is none
 abbrev pub refuses : {X : Type 0} → (Piece → X → Bool) → Piece → List X → Bool
 refuses taken p [] = true
@@ -40,10 +45,6 @@ IsRefused taken run t = (ps : List Piece) → accepts_by taken (run ++ ps) t ≡
 abbrev pub IsLeft : {X : Type 0} → (Piece → X → Bool) → List Piece → List X → List X → Type 0
 IsLeft taken run t behind = (behind ≡ drop (length run) t) × ((ps : List Piece) → accepts_by taken (run ++ ps) t ≡ accepts_by taken ps behind)
 
--- the run decides: once it takes the items, what stands behind it matches what it leaves, or nothing matches
-abbrev pub IsDecisive : {X : Type 0} → (Piece → X → Bool) → Piece → List Piece → List Piece → Type 0
-IsDecisive {X} taken first run behind = (t u : List X) → IsLeft taken run t u → accepts_by taken (first ∷ (run ++ behind)) t ≡ accepts_by taken behind u
-
 -- the first pieces of the run, `place` of them, take first items, and the next piece, where there is one, doesn't take the next item
 pub record IsReached {X : Type 0} (taken : Piece → X → Bool) (run : List Piece) (t : List X) (place : ℕ) (ahead : List X) : Type 0 where
   pub most : place ≤ length run
@@ -63,7 +64,6 @@ IsAhead left t p = left p.ahead ≡ drop p.place t
 abbrev pub AreAhead : {S X : Type 0} → (S → List X) → List X → Probes S → Type 0
 AreAhead left t p = IsAhead left t p.last_place × IsAhead left t p.older_place × IsAhead left t p.last_item
 
--- matching goes on as well at the start that was found, and where a star stands behind the run, as well behind the run there
-pub record IsFirst {S X : Type 0} (taken : Piece → X → Bool) (left : S → List X) (first : Piece) (run : List Piece) (t : List X) (found : Found S) : Type 0 where
-  pub starts : (ps : List Piece) → accepts_by taken (first ∷ (run ++ ps)) t ≡ accepts_by taken (first ∷ (run ++ ps)) (left found.start)
-  pub ends : (ps : List Piece) → accepts_by taken (first ∷ (run ++ Many ∷ ps)) (left found.start) ≡ accepts_by taken (Many ∷ ps) (left found.behind)
+-- matching goes on as well at the start that was found
+abbrev pub IsFirst : {S X : Type 0} → (Piece → X → Bool) → (S → List X) → Piece → List Piece → List X → Found S → Type 0
+IsFirst taken left first run t found = (ps : List Piece) → accepts_by taken (first ∷ (run ++ ps)) t ≡ accepts_by taken (first ∷ (run ++ ps)) (left found.start)

@@ -1,7 +1,7 @@
 //! Whether a pattern takes all that another takes, or nothing of it.
 ghost use Rattle.std.specs.Prelude.{◌≡◌, ◌≤◌, ◌↔◌, IsTrue, length};
 ghost use Rattle.wildcard_lang.specs.Covering.{CoversPattern, Clash, clashes, covers, has_one, shares, takes_no_colon, takes_next, takes_piece, is_wildcard, CoveringIsInclusion, ClashingIsDisjoint, CoveringIsReflexive, StarsCoverAll, LiteralsAreCovered};
-ghost use Rattle.wildcard_lang.specs.Patterns.{is_wide};
+ghost use Rattle.wildcard_lang.specs.Patterns.{IsPatternPart, is_wide};
 
 use crate::matching::matches_pieces;
 use crate::pattern::{MOST_PIECES, Pattern};
@@ -101,9 +101,10 @@ pub fn covers(pattern: &Pattern, other: &Pattern) -> bool
     covers_pieces(pattern.as_slice(), other.as_slice())
 }
 
-// Patterns are often equal, which is told with less work than where the places of one are kept.
+// Patterns are often equal, which is told with less work than how one matches the other.
 fn covers_pieces(pieces: &[Piece], others: &[Piece]) -> bool
-    requires { length pieces.now ≤ MOST_PIECES }
+    requires most { length pieces.now ≤ MOST_PIECES }
+    requires part { IsPatternPart pieces.now }
     ensures { result ≡ covers pieces.now others.now }
 {
     if pieces == others {

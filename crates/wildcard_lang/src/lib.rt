@@ -19,7 +19,6 @@ mod source;
 mod symbol;
 mod taken;
 mod text;
-mod window;
 mod writing;
 mod written_again;
 

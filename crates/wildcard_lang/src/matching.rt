@@ -1,21 +1,23 @@
 //! Whether a pattern matches a text. The pieces behind the last for any number are compared one by one
 //! from the end, and those in front of the first from the front. What is between is matched run by run,
-//! each at the first place that takes it. From a run on whose first place doesn't decide, the places of
-//! the pattern are kept in steps through the text; no pattern that was read has such a run.
-ghost use Rattle.std.specs.Prelude.{◌≡◌, ◌≤◌, ◌↔◌, ℕ, List, IsTrue, true, length, slice_index_or, chars};
+//! each at the first place that takes it: there every pattern is decided. Where a star stands behind the
+//! run, it takes whatever is left more at the first place. Where a star that takes no colon does, none
+//! that takes colons stands before it, so that it takes what the star before the run would take, or the run
+//! has a colon, which stands at one place of the text alone.
+ghost use Rattle.std.specs.Prelude.{◌≡◌, ◌≤◌, ◌↔◌, ◌∷◌, ℕ, List, [], IsTrue, true, length, slice_index_or, chars};
 ghost use Rattle.wildcard_lang.specs.declared.piece.Piece.{Piece};
-ghost use Rattle.wildcard_lang.specs.declared.piece.Piece.TheVariants.{One};
+ghost use Rattle.wildcard_lang.specs.declared.piece.Piece.TheVariants.{One, Many};
 ghost use Rattle.wildcard_lang.specs.Accepts.{accepts, accepts_by};
 ghost use Rattle.wildcard_lang.specs.Matching.{Matches, is_many};
+ghost use Rattle.wildcard_lang.specs.Patterns.{IsPatternPart};
+ghost use Rattle.wildcard_lang.specs.Runs.{last_or};
 
 use crate::pattern::{MOST_PIECES, Pattern};
 use crate::piece::Piece;
-use crate::places::start;
-use crate::runs::{first_start, is_decisive, split_run};
+use crate::runs::{first_start, split_run};
 use crate::source::Source;
 use crate::taken::Taken;
 use crate::text::Text;
-use crate::window::{Window, is_star, step_window};
 
 /// The test `accepts` of the definitions answers whether the pieces match the text.
 pub fn accepts_is_matches()
@@ -39,7 +41,8 @@ pub fn matches_str(pattern: &Pattern, text: &str) -> bool
 
 // Compares the pieces behind the last for any number one by one, from the end.
 pub(crate) fn matches_pieces<X: Taken, S: Source<X>>(pieces: &[Piece], text: S) -> bool
-    requires { length pieces.now ≤ MOST_PIECES }
+    requires most { length pieces.now ≤ MOST_PIECES }
+    requires part { IsPatternPart pieces.now }
     ensures { result ≡ accepts_by X.taken pieces.now (S.left text) }
 {
     let mut rest = pieces;
@@ -63,7 +66,8 @@ pub(crate) fn matches_pieces<X: Taken, S: Source<X>>(pieces: &[Piece], text: S) 
 
 // Compares the pieces in front of the first for any number one by one.
 fn matches_front<X: Taken, S: Source<X>>(pieces: &[Piece], text: S) -> bool
-    requires { length pieces.now ≤ MOST_PIECES }
+    requires part { IsPatternPart pieces.now }
+    requires last { is_many (last_or One pieces.now) ≡ true }
     ensures { result ≡ accepts_by X.taken pieces.now (S.left text) }
 {
     let mut rest = pieces;
@@ -85,53 +89,52 @@ fn matches_front<X: Taken, S: Source<X>>(pieces: &[Piece], text: S) -> bool
     }
 }
 
-// Looks for each run of pieces between two wildcards for any number where the text first has it. Where
-// that place decides, what stands behind the run goes on from there.
+// Looks for each run of pieces between two wildcards for any number where the text first has it. What
+// stands behind the run goes on from there.
 fn matches_runs<X: Taken, S: Source<X>>(pieces: &[Piece], text: S) -> bool
+    requires part { IsPatternPart pieces.now }
     requires first { is_many (slice_index_or pieces.now 0 One) ≡ true }
-    requires most { length pieces.now ≤ MOST_PIECES }
+    requires last { is_many (last_or One pieces.now) ≡ true }
     ensures { result ≡ accepts_by X.taken pieces.now (S.left text) }
 {
+    X::narrows();
     let mut rest = pieces;
     let mut left = text;
     'runs: loop {
-        if let [piece] = rest {
-            if is_star(*piece) {
-                return true;
-            }
-        }
         let Some((first, run, behind)) = split_run(rest) else {
             return left.next_item().is_none();
         };
+        if behind.is_empty() {
+            return takes_rest::<X, S>(first, left);
+        }
         let Some(found) = first_start::<X, S>(first, run, left) else {
             return false;
         };
-        if !is_decisive::<X>(first, run, behind) {
-            return matches_places::<X, S>(rest, found.start);
-        }
         left = found.behind;
         rest = behind;
     }
 }
 
-// Keeps the places of the pieces, of which the first is for any number.
-fn matches_places<X: Taken, S: Source<X>>(pieces: &[Piece], text: S) -> bool
-    requires nonempty { 1 ≤ length pieces.now }
-    requires most { length pieces.now ≤ MOST_PIECES }
-    ensures { result ≡ accepts_by X.taken pieces.now (S.left text) }
+// Whether the piece is a star.
+fn is_star(piece: Piece) -> bool
+    ensures { IsTrue result ↔ (piece ≡ Many) }
 {
-    let mut places = [false; MOST_PIECES + 1];
-    start::<X>(pieces, &mut places);
-    let mut window = Window {
-        low: 0,
-        high: pieces.len(),
-    };
+    matches!(piece, Piece::Many)
+}
+
+// Whether the piece, which is for any number, takes all that is left. A star does, so that it isn't gone through.
+fn takes_rest<X: Taken, S: Source<X>>(piece: Piece, text: S) -> bool
+    requires { is_many piece ≡ true }
+    ensures { result ≡ accepts_by X.taken (piece ∷ []) (S.left text) }
+{
+    if is_star(piece) {
+        return true;
+    }
     let mut left = text;
     'text: while let Some(x) = left.next_item() {
-        window = step_window(pieces, &mut places, window, x);
-        if window.low == pieces.len() {
-            return true;
+        if !x.is_taken(piece) {
+            return false;
         }
     }
-    places[pieces.len()]
+    true
 }

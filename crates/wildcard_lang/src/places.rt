@@ -1,16 +1,16 @@
 //! The places of a pattern after a text, as marks: one for each number of first pieces.
 ghost use Rattle.std.specs.Prelude.{◌≡◌, ◌+◌, ◌<◌, [], length};
 ghost use Rattle.wildcard_lang.specs.Accepts.{ArePlaces, AreReached, mark_by, marks_of, marks_reached};
+ghost use Rattle.wildcard_lang.specs.Matching.{takes};
 ghost use Rattle.wildcard_lang.specs.Places.{PlacesAreMatched, StepsAreLed, StepsFollowTexts, WidthsGrow};
 
 use crate::pattern::Pattern;
 use crate::piece::Piece;
-use crate::taken::Taken;
 
 // Marks the places after nothing.
-pub(crate) fn start<X: Taken>(pieces: &[Piece], places: &mut [bool])
+fn start(pieces: &[Piece], places: &mut [bool])
     requires { length pieces.now < length places.old }
-    ensures { ArePlaces X.taken pieces.now [] places.new }
+    ensures { ArePlaces takes pieces.now [] places.new }
 {
     places[0] = true;
     for (i, piece) in pieces.iter().enumerate() {
@@ -19,28 +19,28 @@ pub(crate) fn start<X: Taken>(pieces: &[Piece], places: &mut [bool])
     }
 }
 
-// Whether the place behind the piece is one after x, where `before` and `old` say whether the places
-// before and behind it were ones, and `below` whether the place before it is one after x.
-pub(crate) fn mark_after<X: Taken>(piece: Piece, x: X, before: bool, old: bool, below: bool) -> bool
-    ensures { result ≡ mark_by X.taken piece x before old below }
+// Whether the place behind the piece is one after c, where `before` and `old` say whether the places
+// before and behind it were ones, and `below` whether the place before it is one after c.
+fn mark_after(piece: Piece, c: char, before: bool, old: bool, below: bool) -> bool
+    ensures { result ≡ mark_by takes piece c before old below }
 {
     if piece.is_many() {
-        x.is_taken(piece) && old || below
+        piece.takes(c) && old || below
     } else {
-        x.is_taken(piece) && before
+        piece.takes(c) && before
     }
 }
 
-// Marks the places after x.
-pub(crate) fn step<X: Taken>(pieces: &[Piece], places: &mut [bool], x: X)
+// Marks the places after c.
+fn step(pieces: &[Piece], places: &mut [bool], c: char)
     requires { length pieces.now < length places.old }
-    ensures { AreReached X.taken pieces.now places.old x places.new }
+    ensures { AreReached takes pieces.now places.old c places.new }
 {
     let mut before = places[0];
     places[0] = false;
     for (i, piece) in pieces.iter().enumerate() {
         let old = places[i + 1];
-        places[i + 1] = mark_after(*piece, x, before, old, places[i]);
+        places[i + 1] = mark_after(*piece, c, before, old, places[i]);
         before = old;
     }
 }
@@ -74,7 +74,7 @@ pub fn start_places(pattern: &Pattern, places: &mut [bool])
     requires { length places.old ≡ length pattern.now + 1 }
     ensures { places.new ≡ marks_of pattern.now [] }
 {
-    start::<char>(pattern.as_slice(), places);
+    start(pattern.as_slice(), places);
 }
 
 /// Marks the places to which a character leads from the marked ones.

@@ -3,11 +3,11 @@
 //! the run and the item of the text at which it failed before are asked first: mostly one of them
 //! refuses the next start too, and a text is gone through once. Where starts are refused far into the run,
 //! at many places and by many items in turn, more of them are remembered.
-ghost use Rattle.std.specs.Prelude.{◌≡◌, ◌<◌, ◌≤◌, ◌∷◌, ◌++◌, List, [], true, IsTrue, IfSome, IfNone, IfOk, IfErr, length, take, All, slice_index_or};
+ghost use Rattle.std.specs.Prelude.{◌≡◌, ◌≤◌, ◌∷◌, ◌++◌, List, [], true, IsTrue, IfSome, IfNone, IfOk, IfErr, length, take, slice_index_or};
 ghost use Rattle.wildcard_lang.specs.declared.piece.Piece.{Piece};
-ghost use Rattle.wildcard_lang.specs.declared.piece.Piece.TheVariants.{Lit, One, Many, ManyNoColon};
+ghost use Rattle.wildcard_lang.specs.declared.piece.Piece.TheVariants.{Many};
 ghost use Rattle.wildcard_lang.specs.Matching.{is_many};
-ghost use Rattle.wildcard_lang.specs.Runs.{IsRun, IsRefused, IsLeft, IsReached, IsFirst, IsAhead, AreAhead, Refutes, IsDecisive, is_narrow, refuses, behind_first};
+ghost use Rattle.wildcard_lang.specs.Runs.{IsRun, IsRefused, IsLeft, IsReached, IsFirst, IsAhead, AreAhead, Refutes, refuses, behind_first};
 
 use crate::guesses::{Guesses, NUMBERS};
 use crate::piece::Piece;
@@ -51,6 +51,7 @@ pub(crate) struct Found<S> {
 fn run_length(pieces: &[Piece]) -> usize
     ensures most { result ≤ length pieces.now }
     ensures run { IsRun (take result pieces.now) }
+    ensures next { is_many (slice_index_or pieces.now result Many) ≡ true }
 {
     'pieces: for i in 0..pieces.len() {
         if pieces[i].is_many() {
@@ -60,10 +61,11 @@ fn run_length(pieces: &[Piece]) -> usize
     pieces.len()
 }
 
-// The first piece, the run behind it, and what is behind the run.
+// The first piece, the run behind it, and what is behind the run: nothing, or a piece for any number first.
 pub(crate) fn split_run(pieces: &[Piece]) -> Option<(Piece, &[Piece], &[Piece])>
     ensures parts { IfSome result (λ r. pieces.now ≡ r.0 ∷ (r.1.now ++ r.2.now)) }
     ensures run { IfSome result (λ r. IsRun r.1.now) }
+    ensures next { IfSome result (λ r. is_many (slice_index_or r.2.now 0 Many) ≡ true) }
     ensures none { IfNone result (pieces.now ≡ []) }
 {
     let [first, more @ ..] = pieces else {
@@ -71,87 +73,6 @@ pub(crate) fn split_run(pieces: &[Piece]) -> Option<(Piece, &[Piece], &[Piece])>
     };
     let (run, behind) = more.split_at(run_length(more));
     Some((*first, run, behind))
-}
-
-// Whether the first of the pieces is a star.
-fn has_star_first(pieces: &[Piece]) -> bool
-    ensures { IsTrue result → (more : List Piece) × (pieces.now ≡ Many ∷ more) }
-{
-    matches!(pieces, [Piece::Many, ..])
-}
-
-// Whether the first of the pieces is for any number.
-fn has_many_first(pieces: &[Piece]) -> bool
-    ensures { IsTrue result → is_many (slice_index_or pieces.now 0 One) ≡ true }
-{
-    let [piece, ..] = pieces else {
-        return false;
-    };
-    piece.is_many()
-}
-
-// Whether the first of the pieces is a star that takes no colon.
-fn has_narrow_star_first(pieces: &[Piece]) -> bool
-    ensures { IsTrue result → (more : List Piece) × (pieces.now ≡ ManyNoColon ∷ more) }
-{
-    matches!(pieces, [Piece::ManyNoColon, ..])
-}
-
-// Whether the piece takes no colon.
-fn is_narrow(piece: Piece) -> bool
-    ensures { result ≡ is_narrow piece }
-{
-    !piece.takes(':')
-}
-
-// How many of the first pieces take no colon.
-fn narrow_length(pieces: &[Piece]) -> usize
-    ensures most { result ≤ length pieces.now }
-    ensures narrow { All (λ p. is_narrow p ≡ true) (take result pieces.now) }
-{
-    'pieces: for i in 0..pieces.len() {
-        if !is_narrow(pieces[i]) {
-            return i;
-        }
-    }
-    pieces.len()
-}
-
-// Whether the piece at the place is a plain colon.
-fn has_colon_at(pieces: &[Piece], place: usize) -> bool
-    ensures within { IsTrue result → place < length pieces.now }
-    ensures colon { IsTrue result → slice_index_or pieces.now place One ≡ Lit 58 }
-{
-    if place >= pieces.len() {
-        return false;
-    }
-    matches!(pieces[place], Piece::Lit(':'))
-}
-
-// Whether the first place that takes the run decides. A star behind the run takes whatever is left more there.
-// Within a part of an ARN so does a star that takes no colon; and where the run leads on to the next part, its
-// colon stands at one place of the text alone.
-pub(crate) fn is_decisive<X: Taken>(first: Piece, run: &[Piece], behind: &[Piece]) -> bool
-    requires many { is_many first ≡ true }
-    requires run { IsRun run.now }
-    ensures decisive { IsTrue result → IsDecisive X.taken first run.now behind.now }
-    ensures many { IsTrue result → is_many (slice_index_or behind.now 0 One) ≡ true }
-{
-    if !has_many_first(behind) {
-        return false;
-    }
-    if has_star_first(behind) {
-        return true;
-    }
-    if !is_narrow(first) {
-        return false;
-    }
-    X::narrows();
-    let narrow = narrow_length(run);
-    if has_colon_at(run, narrow) {
-        return true;
-    }
-    narrow == run.len() && has_narrow_star_first(behind)
 }
 
 // Whether the piece doesn't take the first item of the text, or there is none.

@@ -3,4 +3,4 @@ use Rattle.std.proofs.Common.{rules}
 use Rattle.wildcard_lang.proofs.places.mark_after.Goals as goal
 
 pub returns-else-old : goal.returns-else-old
-returns-else-old g c = search rules
+returns-else-old c = search rules
