@@ -23,3 +23,4 @@ mod Telling
 mod Patching
 mod Standing
 mod Cutting
+mod Lasting

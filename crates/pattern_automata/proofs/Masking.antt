@@ -126,6 +126,28 @@ has-patch (p ∷ ps) k =
           ]
     ]
 
+-- what the masks and the patches say they say of both
+pub determined : (m : Masks) (patches : List Patch) (one stay other held : ℕ → Bool) → AreMasksOf m patches one stay → AreMasksOf m patches other held → (i : ℕ) → (one i ≡ other i) × (stay i ≡ held i)
+determined m patches one stay other held a b i =
+    let l : i % 64 < 64 = omega arith in
+    elim (has-patch patches (i / 64)) [
+      | inl w ↦
+          let e : w.1.index ≡ i / 64 = w.4 in
+          let at : 64 * w.1.index + i % 64 ≡ i = omega (arith, e) in
+          let x = a.here w.0 w.1 w.2 w.3 (i % 64) l in
+          let y = b.here w.0 w.1 w.2 w.3 (i % 64) l in (
+            subst (λ (n : ℕ). one n ≡ other n) at (sym x.0 ∙ y.0),
+            subst (λ (n : ℕ). stay n ≡ held n) at (sym x.1 ∙ y.1),
+          )
+      | inr none ↦
+          let at : 64 * (i / 64) + i % 64 ≡ i = omega arith in
+          let x = a.elsewhere (i / 64) none (i % 64) l in
+          let y = b.elsewhere (i / 64) none (i % 64) l in (
+            subst (λ (n : ℕ). one n ≡ other n) at (sym x.0 ∙ y.0),
+            subst (λ (n : ℕ). stay n ≡ held n) at (sym x.1 ∙ y.1),
+          )
+    ]
+
 -- ---- a step of words
 
 filled-alike : (set more leads : ℕ → Bool) (n : ℕ) → ((i : ℕ) → i < n → set i ≡ more i) → (i : ℕ) → i < n → filled_marks set leads false i ≡ filled_marks more leads false i
@@ -255,3 +277,20 @@ module _ (ps : List (List Piece)) (m : Masks) (masks : IsMasks (fronts ps) m) wh
       (λ i l. masks.one i ∙ passes-alike x (get_or F i None) (untold ps x new i)) (λ i l. masks.many i ∙ keeps-alike x (get_or F i None) (untold ps x new i)) (λ i l. refl) (λ i l. refl) j (omega arith)
       ∙ to-marks x state marks size is j)) in
       ap pack (ext_get_or false (all_reached ps marks c) (all_reached ps marks x) (length-all_reached ps marks c ∙ sym (length-all_reached ps marks x)) (λ j h. same j))
+
+  -- two moves with the same patches lead to the same words
+  pub moves-alike : (s t : Move) → IsMove F s → IsMove F t → s.patches.items ≡ t.patches.items → (state : List ℕ) (marks : List Bool) → length marks ≡ mark_count ps → state ≡ pack marks →
+      pack (all_reached ps marks s.character) ≡ pack (all_reached ps marks t.character)
+  moves-alike s t one other same state marks size is =
+      let c : ℕ = s.character in
+      let d : ℕ = t.character in
+      let ms : AreMasksOf m s.patches.items (piece_does (Passes c) F) (piece_does (Keeps c) F) = masks-of F m masks c s.patches.items one.distinguished in
+      let mt : AreMasksOf m s.patches.items (piece_does (Passes d) F) (piece_does (Keeps d) F) =
+      subst (λ (x : List Patch). AreMasksOf m x (piece_does (Passes d) F) (piece_does (Keeps d) F)) (sym same) (masks-of F m masks d t.patches.items other.distinguished) in
+      let alike : (j : ℕ) → get_or (all_reached ps marks c) j false ≡ get_or (all_reached ps marks d) j false =
+      λ j.
+      sym (to-marks c state marks size is j)
+      ∙ (stepped-same (piece_does (Passes c) F) (piece_does (Keeps c) F) (word_mark m.many.items) (word_mark state) (piece_does (Passes d) F) (piece_does (Keeps d) F) (word_mark m.many.items) (word_mark state) (j + 1)
+      (λ i l. (determined m s.patches.items _ _ _ _ ms mt i).0) (λ i l. (determined m s.patches.items _ _ _ _ ms mt i).1) (λ i l. refl) (λ i l. refl) j (omega arith)
+      ∙ to-marks d state marks size is j) in
+      ap pack (ext_get_or false (all_reached ps marks c) (all_reached ps marks d) (length-all_reached ps marks c ∙ sym (length-all_reached ps marks d)) (λ j h. alike j))

@@ -11,6 +11,11 @@ pub characters-more : (moves : List Move) (i : ℕ) (m : Move) → i < length mo
 characters-more moves i m h read =
     ap characters_of (take_more moves i m h) ∙ (map_push (λ (x : Move). x.character) (take i moves) (get_or moves i m) ∙ ap (λ (x : Move). characters_of (take i moves) ++ x.character ∷ []) (sym read))
 
+pub character-at : (moves : List Move) (i : ℕ) (m : Move) → i < length moves → m ≡ get_or moves i m → m.character ≡ get_or (characters_of moves) i 0
+character-at [] i m h e = absurd (omega (arith, h))
+character-at (x ∷ xs) zero m h e = ap (λ (y : Move). y.character) e
+character-at (x ∷ xs) (suc i) m h e = character-at xs i m (omega (arith, h)) e
+
 pub has-character : (moves : List Move) (i : ℕ) (m : Move) → i < length moves → m ≡ get_or moves i m → contains_place (characters_of moves) m.character ≡ true
 has-character [] i m h e = absurd (omega arith)
 has-character (x ∷ xs) zero m h e = or_left _ _ (eq-eqb x.character m.character (ap (λ (y : Move). y.character) (sym e)))

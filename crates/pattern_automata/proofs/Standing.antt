@@ -1,9 +1,9 @@
--- The characters of a machine stand for all scalars, and a move that leads as the first one is no step more.
+-- The characters of a machine stand for all scalars, and a move that leads as an earlier one is no step more.
 use Rattle.std.proofs.Common.{◌≡◌, ℕ, zero, suc, ◌+◌, ◌<◌, ◌≤◌, Bool, true, false, eqb, is_some, refl, sym, ap, ◌∙◌, subst, inl, inr, arith, List, [], ◌∷◌, ◌++◌, length, get_or, take, Option, None, Some, MatchOption, All, Contains}
 use Rattle.std.specs.Char.{IsScalar}
 use Rattle.std.proofs.lemmas.Bool.{cases_Bool, both_ways, eq-eqb, eqb-true, or_cases, or_left, or_right, MatchBool-at_true, MatchBool-at_false}
 use Rattle.std.proofs.lemmas.List.Folds.{list_any-append}
-use Rattle.std.proofs.lemmas.List.Elements.{All-cons}
+use Rattle.std.proofs.lemmas.List.Elements.{All-cons, All-tail}
 use Rattle.wildcard_lang.specs.declared.piece.Piece.{Piece}
 use Rattle.wildcard_lang.specs.Places.{contains_place}
 use Rattle.pattern_automata.specs.declared.wants.Literal.{Literal}
@@ -70,10 +70,11 @@ stands patterns characters spared alphabet c s =
 
 -- ---- moves that lead as the first one
 
-pub first-there : (moves : List Move) (k : ℕ) → 0 < k → k ≤ length moves → contains_place (characters_of (take k moves)) (get_or (characters_of moves) 0 0) ≡ true
-first-there moves zero h l = absurd (omega arith)
-first-there [] (suc k) h l = absurd (omega arith)
-first-there (m ∷ ms) (suc k) h l = or_left _ _ (eq-eqb m.character m.character refl)
+pub earlier-there : (moves : List Move) (e k : ℕ) → e < k → k ≤ length moves → contains_place (characters_of (take k moves)) (get_or (characters_of moves) e 0) ≡ true
+earlier-there moves e zero h l = absurd (omega (arith, h))
+earlier-there [] e (suc k) h l = absurd (omega (arith, l))
+earlier-there (m ∷ ms) zero (suc k) h l = or_left _ _ (eq-eqb m.character m.character refl)
+earlier-there (m ∷ ms) (suc e) (suc k) h l = or_right _ _ (earlier-there ms e k (omega (arith, h)) (omega (arith, l)))
 
 module _ (patterns : List (List Piece)) (c x : ℕ) (state : List ℕ)
     (same : (marks : List Bool) → length marks ≡ mark_count patterns → state ≡ pack marks → pack (all_reached patterns marks c) ≡ pack (all_reached patterns marks x)) where
@@ -113,9 +114,10 @@ index-more patterns c index here more marks grown there before d s h =
           ]
     ]
 
-pub first-scalar : (F : List (Option Piece)) (moves : List Move) → 0 < length moves → All (IsMove F) moves → IsScalar (get_or (characters_of moves) 0 0)
-first-scalar F [] h all = absurd (omega arith)
-first-scalar F (m ∷ ms) h all = (all 0 m (omega arith)).scalar
+pub earlier-scalar : (F : List (Option Piece)) (moves : List Move) (e : ℕ) → e < length moves → All (IsMove F) moves → IsScalar (get_or (characters_of moves) e 0)
+earlier-scalar F [] e h all = absurd (omega (arith, h))
+earlier-scalar F (m ∷ ms) zero h all = (all 0 m (omega arith)).scalar
+earlier-scalar F (m ∷ ms) (suc e) h all = earlier-scalar F ms e (omega (arith, h)) (All-tail (IsMove F) m ms all)
 
 -- one more move
 module _ (patterns : List (List Piece)) (ends : List ℕ) (clauses : List (List Literal)) (moves : List Move) (k : ℕ) (step : Move) (within : k < length moves) (read : step ≡ get_or moves k step) where
@@ -128,9 +130,9 @@ module _ (patterns : List (List Piece)) (ends : List ℕ) (clauses : List (List 
     rw (characters-more moves k step within read) (visited.goes (characters_of moves) (characters_of (take k moves)) search),
   )
 
-  pub skipped-next : (found : List (List ℕ)) (state : List ℕ) (i : ℕ) → state ≡ get_or found i [] → 0 < k →
-      ((marks : List Bool) → length marks ≡ mark_count patterns → state ≡ pack marks → pack (all_reached patterns marks step.character) ≡ pack (all_reached patterns marks (get_or (characters_of moves) 0 0))) →
+  pub skipped-next : (found : List (List ℕ)) (state : List ℕ) (i e : ℕ) → state ≡ get_or found i [] → e < k →
+      ((marks : List Bool) → length marks ≡ mark_count patterns → state ≡ pack marks → pack (all_reached patterns marks step.character) ≡ pack (all_reached patterns marks (get_or (characters_of moves) e 0))) →
       IsSearch patterns ends clauses (characters_of moves) found i (characters_of (take k moves)) → IsSearch patterns ends clauses (characters_of moves) found i (characters_of (take (k + 1) moves))
-  skipped-next found state i is later same search =
-      search-skipped patterns step.character (get_or (characters_of moves) 0 0) state same ends clauses (characters_of moves) (characters_of (take k moves)) (characters_of (take (k + 1) moves)) found i (sym is)
-      (first-there moves k later (omega arith)) (characters-more moves k step within read) search
+  skipped-next found state i e is later same search =
+      search-skipped patterns step.character (get_or (characters_of moves) e 0) state same ends clauses (characters_of moves) (characters_of (take k moves)) (characters_of (take (k + 1) moves)) found i (sym is)
+      (earlier-there moves e k later (omega arith)) (characters-more moves k step within read) search

@@ -1,5 +1,5 @@
 -- What a product answers.
-use Rattle.std.specs.Prelude.{◌≡◌, ℕ, ◌-◌, ◌<◌, ◌≤◌, ◌++◌, ◌∷◌, List, [], length, slice_index_or}
+use Rattle.std.specs.Prelude.{◌≡◌, ℕ, ◌+◌, ◌-◌, ◌<◌, ◌≤◌, ◌++◌, List, [], length, slice_index_or}
 use Rattle.wildcard_lang.specs.declared.piece.Piece.{Piece}
 use Rattle.wildcard_lang.specs.Text.{IsText}
 use Rattle.pattern_automata.specs.declared.wants.Literal.{Literal}
@@ -9,10 +9,10 @@ use Rattle.pattern_automata.specs.declared.outcome.Product.TheVariants.{Found, E
 use Rattle.pattern_automata.specs.declared.tree.Parent.{Parent}
 use Rattle.pattern_automata.specs.declared.tree.Step.{Step}
 use Rattle.pattern_automata.specs.declared.tree.Step.TheVariants.{Left, Met, Full}
-use Rattle.pattern_automata.specs.Packed.{all_words, words_for}
+use Rattle.pattern_automata.specs.Packed.{all_words, word_mark, words_for}
 use Rattle.pattern_automata.specs.Marks.{mark_count}
 use Rattle.pattern_automata.specs.Tree.{Spells}
-use Rattle.wildcard_lang.specs.Places.{lists_of, ShowWider}
+use Rattle.wildcard_lang.specs.Places.{lists_of, passing_numbers, ShowWider}
 use Rattle.pattern_automata.specs.Closed.{Meets, IsClosed}
 
 -- what a product may answer: a text that meets the clauses, a closed set of at most `limit` product states, or `limit + 1`
@@ -34,9 +34,13 @@ HaveWords patterns found = (k : ℕ) → k < length found → length (slice_inde
 abbrev pub IsStateOf : List (List Piece) → List ℕ → List (List ℕ) → Type 0
 IsStateOf patterns words state = (t : List ℕ) → words ≡ all_words patterns t → state ≡ lists_of patterns t
 
--- the set has got the product state of the words
-abbrev pub GrowsByState : List (List Piece) → List ℕ → List (List (List ℕ)) → List (List (List ℕ)) → Type 0
-GrowsByState patterns words old new = (state : List (List ℕ)) × IsStateOf patterns words state × (new ≡ old ++ state ∷ [])
+-- the list has got the places that are marked among so many from a place on
+abbrev pub AddsPlaces : List ℕ → ℕ → ℕ → List ℕ → List ℕ → Type 0
+AddsPlaces words at count old new = new ≡ old ++ passing_numbers (λ j. word_mark words (at + j)) 0 count
+
+-- the lists have got those of the product state of the words
+abbrev pub AddsLists : List (List Piece) → List ℕ → List (List ℕ) → List (List ℕ) → Type 0
+AddsLists patterns words old new = (state : List (List ℕ)) × IsStateOf patterns words state × (new ≡ old ++ state)
 
 abbrev pub AreStatesOf : List (List Piece) → List (List ℕ) → List (List (List ℕ)) → Type 0
 AreStatesOf patterns found closed =

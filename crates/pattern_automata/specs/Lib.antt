@@ -11,3 +11,4 @@ pub mod Spare
 pub mod Machine
 pub mod Search
 pub mod Cuts
+pub mod Last

@@ -23,13 +23,13 @@ abbrev pub LeadsByWords : List (List Piece) → List ℕ → ℕ → List ℕ �
 LeadsByWords patterns state c words =
     (marks : List Bool) → length marks ≡ mark_count patterns → state ≡ pack marks → words ≡ pack (all_reached patterns marks c)
 
--- the move leads from the state where the first one does, which is of a spare character and isn't that at k
-abbrev pub StepsAsFirst : Wants → Machine → ℕ → Move → List ℕ → Type 0
-StepsAsFirst w m k step state =
-    (0 < k)
+-- the move leads from the state where one before it does
+abbrev pub StepsAsEarlier : Wants → Machine → ℕ → Move → List ℕ → Type 0
+StepsAsEarlier w m k step state =
+    (e : ℕ) × (e < k)
     × ((marks : List Bool) → length marks ≡ mark_count w.patterns → state ≡ pack marks →
     pack (all_reached w.patterns marks step.character)
-    ≡ pack (all_reached w.patterns marks (slice_index_or (characters_of m.moves.items) 0 0)))
+    ≡ pack (all_reached w.patterns marks (slice_index_or (characters_of m.moves.items) e 0)))
 
 abbrev pub LeadsInto : Wants → List ℕ → Move → Room → Type 0
 LeadsInto w state step room = LeadsByWords w.patterns state step.character room.words.items

@@ -11,7 +11,7 @@ ghost use Rattle.pattern_automata.specs.Checked.{places_fit, AreMembers, HasAlso
 
 use crate::found::Found;
 use crate::machine::{Machine, machine_of};
-use crate::search::{Room, is_met, leads_as_first, start_words, step_into};
+use crate::search::{Room, is_met, leads_as_earlier, start_words, step_into};
 use crate::states::{Closed, State};
 use crate::wants::Wants;
 use crate::words::pack;
@@ -153,10 +153,10 @@ fn all_shaped(patterns: &[Pattern], closed: &Closed) -> bool
 }
 
 /// Adds the words, where they aren't there.
-fn keep(words: Vec<u64>, found: &mut Found) -> Result<(), NoMemory>
-    ensures { OnOk result (HasAlso found.old words.items found.new) }
+fn keep(words: &[u64], found: &mut Found) -> Result<(), NoMemory>
+    ensures { OnOk result (HasAlso found.old words.now found.new) }
 {
-    if found.has(words.as_slice()) {
+    if found.has(words) {
         return Ok(());
     }
     found.push(words)?;
@@ -175,10 +175,10 @@ fn add_member(
 {
     let words = words_of(alloc, patterns, state)?;
     if places_fit(patterns, state) {
-        keep(words, &mut members.fitting)?;
+        keep(words.as_slice(), &mut members.fitting)?;
         return Ok(());
     }
-    keep(words, &mut members.others)?;
+    keep(words.as_slice(), &mut members.others)?;
     Ok(())
 }
 
@@ -284,7 +284,7 @@ fn passes(
     }
     for k in 0..machine.moves.len() {
         let step = &machine.moves[k];
-        if leads_as_first(wants, machine, k, step, words) {
+        if leads_as_earlier(wants, machine, k, step, words) {
             continue;
         }
         step_into(wants, machine, step, words, room)?;

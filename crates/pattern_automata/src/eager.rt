@@ -9,7 +9,7 @@ ghost use Rattle.pattern_automata.specs.Search.{GrowsTree, HasTree};
 use crate::left::words_left;
 use crate::machine::{Machine, machine_of};
 use crate::proposal::{proposed, verified};
-use crate::search::{Search, begin, leads_as_first, turn};
+use crate::search::{Search, begin, leads_as_earlier, turn};
 use crate::tree::text_of;
 use crate::waiting::Waiting;
 use crate::wants::Wants;
@@ -58,7 +58,7 @@ fn try_move(
     ensures { IfOk result (GrowsTree wants.now search.old search.new) }
 {
     let step = &machine.moves[k];
-    if leads_as_first(wants, machine, k, step, search.found.get(i)) {
+    if leads_as_earlier(wants, machine, k, step, search.found.get(i)) {
         return Ok(false);
     }
     if !turn(wants, machine, search, i, step)? {

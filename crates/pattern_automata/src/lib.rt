@@ -6,6 +6,7 @@ mod check;
 mod eager;
 mod found;
 mod fronts;
+mod last;
 mod left;
 mod machine;
 mod marks;
@@ -26,6 +27,7 @@ mod words;
 
 pub use check::{is_closed, rises};
 pub use eager::text_soon;
+pub use last::{LastClosed, product_after};
 pub use outcome::Product;
 pub use search::product;
 pub use states::{Closed, PlaceList, PlaceLists, State};

@@ -6,7 +6,7 @@ ghost use Rattle.pattern_automata.specs.Moves.{IsMove, fronts};
 ghost use Rattle.pattern_automata.specs.Packed.{all_words, words_for};
 ghost use Rattle.pattern_automata.specs.Closed.{InRange};
 ghost use Rattle.pattern_automata.specs.Machine.{IsMachine};
-ghost use Rattle.pattern_automata.specs.Search.{Ends, Expands, HasBegun, IsLeftAt, IsUnderWay, LeadsInto, StepsAsFirst, Turns, Visits};
+ghost use Rattle.pattern_automata.specs.Search.{Ends, Expands, HasBegun, IsLeftAt, IsUnderWay, LeadsInto, StepsAsEarlier, Turns, Visits};
 ghost use Rattle.pattern_automata.specs.Answer.{HaveWords, IsProduct, IsReport, IsTextFor};
 
 use crate::eager::eager_text;
@@ -14,7 +14,7 @@ use crate::found::Found;
 use crate::machine::{Machine, machine_of};
 use crate::marks::start_all;
 use crate::meets::clauses_met;
-use crate::moves::Move;
+use crate::moves::{Move, Patch};
 use crate::outcome::Product;
 use crate::places::closed_of;
 use crate::proposal::proposed;
@@ -75,7 +75,65 @@ pub fn step_into(
 }
 
 /// Whether the move leads from the state where the first one does, which is that of a spare character.
-pub fn leads_as_first(
+fn leads_as_first(wants: &Wants, machine: &Machine, k: usize, step: &Move, state: &[u64]) -> bool
+    requires machine { IsMachine wants.now.patterns machine.now }
+    requires within { k < length machine.now.moves.items }
+    requires does { IsMove (fronts wants.now.patterns) step.now }
+    requires size { length state.now ≡ words_for (mark_count wants.now.patterns) }
+    ensures { IsTrue result → StepsAsEarlier wants.now machine.now k step.now state.now }
+{
+    if k == 0 {
+        return false;
+    }
+    if !machine.spared {
+        return false;
+    }
+    leads_alike(state, step.patches.as_slice())
+}
+
+/// Whether the patches are the same.
+fn is_same(patch: Patch, other: Patch) -> bool
+    ensures { IsTrue result → patch ≡ other }
+{
+    patch.index == other.index
+        && patch.one == other.one
+        && patch.stay == other.stay
+        && patch.differs == other.differs
+}
+
+/// Whether all patches are the same.
+pub fn are_same(patches: &[Patch], others: &[Patch]) -> bool
+    ensures { IsTrue result → patches.now ≡ others.now }
+{
+    if patches.len() != others.len() {
+        return false;
+    }
+    for i in 0..patches.len() {
+        if !is_same(patches[i], others[i]) {
+            return false;
+        }
+    }
+    true
+}
+
+/// Whether the move leads where the one before it does, as that of a capital mostly does behind its letter's.
+fn leads_as_before(wants: &Wants, machine: &Machine, k: usize, step: &Move, state: &[u64]) -> bool
+    requires machine { IsMachine wants.now.patterns machine.now }
+    requires within { k < length machine.now.moves.items }
+    requires does { IsMove (fronts wants.now.patterns) step.now }
+    ensures { IsTrue result → StepsAsEarlier wants.now machine.now k step.now state.now }
+{
+    if k == 0 {
+        return false;
+    }
+    are_same(
+        step.patches.as_slice(),
+        machine.moves[k - 1].patches.as_slice(),
+    )
+}
+
+/// Whether the move leads from the state where an earlier one does, so that it isn't worth a step.
+pub fn leads_as_earlier(
     wants: &Wants,
     machine: &Machine,
     k: usize,
@@ -86,15 +144,12 @@ pub fn leads_as_first(
     requires within { k < length machine.now.moves.items }
     requires does { IsMove (fronts wants.now.patterns) step.now }
     requires size { length state.now ≡ words_for (mark_count wants.now.patterns) }
-    ensures { IsTrue result → StepsAsFirst wants.now machine.now k step.now state.now }
+    ensures { IsTrue result → StepsAsEarlier wants.now machine.now k step.now state.now }
 {
-    if k == 0 {
-        return false;
+    if leads_as_before(wants, machine, k, step, state) {
+        return true;
     }
-    if !machine.spared {
-        return false;
-    }
-    leads_alike(state, step.patches.as_slice())
+    leads_as_first(wants, machine, k, step, state)
 }
 
 /// Steps the product state at i by the move, and keeps what is new.
@@ -115,9 +170,7 @@ pub fn turn(
     if search.found.has(search.room.words.as_slice()) {
         return Ok(false);
     }
-    let alloc = *search.parents.allocator();
-    let state = Vec::from_slice(alloc, search.room.words.as_slice())?;
-    search.found.push(state)?;
+    search.found.push(search.room.words.as_slice())?;
     search.parents.push(Parent {
         state: i,
         character: step.character,
@@ -153,7 +206,7 @@ fn visit(
     Ok(Step::Left)
 }
 
-/// The turns of the product state at i, by each move that doesn't lead where a spare character does.
+/// The turns of the product state at i, by each move that doesn't lead where an earlier one does.
 fn expand(
     wants: &Wants,
     machine: &Machine,
@@ -168,7 +221,7 @@ fn expand(
 {
     for k in 0..machine.moves.len() {
         let step = &machine.moves[k];
-        if leads_as_first(wants, machine, k, step, search.found.get(i)) {
+        if leads_as_earlier(wants, machine, k, step, search.found.get(i)) {
             continue;
         }
         match visit(wants, machine, search, i, step, limit)? {
@@ -232,7 +285,7 @@ fn first_found(alloc: Global, words: &[u64]) -> Result<Found, NoMemory>
     ensures { IfOk result (λ f. f ≡ words.now ∷ []) }
 {
     let mut found = Found::new(alloc)?;
-    found.push(Vec::from_slice(alloc, words)?)?;
+    found.push(words)?;
     Ok(found)
 }
 
@@ -298,7 +351,7 @@ fn answer(
 }
 
 /// Up to this limit the search in the order of finding answers alone.
-const FEW: usize = 2_000;
+pub const FEW: usize = 2_000;
 
 /// How many product states are looked at before a search that looks first where the fewest pieces are left
 /// is tried.
@@ -398,7 +451,12 @@ fn solve_from(
 }
 
 /// The product, from what there is to know of the patterns.
-fn solve(alloc: Global, wants: &Wants, machine: &Machine, limit: usize) -> Result<Product, NoMemory>
+pub fn solve(
+    alloc: Global,
+    wants: &Wants,
+    machine: &Machine,
+    limit: usize,
+) -> Result<Product, NoMemory>
     requires range { InRange (length wants.now.patterns) wants.now.clauses }
     requires positive { 1 ≤ limit }
     requires machine { IsMachine wants.now.patterns machine.now }

@@ -1,7 +1,7 @@
 //! Product states and sets of them. All places of a set lie one behind another, so that it takes few
 //! blocks of memory, however many states it has.
-ghost use Rattle.std.specs.Prelude.{◌≡◌, ◌-◌, ◌<◌, ◌≤◌, ◌++◌, ◌∷◌, [], length, take, drop, slice_index_or, IsTrue, OnOk, OnErr};
-ghost use Rattle.pattern_automata.specs.Cuts.{begin_of};
+ghost use Rattle.std.specs.Prelude.{◌≡◌, ◌-◌, ◌<◌, ◌≤◌, ◌++◌, ◌∷◌, [], length, take, drop, slice_index_or, IfOk, IsTrue, OnOk, OnErr};
+ghost use Rattle.pattern_automata.specs.Cuts.{AreEndsOf, begin_of, cut_at};
 
 use plain_lists::{List, NoMemory};
 use std::alloc::{AllocError, Global};
@@ -60,6 +60,14 @@ impl PlaceLists {
         }
     }
 
+    // The lists that lie one behind another in the places, and end at these indices.
+    pub(crate) fn of(places: Vec<u32>, ends: Vec<usize>) -> PlaceLists
+        requires { AreEndsOf 0 ends.items (length places.items) }
+        ensures { result ≡ cut_at 0 ends.items places.items }
+    {
+        PlaceLists { places, ends }
+    }
+
     /// How many lists there are.
     pub fn len(&self) -> usize
         ensures { result ≡ length self.now }
@@ -92,6 +100,16 @@ impl PlaceLists {
                 Err(AllocError)
             }
         }
+    }
+
+    // Equal lists.
+    fn copy(&self, alloc: Global) -> Result<PlaceLists, NoMemory>
+        ensures { IfOk result (λ l. l ≡ self.now) }
+    {
+        Ok(PlaceLists {
+            places: Vec::from_slice(alloc, self.places.as_slice())?,
+            ends: Vec::from_slice(alloc, self.ends.as_slice())?,
+        })
     }
 
     // Takes away all but the first lists.
@@ -210,6 +228,24 @@ impl Closed {
             lists: PlaceLists::new(alloc),
             ends: Vec::new(alloc),
         }
+    }
+
+    // The product states whose lists lie one behind another, and end at these indices.
+    pub(crate) fn of(lists: PlaceLists, ends: Vec<usize>) -> Closed
+        requires { AreEndsOf 0 ends.items (length lists) }
+        ensures { result ≡ cut_at 0 ends.items lists }
+    {
+        Closed { lists, ends }
+    }
+
+    // An equal set.
+    pub(crate) fn copy(&self, alloc: Global) -> Result<Closed, NoMemory>
+        ensures { IfOk result (λ c. c ≡ self.now) }
+    {
+        Ok(Closed {
+            lists: self.lists.copy(alloc)?,
+            ends: Vec::from_slice(alloc, self.ends.as_slice())?,
+        })
     }
 
     /// How many product states there are.

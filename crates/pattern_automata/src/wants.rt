@@ -1,6 +1,7 @@
 //! Patterns, and what is wanted of them.
+ghost use Rattle.std.proofs.Common.{rules};
 
-use plain_lists::List;
+use plain_lists::{EqualClone, List};
 use wildcard_lang::PatternList;
 
 /// A pattern by its number, counted from 0, and whether it is to match.
@@ -10,6 +11,10 @@ pub struct Literal {
     pub pattern: u32,
     /// Whether it is to match.
     pub holds: bool,
+}
+
+impl EqualClone for Literal {
+    ghost clones_are_equal = { Prim.search rules };
 }
 
 /// A clause: a list of literals, of which one is to be met.

@@ -3,7 +3,7 @@ use Rattle.std.proofs.lemmas.List.{take_all}
 use Rattle.pattern_automata.specs.Moves.{characters_of, fronts}
 use Rattle.pattern_automata.specs.Tree.{words_meet}
 use Rattle.pattern_automata.proofs.Moving.{characters-more, has-character, move-at}
-use Rattle.pattern_automata.proofs.Standing.{first-scalar, first-there, index-more}
+use Rattle.pattern_automata.proofs.Standing.{earlier-scalar, earlier-there, index-more}
 use Rattle.pattern_automata.proofs.check.passes.Goals as goal
 
 pub returns-then-is_met : goal.returns-then-is_met
@@ -15,21 +15,21 @@ returns-then-is_met c = λ marks size is. (
 pub loop-k-init : goal.loop-k-init
 loop-k-init c = λ marks size is x s known. absurd (cc)
 
-pub leads_as_first-requires-clause-does : goal.leads_as_first-requires-clause-does
-leads_as_first-requires-clause-does c = move-at (fronts c.args.wants.now.patterns) c.args.machine.now.moves.items c.loop-k.k _ c.requires.machine.moves (omega (arith, c.len-k-end.ensures, c.loop-k-test.true)) c.index-step.ensures
+pub leads_as_earlier-requires-clause-does : goal.leads_as_earlier-requires-clause-does
+leads_as_earlier-requires-clause-does c = move-at (fronts c.args.wants.now.patterns) c.args.machine.now.moves.items c.loop-k.k _ c.requires.machine.moves (omega (arith, c.len-k-end.ensures, c.loop-k-test.true)) c.index-step.ensures
 
 pub step_into-requires-clause-does : goal.step_into-requires-clause-does
 step_into-requires-clause-does c = move-at (fronts c.args.wants.now.patterns) c.args.machine.now.moves.items c.loop-k.k _ c.requires.machine.moves (omega (arith, c.len-k-end.ensures, c.loop-k-test.true)) c.index-step.ensures
 
-pub loop-k-preserved-then-leads_as_first : goal.loop-k-preserved-then-leads_as_first
-loop-k-preserved-then-leads_as_first c = λ marks size is.
+pub loop-k-preserved-then-leads_as_earlier : goal.loop-k-preserved-then-leads_as_earlier
+loop-k-preserved-then-leads_as_earlier c = λ marks size is.
     let moves = c.args.machine.now.moves.items in
-    let s = c.leads_as_first.ensures c.if-leads_as_first.true in
-    let scalar = first-scalar (fronts c.args.wants.now.patterns) moves (omega (arith, c.len-k-end.ensures, c.loop-k-test.true)) c.requires.machine.moves in
-    let there = first-there moves c.loop-k.k s.0 (omega (arith, c.len-k-end.ensures, c.loop-k-test.true)) in
+    let s = c.leads_as_earlier.ensures c.if-leads_as_earlier.true in
+    let scalar = earlier-scalar (fronts c.args.wants.now.patterns) moves s.0 (omega (arith, s.1, c.len-k-end.ensures, c.loop-k-test.true)) c.requires.machine.moves in
+    let there = earlier-there moves s.0 c.loop-k.k s.1 (omega (arith, c.len-k-end.ensures, c.loop-k-test.true)) in
     index-more c.args.wants.now.patterns _ c.args.index.now (characters_of (take c.loop-k.k moves)) _ marks
     (characters-more moves c.loop-k.k _ (omega (arith, c.len-k-end.ensures, c.loop-k-test.true)) c.index-step.ensures)
-    (subst (λ (x : List ℕ). Contains c.args.index.now x) (sym (s.1 marks size is)) (c.loop-k.invariant marks size is _ scalar there)) (c.loop-k.invariant marks size is)
+    (subst (λ (x : List ℕ). Contains c.args.index.now x) (sym (s.2 marks size is)) (c.loop-k.invariant marks size is _ scalar there)) (c.loop-k.invariant marks size is)
 
 pub returns-then-not-has : goal.returns-then-not-has
 returns-then-not-has c = λ marks size is. (

@@ -13,6 +13,7 @@ leads_alike-requires c =
 
 pub returns : goal.returns
 returns c = λ h. (
+  0,
   omega (arith, c.if-k-eq0.false),
   leads-alike c.args.wants.now.patterns c.args.machine.now.masks c.requires.machine.masks c.args.step.now c.requires.does _ (MatchBool-at_true _ _ c.if-not-machine.false c.requires.machine.alphabet.first).2 c.args.state.now
       (all-alike (fronts c.args.wants.now.patterns) c.args.machine.now.masks c.requires.machine.masks c.args.step.now.character c.args.step.now.patches.items c.requires.does.distinguished.right c.args.state.now

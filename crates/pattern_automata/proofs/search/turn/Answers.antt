@@ -10,14 +10,13 @@ step_into-requires-clause-size c = ap length c.get.ensures ∙ words-length _ _ 
 
 pub push-requires : goal.push-requires
 push-requires c = λ h. iff_false c.has.ensures c.if-has.false
-    (subst (λ (x : List ℕ). Contains c.args.search.now.found x)
-    ((c.in_ok-state.ensures.items ∙ c.as_slice-2.ensures.value) ∙ sym c.as_slice.ensures.value) h)
+    (subst (λ (x : List ℕ). Contains c.args.search.now.found x) (c.as_slice-2.ensures.value ∙ sym c.as_slice.ensures.value) h)
 
 pub returns : goal.returns
 returns c =
     turn-new _ _ _ c.requires.tree _ _ _ _ _ c.requires.within c.requires.does.scalar
     (subst (λ (x : List ℕ). LeadsTo c.args.wants.now.patterns x c.args.step.now.character c.step_into.new.room.words.items) c.get.ensures (leads-to c.args.wants.now.patterns _ c.args.step.now.character _ c.in_ok-step_into.ensures))
-    (c.in_ok-push.ensures.ok ∙ ap (λ (x : List ℕ). c.args.search.now.found ++ x ∷ []) (c.in_ok-state.ensures.items ∙ c.as_slice-2.ensures.value))
+    (c.in_ok-push.ensures.ok ∙ ap (λ (x : List ℕ). c.args.search.now.found ++ x ∷ []) c.as_slice-2.ensures.value)
     c.in_ok-push-2.ensures.items
     (λ h. iff_false c.has.ensures c.if-has.false (subst (λ (x : List ℕ). Contains c.args.search.now.found x) (sym c.as_slice.ensures.value) h))
 
