@@ -8,6 +8,7 @@ ghost use Rattle.call_cases.specs.Cases.{IsCase};
 use crate::cases::{Case, key_tests_of, path_of, slot_named, tests_of};
 use crate::schemas::{key_schema_of, schema_of};
 use formula_tree::Path;
+use pattern_automata::LastClosed;
 use policy_model::{Schema, Slot, TestList};
 use slot_theory::{
     Core, KindProof, Possible, SlotProof, SlotValue, accepts, is_on, meets, possible,
@@ -158,7 +159,15 @@ fn asked(alloc: Global, case: &Case, slot: &Slot, states: u32) -> io::Result<Str
     requires slot { SlotIsIn case.now.schema.now slot.now }
     requires positive { 1 ≤ states }
 {
-    let answer = possible(alloc, case.schema, case.tests, case.path, slot, states)?;
+    let mut last_closed = LastClosed::new(alloc);
+    let answer = possible(
+        case.schema,
+        case.tests,
+        case.path,
+        slot,
+        states,
+        &mut last_closed,
+    )?;
     answer_of(alloc, case, slot, &answer)
 }
 

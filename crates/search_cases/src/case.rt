@@ -8,6 +8,7 @@ ghost use Rattle.search_cases.specs.Cases.{IsSoundCase};
 use crate::answered::{Answered, MOST_TESTS};
 use cnf_clauses::Clauses;
 use formula_tree::Path;
+use pattern_automata::LastClosed;
 use policy_compile::Query;
 use policy_model::{Schema, Slot, Test, TestList};
 use slot_theory::{Possible, possible, slot_of};
@@ -69,7 +70,8 @@ fn slot_is_possible(case: &Case, path: &Path, slot: &Slot) -> io::Result<bool>
     requires slot { SlotIsIn case.now.schema.now slot.now }
 {
     let tests = &case.query.tests;
-    let answer = possible(case.alloc, case.schema, tests, path, slot, STATES)?;
+    let mut last_closed = LastClosed::new(case.alloc);
+    let answer = possible(case.schema, tests, path, slot, STATES, &mut last_closed)?;
     is_found(&answer)
 }
 

@@ -1,5 +1,6 @@
-//! Few asks that no number answers, where each ask is for the numbers on one side of a bound: they are found in a
-//! few passes over the asks, while to look at each number through all asks takes many times as long.
+//! Few asks that no number answers, or by which a number answers all, where each ask is for the numbers on one side
+//! of a bound: they are found in a few passes over the asks, while to look at each number through all asks takes many
+//! times as long.
 ghost use Rattle.std.specs.Prelude.{◌<◌, IfOk, IfSome, length};
 ghost use Rattle.set_operators.specs.Few.{FallBelow};
 
@@ -163,5 +164,68 @@ pub(crate) fn few_bounds(
     match all_bounds(alloc, rule, asks)? {
         Some(all) => few_of(alloc, all.as_slice(), rule.required, asks.len()),
         None => Ok(None),
+    }
+}
+
+// The bounds of all asks together.
+fn met_by_all(all: &[Bounds]) -> Bounds {
+    let mut bounds = NO_ASK;
+    for next in all {
+        bounds = met(bounds, *next);
+    }
+    bounds
+}
+
+// Whether an ask of these bounds has one of the whole that those that were found haven't.
+fn tells_more(whole: Bounds, found: Bounds, bounds: Bounds) -> bool {
+    (bounds.least == whole.least && found.least != whole.least)
+        || (bounds.most == whole.most && found.most != whole.most)
+        || (bounds.there && !found.there)
+}
+
+// The same of the ask at the index.
+fn tells_more_at(all: &[Bounds], whole: Bounds, found: Bounds, index: usize) -> bool {
+    match all.get(index) {
+        Some(bounds) => tells_more(whole, found, *bounds),
+        None => false,
+    }
+}
+
+// The indices, in falling order, of at most three asks that have the bounds of all.
+fn tightest(alloc: Global, all: &[Bounds], count: usize) -> Result<Vec<usize>, NoMemory>
+    ensures { IfOk result (λ few. FallBelow count few.items) }
+{
+    let whole = met_by_all(all);
+    let mut few = Vec::new(alloc);
+    let mut found = NO_ASK;
+    let mut left = count;
+    'asks: while left > 0 {
+        left -= 1;
+        if tells_more_at(all, whole, found, left) {
+            few.push(left)?;
+            found = with_index(all, found, left);
+        }
+    }
+    Ok(few)
+}
+
+/// The indices of few asks, each below the one before it, or none where some ask isn't for the numbers on one side of a
+/// bound. Where no number answers all asks they are those that `few_asks` gives, and otherwise at most three that leave
+/// the same numbers as all do, so that what answers them answers all.
+///
+/// They are a proposal: only that they are indices in falling order is promised. The only error is want of memory.
+pub fn bounding_asks(
+    alloc: Global,
+    rule: &KeyRule,
+    asks: &[(KeyAsk, bool)],
+) -> Result<Option<Vec<usize>>, NoMemory>
+    ensures { IfOk result (λ found. IfSome found (λ few. FallBelow (length asks.now) few.items)) }
+{
+    let Some(all) = all_bounds(alloc, rule, asks)? else {
+        return Ok(None);
+    };
+    match few_of(alloc, all.as_slice(), rule.required, asks.len())? {
+        Some(few) => Ok(Some(few)),
+        None => Ok(Some(tightest(alloc, all.as_slice(), asks.len())?)),
     }
 }

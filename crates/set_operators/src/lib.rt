@@ -18,6 +18,7 @@ mod wants;
 
 pub use answer::KeyAnswer;
 pub use ask::{KeyAsk, KeyAsks};
+pub use bounds::bounding_asks;
 pub use few::few_asks;
 pub use plain_lists::NoMemory;
 pub use search::solve;

@@ -13,20 +13,25 @@ use crate::slots::shape_at;
 use crate::steps::{Attempt, KindAttempt};
 use crate::trial::tried;
 use crate::wants::{has_text_soon, solve};
-use pattern_automata::Product;
+use pattern_automata::{LastClosed, Product};
 use plain_lists::NoMemory;
 use policy_model::PrincipalKind::{self, Aws, CanonicalUser, Federated, Service};
 use policy_model::{Slot, shape_of};
 use std::alloc::Global;
 
 /// A word for the core, tried on all answered tests of the slot.
-fn attempt_word(alloc: Global, question: &Question<'_>, core: &[u32]) -> Result<Attempt, NoMemory>
+fn attempt_word(
+    alloc: Global,
+    question: &Question<'_>,
+    core: &[u32],
+    last_closed: &mut LastClosed,
+) -> Result<Attempt, NoMemory>
     requires slot { IsWordSlot question.now.slot.now }
     requires core { IsCoreOf question.now core.now }
     ensures { IfOk result (IsAttempt question.now core.now) }
 {
     let shape = shape_at(question.schema, question.slot);
-    match solve(alloc, question, core, shape)? {
+    match solve(alloc, question, core, shape, last_closed)? {
         Product::Empty(closed) => Ok(Attempt::Empty(SlotProof::Word(closed))),
         Product::TooMany(texts) => Ok(Attempt::Full(texts)),
         Product::Found(text) => Ok(tried(question, SlotValue::Word(text))),
@@ -48,6 +53,7 @@ fn attempt_kind(
     question: &Question<'_>,
     core: &[u32],
     kind: PrincipalKind,
+    last_closed: &mut LastClosed,
 ) -> Result<KindAttempt, NoMemory>
     requires slot { question.now.slot.now ≡ Principal }
     requires core { IsCoreOf question.now core.now }
@@ -58,7 +64,7 @@ fn attempt_kind(
     }
     let open = open_tests(alloc, question.tests, core, kind)?;
     let shape = shape_of(&question.schema.shapes, kind);
-    match solve(alloc, question, open.as_slice(), shape)? {
+    match solve(alloc, question, open.as_slice(), shape, last_closed)? {
         Product::Empty(closed) => Ok(KindAttempt::Empty(KindProof::Closed(closed))),
         Product::TooMany(texts) => Ok(KindAttempt::Whole(Attempt::Full(texts))),
         Product::Found(id) => {
@@ -73,24 +79,25 @@ fn attempt_principal(
     alloc: Global,
     question: &Question<'_>,
     core: &[u32],
+    last_closed: &mut LastClosed,
 ) -> Result<Attempt, NoMemory>
     requires slot { question.now.slot.now ≡ Principal }
     requires core { IsCoreOf question.now core.now }
     ensures { IfOk result (IsAttempt question.now core.now) }
 {
-    let aws = match attempt_kind(alloc, question, core, Aws)? {
+    let aws = match attempt_kind(alloc, question, core, Aws, last_closed)? {
         KindAttempt::Empty(proof) => proof,
         KindAttempt::Whole(attempt) => return Ok(attempt),
     };
-    let service = match attempt_kind(alloc, question, core, Service)? {
+    let service = match attempt_kind(alloc, question, core, Service, last_closed)? {
         KindAttempt::Empty(proof) => proof,
         KindAttempt::Whole(attempt) => return Ok(attempt),
     };
-    let federated = match attempt_kind(alloc, question, core, Federated)? {
+    let federated = match attempt_kind(alloc, question, core, Federated, last_closed)? {
         KindAttempt::Empty(proof) => proof,
         KindAttempt::Whole(attempt) => return Ok(attempt),
     };
-    let canonical = match attempt_kind(alloc, question, core, CanonicalUser)? {
+    let canonical = match attempt_kind(alloc, question, core, CanonicalUser, last_closed)? {
         KindAttempt::Empty(proof) => proof,
         KindAttempt::Whole(attempt) => return Ok(attempt),
     };
@@ -98,13 +105,18 @@ fn attempt_principal(
 }
 
 /// A value for the core, tried on all answered tests of the slot.
-pub fn attempt(alloc: Global, question: &Question<'_>, core: &[u32]) -> Result<Attempt, NoMemory>
+pub fn attempt(
+    alloc: Global,
+    question: &Question<'_>,
+    core: &[u32],
+    last_closed: &mut LastClosed,
+) -> Result<Attempt, NoMemory>
     requires core { IsCoreOf question.now core.now }
     ensures { IfOk result (IsAttempt question.now core.now) }
 {
     match question.slot {
-        Slot::Principal => attempt_principal(alloc, question, core),
-        Slot::Action | Slot::Resource => attempt_word(alloc, question, core),
+        Slot::Principal => attempt_principal(alloc, question, core, last_closed),
+        Slot::Action | Slot::Resource => attempt_word(alloc, question, core, last_closed),
         Slot::Key(name) => match question.schema.get(name) {
             Some(rule) => attempt_key(alloc, question, rule, core),
             None => unreachable!(),

@@ -10,6 +10,7 @@ use crate::outcome::{Core, SlotProof};
 use crate::question::Question;
 use crate::steps::{Attempt, Kept};
 use formula_tree::Path;
+use pattern_automata::LastClosed;
 use plain_lists::NoMemory;
 use policy_model::Slot;
 use std::alloc::Global;
@@ -25,7 +26,9 @@ fn proof_of(
     if !is_core(question.tests, question.path, question.slot, core) {
         return Ok(None);
     }
-    match attempt(alloc, question, core)? {
+    // Smaller cores have other products, which aren't to take the place of the last closed set.
+    let mut last_closed = LastClosed::new(alloc);
+    match attempt(alloc, question, core, &mut last_closed)? {
         Attempt::Empty(proof) => Ok(Some(proof)),
         _ => Ok(None),
     }

@@ -18,9 +18,10 @@ use crate::outcome::{Core, Possible};
 use crate::question::Question;
 use crate::slots::is_on;
 use crate::steps::{Attempt, Kept};
-use crate::together::all_at_once;
+use crate::together::{all_at_once, between_bounds};
 use crate::unasked::stated_value;
 use formula_tree::Path;
+use pattern_automata::LastClosed;
 use plain_lists::NoMemory;
 use policy_model::{Schema, Slot, Test, TestList};
 use std::alloc::Global;
@@ -42,7 +43,12 @@ fn last_on(tests: &[Test], answers: &[(u32, bool)], slot: &Slot) -> Option<u32>
 }
 
 /// The search from a core of one test.
-fn search(alloc: Global, question: &Question<'_>, first: u32) -> Result<Possible, NoMemory>
+fn search(
+    alloc: Global,
+    question: &Question<'_>,
+    first: u32,
+    last_closed: &mut LastClosed,
+) -> Result<Possible, NoMemory>
     requires first { IsAnsweredOf question.now first }
     ensures { IfOk result (IsOutcomeOf question.now) }
 {
@@ -50,7 +56,7 @@ fn search(alloc: Global, question: &Question<'_>, first: u32) -> Result<Possible
     let mut core = Core::new(alloc);
     core.push(first)?;
     'grow: loop {
-        match attempt(alloc, question, core.as_slice())? {
+        match attempt(alloc, question, core.as_slice(), last_closed)? {
             Attempt::Empty(proof) => {
                 let kept = trimmed(alloc, question, Kept { core, proof })?;
                 let small = cut(alloc, question, kept, last)?;
@@ -69,6 +75,22 @@ fn search(alloc: Global, question: &Question<'_>, first: u32) -> Result<Possible
     }
 }
 
+/// The search, by the bounds of numbers where they tell it, and else from a core of one test.
+fn searched(
+    alloc: Global,
+    question: &Question<'_>,
+    first: u32,
+    last_closed: &mut LastClosed,
+) -> Result<Possible, NoMemory>
+    requires first { IsAnsweredOf question.now first }
+    ensures { IfOk result (IsOutcomeOf question.now) }
+{
+    if let Some(found) = between_bounds(alloc, question)? {
+        return Ok(found);
+    }
+    search(alloc, question, first, last_closed)
+}
+
 /// A value of a slot that answers the slot's tests as the path does; or tests of the slot that no
 /// value answers so, with a proof; or one more text than `states`, no two of which have the same
 /// product state of the patterns that are asked. Where the path answers no test of the slot, it is the
@@ -76,14 +98,15 @@ fn search(alloc: Global, question: &Question<'_>, first: u32) -> Result<Possible
 ///
 /// The schema is sound, the tests suit it and are numbered by 32 bits, the path's are in range, a key
 /// that is the slot is one of the schema's, and `states`, the most product states that are looked at for
-/// some of the tests, is at least 1. The only error is want of memory.
+/// some of the tests, is at least 1. The closed set that an earlier call left in `last_closed` may stand for a search
+/// of this one, whose answer it doesn't change. The only error is want of memory.
 pub fn possible(
-    alloc: Global,
     schema: &Schema,
     tests: &TestList,
     path: &Path,
     slot: &Slot,
     states: u32,
+    last_closed: &mut LastClosed,
 ) -> Result<Possible, NoMemory>
     requires sound { SchemaIsSound schema.now }
     requires suit { All (TestSuits schema.now) tests.now }
@@ -95,6 +118,7 @@ pub fn possible(
     ensures unasked { IfOk result (λ found. ¬ HasTest tests.now path.now slot.now →
         found ≡ Found (stated_value schema.now slot.now)) }
 {
+    let alloc = last_closed.alloc();
     let Some(last) = last_on(tests.as_slice(), path.as_slice(), slot) else {
         return Ok(Possible::Found(stated_value(alloc, schema, slot)?));
     };
@@ -105,5 +129,5 @@ pub fn possible(
         slot,
         states,
     };
-    search(alloc, &question, last)
+    searched(alloc, &question, last, last_closed)
 }

@@ -1,6 +1,6 @@
-//! The search with all answered tests of a slot at once. A key whose values aren't texts has finitely many
+//! The search with many answered tests of a slot at once. A key whose values aren't texts has finitely many
 //! values that stand for all, which are looked at in one pass however many tests there are, while a core
-//! that grows test by test takes a pass for each.
+//! that grows test by test takes a pass for each. Of numbers between bounds two or three tests tell all.
 ghost use Rattle.std.specs.Prelude.{◌≡◌, IfOk, IfSome};
 ghost use Rattle.slot_theory.specs.Question.{IsCoreOf, IsOutcomeOf};
 ghost use Rattle.slot_theory.specs.Shrinking.{IsKept};
@@ -8,11 +8,12 @@ ghost use Rattle.slot_theory.specs.Shrinking.{IsKept};
 use crate::attempt::attempt;
 use crate::cores::is_core;
 use crate::cutting::{confirmed, found_or};
-use crate::keys::{few_of, rule_of};
+use crate::keys::{bounding_of, few_of, rule_of};
 use crate::outcome::{Core, Possible};
 use crate::question::Question;
 use crate::slots::is_on;
 use crate::steps::{Attempt, Kept};
+use pattern_automata::LastClosed;
 use plain_lists::NoMemory;
 use policy_model::Kind;
 use std::alloc::Global;
@@ -60,7 +61,8 @@ fn settled(alloc: Global, question: &Question<'_>, core: Core) -> Result<Option<
     requires core { IsCoreOf question.now core }
     ensures { IfOk result (λ found. IfSome found (IsOutcomeOf question.now)) }
 {
-    match attempt(alloc, question, core.as_slice())? {
+    let mut last_closed = LastClosed::new(alloc);
+    match attempt(alloc, question, core.as_slice(), &mut last_closed)? {
         Attempt::Empty(proof) => {
             let kept = reduced(alloc, question, Kept { core, proof })?;
             Ok(Some(Possible::Conflict(kept.core, kept.proof)))
@@ -68,6 +70,35 @@ fn settled(alloc: Global, question: &Question<'_>, core: Core) -> Result<Option<
         Attempt::Full(texts) => Ok(Some(Possible::TooMany(texts))),
         Attempt::Right(value) => Ok(Some(Possible::Found(value))),
         Attempt::Wrong(_) => Ok(None),
+    }
+}
+
+/// The tests, where they are a core.
+fn as_core(question: &Question<'_>, tests: Core) -> Option<Core>
+    ensures { IfSome result (IsCoreOf question.now) }
+{
+    if !is_core(
+        question.tests,
+        question.path,
+        question.slot,
+        tests.as_slice(),
+    ) {
+        return None;
+    }
+    Some(tests)
+}
+
+/// What a search with these tests answers, where they are a core, unless it grows.
+fn settled_by(
+    alloc: Global,
+    question: &Question<'_>,
+    tests: Core,
+) -> Result<Option<Possible>, NoMemory>
+    ensures { IfOk result (λ found. IfSome found (IsOutcomeOf question.now)) }
+{
+    match as_core(question, tests) {
+        Some(core) => settled(alloc, question, core),
+        None => Ok(None),
     }
 }
 
@@ -82,14 +113,39 @@ pub fn all_at_once(
     if !is_long(question, count) {
         return Ok(None);
     }
-    let core = answered_tests(alloc, question)?;
-    if !is_core(
-        question.tests,
-        question.path,
-        question.slot,
-        core.as_slice(),
-    ) {
+    let tests = answered_tests(alloc, question)?;
+    settled_by(alloc, question, tests)
+}
+
+/// Whether the path may answer many tests of a slot whose values are numbers.
+fn has_numbers(question: &Question<'_>) -> bool {
+    match rule_of(question) {
+        Some(rule) => rule.kind == Kind::Number && question.path.len() >= FEW_TESTS,
+        None => false,
+    }
+}
+
+/// The tests that bound the numbers of the slot, where many are answered and all are for bounds.
+fn bounding_tests(alloc: Global, question: &Question<'_>) -> Result<Option<Core>, NoMemory> {
+    let tests = answered_tests(alloc, question)?;
+    if tests.len() < FEW_TESTS {
         return Ok(None);
     }
-    settled(alloc, question, core)
+    match as_core(question, tests) {
+        Some(core) => bounding_of(alloc, question, core.as_slice()),
+        None => Ok(None),
+    }
+}
+
+/// What a search with the tests that bound the numbers of the slot answers, where many are answered.
+pub fn between_bounds(alloc: Global, question: &Question<'_>) -> Result<Option<Possible>, NoMemory>
+    ensures { IfOk result (λ found. IfSome found (IsOutcomeOf question.now)) }
+{
+    if !has_numbers(question) {
+        return Ok(None);
+    }
+    match bounding_tests(alloc, question)? {
+        Some(tests) => settled_by(alloc, question, tests),
+        None => Ok(None),
+    }
 }

@@ -9,7 +9,8 @@ ghost use Rattle.slot_theory.specs.Wants.{IsClosedFor, IsWants, patterns_of, sha
 use crate::question::Question;
 use crate::slots::pattern_of;
 use pattern_automata::{
-    ClauseList, Closed, Literal, LiteralList, Product, Wants, is_closed, product, text_soon,
+    ClauseList, Closed, LastClosed, Literal, LiteralList, Product, Wants, is_closed, product_after,
+    text_soon,
 };
 use plain_lists::NoMemory;
 use std::alloc::{AllocError, Global};
@@ -133,12 +134,13 @@ pub fn solve(
     question: &Question<'_>,
     numbers: &[u32],
     shape: &Option<Pattern>,
+    last_closed: &mut LastClosed,
 ) -> Result<Product, NoMemory>
     requires wanted { AreWanted question.now numbers.now }
     ensures { IfOk result (IsProductFor question.now numbers.now shape.now) }
 {
     let wants = wants_of(alloc, question, numbers, shape)?;
-    product(alloc, &wants, question.states)
+    product_after(&wants, question.states, last_closed)
 }
 
 /// Whether a text that meets what the tests of these numbers want is found soon. That is a proposal: nothing is

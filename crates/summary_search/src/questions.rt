@@ -9,6 +9,7 @@ ghost use Rattle.summary_search.specs.Questions.{IsTestOnSlot, DecidesPossible};
 
 use crate::samples::{sample_escapes, sample_passes, stated_misses};
 use formula_tree::Path;
+use pattern_automata::LastClosed;
 use plain_lists::NoMemory;
 use policy_model::{Schema, Slot, Test, TestList};
 use slot_theory::{Possible, possible};
@@ -36,7 +37,8 @@ fn is_possible(
 {
     // The schema's keys are in order, so what is found for the slot is part of a valid request.
     let _keys = schema.len();
-    match possible(alloc, schema, tests, path, slot, states)? {
+    let mut last_closed = LastClosed::new(alloc);
+    match possible(schema, tests, path, slot, states, &mut last_closed)? {
         Possible::Found(_) => Ok(Within::Yes),
         Possible::Conflict(_, _) => Ok(Within::No),
         Possible::TooMany(texts) => Ok(Within::TooMany(texts)),

@@ -131,7 +131,7 @@ restored-same s state stands = record {
 }
 
 -- where only a split was counted before
-pub restored-split : (s : Search) (old new : State) (left : ℕ) → left ≤ old.left → IsRestored s (record { path = old.path; tree = old.tree; clauses = old.clauses; learned = old.learned; cores = old.cores; proofs = old.proofs; values = old.values; left = left }) new → IsRestored s old new
+pub restored-split : (s : Search) (old new : State) (left : ℕ) → left ≤ old.left → IsRestored s (record { path = old.path; tree = old.tree; clauses = old.clauses; learned = old.learned; cores = old.cores; proofs = old.proofs; last_closed = old.last_closed; values = old.values; left = left }) new → IsRestored s old new
 restored-split s old new left less is = record {
   path = is.path;
   values = is.values;

@@ -209,7 +209,8 @@ impl<'a> Search<'a> {
         ensures restored { OnOk result (IsRestored self.now state.old state.new) }
     {
         let (schema, tests) = (self.schema, &self.query.tests);
-        match possible(self.alloc, schema, tests, &state.path, &slot, self.states)? {
+        let last_closed = &mut state.last_closed;
+        match possible(schema, tests, &state.path, &slot, self.states, last_closed)? {
             Possible::Found(value) => self.go_on(state, (slot, value), index),
             Possible::Conflict(core, proof) => {
                 let SharedProof { proof, kept } = state.proofs.share(self.alloc, proof)?;

@@ -8,6 +8,7 @@ use crate::cores::Cores;
 use cnf_clauses::Following;
 use formula_tree::Path;
 use nogoods::Tracking;
+use pattern_automata::LastClosed;
 use plain_lists::NoMemory;
 use policy_compile::Query;
 use refute_check::SharedProofs;
@@ -29,6 +30,8 @@ pub(crate) struct State {
     /// The proofs of slots that were found, each kept once: conflicts that differ in their tests alone
     /// may have the same closed set.
     pub(crate) proofs: SharedProofs,
+    /// The last closed set that a product for a slot came to, which the next one may have too.
+    pub(crate) last_closed: LastClosed,
     /// A value for each slot that the path asks about, and for no other slot. They are changed in
     /// place and put back, so that no split copies them.
     pub(crate) values: SlotValues,
@@ -55,6 +58,7 @@ impl State {
             learned,
             cores,
             proofs: SharedProofs::new(alloc),
+            last_closed: LastClosed::new(alloc),
             values: SlotValues::new(alloc),
             left,
         })

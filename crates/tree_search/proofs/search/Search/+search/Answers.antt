@@ -1,5 +1,6 @@
 use Rattle.std.proofs.Common.{◌≡◌, ◌≢◌, ◌∙◌, ◌↔◌, [], ◌∷◌, ◌++◌, IsTrue, ◌<◌, ◌-◌, true, false, None, length, refl, sym, subst, arith, rules, append-nil}
 use Rattle.std.proofs.lemmas.List.{length-set}
+use Rattle.std.proofs.lemmas.Result.{on_ok_weaker}
 use Rattle.formula_tree.specs.Answers.{Contained, answer_of}
 use Rattle.formula_tree.specs.Runs.{path_with}
 use Rattle.formula_tree.specs.Values.{value}
@@ -207,7 +208,11 @@ renew-possible-requires-clause-slot t c =
 pub renew-go_on-requires : goal.renew-go_on-requires
 renew-go_on-requires t c =
     let with = longer-with c.args.self.now.schema.now c.args.self.now.query.now c.args.state.now.path c.args.state.now.values c.args.test c.args.answer c.requires.longer c.args.slot c.in-Found.value c.args.index c.requires.slot c.requires.index (rw c.in-Found.is at c.in_ok-value.ensures.outcome) in
-    (search rules, (c.requires.open, (c.requires.index, with)))
+    let open_at = c.requires.open in
+    (search rules, (record { at = record { ready = open_at.at.ready; stands = open_at.at.stands; follows = open_at.at.follows }; may = open_at.may; nothing = open_at.nothing }, (c.requires.index, with)))
+
+pub renew-returns-in-Found-clause-restored : goal.renew-returns-in-Found-clause-restored
+renew-returns-in-Found-clause-restored t c = on_ok_weaker c.go_on.result (λ r. record { path = r.path; values = r.values; clauses = r.clauses; left = r.left; stands = r.stands; more = r.more; grows = r.grows }) c.go_on.ensures.restored
 
 pub renew-keep-requires : goal.renew-keep-requires
 renew-keep-requires t c = slot-within c.args.self.now.schema.now c.args.self.now.query.now.tests c.args.state.now.path c.args.state.now.cores.lists.path c.in-Conflict.core c.in-Conflict.proof c.in_ok-part-in-Conflict.part (rw c.in_ok-proof-in-Conflict.ensures at c.in_ok-part-in-Conflict.ensures) c.requires.open.at.stands.cores_path
@@ -255,7 +260,8 @@ renew-returns-in_ok-path-in-TooMany-clause-found t c =
     wide-here schema query path c.args.state.now.learned.lists c.args.self.now.states (c.args.state.now.left - c.args.state.now.left) c.in_ok-path-in-TooMany.path c.args.slot c.in-TooMany.texts (omega arith) c.in_ok-path-in-TooMany.ensures c.requires.open.may asked wide
 
 pub renew-returns-in_ok-path-in-TooMany-clause-restored : goal.renew-returns-in_ok-path-in-TooMany-clause-restored
-renew-returns-in_ok-path-in-TooMany-clause-restored t c = restored-same c.args.self.now c.args.state.now c.requires.open.at.stands
+renew-returns-in_ok-path-in-TooMany-clause-restored t c =
+    record { path = refl; values = refl; clauses = refl; left = omega arith; stands = c.requires.open.at.stands; more = []; grows = sym (append-nil c.args.state.now.learned.lists) }
 
 pub search-met-requires-clause-yes : goal.search-met-requires-clause-yes
 search-met-requires-clause-yes t c =
