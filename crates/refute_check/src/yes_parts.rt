@@ -1,5 +1,5 @@
 //! A guess at which branch of a long list is yes, where each holds where its few parts do. For each part there is
-//! a bit, whether a path answers it yes, and the bits of 64 branches are looked at together.
+//! a bit, whether a path answers it yes, and the bits of a whole block of branches are looked at together.
 use formula_tree::{Branches, Formula, Path};
 use plain_lists::NoMemory;
 use std::alloc::Global;
@@ -7,8 +7,8 @@ use std::alloc::Global;
 /// How many parts of a branch have bits. What further parts ask is passed over.
 const PARTS: usize = 4;
 
-/// How many branches are looked at together.
-const BLOCK: usize = 64;
+/// How many branches are looked at together: as many as a word has bits.
+const BLOCK: usize = u64::BITS as usize;
 
 /// For each part a word, with a bit for each branch of a block.
 type Block = [u64; PARTS];
@@ -45,17 +45,17 @@ impl YesParts {
         let mut parts = YesParts {
             places: Vec::new(alloc),
             blocks: vec![in alloc; [0u64; PARTS]; count]?,
-            tests: empty_lists(alloc, tests)?,
+            tests: vec![in alloc; Vec::new(alloc); tests]?,
             taken: Vec::new(alloc),
         };
         parts.enter_all(branches, sorted_places(alloc, branches)?.as_slice())?;
         Ok(parts)
     }
 
-    fn enter_all(&mut self, branches: &Branches, sorted: &[SortedPlace]) -> Result<(), NoMemory> {
-        for (index, next) in sorted.iter().enumerate() {
-            if let Some(branch) = branches.get(next.place) {
-                self.places.push(next.place)?;
+    fn enter_all(&mut self, branches: &Branches, sorted: &[(u64, usize)]) -> Result<(), NoMemory> {
+        for (index, (_key, place)) in sorted.iter().enumerate() {
+            if let Some(branch) = branches.get(*place) {
+                self.places.push(*place)?;
                 self.enter(index, branch)?;
             }
         }
@@ -105,14 +105,6 @@ impl YesParts {
         }
     }
 
-    // Takes in a yes answer, while there is memory for it.
-    fn take(&mut self, test: u32) {
-        match self.taken.push(test) {
-            Ok(()) => self.turn_test(test),
-            Err(_) => {}
-        }
-    }
-
     // Takes back the answers behind the first ones.
     fn take_back(&mut self, kept: usize) {
         for _ in kept..self.taken.len() {
@@ -122,13 +114,13 @@ impl YesParts {
         }
     }
 
-    // Takes in the yes answers, in place of those that were.
+    // Takes in the yes answers, in place of those that were, while there is memory for them.
     fn follow(&mut self, answers: &[(u32, bool)]) {
         let shared = shared_yes(self.taken.as_slice(), answers);
         self.take_back(shared.tests);
         for (test, answer) in answers.iter().skip(shared.answers) {
-            if *answer {
-                self.take(*test);
+            if *answer && self.taken.push(*test).is_ok() {
+                self.turn_test(*test);
             }
         }
     }
@@ -151,7 +143,8 @@ impl YesParts {
     fn first_with(&self, test: u32) -> Option<usize> {
         let bits = self.tests.get(test as usize)?;
         for own in bits {
-            let common = common_with(self.blocks.as_slice(), *own);
+            let block = self.blocks.get(own.block)?;
+            let common = common_with(block, own.part, own.bits);
             if common != 0 {
                 return self.place_of(own.block, common);
             }
@@ -170,21 +163,13 @@ impl YesParts {
     /// The place of a branch that seemed yes without the last answer of the path that was looked at last.
     pub(crate) fn earlier(&self) -> Option<usize> {
         for (number, block) in self.blocks.iter().enumerate() {
-            let common = block[0] & block[1] & block[2] & block[3];
+            let common = common_with(block, 0, block[0]);
             if common != 0 {
                 return self.place_of(number, common);
             }
         }
         None
     }
-}
-
-fn empty_lists(alloc: Global, count: usize) -> Result<Vec<Vec<TestBits>>, NoMemory> {
-    let mut lists = Vec::new(alloc);
-    for _ in 0..count {
-        lists.push(Vec::new(alloc))?;
-    }
-    Ok(lists)
 }
 
 // Adds the bits, to those of the same block and part where they are the last.
@@ -233,40 +218,31 @@ fn shared_yes(taken: &[u32], answers: &[(u32, bool)]) -> SharedYes {
     }
 }
 
-// The bits that are set in all other parts too.
-fn common_with(blocks: &[Block], own: TestBits) -> u64 {
-    let mut common = own.bits;
-    if let Some(block) = blocks.get(own.block) {
-        for part in 0..PARTS {
-            if part != own.part {
-                common &= block[part];
-            }
+// Those of the bits, which are set in one part, that are set in all other parts too.
+fn common_with(block: &Block, own: usize, bits: u64) -> u64 {
+    let mut common = bits;
+    for part in 0..PARTS {
+        if part != own {
+            common &= block[part];
         }
     }
     common
 }
 
-/// A place, with what it is sorted by.
-#[derive(Clone, Copy, PartialEq, Eq, PartialOrd, Ord)]
-struct SortedPlace {
-    key: u64,
-    place: usize,
-}
-
-// The places of the branches, sorted by the numbers of their parts' tests, of which each bit stands before the next
-// lower ones of all parts.
-fn sorted_places(alloc: Global, branches: &Branches) -> Result<Vec<SortedPlace>, NoMemory> {
+// The places of the branches behind their keys, sorted.
+fn sorted_places(alloc: Global, branches: &Branches) -> Result<Vec<(u64, usize)>, NoMemory> {
     let mut sorted = Vec::new(alloc);
     for place in 0..branches.len() {
         if let Some(branch) = branches.get(place) {
-            let key = key_of(branch);
-            sorted.push(SortedPlace { key, place })?;
+            sorted.push((key_of(branch), place))?;
         }
     }
     sorted.sort()?;
     Ok(sorted)
 }
 
+// The numbers of the tests that a branch has for its parts, of which each bit stands before the next lower ones of all
+// parts.
 fn key_of(branch: &Formula) -> u64 {
     let Formula::All(parts) = branch else {
         return 0;
@@ -274,24 +250,19 @@ fn key_of(branch: &Formula) -> u64 {
     let mut key = 0;
     for part in 0..PARTS {
         if let Some(formula) = parts.get(part) {
-            key |= spread(number_of(formula)) << part;
+            if let Formula::Test(test) = &**formula {
+                key |= spread(*test) << part;
+            }
         }
     }
     key
 }
 
-fn number_of(formula: &Formula) -> u32 {
-    match formula {
-        Formula::Test(test) => *test,
-        _ => 0,
-    }
-}
-
 // The lower bits of the number, with room for those of the other parts.
 fn spread(number: u32) -> u64 {
     let mut spread = 0;
-    for bit in 0..16u32 {
-        spread |= u64::from((number >> bit) & 1) << (4 * bit);
+    for bit in 0..BLOCK / PARTS {
+        spread |= u64::from((number >> bit) & 1) << (PARTS * bit);
     }
     spread
 }
