@@ -137,6 +137,14 @@ verdict-too pair first second answer.NotMore same v = covers-too pair first seco
 verdict-too pair first second (answer.More r) same v = witness-too pair first second r same v
 verdict-too pair first second _ same v = absurd v
 
+verdicts-too : (pair : Pair) (first second : PolicySet) (o : Option ComparisonAnswer) → AskTheSamePair pair.first pair.second first second → IfSome o (IsVerdictOn (pair_of_sets pair.schema first second)) → IfSome o (IsVerdictOn pair)
+verdicts-too pair first second None same v = tt
+verdicts-too pair first second (Some a) same v = verdict-too pair first second a same v
+
+pub verdict-if-parts : {E : Type 0} (pair : Pair) (first second : PolicySet) → AskTheSamePair pair.first pair.second first second → (result : Result (Option ComparisonAnswer) E) → IfOk result (λ o. IfSome o (IsVerdictOn (pair_of_sets pair.schema first second))) → IfOk result (λ o. IfSome o (IsVerdictOn pair))
+verdict-if-parts pair first second same (Ok o) v = verdicts-too pair first second o same v
+verdict-if-parts pair first second same (Err e) v = tt
+
 -- a pair asks the same as itself
 pub itself : (first second : PolicySet) → IsSmallerPair first second first second
 itself first second = record {
@@ -171,14 +179,6 @@ pub comparison_if_verdict : (pair : Pair) → HasValidRequest pair.schema → (q
 comparison_if_verdict pair some q budgets is answer.NotMore v = (refl, (q, is), (v, some))
 comparison_if_verdict pair some q budgets is (answer.More r) v = ((q, is), v)
 comparison_if_verdict pair some q budgets is _ v = absurd v
-
-comparisons-if-verdicts : (pair : Pair) → HasValidRequest pair.schema → (q : Query) (budgets : Budgets) → IsQuery (plan_of pair) q → (o : Option ComparisonAnswer) → IfSome o (IsVerdictOn pair) → IfSome o (IsComparison false budgets pair)
-comparisons-if-verdicts pair some q budgets is None v = tt
-comparisons-if-verdicts pair some q budgets is (Some a) v = comparison_if_verdict pair some q budgets is a v
-
-pub comparison_if_parts : {E : Type 0} (pair : Pair) → HasValidRequest pair.schema → (q : Query) (budgets : Budgets) → IsQuery (plan_of pair) q → (result : Result (Option ComparisonAnswer) E) → IfOk result (λ o. IfSome o (IsVerdictOn pair)) → IfOk result (λ o. IfSome o (IsComparison false budgets pair))
-comparison_if_parts pair some q budgets is (Ok o) v = comparisons-if-verdicts pair some q budgets is o v
-comparison_if_parts pair some q budgets is (Err e) v = tt
 
 -- what a certificate that was read says of the sets
 pub checked_if_read : ClosedQueriesAreNo → (pair : Pair) → HasValidRequest pair.schema → (q : Query) (bytes : List ℕ) (read : ReadProof) → IsFitting pair → IsQuery (plan_of pair) q → IsReadFrom (limits_of q.tests pair.schema.version) bytes read → (a : CheckAnswer) → IsVerdictAnswer pair.schema q read a → IsChecked bytes pair a

@@ -19,10 +19,12 @@ use Rattle.policy_compile.specs.Sets.{query_plan}
 use Rattle.slot_theory.specs.Possible.{IsPossible}
 use Rattle.slot_theory.specs.Cores.{HasTest}
 use Rattle.slot_theory.specs.Slots.{patterns_at}
+use Rattle.tree_search.specs.declared.outcome.Budgets.{Budgets}
 use Rattle.tree_search.specs.Decisions.{NeedMore}
 use Rattle.request_json.specs.Laws.{RequestIsReadAgain}
 use Rattle.command_words.specs.declared.limits.TheConstants.{MOST_SPLITS}
 use Rattle.run_sets.specs.declared.pair.Pair.{Pair}
+use Rattle.run_sets.specs.Pairs.{IsFitting}
 use Rattle.policy_model.specs.Requests.{IsWellKept}
 
 -- a valid request that the first set allows and the second doesn't, each of whose keys stands there once, with values, and is a text;
@@ -55,6 +57,14 @@ plan_of pair = query_plan pair.schema pair.first pair.second
 -- the query has at most 1,000 tests, whose patterns have at most 65,536 pieces together
 abbrev pub HasQuery : Pair → Type 0
 HasQuery pair = (query : Query) × IsQuery (plan_of pair) query
+
+-- the query of a pair that a schema can answer for, and that has valid requests, is asked within budgets of a split and a state at least
+pub record IsComparable (budgets : Budgets) (pair : Pair) (query : Query) : Type 0 where
+  pub fitting : IsFitting pair
+  pub asked : IsQuery (plan_of pair) query
+  pub valid : HasValidRequest pair.schema
+  pub splits : 1 ≤ budgets.splits
+  pub states : 1 ≤ budgets.states
 
 -- the query has more than 1,000 tests
 abbrev pub TooManyTests : Pair → Type 0

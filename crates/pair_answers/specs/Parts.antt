@@ -1,10 +1,10 @@
 -- What is told of the parts of a first set beside a second.
-use Rattle.std.specs.Prelude.{◌≤◌, ⊤, List, All}
-use Rattle.policy_model.specs.declared.set.Document.{Document}
+use Rattle.std.specs.Prelude.{◌≤◌, ⊤, [], ◌∷◌}
+use Rattle.policy_model.specs.declared.request.Request.{Request}
 use Rattle.policy_model.specs.declared.set.PolicySet.{PolicySet}
-use Rattle.policy_model.specs.declared.set.Statement.{Statement}
-use Rattle.policy_model.specs.Soundness.{SchemaFits}
-use Rattle.policy_difference.specs.Parts.{statement_alone}
+use Rattle.policy_model.specs.declared.set.StatementName.{StatementName}
+use Rattle.policy_model.specs.Sets.{Allows}
+use Rattle.policy_difference.specs.Parts.{with_named_allows}
 use Rattle.run_sets.specs.declared.pair.Pair.{Pair}
 use Rattle.run_sets.specs.Pairs.{IsFitting, pair_of_sets}
 use Rattle.pair_answers.specs.declared.part_search.PartSearch.{PartSearch}
@@ -24,17 +24,14 @@ pub record IsFittingSearch (p : PartSearch) : Type 0 where
   pub fitting : IsFitting (asked_pair p)
   pub states : 1 ≤ p.states
 
--- the second set allows each valid request that the statement alone allows
-abbrev pub IsCoveredAlone : PartSearch → Statement → Type 0
-IsCoveredAlone p s = Covers (part_pair p (statement_alone s))
+-- the second set allows each valid request that the first allows with the Allow statement of this name alone, beside its Deny
+-- statements and its guards
+abbrev pub IsCoveredAlone : PartSearch → StatementName → Type 0
+IsCoveredAlone p name = Covers (part_pair p (with_named_allows (name ∷ []) p.first.now))
 
--- and that of each of the documents
-abbrev pub AreCoveredAlone : PartSearch → List Document → Type 0
-AreCoveredAlone p documents = All (λ d. All (IsCoveredAlone p) d.statements) documents
-
--- the schema can answer for each of the documents' statements alone
-abbrev pub FitAlone : PartSearch → List Document → Type 0
-FitAlone p documents = All (λ d. All (λ s. SchemaFits p.schema.now (statement_alone s)) d.statements) documents
+-- the request is a witness of the two sets if the second doesn't allow it
+abbrev pub MayBeWitness : PartSearch → Request → Type 0
+MayBeWitness p r = ¬ Allows p.schema.now p.second.now r → IsWitness (asked_pair p) r
 
 -- that this is covered, or a witness of the pair, or nothing
 abbrev pub IsTold : Pair → Type 0 → Told → Type 0

@@ -1,7 +1,6 @@
 //! Compares two sets by the search, and checks certificates of it.
 ghost use Rattle.std.specs.Prelude.{◌≡◌, ◌<◌, ◌≤◌, ◌^◌, All, IfOk, IfSome, false, length};
 ghost use Rattle.formula_tree.specs.Trees.{tree_of};
-ghost use Rattle.policy_model.specs.Requests.{HasValidRequest};
 ghost use Rattle.policy_model.specs.Soundness.{SchemaIsSound, TestSuits};
 ghost use Rattle.proof_text.specs.declared.limits.TheConstants.{MOST_PROOF_BYTES};
 ghost use Rattle.refute_check.specs.Laws.{TreeInRange};
@@ -10,12 +9,12 @@ ghost use Rattle.policy_compile.specs.Queries.{IsQuery};
 ghost use Rattle.run_files.specs.Printing.{OrAnswered};
 ghost use Rattle.run_sets.specs.Pairs.{IsFitting};
 ghost use Rattle.run_sets.specs.Refusals.{IsRefusedBy};
-ghost use Rattle.pair_answers.specs.Comparison.{FewTestsAreDecided, plan_of};
+ghost use Rattle.pair_answers.specs.Comparison.{FewTestsAreDecided, IsComparable, plan_of};
 ghost use Rattle.pair_answers.specs.Decided.{IsChecked, IsComparison, IsDecisionAnswer, IsPastLimit, IsRefutedAnswer, IsVerdictAnswer};
 
 use crate::answer::{CheckAnswer, ComparisonAnswer};
 use crate::part_search::{first_budgets, parts_answer};
-use crate::search::is_out_of_splits;
+use crate::search::{is_out_of_splits, is_undecided};
 use crate::smaller::difference_answer;
 use policy_compile::{Query, QueryFault, query};
 use policy_model::Schema;
@@ -91,11 +90,7 @@ fn quick_answer(
     query: &Query,
     budgets: Budgets,
 ) -> Result<Option<ComparisonAnswer>, AllocError>
-    requires fitting { IsFitting pair.now }
-    requires asked { IsQuery (plan_of pair.now) query.now }
-    requires valid { HasValidRequest pair.now.schema }
-    requires splits { 1 ≤ budgets.splits }
-    requires states { 1 ≤ budgets.states }
+    requires { IsComparable budgets pair.now query.now }
     ensures { IfOk result (λ answer. IfSome answer (IsComparison false budgets pair.now)) }
 {
     let few = first_budgets(&pair.first, &pair.second, budgets);
@@ -103,8 +98,13 @@ fn quick_answer(
         return Ok(None);
     }
     let decided = decide(alloc, &pair.schema, query, few)?;
+    if is_undecided(&decided) {
+        if let Some(told) = parts_answer(alloc, pair, &pair.first, &pair.second, budgets)? {
+            return Ok(Some(told));
+        }
+    }
     if is_out_of_splits(&decided) {
-        return parts_answer(alloc, pair, &pair.first, &pair.second, budgets);
+        return Ok(None);
     }
     written_requests_are_read_again();
     closed_queries_are_no();
@@ -119,11 +119,7 @@ fn short_answer(
     query: &Query,
     budgets: Budgets,
 ) -> Result<Option<ComparisonAnswer>, AllocError>
-    requires fitting { IsFitting pair.now }
-    requires asked { IsQuery (plan_of pair.now) query.now }
-    requires valid { HasValidRequest pair.now.schema }
-    requires splits { 1 ≤ budgets.splits }
-    requires states { 1 ≤ budgets.states }
+    requires { IsComparable budgets pair.now query.now }
     ensures { IfOk result (λ answer. IfSome answer (IsComparison false budgets pair.now)) }
 {
     if let Some(answer) = difference_answer(alloc, pair, budgets)? {

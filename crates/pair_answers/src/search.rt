@@ -72,3 +72,20 @@ pub(crate) fn is_out_of_splits(decided: &Decided) -> bool
         _ => false,
     }
 }
+
+/// Whether the search ran out of splits or of states.
+pub(crate) fn is_undecided(decided: &Decided) -> bool {
+    match decided {
+        Decided::OutOfSplits => true,
+        Decided::OutOfStates(_) => true,
+        _ => false,
+    }
+}
+
+/// Whether a search of two sets ran out of splits.
+pub(crate) fn is_short_of_splits(answer: &SearchAnswer) -> bool {
+    match answer {
+        SearchAnswer::OutOfSplits => true,
+        _ => false,
+    }
+}

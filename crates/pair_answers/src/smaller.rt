@@ -6,7 +6,7 @@ ghost use Rattle.pair_answers.specs.Decided.{IsVerdictOn};
 
 use crate::answer::ComparisonAnswer;
 use crate::part_search::{first_budgets, parts_answer};
-use crate::search::{SearchAnswer, searched};
+use crate::search::{SearchAnswer, is_short_of_splits, searched};
 use policy_difference::{
     apart_statements_say_nothing, shared_statements_add_nothing, without_apart, without_shared,
 };
@@ -35,8 +35,8 @@ fn has_allows_alone(document: &Document) -> bool {
     true
 }
 
-/// Whether the set may deny what a statement of its grants allows: it has a Deny statement or a guard.
-pub(crate) fn may_deny(set: &PolicySet) -> bool {
+// Whether the set may deny what a statement of its grants allows: it has a Deny statement or a guard.
+fn may_deny(set: &PolicySet) -> bool {
     for document in set.grants.as_slice() {
         if !has_allows_alone(document) {
             return true;
@@ -81,7 +81,8 @@ pub(crate) fn difference_answer(
     smaller_answer(alloc, pair, first, second, budgets)
 }
 
-// The answer, where a smaller pair of sets tells it: by few splits, part by part, or by all splits.
+// The answer, where a smaller pair of sets tells it: by few splits, part by part, or by all splits where few were too
+// few.
 fn smaller_answer(
     alloc: Global,
     pair: &Pair,
@@ -96,16 +97,19 @@ fn smaller_answer(
     ensures { IfOk result (λ answer. IfSome answer (IsVerdictOn pair.now)) }
 {
     let few = first_budgets(first, second, budgets);
-    match searched(alloc, &pair.schema, first, second, few)? {
-        SearchAnswer::Told(answer) => return Ok(Some(answer)),
-        SearchAnswer::PastLimit => return Ok(None),
-        SearchAnswer::OutOfSplits => {}
+    let found = searched(alloc, &pair.schema, first, second, few)?;
+    let short = is_short_of_splits(&found);
+    if let SearchAnswer::Told(answer) = found {
+        return Ok(Some(answer));
     }
     if budgets.splits <= few.splits {
         return Ok(None);
     }
-    if let Some(answer) = parts_answer(alloc, pair, first, second, budgets)? {
-        return Ok(Some(answer));
+    if let Some(told) = parts_answer(alloc, pair, first, second, budgets)? {
+        return Ok(Some(told));
+    }
+    if !short {
+        return Ok(None);
     }
     match searched(alloc, &pair.schema, first, second, budgets)? {
         SearchAnswer::Told(answer) => Ok(Some(answer)),

@@ -15,7 +15,7 @@ use Rattle.policy_difference.proofs.Leaving.{apart}
 use Rattle.policy_difference.proofs.Remaining.{documents-fit, documents-left, documents-sound, documents-whole, same-count}
 
 -- the statement stays, or is an Allow and goes
-abbrev MayGoIfAllow : Statement → Option Statement → Type 0
+abbrev pub MayGoIfAllow : Statement → Option Statement → Type 0
 MayGoIfAllow s left = (left ≡ Some s) ⊎ ((s.allow ≡ true) × (left ≡ None))
 
 -- the set with some of its grants' Allow statements, and with all else that it has
@@ -41,7 +41,7 @@ module _ (names : List StatementName) where
     statements-go d (k + 1) ss,
   )
 
-  documents-go : (d : ℕ) (ds : List Document) → AreLeft MayGoIfAllow ds (documents_if_named names d ds)
+  pub documents-go : (d : ℕ) (ds : List Document) → AreLeft MayGoIfAllow ds (documents_if_named names d ds)
   documents-go d [] = refl
   documents-go d (x ∷ xs) = (
     record { statements = statements_if_named names d 1 x.statements },
@@ -59,9 +59,9 @@ stays-part s t (inr gone) = absurd (cc)
 
 module _ (schema : Schema) (r : Request) where
   -- a statement that stays decides as before
-  decides-before : (s : Statement) (left : Option Statement) → MayGoIfAllow s left → MatchOption left ⊥ (Decides schema true r) → Decides schema true r s
-  decides-before s left (inl is) decides = subst (λ (one : Option Statement). MatchOption one ⊥ (Decides schema true r)) is decides
-  decides-before s left (inr gone) decides = absurd (subst (λ (one : Option Statement). MatchOption one ⊥ (Decides schema true r)) gone.1 decides)
+  pub decides-before : (allow : Bool) (s : Statement) (left : Option Statement) → MayGoIfAllow s left → MatchOption left ⊥ (Decides schema allow r) → Decides schema allow r s
+  decides-before allow s left (inl is) decides = subst (λ (one : Option Statement). MatchOption one ⊥ (Decides schema allow r)) is decides
+  decides-before allow s left (inr gone) decides = absurd (subst (λ (one : Option Statement). MatchOption one ⊥ (Decides schema allow r)) gone.1 decides)
 
   -- and each Deny statement stays
   denies-still : (s : Statement) (left : Option Statement) → MayGoIfAllow s left → Decides schema false r s → ⊥ ⊎ MatchOption left ⊥ (Decides schema false r)
@@ -71,7 +71,7 @@ module _ (schema : Schema) (r : Request) where
 module _ (set less : PolicySet) (is : HasFewerAllows set less) where
   allows-before : (schema : Schema) (r : Request) → Allows schema less r → Allows schema set r
   allows-before schema r allows = record {
-    granted = documents-whole schema r MayGoIfAllow true (decides-before schema r) set.grants less.grants is.grants allows.granted;
+    granted = documents-whole schema r MayGoIfAllow true (decides-before schema r true) set.grants less.grants is.grants allows.granted;
     guarded = subst (All (SomeDecides schema true r)) is.guards allows.guarded;
     not_denied = λ some. (elim (documents-left schema r MayGoIfAllow false ⊥ (denies-still schema r) set.grants less.grants is.grants some) [
       | inl never ↦ absurd never

@@ -27,7 +27,7 @@ module _ {T : Type 0} (P : T → Type 0) where
     ]
   ]
 
-  any-front : (ys zs : List T) → Any P ys → Any P (ys ++ zs)
+  pub any-front : (ys zs : List T) → Any P ys → Any P (ys ++ zs)
   any-front [] zs some = absurd (none_of_none P some)
   any-front (y ∷ ys) zs some = elim (cases_some P y ys some) [
     | inl p ↦ here P y (ys ++ zs) p

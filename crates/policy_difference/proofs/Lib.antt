@@ -9,6 +9,7 @@ mod Cutting
 mod Remaining
 mod Differing
 mod Aparting
+mod Denying
 mod Alone
 mod Fewer
 mod Sizes

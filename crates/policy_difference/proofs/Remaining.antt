@@ -18,7 +18,7 @@ module _ (P : Statement → Type 0) where
   before-here None rest never = absurd never
   before-here (Some s) rest p = here P s rest p
 
-  before-there : (one : Option Statement) (rest : List Statement) → Any P rest → Any P (before_rest one rest)
+  pub before-there : (one : Option Statement) (rest : List Statement) → Any P rest → Any P (before_rest one rest)
   before-there None rest some = some
   before-there (Some s) rest some = there P s rest some
 

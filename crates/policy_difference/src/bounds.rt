@@ -117,8 +117,8 @@ fn guards_have_wider(guards: &[MarkedDocumentList<'_>], statement: &MarkedStatem
         .any(|guard| has_wider(guard.as_slice(), statement))
 }
 
-// Whether the statement, where it denies, asks no less than a statement of the set.
-fn is_denied_too(set: &MarkedSet<'_>, statement: &MarkedStatement<'_>) -> bool
+/// Whether the statement, where it denies, asks no less than a statement of the set.
+pub(crate) fn is_denied_too(set: &MarkedSet<'_>, statement: &MarkedStatement<'_>) -> bool
     ensures { IsTrue result ↔
         (statement.now.allow ≡ false → DeniesToo set.now statement.now) }
 {

@@ -1,26 +1,13 @@
-//! Sets with one statement, or with few of the Allow statements of another set.
-ghost use Rattle.std.specs.Prelude.{◌≡◌, ◌+◌, ◌==◌, ◌&&◌, IfOk};
-ghost use Rattle.policy_difference.specs.Parts.{documents_if_named, has_name_among, left_if_named, statement_alone, statements_if_named, with_named_allows};
+//! Sets with few of the Allow statements of another set.
+ghost use Rattle.std.specs.Prelude.{◌≡◌, ◌≤◌, ◌+◌, ◌==◌, ◌&&◌, ◌++◌, IfOk, OnOk, length};
+ghost use Rattle.policy_model.specs.Soundness.{IsSound};
+ghost use Rattle.policy_model.specs.StatementNames.{named_statements};
+ghost use Rattle.policy_difference.specs.Parts.{allow_names, allows_named, documents_if_named, has_name_among, left_if_named, statements_if_named, with_named_allows};
 
 use crate::left::add_some;
 use plain_lists::{EqualClone, List, NoMemory};
 use policy_model::{Document, DocumentList, PolicySet, Statement, StatementList, StatementName};
 use std::alloc::Global;
-
-/// The set of one document that has this statement alone, without guards.
-///
-/// The only error is want of memory.
-pub fn statement_alone(alloc: Global, statement: &Statement) -> Result<PolicySet, NoMemory>
-    ensures { IfOk result (λ set. set ≡ statement_alone statement.now) }
-{
-    let copy = statement.copy()?;
-    let mut statements = List::new(alloc);
-    statements.push(copy)?;
-    let mut grants = List::new(alloc);
-    grants.push(Document { statements })?;
-    let guards = List::new(alloc);
-    Ok(PolicySet { grants, guards })
-}
 
 // Whether the name is that of the statement at these indices. Names count from 1.
 fn is_name_of(name: StatementName, document: usize, statement: usize) -> bool
@@ -34,12 +21,9 @@ fn is_name_of(name: StatementName, document: usize, statement: usize) -> bool
 fn has_name_among(names: &[StatementName], document: usize, statement: usize) -> bool
     ensures { result ≡ has_name_among names.now (document + 1) (statement + 1) }
 {
-    for name in names {
-        if is_name_of(*name, document, statement) {
-            return true;
-        }
-    }
-    false
+    names
+        .iter()
+        .any(|name| is_name_of(*name, document, statement))
 }
 
 // The statement, but for an Allow that isn't named.
@@ -101,4 +85,39 @@ pub fn with_named_allows(
     let grants = documents_if_named(alloc, names, set.grants.as_slice())?;
     let guards = set.guards.copy()?;
     Ok(PolicySet { grants, guards })
+}
+
+// Adds the names of the Allow statements of the document of this number.
+fn add_allow_names(
+    names: &mut List<StatementName>,
+    document: u32,
+    statements: &[Statement],
+) -> Result<(), NoMemory>
+    requires { length statements.now ≤ 4294967295 }
+    ensures { OnOk result (names.new ≡
+        names.old ++ allows_named (named_statements document 1 statements.now)) }
+{
+    for (i, statement) in statements.iter().enumerate() {
+        if statement.allow {
+            names.push(StatementName {
+                document,
+                statement: i as u32 + 1,
+            })?;
+        }
+    }
+    Ok(())
+}
+
+/// The names of the Allow statements of the set's grants, in reading order.
+///
+/// The only error is want of memory.
+pub fn allow_names(alloc: Global, set: &PolicySet) -> Result<List<StatementName>, NoMemory>
+    requires { IsSound set.now }
+    ensures { IfOk result (λ names. names ≡ allow_names set.now) }
+{
+    let mut names = List::new(alloc);
+    for (i, document) in set.grants.as_slice().iter().enumerate() {
+        add_allow_names(&mut names, i as u32 + 1, document.statements.as_slice())?;
+    }
+    Ok(names)
 }

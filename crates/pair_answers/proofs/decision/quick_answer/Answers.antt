@@ -1,4 +1,7 @@
-use Rattle.pair_answers.proofs.Comparing.{comparison_if_parts, comparison_if_quick, itself, query_below, query_tests}
+use Rattle.std.proofs.Common.{Option, IfSome, subst}
+use Rattle.pair_answers.specs.declared.answer.ComparisonAnswer.{ComparisonAnswer}
+use Rattle.pair_answers.specs.Decided.{IsVerdictOn}
+use Rattle.pair_answers.proofs.Comparing.{comparison_if_quick, comparison_if_verdict, itself, query_below, query_tests}
 use Rattle.pair_answers.proofs.decision.quick_answer.Goals as goal
 
 pub decide-requires-clause-suit : goal.decide-requires-clause-suit
@@ -10,8 +13,10 @@ decide-requires-clause-below c = query_below c.args.pair.now c.args.query.now c.
 pub parts_answer-requires-clause-smaller : goal.parts_answer-requires-clause-smaller
 parts_answer-requires-clause-smaller c = itself c.args.pair.now.first c.args.pair.now.second
 
-pub returns-then-is_out_of_splits : goal.returns-then-is_out_of_splits
-returns-then-is_out_of_splits c = comparison_if_parts c.args.pair.now c.requires.valid c.args.query.now c.args.budgets c.requires.asked c.parts_answer.result c.parts_answer.ensures
+pub returns-in-Some : goal.returns-in-Some
+returns-in-Some c =
+    comparison_if_verdict c.args.pair.now c.requires.valid c.args.query.now c.args.budgets c.requires.asked c.in-Some.told
+    (subst (λ (o : Option ComparisonAnswer). IfSome o (IsVerdictOn c.args.pair.now)) c.in-Some.is c.in_ok-told.ensures)
 
 pub returns : goal.returns
 returns c =

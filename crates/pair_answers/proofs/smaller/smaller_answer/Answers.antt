@@ -10,7 +10,7 @@ searched-requires-clause-fitting c = smaller-fits c.args.pair.now c.args.first.n
 pub returns-in-Told : goal.returns-in-Told
 returns-in-Told c =
     let pair = pair_of_sets c.args.pair.now.schema c.args.first.now c.args.second.now in
-    verdict-too c.args.pair.now c.args.first.now c.args.second.now c.in-Told.answer c.requires.smaller.asks (subst (IsSearchOf pair) c.in-Told.is c.in_ok-answer.ensures)
+    verdict-too c.args.pair.now c.args.first.now c.args.second.now c.in-Told.answer c.requires.smaller.asks (subst (IsSearchOf pair) c.in-Told.is c.in_ok-found.ensures)
 
 pub searched-requires-2-clause-fitting : goal.searched-requires-2-clause-fitting
 searched-requires-2-clause-fitting c = smaller-fits c.args.pair.now c.args.first.now c.args.second.now c.requires.smaller c.requires.fitting
@@ -18,4 +18,4 @@ searched-requires-2-clause-fitting c = smaller-fits c.args.pair.now c.args.first
 pub returns-in-Told-2 : goal.returns-in-Told-2
 returns-in-Told-2 c =
     let pair = pair_of_sets c.args.pair.now.schema c.args.first.now c.args.second.now in
-    verdict-too c.args.pair.now c.args.first.now c.args.second.now c.in-Told-2.answer c.requires.smaller.asks (subst (IsSearchOf pair) c.in-Told-2.is c.in_ok-answer-3.ensures)
+    verdict-too c.args.pair.now c.args.first.now c.args.second.now c.in-Told-2.answer c.requires.smaller.asks (subst (IsSearchOf pair) c.in-Told-2.is c.in_ok-answer.ensures)
