@@ -1,5 +1,5 @@
 -- Which findings are comparable, number by number and pair by pair.
-use Rattle.std.proofs.Common.{◌≡◌, ◌≢◌, ◌↔◌, ℕ, zero, suc, ◌+◌, ◌<◌, ◌≤◌, Bool, true, false, List, [], ◌∷◌, Some, length, get_or, inl, inr, refl, sym, ap, subst, ◌∙◌, arith, nat_eq}
+use Rattle.std.proofs.Common.{◌≡◌, ◌↔◌, ℕ, zero, suc, ◌+◌, ◌<◌, Bool, true, false, List, [], ◌∷◌, Some, length, get_or, inl, inr, refl, sym, ap, subst, ◌∙◌, arith, nat_eq}
 use Rattle.std.specs.Prelude.{All, Any, IsTrue, slice_get}
 use Rattle.std.specs.Cmp.Lexicographic.{pointwise, pointwise_decides, slice_cmp}
 use Rattle.std.specs.Ordering.{is_lt, nat_cmp}
@@ -17,8 +17,8 @@ use Rattle.strata.specs.declared.stratum.Strata.{Strata}
 use Rattle.strata.specs.declared.stratum.Stratum.{Stratum}
 use Rattle.strata.specs.Covers.{IsBelowAt}
 use Rattle.strata.specs.Strata.{AnswersOrderOf, IsStratum}
-use Rattle.findings.specs.Findings.{IsFiner, IsFinding}
-use Rattle.findings.specs.Judging.{IsApartFromFirst, IsComparedWith, OfOrder, DecidesCompared, DecidesComparedWith, DecidesFiner}
+use Rattle.findings.specs.Findings.{IsFiner, IsFinding, IsStrictlyFiner}
+use Rattle.findings.specs.Judging.{DecidesFiner, DecidesStrictlyFiner, HasNoneFinerOfFirst, IsComparedWith, IsFirstFiner, OfOrder}
 use Rattle.findings.specs.StandingSummaries.{AreComparable}
 use Rattle.findings.specs.Steps.{predicate_number_at}
 use Rattle.findings.specs.Summaries.{findings_of}
@@ -68,31 +68,19 @@ below-told schema tests ds f g j n m d b are is_f is_g at own other told =
       λ below. says.1 (record { lower = number-within ds f is_f j d at; upper = number-within ds g is_g j d at; below = below }),
     )
 
--- ---- comparable
+-- ---- strictly finer
 
-pub compared-equal : (strata : Strata) (f g : List ℕ) (b : Bool) → b ≡ pointwise nat_eq f g → b ≡ true → DecidesCompared strata f g false
-compared-equal strata f g b is equal schema tests are =
+pub finer-equal : (strata : Strata) (f g : List ℕ) (b : Bool) → b ≡ pointwise nat_eq f g → b ≡ true → DecidesStrictlyFiner strata f g false
+finer-equal strata f g b is equal schema tests are =
     let same : f ≡ g = (pointwise_decides Decides-eqb f g).0 (sym is ∙ equal) in (
       λ e. absurd (cc),
-      λ compared. elim compared [ inl finer ↦ absurd (finer.1 same) | inr above ↦ absurd (above.1 (sym same)) ],
+      λ finer. absurd (finer.1 same),
     )
 
-differ-told : (f g : List ℕ) (b : Bool) → b ≡ pointwise nat_eq f g → b ≡ false → f ≢ g
-differ-told f g b is unequal same = let yes_ : pointwise nat_eq f g ≡ true = (pointwise_decides Decides-eqb f g).1 same in absurd (cc)
-
-pub compared-finer : (strata : Strata) (f g : List ℕ) (b finer : Bool) → b ≡ pointwise nat_eq f g → b ≡ false → finer ≡ true → DecidesFiner strata f g finer → DecidesCompared strata f g finer
-compared-finer strata f g b finer is unequal holds told schema tests are = (
-  λ e. inl ((told schema tests are).0 holds, differ-told f g b is unequal),
-  λ compared. holds,
-)
-
-pub compared-above : (strata : Strata) (f g : List ℕ) (b finer up : Bool) → b ≡ pointwise nat_eq f g → b ≡ false → finer ≡ false → DecidesFiner strata f g finer → DecidesFiner strata g f up → DecidesCompared strata f g up
-compared-above strata f g b finer up is unequal fails told upper schema tests are = (
-  λ e. inr ((upper schema tests are).0 e, λ same. differ-told f g b is unequal (sym same)),
-  λ compared. elim compared [
-    | inl lower ↦ (let bad : finer ≡ true = (told schema tests are).1 lower.0 in absurd (cc))
-    | inr above ↦ (upper schema tests are).1 above.0
-  ],
+pub finer-differs : (strata : Strata) (f g : List ℕ) (b finer : Bool) → b ≡ pointwise nat_eq f g → b ≡ false → DecidesFiner strata f g finer → DecidesStrictlyFiner strata f g finer
+finer-differs strata f g b finer is unequal told schema tests are = (
+  λ e. ((told schema tests are).0 e, λ same. (let yes_ : pointwise nat_eq f g ≡ true = (pointwise_decides Decides-eqb f g).1 same in absurd (cc))),
+  λ strictly. (told schema tests are).1 strictly.0,
 )
 
 -- ---- pairs
@@ -130,30 +118,33 @@ any-compared schema ds f pairs some =
     let pair = pair-of pairs some.0 some.1 some.2 some.3 in
     record { index = pair.index; other = pair.pair; at = pair.at; compared = subst (AreComparable schema ds f) (sym pair.is) some.4 }
 
--- ---- a pair of the list
+-- ---- the first that is strictly finer
 
-pub compared-here : (strata : Strata) (f : List ℕ) (pairs : Pairs) (i : ℕ) (p : List ℕ × Request) (b : Bool) → slice_get pairs i ≡ Some p → DecidesCompared strata f p.0 b → b ≡ true → DecidesComparedWith strata f pairs true
-compared-here strata f pairs i p b at told holds schema tests are = (
-  λ e. record { index = i; other = p; at = at; compared = (told schema tests are).0 holds },
-  λ h. refl,
-)
+module _ (strata : Strata) (f : List ℕ) (pairs : Pairs) (i : ℕ) where
+  pub finer-here : (p : List ℕ × Request) (b : Bool) → slice_get pairs i ≡ Some p → DecidesStrictlyFiner strata p.0 f b → b ≡ true → OfOrder strata (λ schema. HasNoneFinerOfFirst schema strata.dimensions f pairs i) → IsFirstFiner strata f pairs i
+  finer-here p b at told holds before = record {
+    within = (let inside = slice_get_within pairs i p at in omega (arith, inside));
+    before = before;
+    here = λ schema tests are q there.
+        let same : p ≡ q = cc in
+        subst (λ (x : List ℕ × Request). IsStrictlyFiner schema strata.dimensions x.0 f) same ((told schema tests are).0 holds);
+  }
 
-pub apart-next : (strata : Strata) (f : List ℕ) (pairs : Pairs) (i : ℕ) (p : List ℕ × Request) (b : Bool) → slice_get pairs i ≡ Some p → DecidesCompared strata f p.0 b → b ≡ false → OfOrder strata (λ schema. IsApartFromFirst schema strata.dimensions f pairs i) →
-    OfOrder strata (λ schema. IsApartFromFirst schema strata.dimensions f pairs (i + 1))
-apart-next strata f pairs i p b at told fails before schema tests are j q less there compared = elim (cases_lt j i) [
-  | inl lower ↦ before schema tests are j q lower there compared
-  | inr upper ↦ (
-      let same : j ≡ i = omega (arith, less, upper) in
-      let own : slice_get pairs i ≡ Some q = subst (λ (k : ℕ). slice_get pairs k ≡ Some q) same there in
-      let is : q ≡ p = cc in
-      let bad : b ≡ true = (told schema tests are).1 (subst (λ (x : List ℕ × Request). AreComparable schema strata.dimensions f x.0) is compared) in
-      absurd (cc))
-]
+  pub finer-next : (p : List ℕ × Request) (b : Bool) → slice_get pairs i ≡ Some p → DecidesStrictlyFiner strata p.0 f b → b ≡ false → OfOrder strata (λ schema. HasNoneFinerOfFirst schema strata.dimensions f pairs i) →
+      OfOrder strata (λ schema. HasNoneFinerOfFirst schema strata.dimensions f pairs (i + 1))
+  finer-next p b at told fails before schema tests are j q less there finer = elim (cases_lt j i) [
+    | inl lower ↦ before schema tests are j q lower there finer
+    | inr upper ↦ (
+        let index : j ≡ i = omega (arith, less, upper) in
+        let own : slice_get pairs i ≡ Some q = subst (λ (k : ℕ). slice_get pairs k ≡ Some q) index there in
+        let is : q ≡ p = cc in
+        let bad : b ≡ true = (told schema tests are).1 (subst (λ (x : List ℕ × Request). IsStrictlyFiner schema strata.dimensions x.0 f) is finer) in
+        absurd (cc))
+  ]
 
-pub apart-all : (strata : Strata) (f : List ℕ) (pairs : Pairs) (i : ℕ) → length pairs ≤ i → OfOrder strata (λ schema. IsApartFromFirst schema strata.dimensions f pairs i) → DecidesComparedWith strata f pairs false
-apart-all strata f pairs i past apart schema tests are = (
-  λ e. absurd (cc),
-  λ has. (
-      let within = slice_get_within pairs has.index has.other has.at in
-      absurd (apart schema tests are has.index has.other (omega (arith, within, past)) has.at has.compared)),
-)
+  pub finer-none : length pairs ≡ i → OfOrder strata (λ schema. HasNoneFinerOfFirst schema strata.dimensions f pairs i) → IsFirstFiner strata f pairs (length pairs)
+  finer-none whole before = record {
+    within = omega arith;
+    before = subst (λ (n : ℕ). OfOrder strata (λ schema. HasNoneFinerOfFirst schema strata.dimensions f pairs n)) (sym whole) before;
+    here = λ schema tests are q there. (let inside = slice_get_within pairs (length pairs) q there in absurd (omega (arith, inside)));
+  }

@@ -15,8 +15,7 @@ use Rattle.policy_model.specs.contracts.principal.EntryPartialEq.TheImpl as entr
 use Rattle.policy_model.specs.declared.test.Test.{Test}
 use Rattle.policy_model.specs.declared.test.Test.TheVariants.{Principal, Action, Resource, Present, SomeMeets, SomeMeetsNone}
 use Rattle.policy_model.specs.contracts.test.TestPartialEq.TheImpl as test
-use Rattle.wildcard_lang.specs.contracts.piece.PiecePartialEq.TheImpl as piece
-use Rattle.wildcard_lang.specs.declared.piece.Piece.{Piece}
+use Rattle.wildcard_lang.proofs.Laws.{pieces-Decides}
 
 -- two values that a test tells apart aren't equal
 unlike : {X : Type 0} {x y : X} (is : X → Bool) → is x ≡ true → is y ≡ false → Decides false (x ≡ y)
@@ -65,9 +64,6 @@ is_some t = false
 abbrev is_none : Test → Bool
 is_none (SomeMeetsNone x cs) = true
 is_none t = false
-
-pieces-Decides : (a b : Piece) → Decides (piece.eq-value.it a b) (a ≡ b)
-pieces-Decides a b = grind (arith, common_steps)
 
 same-text : (x y : List ℕ) → pointwise ◌==◌ x y ≡ true → x ≡ y
 same-text x y = (pointwise_decides Decides-eqb x y).0

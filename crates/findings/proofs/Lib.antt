@@ -31,3 +31,5 @@ mod Summing
 mod Texts
 mod Trees
 mod Walking
+mod Lowering
+mod Neighbours

@@ -1,5 +1,5 @@
 -- The first failing pair, and a list without one.
-use Rattle.std.proofs.Common.{◌≡◌, ◌↔◌, ℕ, zero, suc, ◌+◌, ◌<◌, ◌≤◌, Bool, true, false, List, [], ◌∷◌, Some, length, get_or, take, drop, ◌-◌, inl, inr, refl, sym, ap, subst, ◌∙◌, arith}
+use Rattle.std.proofs.Common.{◌≡◌, ◌↔◌, ℕ, zero, suc, ◌+◌, ◌<◌, ◌≤◌, Bool, true, false, List, [], ◌∷◌, Some, length, get_or, inl, inr, refl, sym, ap, subst, ◌∙◌, arith}
 use Rattle.std.specs.Prelude.{All, Contains, IsTrue, if◌then◌else◌, slice_get}
 use Rattle.std.specs.Cmp.Lexicographic.{slice_cmp}
 use Rattle.std.specs.List.Sorted.{IsStrictlySortedBy}
@@ -7,10 +7,9 @@ use Rattle.std.specs.Ordering.{nat_cmp}
 use Rattle.std.specs.declared.cmp.Ordering.TheVariants.{Less}
 use Rattle.std.proofs.lemmas.Bool.{cases_lt, le-ltb, lt-ltb}
 use Rattle.std.proofs.lemmas.Cmp.{nat_list_cmp_total}
-use Rattle.std.proofs.lemmas.List.{drop-map, get_or-drop, get_or-take, length-drop, length-map, length-take, take-map, take_all}
-use Rattle.std.proofs.lemmas.List.Elements.{All-drop, All-take}
+use Rattle.std.proofs.lemmas.List.{length-map}
 use Rattle.std.proofs.lemmas.Map.Keys.{sorted_from_all_adjacent}
-use Rattle.std.proofs.lemmas.Option.{get_or_from_slice_get, slice_get-get_or, slice_get_within}
+use Rattle.std.proofs.lemmas.Option.{slice_get-get_or, slice_get_within}
 use Rattle.policy_model.specs.declared.request.Request.{Request}
 use Rattle.policy_model.specs.declared.schema.Schema.{Schema}
 use Rattle.policy_model.specs.declared.set.PolicySet.{PolicySet}
@@ -20,7 +19,7 @@ use Rattle.strata.specs.declared.stratum.Stratum.{Stratum}
 use Rattle.findings.specs.declared.standing.SummaryVerdict.{SummaryVerdict}
 use Rattle.findings.specs.declared.standing.SummaryVerdict.TheVariants.{Stands, Fails}
 use Rattle.findings.specs.Findings.{IsOwn, IsStrictlyFiner}
-use Rattle.findings.specs.Judging.{FailsAlone, IsComparedWith, IsFirstAlone, IsFirstCompared, IsFirstInBlock, OfOrder, Rises, StandAlone, StandsAlone, DecidesAlone, DecidesComparedWith, DecidesOwn, verdict_at}
+use Rattle.findings.specs.Judging.{FailsAlone, IsComparedWith, IsFirstAlone, IsFirstCompared, Rises, StandAlone, StandsAlone, DecidesAlone, DecidesOwn, verdict_at}
 use Rattle.findings.specs.Queries.{AreMadeFor}
 use Rattle.findings.specs.StandingSummaries.{HasFault, IsFailingPair, IsFirstFailing, IsSummaryVerdict, JudgesSummary, SummaryStands}
 use Rattle.findings.specs.Summaries.{findings_of}
@@ -41,7 +40,7 @@ pair-at (p ∷ pairs) (suc i) within =
     let rest = pair-at pairs i (omega (arith, within)) in
     record { pair = rest.pair; at = rest.at }
 
-same-pair : (pairs : Pairs) (i : ℕ) (p q : List ℕ × Request) → slice_get pairs i ≡ Some p → slice_get pairs i ≡ Some q → p ≡ q
+pub same-pair : (pairs : Pairs) (i : ℕ) (p q : List ℕ × Request) → slice_get pairs i ≡ Some p → slice_get pairs i ≡ Some q → p ≡ q
 same-pair pairs i p q first second = cc
 
 finding-read : (pairs : Pairs) (i : ℕ) (d : List ℕ) (p : List ℕ × Request) → slice_get pairs i ≡ Some p → get_or (findings_of pairs) i d ≡ p.0
@@ -144,110 +143,6 @@ module _ (schema : Schema) (base : Query) (strata : Strata) (pairs : Pairs) (set
           let whole : first ≡ length pairs = omega (arith, most, all, past) in
           subst (IsSummaryVerdict schema set ds pairs) (sym (verdict-stands first (length pairs) past)) (all-stand whole))
     ]
-
--- ---- blocks
-
-pub blocks-none : (strata : Strata) (pairs : Pairs) (most : ℕ) → IsFirstCompared strata pairs most 0 most
-blocks-none strata pairs most = record {
-  within = omega arith;
-  before = λ schema tests are i p less at j q none there. absurd (omega (arith, none));
-  here = λ schema tests are p less at. absurd (omega (arith, less));
-}
-
--- what is in a block stands behind its start
-in-block : (pairs : Pairs) (start count j : ℕ) (q : List ℕ × Request) → slice_get (take count (drop start pairs)) j ≡ Some q → slice_get pairs (start + j) ≡ Some q
-in-block pairs start count j q at =
-    let inside = slice_get_within (take count (drop start pairs)) j q at in
-    let taken = length-take count (drop start pairs) in
-    let dropped = length-drop start pairs in
-    let within : start + j < length pairs = omega (arith, inside, taken, dropped) in
-    let read : get_or pairs (start + j) q ≡ q = sym (get_or-drop start pairs j q) ∙ sym (get_or-take count (drop start pairs) j q (omega (arith, inside, taken))) ∙ get_or_from_slice_get (take count (drop start pairs)) j q q at in
-    slice_get-get_or pairs (start + j) q within ∙ ap Some read
-
-of-block : (pairs : Pairs) (start count j : ℕ) (q : List ℕ × Request) → start ≤ j → j < start + count → slice_get pairs j ≡ Some q → slice_get (take count (drop start pairs)) (j - start) ≡ Some q
-of-block pairs start count j q past within at =
-    let there = slice_get_within pairs j q at in
-    let taken = length-take count (drop start pairs) in
-    let dropped = length-drop start pairs in
-    let inside : j - start < length (take count (drop start pairs)) = omega (arith, past, within, there, taken, dropped) in
-    let index : start + (j - start) ≡ j = omega (arith, past) in
-    let read : get_or (take count (drop start pairs)) (j - start) q ≡ q =
-    get_or-take count (drop start pairs) (j - start) q (omega (arith, past, within)) ∙ get_or-drop start pairs (j - start) q ∙ ap (λ (k : ℕ). get_or pairs k q) index ∙ get_or_from_slice_get pairs j q q at in
-    slice_get-get_or (take count (drop start pairs)) (j - start) q inside ∙ ap Some read
-
-pub blocks-next : (strata : Strata) (pairs block : Pairs) (most start count old new : ℕ) → block ≡ take count (drop start pairs) → IsFirstCompared strata pairs most start old → IsFirstInBlock strata pairs block old new → IsFirstCompared strata pairs most (start + count) new
-blocks-next strata pairs block most start count old new is before found = record {
-  within = (let one = before.within in let other = found.within in omega (arith, one, other));
-  before = λ schema tests are i p less at j q inside there compared. elim (cases_lt j start) [
-    | inl lower ↦ (let most_old = found.within in before.before schema tests are i p (omega (arith, less, most_old)) at j q lower there compared)
-    | inr upper ↦ found.before schema tests are i p less at (record {
-      index = j - start;
-      other = q;
-      at = subst (λ (xs : Pairs). slice_get xs (j - start) ≡ Some q) (sym is) (of-block pairs start count j q upper inside there);
-      compared = compared;
-    })
-  ];
-  here = λ schema tests are p less at. elim (cases_lt new old) [
-    | inl lower ↦ (
-        let has = found.here schema tests are p lower at in
-        record { index = start + has.index; other = has.other; at = in-block pairs start count has.index has.other (subst (λ (xs : Pairs). slice_get xs has.index ≡ Some has.other) is has.at); compared = has.compared })
-    | inr upper ↦ (
-        let most_old = found.within in
-        let same : new ≡ old = omega (arith, upper, most_old) in
-        before.here schema tests are p (omega (arith, less, same)) (subst (λ (k : ℕ). slice_get pairs k ≡ Some p) same at))
-  ];
-}
-
--- ---- one block
-
-pub block-here : (strata : Strata) (pairs block : Pairs) (most i : ℕ) (p : List ℕ × Request) (b : Bool) → i < most → slice_get pairs i ≡ Some p →
-    OfOrder strata (λ schema. (j : ℕ) (q : List ℕ × Request) → j < i → slice_get pairs j ≡ Some q → ¬ IsComparedWith schema strata.dimensions q.0 block) → DecidesComparedWith strata p.0 block b → b ≡ true → IsFirstInBlock strata pairs block most i
-block-here strata pairs block most i p b less at before told holds = record {
-  within = omega (arith, less);
-  before = before;
-  here = λ schema tests are q within there. subst (λ (x : List ℕ × Request). IsComparedWith schema strata.dimensions x.0 block) (same-pair pairs i p q at there) ((told schema tests are).0 holds);
-}
-
-pub block-next : (strata : Strata) (pairs block : Pairs) (i : ℕ) (p : List ℕ × Request) (b : Bool) → slice_get pairs i ≡ Some p →
-    OfOrder strata (λ schema. (j : ℕ) (q : List ℕ × Request) → j < i → slice_get pairs j ≡ Some q → ¬ IsComparedWith schema strata.dimensions q.0 block) → DecidesComparedWith strata p.0 block b → b ≡ false →
-    OfOrder strata (λ schema. (j : ℕ) (q : List ℕ × Request) → j < i + 1 → slice_get pairs j ≡ Some q → ¬ IsComparedWith schema strata.dimensions q.0 block)
-block-next strata pairs block i p b at before told fails schema tests are j q less there compared = elim (cases_lt j i) [
-  | inl lower ↦ before schema tests are j q lower there compared
-  | inr upper ↦ (
-      let same : j ≡ i = omega (arith, less, upper) in
-      let here : slice_get pairs i ≡ Some q = subst (λ (k : ℕ). slice_get pairs k ≡ Some q) same there in
-      let bad : b ≡ true = (told schema tests are).1 (subst (λ (x : List ℕ × Request). IsComparedWith schema strata.dimensions x.0 block) (same-pair pairs i q p here at) compared) in
-      absurd (cc))
-]
-
-pub block-all : (strata : Strata) (pairs block : Pairs) (most i : ℕ) → most ≤ i →
-    OfOrder strata (λ schema. (j : ℕ) (q : List ℕ × Request) → j < i → slice_get pairs j ≡ Some q → ¬ IsComparedWith schema strata.dimensions q.0 block) → IsFirstInBlock strata pairs block most most
-block-all strata pairs block most i past before = record {
-  within = omega arith;
-  before = λ schema tests are j q less there. before schema tests are j q (omega (arith, less, past)) there;
-  here = λ schema tests are q less there. absurd (omega (arith, less));
-}
-
--- the findings of a block, which are no more than its size
-pub block-findings : (P : List ℕ → Type 0) (pairs block : Pairs) (start count : ℕ) → block ≡ take count (drop start pairs) → All P (findings_of pairs) → All P (findings_of block)
-block-findings P pairs block start count is all =
-    let whole : findings_of block ≡ take count (drop start (findings_of pairs)) =
-    ap findings_of is ∙ sym (take-map (λ (p : List ℕ × Request). p.0) count (drop start pairs)) ∙ ap (take count) (sym (drop-map (λ (p : List ℕ × Request). p.0) start pairs)) in
-    subst (All P) (sym whole) (All-take P count (drop start (findings_of pairs)) (All-drop P start (findings_of pairs) all))
-
-pub block-long : (pairs block : Pairs) (start count : ℕ) → block ≡ take count (drop start pairs) → length block ≤ count
-block-long pairs block start count is = (let e : length block ≡ length (take count (drop start pairs)) = ap length is in let long = length-take count (drop start pairs) in omega (arith, e, long))
-
-pub blocks-all : (strata : Strata) (pairs : Pairs) (most n first : ℕ) → length pairs ≤ n → IsFirstCompared strata pairs most n first → IsFirstCompared strata pairs most (length pairs) first
-blocks-all strata pairs most n first past all = record {
-  within = all.within;
-  before = λ schema tests are i p less at j q inside there. all.before schema tests are i p less at j q (omega (arith, inside, past)) there;
-  here = all.here;
-}
-
--- the last block, which may be short
-pub short-block : (pairs rest : Pairs) (k m : ℕ) → rest ≡ drop k pairs → k ≡ m → length rest < 64 → rest ≡ take 64 (drop m pairs)
-short-block pairs rest k m is same short = sym (take_all 64 rest (omega (arith, short))) ∙ ap (take 64) (is ∙ ap (λ (n : ℕ). drop n pairs) same)
 
 -- ---- pairs alone
 

@@ -1,6 +1,5 @@
 -- What the steps of a summary's check tell.
-use Rattle.std.specs.Prelude.{◌≡◌, ◌≤◌, ◌<◌, ◌+◌, ◌↔◌, ◌⊎◌, ℕ, Bool, false, List, [], All, IsTrue, MatchBool, if◌then◌else◌, nat_lt, Some, slice_get, slice_index_or, length}
-use Rattle.std.specs.Int.{bit_at}
+use Rattle.std.specs.Prelude.{◌≡◌, ◌≤◌, ◌<◌, ◌+◌, ◌↔◌, ◌⊎◌, ℕ, Bool, false, List, All, IsTrue, MatchBool, if◌then◌else◌, nat_lt, Some, slice_get, slice_index_or, length}
 use Rattle.std.specs.Cmp.Lexicographic.{slice_cmp}
 use Rattle.std.specs.Ordering.{nat_cmp}
 use Rattle.std.specs.declared.cmp.Ordering.TheVariants.{Less}
@@ -17,15 +16,14 @@ use Rattle.policy_compile.specs.Queries.{IsQuery}
 use Rattle.policy_compile.specs.Sets.{set_plan}
 use Rattle.strata.specs.declared.stratum.Strata.{Strata}
 use Rattle.strata.specs.declared.stratum.Stratum.{Stratum}
-use Rattle.strata.specs.Strata.{IsBelowIn, IsStratum}
-use Rattle.findings.specs.declared.blocks.Side.{Side}
-use Rattle.findings.specs.declared.blocks.Side.TheVariants.{Lower, Upper}
+use Rattle.strata.specs.Strata.{IsStratum}
 use Rattle.findings.specs.declared.standing.SummaryVerdict.{SummaryVerdict}
 use Rattle.findings.specs.declared.standing.SummaryVerdict.TheVariants.{Stands, Fails}
-use Rattle.findings.specs.Findings.{IsFiner, IsOwn}
+use Rattle.findings.specs.Findings.{IsFiner, IsOwn, IsStrictlyFiner}
 use Rattle.findings.specs.Queries.{AreMadeFor}
 use Rattle.findings.specs.StandingSummaries.{AreComparable, DoesNotRise}
-use Rattle.findings.specs.Steps.{predicate_number_at}
+use Rattle.findings.specs.Stretches.{AreEndsOfDepths}
+use Rattle.findings.specs.Words.{HasNoCommonBit, HasWords}
 
 -- the answer to the test of a number, or no where there is none
 abbrev pub nth_answer : List Bool → ℕ → Bool
@@ -59,9 +57,21 @@ OfOrder strata P = (schema : Schema) (tests : List Test) → All (IsStratum sche
 abbrev pub DecidesFiner : Strata → List ℕ → List ℕ → Bool → Type 0
 DecidesFiner strata f g b = OfOrder strata (λ schema. IsTrue b ↔ IsFiner schema strata.dimensions f g)
 
--- whether one of the two is strictly finer than the other
-abbrev pub DecidesCompared : Strata → List ℕ → List ℕ → Bool → Type 0
-DecidesCompared strata f g b = OfOrder strata (λ schema. IsTrue b ↔ AreComparable schema strata.dimensions f g)
+-- whether the one finding is strictly finer than the other
+abbrev pub DecidesStrictlyFiner : Strata → List ℕ → List ℕ → Bool → Type 0
+DecidesStrictlyFiner strata f g b = OfOrder strata (λ schema. IsTrue b ↔ IsStrictlyFiner schema strata.dimensions f g)
+
+-- none of the first n pairs has a finding that is strictly finer than this one
+abbrev pub HasNoneFinerOfFirst : Schema → List Stratum → List ℕ → List (List ℕ × Request) → ℕ → Type 0
+HasNoneFinerOfFirst schema ds f pairs n =
+    (j : ℕ) (q : List ℕ × Request) → j < n → slice_get pairs j ≡ Some q → ¬ IsStrictlyFiner schema ds q.0 f
+
+-- this is the first of the pairs with a finding that is strictly finer than this one, or their number
+pub record IsFirstFiner (strata : Strata) (f : List ℕ) (pairs : List (List ℕ × Request)) (place : ℕ) : Type 0 where
+  pub within : place ≤ length pairs
+  pub before : OfOrder strata (λ schema. HasNoneFinerOfFirst schema strata.dimensions f pairs place)
+  pub here : OfOrder strata (λ schema. (q : List ℕ × Request) → slice_get pairs place ≡ Some q →
+      IsStrictlyFiner schema strata.dimensions q.0 f)
 
 -- the finding of some pair is strictly finer than this one, or strictly above it
 pub record IsComparedWith (schema : Schema) (ds : List Stratum) (f : List ℕ) (pairs : List (List ℕ × Request)) : Type 0 where
@@ -69,10 +79,6 @@ pub record IsComparedWith (schema : Schema) (ds : List Stratum) (f : List ℕ) (
   pub other : List ℕ × Request
   pub at : slice_get pairs index ≡ Some other
   pub compared : AreComparable schema ds f other.0
-
--- whether there is such a pair
-abbrev pub DecidesComparedWith : Strata → List ℕ → List (List ℕ × Request) → Bool → Type 0
-DecidesComparedWith strata f pairs b = OfOrder strata (λ schema. IsTrue b ↔ IsComparedWith schema strata.dimensions f pairs)
 
 -- the finding rises above that of the pair before this index, where there is one
 abbrev pub RisesAbove : List (List ℕ × Request) → ℕ → List ℕ → Type 0
@@ -131,73 +137,46 @@ pub record IsFirstCompared (strata : Strata) (pairs : List (List ℕ × Request)
   pub here : OfOrder strata (λ schema. (p : List ℕ × Request) → first < most → slice_get pairs first ≡ Some p →
       IsComparedWith schema strata.dimensions p.0 pairs)
 
--- this is the first of so many pairs that is compared with a pair of the block, or so many
-pub record IsFirstInBlock (strata : Strata) (pairs block : List (List ℕ × Request)) (most first : ℕ) : Type 0 where
-  pub within : first ≤ most
-  pub before : OfOrder strata (λ schema. (i : ℕ) (p : List ℕ × Request) → i < first → slice_get pairs i ≡ Some p →
-      ¬ IsComparedWith schema strata.dimensions p.0 block)
-  pub here : OfOrder strata (λ schema. (p : List ℕ × Request) → first < most → slice_get pairs first ≡ Some p →
-      IsComparedWith schema strata.dimensions p.0 block)
+-- ---- an index that is lowered to those of compared pairs
 
--- ---- words that tell where a finding may be
+-- where the finding of the second index is strictly finer than that of the first, neither index is below the bound
+abbrev pub BoundsFiner : Strata → List (List ℕ × Request) → ℕ → ℕ → ℕ → Type 0
+BoundsFiner strata pairs bound i j = OfOrder strata (λ schema. (p q : List ℕ × Request) → slice_get pairs i ≡ Some p →
+    slice_get pairs j ≡ Some q → IsStrictlyFiner schema strata.dimensions q.0 p.0 → (bound ≤ i) × (bound ≤ j))
 
--- the one number stands on this side of the other
-abbrev pub IsOnSide : Schema → Stratum → Side → ℕ → ℕ → Type 0
-IsOnSide schema d Lower one other = IsBelowIn schema d one other
-IsOnSide schema d Upper one other = IsBelowIn schema d other one
+-- the finding of the pair of this index is strictly finer than one of the list, or strictly above one
+abbrev pub IsComparedAt : Strata → List (List ℕ × Request) → ℕ → Type 0
+IsComparedAt strata pairs i = OfOrder strata (λ schema. (p : List ℕ × Request) → slice_get pairs i ≡ Some p →
+    IsComparedWith schema strata.dimensions p.0 pairs)
 
--- whether it does
-abbrev pub DecidesSide : Stratum → Side → ℕ → ℕ → Bool → Type 0
-DecidesSide d side one other b =
-    (schema : Schema) (tests : List Test) → IsStratum schema tests d → (IsTrue b ↔ IsOnSide schema d side one other)
+-- the index is lowered to that of a compared pair, if at all, and then bounds where the findings of the indices from c to d are strictly
+-- finer than those from a to b
+pub record IsLowered (strata : Strata) (pairs : List (List ℕ × Request)) (a b c d old new : ℕ) : Type 0 where
+  pub within : new ≤ old
+  pub bounds : (i j : ℕ) → a ≤ i → i < b → c ≤ j → j < d → BoundsFiner strata pairs new i j
+  pub here : new < old → IsComparedAt strata pairs new
 
--- the bit of this number is set
-abbrev pub IsBitSet : ℕ → ℕ → Type 0
-IsBitSet word n = bit_at word n ≡ 1
+-- there are words for the findings of all pairs
+abbrev pub HaveWords : List (List ℕ) → List (List ℕ × Request) → Type 0
+HaveWords words pairs = (i : ℕ) (p : List ℕ × Request) → slice_get pairs i ≡ Some p → HasWords words p.0
 
--- a bit that was set stays so
-abbrev pub KeepsBits : ℕ → ℕ → Type 0
-KeepsBits old new = (n : ℕ) → IsBitSet old n → IsBitSet new n
+-- there are the ends of stretches for as many first numbers as each finding has
+pub record HaveEnds (ends : List (List ℕ)) (pairs : List (List ℕ × Request)) : Type 0 where
+  pub long : (i : ℕ) (p : List ℕ × Request) → slice_get pairs i ≡ Some p → length p.0 ≡ length ends
+  pub each : AreEndsOfDepths pairs (length ends) ends
 
--- of the first n pairs the bit is set where the finding's number in the dimension stands on this side of the number
-abbrev pub AreSideBits : Stratum → ℕ → List (List ℕ × Request) → Side → ℕ → ℕ → ℕ → Type 0
-AreSideBits d i pairs side n number word =
-    (schema : Schema) (tests : List Test) → IsStratum schema tests d → (j : ℕ) (q : List ℕ × Request) → j < n →
-    slice_get pairs j ≡ Some q → IsOnSide schema d side (predicate_number_at q.0 i) number → IsBitSet word j
+-- the words of each finding from this index up to the end have no bit in common
+pub record ArePassedOver (words : List (List ℕ)) (pairs : List (List ℕ × Request)) (i end : ℕ) : Type 0 where
+  pub least : i ≤ end
+  pub within : end ≤ length pairs
+  pub barred : (j : ℕ) (q : List ℕ × Request) → i ≤ j → j < end → slice_get pairs j ≡ Some q → HasNoCommonBit words q.0 (length q.0)
 
--- for each of the first n numbers of a dimension its word
-pub record AreSideWords (d : Stratum) (i : ℕ) (pairs : List (List ℕ × Request)) (side : Side) (n : ℕ) (words : List ℕ) : Type 0 where
-  pub count : length words ≡ n
-  pub each : (number : ℕ) → number < n → AreSideBits d i pairs side (length pairs) number (slice_index_or words number 0)
+-- the lesser of two numbers
+pub record IsLesser (a b c : ℕ) : Type 0 where
+  pub one : c ≤ a
+  pub other : c ≤ b
+  pub is : (c ≡ a) ⊎ (c ≡ b)
 
--- for each of the first n dimensions its words
-pub record AreBlockWords (strata : Strata) (pairs : List (List ℕ × Request)) (side : Side) (n : ℕ) (words : List (List ℕ)) : Type 0 where
-  pub count : length words ≡ n
-  pub each : (i : ℕ) (d : Stratum) → i < n → slice_get strata.dimensions i ≡ Some d →
-      AreSideWords d i pairs side (length d.predicates) (slice_index_or words i [])
-
--- for each dimension
-abbrev pub AreWordsOf : Strata → List (List ℕ × Request) → Side → List (List ℕ) → Type 0
-AreWordsOf strata pairs side words = AreBlockWords strata pairs side (length strata.dimensions) words
-
--- the word of the finding's number in a dimension
-abbrev pub number_word : List (List ℕ) → List ℕ → ℕ → ℕ
-number_word words f i = slice_index_or (slice_index_or words i []) (predicate_number_at f i) 0
-
--- the bit is set in the words of the finding's first n numbers
-abbrev pub IsBitSetInEach : List (List ℕ) → List ℕ → ℕ → ℕ → Type 0
-IsBitSetInEach words f n bit = (i : ℕ) → i < n → IsBitSet (number_word words f i) bit
-
--- there is a word for the finding's number in a dimension
-pub record HasWordAt (words : List (List ℕ)) (f : List ℕ) (i : ℕ) : Type 0 where
-  pub index : i < length f
-  pub list : i < length words
-  pub number : predicate_number_at f i < length (slice_index_or words i [])
-
--- and in each of its dimensions
-abbrev pub HasWords : List (List ℕ) → List ℕ → Type 0
-HasWords words f = (i : ℕ) → i < length f → HasWordAt words f i
-
--- it is told where some bit is set in the words of all numbers
-abbrev pub ShowsCommonBit : List (List ℕ) → List ℕ → Bool → Type 0
-ShowsCommonBit words f b = (bit : ℕ) → bit < 64 → IsBitSetInEach words f (length f) bit → IsTrue b
+-- all the pairs, or those before the first where the block doesn't start before it
+abbrev pub IsReach : ℕ → ℕ → ℕ → ℕ → Type 0
+IsReach start first count end = (end ≡ count) ⊎ ((end ≡ first) × (first ≤ start))

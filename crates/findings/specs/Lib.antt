@@ -18,3 +18,5 @@ pub mod Judging
 pub mod Nobody
 pub mod KnownAnswers
 pub mod Screening
+pub mod Stretches
+pub mod Words

@@ -21,9 +21,11 @@ mod reading;
 mod screening;
 mod standing;
 mod steps;
+mod stretches;
 mod summary;
 mod text;
 mod walk;
+mod words;
 
 pub use certified::{
     closed_covers_leave_nobody_out, cover_limits, summaries_stand, summary_verdicts_are_equal,
@@ -35,4 +37,4 @@ pub use outcome::{Finding, FindingList, Summary, SummaryFault};
 pub use query::finding_query;
 pub use standing::{SummaryVerdict, check_summary};
 pub use summary::summarise;
-pub use text::{finding_text, predicate_text};
+pub use text::{finding_text, predicate_text, some_is_narrow, some_takes_either_case};

@@ -4,7 +4,7 @@ ghost use Rattle.std.specs.Cmp.Lexicographic.{slice_cmp};
 ghost use Rattle.std.specs.Ordering.{nat_cmp};
 ghost use Rattle.std.specs.declared.cmp.Ordering.TheVariants.{Less};
 ghost use Rattle.findings.specs.Findings.{IsFinding};
-ghost use Rattle.findings.specs.Judging.{DecidesCompared, DecidesComparedWith, DecidesFiner};
+ghost use Rattle.findings.specs.Judging.{DecidesFiner, DecidesStrictlyFiner, IsFirstFiner};
 ghost use Rattle.findings.specs.Summaries.{findings_of};
 
 use crate::outcome::Finding;
@@ -35,32 +35,28 @@ fn is_finer(strata: &Strata, one: &Finding, other: &Finding) -> bool
     true
 }
 
-// Whether one of the two findings is strictly finer than the other.
-fn is_compared(strata: &Strata, one: &Finding, other: &Finding) -> bool
+// Whether the one finding is strictly finer than the other.
+fn is_strictly_finer(strata: &Strata, one: &Finding, other: &Finding) -> bool
     requires one { IsFinding strata.now.dimensions one.now }
     requires other { IsFinding strata.now.dimensions other.now }
-    ensures { DecidesCompared strata.now one.now other.now result }
+    ensures { DecidesStrictlyFiner strata.now one.now other.now result }
 {
     if one == other {
         return false;
     }
-    is_finer(strata, one, other) || is_finer(strata, other, one)
+    is_finer(strata, one, other)
 }
 
-/// Whether the finding is strictly finer or strictly above one of those of the list.
-pub(crate) fn is_compared_with(
-    strata: &Strata,
-    finding: &Finding,
-    pairs: &[(Finding, Request)],
-) -> bool
+/// The place of the first of these pairs whose finding is strictly finer than this one, or their number.
+pub(crate) fn first_finer(strata: &Strata, finding: &Finding, pairs: &[(Finding, Request)]) -> usize
     requires finding { IsFinding strata.now.dimensions finding.now }
     requires pairs { All (IsFinding strata.now.dimensions) (findings_of pairs.now) }
-    ensures { DecidesComparedWith strata.now finding.now pairs.now result }
+    ensures { IsFirstFiner strata.now finding.now pairs.now result }
 {
-    'pairs: for pair in pairs {
-        if is_compared(strata, finding, &pair.0) {
-            return true;
+    'places: for place in 0..pairs.len() {
+        if is_strictly_finer(strata, &pairs[place].0, finding) {
+            return place;
         }
     }
-    false
+    pairs.len()
 }

@@ -62,13 +62,15 @@ fn takes_either_case(piece: Piece) -> bool
     }
 }
 
-fn some_is_narrow(pieces: &[Piece]) -> bool
+/// Whether one of the pieces is a wildcard that takes no colon.
+pub fn some_is_narrow(pieces: &[Piece]) -> bool
     ensures { result ≡ list_any is_narrow_wildcard pieces.now }
 {
     pieces.iter().any(|piece| is_narrow_wildcard(*piece))
 }
 
-fn some_takes_either_case(pieces: &[Piece]) -> bool
+/// Whether one of the pieces is a letter that is taken in either case.
+pub fn some_takes_either_case(pieces: &[Piece]) -> bool
     ensures { result ≡ list_any takes_either_case pieces.now }
 {
     pieces.iter().any(|piece| takes_either_case(*piece))

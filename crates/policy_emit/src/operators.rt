@@ -1,45 +1,14 @@
 //! The operators of conditions.
 ghost use Rattle.std.specs.Prelude.{◌≡◌, false, IfOk, string_bytes};
-ghost use Rattle.std.specs.List.{list_any};
-ghost use Rattle.findings.specs.Texts.{is_narrow_wildcard, takes_either_case};
 ghost use Rattle.policy_json.specs.OperatorNames.{base_text, operator_text, operator_with, quantifier_text};
 ghost use Rattle.policy_emit.specs.Emitted.{cond_base, has_several, key_quantifier, numeric_base, pattern_base};
 
+use findings::{some_is_narrow, some_takes_either_case};
 use intervals::Compare;
 use plain_lists::NoMemory;
 use policy_model::{Cond, Schema};
 use std::alloc::Global;
-use wildcard_lang::{Pattern, Piece, Text};
-
-fn is_narrow_wildcard(piece: Piece) -> bool
-    ensures { result ≡ is_narrow_wildcard piece }
-{
-    match piece {
-        Piece::OneNoColon | Piece::ManyNoColon => true,
-        _ => false,
-    }
-}
-
-fn takes_either_case(piece: Piece) -> bool
-    ensures { result ≡ takes_either_case piece }
-{
-    match piece {
-        Piece::LitFold(_) => true,
-        _ => false,
-    }
-}
-
-fn some_is_narrow(pieces: &[Piece]) -> bool
-    ensures { result ≡ list_any is_narrow_wildcard pieces.now }
-{
-    pieces.iter().any(|piece| is_narrow_wildcard(*piece))
-}
-
-fn some_takes_either_case(pieces: &[Piece]) -> bool
-    ensures { result ≡ list_any takes_either_case pieces.now }
-{
-    pieces.iter().any(|piece| takes_either_case(*piece))
-}
+use wildcard_lang::{Pattern, Text};
 
 // The name of a pattern's operator.
 fn pattern_operator(pattern: &Pattern) -> &'static str

@@ -1,6 +1,6 @@
 use Rattle.std.proofs.Common.{◌*◌, ◌-◌, arith, drop, length}
 use Rattle.std.proofs.lemmas.List.{length-take, take_rest}
-use Rattle.findings.proofs.Standings.{short-block}
+use Rattle.findings.proofs.Lowering.{short-block}
 use Rattle.findings.proofs.blocks.block_of.Goals as goal
 
 pub returns-then-rest-lt-BLOCK : goal.returns-then-rest-lt-BLOCK

@@ -1,26 +1,28 @@
-use Rattle.std.proofs.Common.{◌≡◌, ◌*◌, ◌+◌, ℕ, arith, subst}
-use Rattle.findings.specs.Findings.{IsFinding}
-use Rattle.findings.specs.Judging.{IsFirstCompared}
-use Rattle.findings.proofs.Standings.{block-findings, block-long, blocks-all, blocks-next, blocks-none}
+use Rattle.std.proofs.Common.{◌≡◌, ◌≤◌, ◌*◌, ◌+◌, ℕ, arith, length, subst, sym}
+use Rattle.std.specs.Prelude.{All}
+use Rattle.findings.specs.Judging.{IsLowered}
+use Rattle.findings.specs.Stretches.{AreEndsOfDepths}
+use Rattle.findings.proofs.Lowering.{all-deep, compared-from, have-ends, lowered-columns, lowered-empty}
 use Rattle.findings.proofs.blocks.first_compared.Goals as goal
 
+pub ends_of_depths-requires : goal.ends_of_depths-requires
+ends_of_depths-requires c = subst (λ (n : ℕ). All (λ p. n ≤ length p.0) c.args.pairs.now) (sym c.len.ensures) (all-deep c.args.strata.now.dimensions c.args.pairs.now c.requires.findings)
+
 pub numbers-init : goal.numbers-init
-numbers-init c = blocks-none c.args.strata.now c.args.pairs.now c.args.most
+numbers-init c = lowered-empty c.args.strata.now c.args.pairs.now 0 (length c.args.pairs.now) 0 c.args.most
 
-pub first_in_block-requires-clause-block : goal.first_in_block-requires-clause-block
-first_in_block-requires-clause-block c = block-findings (IsFinding c.args.strata.now.dimensions) c.args.pairs.now c.block_of.result.now (64 * c.numbers.number) 64 c.block_of.ensures c.requires.findings
+pub lowered_by_number-requires-clause-ends : goal.lowered_by_number-requires-clause-ends
+lowered_by_number-requires-clause-ends c = have-ends c.args.strata.now.dimensions c.args.pairs.now c.in_ok-ends.ends c.requires.findings
+    (subst (λ (n : ℕ). AreEndsOfDepths c.args.pairs.now n c.in_ok-ends.ends) c.len.ensures c.in_ok-ends.ensures)
 
-pub first_in_block-requires-clause-few : goal.first_in_block-requires-clause-few
-first_in_block-requires-clause-few c = block-long c.args.pairs.now c.block_of.result.now (64 * c.numbers.number) 64 c.block_of.ensures
-
-pub first_in_block-requires-clause-most : goal.first_in_block-requires-clause-most
-first_in_block-requires-clause-most c = (let one = c.numbers.invariant.within in let all = c.requires.most in omega (arith, one, all))
+pub lowered_by_number-requires-clause-within : goal.lowered_by_number-requires-clause-within
+lowered_by_number-requires-clause-within c = (let one = c.numbers.invariant.within in let all = c.requires.most in omega (arith, one, all))
 
 pub numbers-preserved : goal.numbers-preserved
 numbers-preserved c =
     let next : 64 * c.numbers.number + 64 ≡ 64 * (c.numbers.number + 1) = omega arith in
-    subst (λ (n : ℕ). IsFirstCompared c.args.strata.now c.args.pairs.now c.args.most n c.in_ok-first.first) next
-    (blocks-next c.args.strata.now c.args.pairs.now c.block_of.result.now c.args.most (64 * c.numbers.number) 64 c.numbers.first c.in_ok-first.first c.block_of.ensures c.numbers.invariant c.in_ok-first.ensures)
+    subst (λ (n : ℕ). IsLowered c.args.strata.now c.args.pairs.now 0 (length c.args.pairs.now) 0 n c.args.most c.in_ok-first.first) next
+    (lowered-columns c.args.strata.now c.args.pairs.now 0 (length c.args.pairs.now) 0 (64 * c.numbers.number) (64 * c.numbers.number + 64) c.args.most c.numbers.first c.in_ok-first.first c.numbers.invariant c.in_ok-first.ensures)
 
 pub returns : goal.returns
-returns c = blocks-all c.args.strata.now c.args.pairs.now c.args.most (64 * c.numbers.number) c.numbers.first (omega arith) c.numbers.invariant
+returns c = compared-from c.args.strata.now c.args.pairs.now c.args.most (64 * c.numbers.number) c.numbers.first (omega arith) c.numbers.invariant
