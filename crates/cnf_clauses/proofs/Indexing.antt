@@ -1,15 +1,16 @@
 -- Indexes that grow.
-use Rattle.std.proofs.Common.{◌≡◌, ℕ, ◌<◌, ◌+◌, List, [], ◌∷◌, ◌++◌, length, take, get_or, set, Bool, true, false, Some, None, ◌⊎◌, inl, inr, sym, ap, subst, ◌∙◌, arith, get_or-set_same, get_or-set_other, slice_get, Result, Ok, Err}
+use Rattle.std.proofs.Common.{◌≡◌, ℕ, ◌<◌, ◌+◌, List, [], ◌∷◌, ◌++◌, length, take, get_or, set, Bool, true, false, Some, None, ◌⊎◌, inl, inr, sym, ap, subst, ◌∙◌, arith, get_or-set_same, get_or-set_other, length-append, slice_get, Result, Ok, Err}
 use Rattle.std.specs.List.{Contains}
 use Rattle.std.specs.Prelude.{OnOk}
-use Rattle.std.proofs.lemmas.List.{take_more, get_or_default}
-use Rattle.std.proofs.lemmas.Option.{get_or_from_slice_get}
+use Rattle.std.proofs.lemmas.List.{take_more, get_or_append_left, get_or_default}
+use Rattle.std.proofs.lemmas.Option.{get_or_from_slice_get, slice_get-get_or}
+use Rattle.std.proofs.Math.Seq.{get_or-append_seam}
 use Rattle.std.proofs.lemmas.List.Elements.{Contains-append_left}
 use Rattle.formula_tree.proofs.Laws.{cases_eq}
 use Rattle.cnf_clauses.specs.declared.index.Index.{Index}
 use Rattle.cnf_clauses.specs.Literals.{Clause, Literal}
 use Rattle.cnf_clauses.specs.Found.{IsOpen}
-use Rattle.cnf_clauses.specs.Indexes.{lists_at, held_at, HasTwoLiterals, StandInIndex}
+use Rattle.cnf_clauses.specs.Indexes.{lists_at, held_at, HasTwoLiterals, IsIndexedWith, StandInIndex}
 use Rattle.cnf_clauses.proofs.Scanning.{in_more}
 
 -- a list with one more number, put back among its lists
@@ -93,10 +94,24 @@ names-at at_yes at_no l b i ps e f h =
 pub indexed-none : (clauses : List Clause) (index : Index) → StandInIndex clauses index 0
 indexed-none clauses index = record { held = λ i c l h found stands. absurd (omega arith); short = λ i c h found. absurd (omega arith) }
 
-pub indexed-step : (clauses : List Clause) (before mid after : Index) (k : ℕ) (c lits : Clause) → c ≡ get_or clauses k c → lits ≡ c → StandInIndex clauses before k →
-    ((m : Literal) → Contains lits m → Contains (held_at mid m) k) → ((m : Literal) (i : ℕ) → Contains (held_at before m) i → Contains (held_at mid m) i) → mid.short ≡ before.short →
-    HasTwoLiterals lits ⊎ Contains after.short k → ((i : ℕ) → Contains mid.short i → Contains after.short i) → ((l : Literal) → held_at after l ≡ held_at mid l) → StandInIndex clauses after (k + 1)
-indexed-step clauses before mid after k c lits read same old named kept kept_short short more_short lists =
-    indexed-more clauses before after k c read old
-    (λ m h. rw (lists m) (named m (rw same h))) (λ m i h. rw (lists m) (kept m i h))
-    (rw same at short) (λ i h. more_short i (rw kept_short h))
+-- one more clause of those that are indexed
+pub indexed-step : (clauses : List Clause) (before after : Index) (k : ℕ) (c : Clause) → c ≡ get_or clauses k c → StandInIndex clauses before k → IsIndexedWith before c k after → StandInIndex clauses after (k + 1)
+indexed-step clauses before after k c read old more = indexed-more clauses before after k c read old more.held more.kept more.short more.kept_short
+
+found-before : (xs ys : List Clause) (i : ℕ) (d : Clause) → i < length xs → slice_get (xs ++ ys) i ≡ Some d → slice_get xs i ≡ Some d
+found-before xs ys i d h found =
+    let same : get_or xs i d ≡ d = sym (get_or_append_left xs ys d i h) ∙ get_or_from_slice_get (xs ++ ys) i d d found in
+    slice_get-get_or xs i d h ∙ ap Some same
+
+longer : (xs ys : List Clause) (index : Index) → StandInIndex xs index (length xs) → StandInIndex (xs ++ ys) index (length xs)
+longer xs ys index old = record {
+  held = λ i d l h found stands. old.held i d l h (found-before xs ys i d h found) stands;
+  short = λ i d h found. old.short i d h (found-before xs ys i d h found);
+}
+
+-- and one more behind them
+pub indexed-with : (clauses : List Clause) (before after : Index) (c : Clause) → StandInIndex clauses before (length clauses) → IsIndexedWith before c (length clauses) after →
+    StandInIndex (clauses ++ c ∷ []) after (length (clauses ++ c ∷ []))
+indexed-with clauses before after c old more =
+    let all : length (clauses ++ c ∷ []) ≡ length clauses + 1 = omega (arith, length-append clauses (c ∷ [])) in
+    rw all (indexed-step (clauses ++ c ∷ []) before after (length clauses) c (sym (get_or-append_seam clauses c [] c)) (longer clauses (c ∷ []) before old) more)

@@ -12,17 +12,11 @@ use Rattle.formula_tree.specs.Answers.{Answers, answer_of, Completes}
 use Rattle.formula_tree.specs.Trees.{Tree, Trees, yes, no, test, all, one_of, none, more}
 use Rattle.formula_tree.specs.Trees.{not as negation}
 use Rattle.formula_tree.specs.Values.{AreBelow, EachBelow, holds, each_holds, some_holds}
-use Rattle.cnf_clauses.specs.Literals.{Clause, Literal, IsFalseUnder, IsUnit}
+use Rattle.cnf_clauses.specs.Laws.{IsTruthOf, ClausesHaveTruths, ReplaysExcludeYes, SatisfiedClausesNeverReplay}
+use Rattle.cnf_clauses.specs.Literals.{Clause, Literal, AreSatisfied, IsFalseUnder, IsSatisfied, IsUnit}
 use Rattle.cnf_clauses.specs.Numbering.{nodes, nodes_in, variable_of, variables_of, literals_at, pairs_with, not_clauses, all_clauses, one_of_clauses, node_clauses, node_clauses_in, clauses_of, with_more}
 use Rattle.cnf_clauses.specs.declared.making.TheConstants.{MOST_CLAUSES}
 use Rattle.cnf_clauses.specs.Replays.{Replays, refuted, derives}
-
--- a clause that has a true literal, where `truth` gives each variable a value
-abbrev pub IsSatisfied : (ℕ → Bool) → Clause → Type 0
-IsSatisfied truth c = (m : Literal) × Contains c m × (truth m.0 ≡ m.1)
-
-abbrev pub AreSatisfied : (ℕ → Bool) → List Clause → Type 0
-AreSatisfied truth cs = (c : Clause) → Contains cs c → IsSatisfied truth c
 
 -- the truths of the nodes that aren't tests, in prefix order
 abbrev mutual
@@ -341,18 +335,29 @@ satisfied-made : (truth : ℕ → Bool) (cs : List Clause) → AreSatisfied trut
 unfolding with_more
 satisfied-made truth cs good = satisfied-cut truth (MOST_CLAUSES - 0) cs good
 
-pub exclude-yes : (tests : ℕ) (tree : Tree) (path : Answers) (hints : List ℕ) (total : ℕ → Bool) → AreBelow tests tree → All (λ (p : Literal). p.0 < tests) path → Replays (clauses_of tests tree) path hints → Completes total path →
-    holds total tree ≡ false
-exclude-yes tests tree path hints total below within replays full =
+-- the truth under answers that make the tree yes
+truth-under : (tests : ℕ) (tree : Tree) (total : ℕ → Bool) → AreBelow tests tree → holds total tree ≡ true → IsTruthOf tests tree total (assigned tests total (truths total tree))
+truth-under tests tree total below e =
     let truth : ℕ → Bool = assigned tests total (truths total tree) in
     let a : Answers-tests truth total tests = assigned-test tests total (truths total tree) in
     let agrees : Agrees truth tests (truths total tree) = assigned-node tests total (truths total tree) in
+    let root : IsSatisfied truth ((variable_of tests tree, true) ∷ []) = first-true truth (variable_of tests tree, true) [] (truth-of truth total tests tests tree a below agrees ∙ e) in
+    let good : AreSatisfied truth (((variable_of tests tree, true) ∷ []) ∷ node_clauses tests tree) =
+    satisfied-more truth ((variable_of tests tree, true) ∷ []) (node_clauses tests tree) root (nodes-satisfied truth total tests tests tree a below agrees) in
+    record { answers = a; satisfies = satisfied-made truth (((variable_of tests tree, true) ∷ []) ∷ node_clauses tests tree) good }
+
+pub truths-exist : ClausesHaveTruths
+truths-exist tests tree total below e = (assigned tests total (truths total tree), truth-under tests tree total below e)
+
+pub never-replay : SatisfiedClausesNeverReplay
+never-replay truth cs decided hints good full replays = replays-none truth cs good decided hints full replays
+
+pub exclude-yes : ReplaysExcludeYes
+exclude-yes tests tree path hints total below within replays full =
     elim (cases_Bool (holds total tree)) [
       | inl e ↦
-          let root : IsSatisfied truth ((variable_of tests tree, true) ∷ []) = first-true truth (variable_of tests tree, true) [] (truth-of truth total tests tests tree a below agrees ∙ e) in
-          let good : AreSatisfied truth (((variable_of tests tree, true) ∷ []) ∷ node_clauses tests tree) =
-          satisfied-more truth ((variable_of tests tree, true) ∷ []) (node_clauses tests tree) root (nodes-satisfied truth total tests tests tree a below agrees) in
-          absurd (replays-none truth (clauses_of tests tree) (satisfied-made truth (((variable_of tests tree, true) ∷ []) ∷ node_clauses tests tree) good) path hints
-          (λ n b h. a n (answered-below tests path within n b h) ∙ full n b h) replays)
+          let good : IsTruthOf tests tree total (assigned tests total (truths total tree)) = truth-under tests tree total below e in
+          absurd (replays-none (assigned tests total (truths total tree)) (clauses_of tests tree) good.satisfies path hints
+          (λ n b h. good.answers n (answered-below tests path within n b h) ∙ full n b h) replays)
       | inr e ↦ e
     ]

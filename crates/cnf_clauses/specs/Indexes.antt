@@ -33,6 +33,13 @@ KeepsHeld old new = (l : Literal) (i : ℕ) → Contains (held_at old l) i → C
 abbrev pub HoldsAll : Index → Clause → ℕ → Type 0
 HoldsAll index c n = (l : Literal) → Contains c l → Contains (held_at index l) n
 
+-- the clause of the number stands in the index, beside all that stood there before
+pub record IsIndexedWith (old : Index) (c : Clause) (n : ℕ) (new : Index) : Type 0 where
+  pub held : HoldsAll new c n
+  pub kept : KeepsHeld old new
+  pub short : HasTwoLiterals c ⊎ Contains new.short n
+  pub kept_short : (i : ℕ) → Contains old.short i → Contains new.short i
+
 -- the numbers of all clauses that hold the literal
 abbrev pub NameHolding : List Clause → Literal → List ℕ → Type 0
 NameHolding clauses l numbers = (i : ℕ) (c : Clause) → slice_get clauses i ≡ Some c → Contains c l → Contains numbers i

@@ -32,3 +32,10 @@ pub record IsUnit (decided : Answers) (c : Clause) (l : Literal) : Type 0 where
   pub stands : Contains c l
   pub undecided : IsUndecided decided l
   pub others : (m : Literal) → Contains c m → (m ≡ l) ⊎ IsFalseUnder decided m
+
+-- under a truth of every variable, some literal of the clause is true
+abbrev pub IsSatisfied : (ℕ → Bool) → Clause → Type 0
+IsSatisfied truth c = (m : Literal) × Contains c m × (truth m.0 ≡ m.1)
+
+abbrev pub AreSatisfied : (ℕ → Bool) → List Clause → Type 0
+AreSatisfied truth cs = (c : Clause) → Contains cs c → IsSatisfied truth c

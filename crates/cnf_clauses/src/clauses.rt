@@ -1,11 +1,13 @@
 //! The clauses of a formula, as they are kept for unit propagation.
-ghost use Rattle.std.specs.Prelude.{◌≡◌, [], length, slice_get, slice_index_or, IfOk};
+ghost use Rattle.std.specs.Prelude.{◌≡◌, ◌<◌, ◌++◌, ◌∷◌, [], length, slice_get, slice_index_or, IfOk};
 ghost use Rattle.std.specs.Option.{option_copied};
 ghost use Rattle.cnf_clauses.specs.Indexes.{NameHolding, NameShort};
 ghost use Rattle.cnf_clauses.specs.Numbering.{HaveNumbers};
+ghost use Rattle.cnf_clauses.specs.declared.making.TheConstants.{MOST_CLAUSES};
 
 use crate::clause::{Clause, Literal};
-use crate::index::{Index, index_of};
+use crate::decided::Decided;
+use crate::index::{Index, add_clause, index_of};
 use plain_lists::{List, NoMemory};
 use std::alloc::Global;
 use std::marker::Model;
@@ -39,6 +41,24 @@ impl Clauses {
         ensures { IfOk result (λ c. c ≡ clauses.items) }
     {
         let index = index_of(alloc, clauses.as_slice())?;
+        Ok(Clauses { clauses, index })
+    }
+
+    /// The clauses with one more behind them. There are fewer than `MOST_CLAUSES`, so that it has a number.
+    ///
+    /// The only error is want of memory.
+    pub fn with(self, alloc: Global, clause: List<(u32, bool)>) -> Result<Clauses, NoMemory>
+        requires { length self < MOST_CLAUSES }
+        ensures { IfOk result (λ c. c ≡ self ++ clause ∷ []) }
+    {
+        let Clauses {
+            mut clauses,
+            mut index,
+        } = self;
+        let nothing = Decided::new(alloc);
+        let number = clauses.len() as u32;
+        add_clause(alloc, &mut index, &nothing, clause.as_slice(), number)?;
+        clauses.push(clause)?;
         Ok(Clauses { clauses, index })
     }
 

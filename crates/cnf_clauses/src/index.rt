@@ -1,7 +1,7 @@
 //! The index of a list of clauses: in which of them each literal stands, and which have no two literals
 //! that differ.
 ghost use Rattle.std.specs.Prelude.{◌≡◌, ◌<◌, ℕ, Bool, [], length, slice_index_or, Contains, ◌⊎◌, OnOk, IfOk};
-ghost use Rattle.cnf_clauses.specs.Indexes.{StandInIndex, HasTwoLiterals, HoldsAll, KeepsHeld, KeepsNumbers, held_at};
+ghost use Rattle.cnf_clauses.specs.Indexes.{StandInIndex, HasTwoLiterals, HoldsAll, IsIndexedWith, KeepsHeld, KeepsNumbers, held_at};
 ghost use Rattle.cnf_clauses.specs.Numbering.{HaveNumbers};
 
 use crate::clause::{Clause, Found, Literal, look};
@@ -84,6 +84,22 @@ fn add_short(
     }
 }
 
+// Notes one more clause, by its number.
+pub(crate) fn add_clause(
+    alloc: Global,
+    index: &mut Index,
+    nothing: &Decided,
+    literals: &[Literal],
+    number: u32,
+) -> Result<(), NoMemory>
+    requires { nothing.now ≡ [] }
+    ensures { OnOk result (IsIndexedWith index.old literals.now number index.new) }
+{
+    add_literals(alloc, index, literals, number)?;
+    add_short(index, nothing, literals, number)?;
+    Ok(())
+}
+
 // The index of the clauses.
 pub(crate) fn index_of(alloc: Global, clauses: &[Clause]) -> Result<Index, NoMemory>
     requires { HaveNumbers clauses.now }
@@ -97,9 +113,7 @@ pub(crate) fn index_of(alloc: Global, clauses: &[Clause]) -> Result<Index, NoMem
     };
     'clauses: for (i, clause) in clauses.iter().enumerate() {
         let number = i as u32;
-        let literals = clause.as_slice();
-        add_literals(alloc, &mut index, literals, number)?;
-        add_short(&mut index, &nothing, literals, number)?;
+        add_clause(alloc, &mut index, &nothing, clause.as_slice(), number)?;
     }
     Ok(index)
 }

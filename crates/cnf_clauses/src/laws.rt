@@ -1,6 +1,6 @@
 //! What replayed hints say of the formula, from which answers they replay, and how many clauses there are
 //! at most. Functions without a body, whose contracts are the laws.
-ghost use Rattle.cnf_clauses.specs.Laws.{ReplaysExcludeYes};
+ghost use Rattle.cnf_clauses.specs.Laws.{ClausesHaveTruths, ReplaysExcludeYes, SatisfiedClausesNeverReplay};
 ghost use Rattle.cnf_clauses.specs.Numbering.{ClauseLimits};
 ghost use Rattle.cnf_clauses.specs.Used.{ReplaysAreConvex};
 
@@ -19,4 +19,16 @@ pub fn replays_are_convex()
 /// At most 4,294,967,296 clauses have numbers.
 pub fn clause_limits()
     ensures { ClauseLimits }
+{}
+
+/// Answers to all tests that make a tree yes leave a truth of every variable, that of its node, under which each of
+/// the tree's clauses is satisfied.
+pub fn clauses_have_truths()
+    ensures { ClausesHaveTruths }
+{}
+
+/// Where a truth of every variable satisfies each clause, no hints replay from what it completes: so a clause whose
+/// falsity replays to a conflict is satisfied too.
+pub fn satisfied_clauses_never_replay()
+    ensures { SatisfiedClausesNeverReplay }
 {}

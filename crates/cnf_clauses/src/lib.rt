@@ -18,7 +18,11 @@ mod watching;
 
 pub use clauses::{Clauses, Hints};
 pub use following::{Conflict, Following, Start};
-pub use laws::{clause_limits, replayed_hints_exclude_yes, replays_are_convex};
+pub use laws::{
+    clause_limits, clauses_have_truths, replayed_hints_exclude_yes, replays_are_convex,
+    satisfied_clauses_never_replay,
+};
+pub use making::MOST_CLAUSES;
 pub use numbering::clauses_of;
 pub use plain_lists::NoMemory;
 pub use propagation::conflict;

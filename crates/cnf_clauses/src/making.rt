@@ -8,8 +8,8 @@ use plain_lists::{List, NoMemory};
 use std::alloc::Global;
 use std::marker::Model;
 
-// Clauses have the numbers from 0 to 4,294,967,295; more aren't made.
-pub(crate) const MOST_CLAUSES: usize = 4_294_967_296;
+/// Clauses have the numbers from 0 to 4,294,967,295; more aren't made.
+pub const MOST_CLAUSES: usize = 4_294_967_296;
 
 // Clauses in the order of their numbers.
 #[derive(Drop)]

@@ -11,7 +11,5 @@ clauses-init c = indexed-none _ _
 
 pub clauses-preserved : goal.clauses-preserved
 clauses-preserved c =
-    let first = c.in_ok-add_literals.ensures in
-    let second = c.in_ok-add_short.ensures in
-    indexed-step c.args.clauses.now c.clauses.index c.add_literals.new.index c.add_short.new.index c.clauses.i c.index-clauses-i.result c.as_slice-literals.result.now
-    c.index-clauses-i.is c.as_slice-literals.ensures c.clauses.invariant first.named first.kept first.short second.noted second.kept second.lists
+    indexed-step c.args.clauses.now c.clauses.index c.add_clause.new.index c.clauses.i c.index-clauses-i.result
+    c.index-clauses-i.is c.clauses.invariant (rw c.as_slice.ensures at c.in_ok-add_clause.ensures)
