@@ -4,7 +4,6 @@ ghost use Rattle.std.specs.Prelude.{IfOk, length};
 ghost use Rattle.set_operators.specs.Few.{FallBelow};
 
 use crate::ask::KeyAsk;
-use crate::bounds::few_bounds;
 use crate::listed::meets_ask;
 use crate::plain::{plain_kind, points_of};
 use crate::steps::{Choice, is_chosen};
@@ -151,13 +150,15 @@ fn stays(
     Ok(false)
 }
 
-// The same of asks of any kind, by what answers them otherwise among values that stand for all.
-fn few_counted(
+/// The indices of few of the asks that no values of the key answer: each is the index of an ask, and each is below
+/// the one before it. The last ask is left out first, and each where every value that answers it otherwise answers
+/// another one otherwise that is left. The only error is want of memory.
+pub fn few_asks(
     alloc: Global,
     rule: &KeyRule,
     asks: &[(KeyAsk, bool)],
 ) -> Result<Vec<usize>, NoMemory>
-    ensures { IfOk result (λ few. FallBelow (length asks.now) few.items) }
+    ensures falling { IfOk result (λ few. FallBelow (length asks.now) few.items) }
 {
     let candidates = candidates(alloc, rule, asks)?;
     let choice = hopeless_choice(rule, &candidates, asks);
@@ -171,20 +172,4 @@ fn few_counted(
         }
     }
     Ok(few)
-}
-
-/// The indices of few of the asks that no values of the key answer: each is the index of an ask, and each is below
-/// the one before it. The last ask is left out first, and each where every value that answers it otherwise answers
-/// another one otherwise that is left. The only error is want of memory.
-pub fn few_asks(
-    alloc: Global,
-    rule: &KeyRule,
-    asks: &[(KeyAsk, bool)],
-) -> Result<Vec<usize>, NoMemory>
-    ensures falling { IfOk result (λ few. FallBelow (length asks.now) few.items) }
-{
-    match few_bounds(alloc, rule, asks)? {
-        Some(few) => Ok(few),
-        None => few_counted(alloc, rule, asks),
-    }
 }

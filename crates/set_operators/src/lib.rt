@@ -4,7 +4,6 @@
 
 mod answer;
 mod ask;
-mod bounds;
 mod few;
 mod listed;
 mod numbered;
@@ -18,7 +17,6 @@ mod wants;
 
 pub use answer::KeyAnswer;
 pub use ask::{KeyAsk, KeyAsks};
-pub use bounds::bounding_asks;
 pub use few::few_asks;
 pub use plain_lists::NoMemory;
 pub use search::solve;

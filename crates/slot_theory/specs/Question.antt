@@ -1,5 +1,5 @@
 -- What the definitions say of the question which value a slot has at a path.
-use Rattle.std.specs.Prelude.{◌≡◌, ◌<◌, ◌≤◌, ℕ, List, length, Option, None, Some, All}
+use Rattle.std.specs.Prelude.{◌≡◌, ◌<◌, ◌≤◌, ℕ, List, [], ◌∷◌, length, Option, None, Some, All}
 use Rattle.text_table.specs.Table.{item_at}
 use Rattle.pattern_automata.specs.declared.outcome.Product.{Product}
 use Rattle.pattern_automata.specs.Answer.{IsProduct}
@@ -8,12 +8,14 @@ use Rattle.policy_model.specs.declared.schema.KeyRule.{KeyRule}
 use Rattle.policy_model.specs.declared.schema.Schema.{Schema}
 use Rattle.policy_model.specs.declared.test.Slot.{Slot}
 use Rattle.policy_model.specs.declared.test.Slot.TheVariants as slot
+use Rattle.policy_model.specs.declared.value.Value.{Value}
 use Rattle.wildcard_lang.specs.declared.piece.Piece.{Piece}
 use Rattle.slot_theory.specs.declared.outcome.KindProof.{KindProof}
 use Rattle.slot_theory.specs.declared.outcome.Possible.{Possible}
 use Rattle.slot_theory.specs.declared.outcome.SlotProof.{SlotProof}
 use Rattle.slot_theory.specs.declared.question.Question.{Question}
-use Rattle.slot_theory.specs.Slots.{HasPattern, shape_at}
+use Rattle.slot_theory.specs.declared.outcome.SlotValue.TheVariants.{Values}
+use Rattle.slot_theory.specs.Slots.{HasPattern, Permits, shape_at}
 use Rattle.slot_theory.specs.Wants.{wanted_clauses, wanted_patterns}
 use Rattle.set_operators.specs.Asks.{Asks}
 use Rattle.slot_theory.specs.Cores.{IsAnsweredOn, IsConflict, IsCore, KeyShows, KindShows, PrincipalShows, Shows, WordShows, asks_of}
@@ -74,3 +76,7 @@ core_asks q core = asks_of q.tests.now q.path.now core
 
 abbrev pub KeyShowsOf : Question → KeyRule → List ℕ → SlotProof → Type 0
 KeyShowsOf q rule core proof = KeyShows rule (core_asks q core) core proof
+
+-- the schema permits the value alone in the slot
+abbrev pub PermitsOne : Question → Value → Type 0
+PermitsOne q v = Permits q.schema.now q.slot.now (Values (v ∷ []))

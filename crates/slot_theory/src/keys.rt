@@ -16,8 +16,8 @@ use pattern_automata::Closed;
 use plain_lists::NoMemory;
 use policy_model::{KeyRule, Slot};
 use set_operators::{
-    KeyAnswer, KeyAsks, bounding_asks, few_asks, shows_absent, shows_member, shows_points,
-    shows_required, shows_some_member, shows_together, solve,
+    KeyAnswer, KeyAsks, few_asks, shows_absent, shows_member, shows_points, shows_required,
+    shows_some_member, shows_together, solve,
 };
 use std::alloc::Global;
 
@@ -68,25 +68,6 @@ pub fn few_of(alloc: Global, question: &Question<'_>, core: &[u32]) -> Result<Co
     let asks = asks_of(alloc, question, core)?;
     let falling = few_asks(alloc, rule, asks.as_slice())?;
     tests_at(alloc, core, falling.as_slice())
-}
-
-/// Few tests of the core that no number answers, or by which a number answers all of it, where each asks for the
-/// numbers on one side of a bound. That is a proposal: nothing is promised of it.
-pub fn bounding_of(
-    alloc: Global,
-    question: &Question<'_>,
-    core: &[u32],
-) -> Result<Option<Core>, NoMemory>
-    requires core { IsCoreOf question.now core.now }
-{
-    let Some(rule) = rule_of(question) else {
-        return Ok(None);
-    };
-    let asks = asks_of(alloc, question, core)?;
-    match bounding_asks(alloc, rule, asks.as_slice())? {
-        Some(falling) => Ok(Some(tests_at(alloc, core, falling.as_slice())?)),
-        None => Ok(None),
-    }
 }
 
 /// Values of the key for the core, tried on all answered tests of the slot.

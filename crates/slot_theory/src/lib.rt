@@ -4,6 +4,8 @@
 
 mod acceptance;
 mod attempt;
+mod blocks;
+mod bounds;
 mod check;
 mod cores;
 mod cutting;

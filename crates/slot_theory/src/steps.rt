@@ -1,5 +1,6 @@
 //! What the steps of a search come to.
 use crate::outcome::{Core, KindProof, SlotProof, SlotValue};
+use policy_model::Value;
 use wildcard_lang::TextList;
 
 /// What a value for a core comes to.
@@ -29,4 +30,11 @@ pub enum KindAttempt {
 pub struct Kept {
     pub core: Core,
     pub proof: SlotProof,
+}
+
+/// A guess: the one value of a key that answers its tests, or tests that no value answers.
+#[derive(Drop)]
+pub enum Proposal {
+    Value(Value),
+    Tests(Core),
 }

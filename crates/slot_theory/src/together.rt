@@ -1,25 +1,34 @@
 //! The search with many answered tests of a slot at once. A key whose values aren't texts has finitely many
 //! values that stand for all, which are looked at in one pass however many tests there are, while a core
-//! that grows test by test takes a pass for each. Of numbers between bounds two or three tests tell all.
-ghost use Rattle.std.specs.Prelude.{◌≡◌, IfOk, IfSome};
-ghost use Rattle.slot_theory.specs.Question.{IsCoreOf, IsOutcomeOf};
+//! that grows test by test takes a pass for each. Of numbers between bounds two or three tests tell all, and
+//! of address blocks those that cover another.
+ghost use Rattle.std.specs.Prelude.{◌≡◌, IfOk, IfSome, IsTrue};
+ghost use Rattle.slot_theory.specs.declared.outcome.SlotValue.TheVariants.{Values};
+ghost use Rattle.slot_theory.specs.Question.{IsCoreOf, IsOutcomeOf, PermitsOne};
+ghost use Rattle.slot_theory.specs.Slots.{Permits};
 ghost use Rattle.slot_theory.specs.Shrinking.{IsKept};
 
 use crate::attempt::attempt;
+use crate::blocks::proposed_address;
+use crate::bounds::proposed_number;
 use crate::cores::is_core;
 use crate::cutting::{confirmed, found_or};
-use crate::keys::{bounding_of, few_of, rule_of};
-use crate::outcome::{Core, Possible};
+use crate::keys::{few_of, rule_of};
+use crate::outcome::{Core, Possible, SlotValue};
 use crate::question::Question;
 use crate::slots::is_on;
-use crate::steps::{Attempt, Kept};
+use crate::steps::{Attempt, Kept, Proposal};
+use crate::trial::tried;
 use pattern_automata::LastClosed;
 use plain_lists::NoMemory;
-use policy_model::Kind;
+use policy_model::{Kind, Value, ValueList, is_value_of};
 use std::alloc::Global;
 
 /// Cores with fewer tests grow test by test.
 const FEW_TESTS: usize = 16;
+
+/// A core with fewer tests of blocks mostly comes to its end soon.
+const FEW_BLOCKS: usize = 2;
 
 /// Whether a core of so many tests has taken as long to grow as all tests at once would take.
 fn is_long(question: &Question<'_>, count: usize) -> bool {
@@ -102,8 +111,82 @@ fn settled_by(
     }
 }
 
+/// Whether the rule of the slot permits the value.
+fn is_permitted(question: &Question<'_>, value: &Value) -> bool
+    ensures { IsTrue result → PermitsOne question.now value.now }
+{
+    match rule_of(question) {
+        Some(rule) => is_value_of(rule, value),
+        None => false,
+    }
+}
+
+/// The values, where they answer all answered tests of the slot.
+fn value_of(question: &Question<'_>, values: ValueList) -> Option<Possible>
+    requires permitted { Permits question.now.schema.now question.now.slot.now (Values values) }
+    ensures { IfSome result (IsOutcomeOf question.now) }
+{
+    match tried(question, SlotValue::Values(values)) {
+        Attempt::Right(value) => Some(Possible::Found(value)),
+        _ => None,
+    }
+}
+
+/// The value alone, where the rule of the slot permits it and it answers all answered tests of the slot.
+fn value_alone(
+    alloc: Global,
+    question: &Question<'_>,
+    value: Value,
+) -> Result<Option<Possible>, NoMemory>
+    ensures { IfOk result (λ found. IfSome found (IsOutcomeOf question.now)) }
+{
+    if !is_permitted(question, &value) {
+        return Ok(None);
+    }
+    let mut values = ValueList::new(alloc);
+    values.push(value)?;
+    Ok(value_of(question, values))
+}
+
+/// The conflict of these tests, where they are one.
+fn conflict_of(
+    alloc: Global,
+    question: &Question<'_>,
+    tests: Core,
+) -> Result<Option<Possible>, NoMemory>
+    ensures { IfOk result (λ found. IfSome found (IsOutcomeOf question.now)) }
+{
+    match confirmed(alloc, question, tests)? {
+        Some(kept) => Ok(Some(Possible::Conflict(kept.core, kept.proof))),
+        None => Ok(None),
+    }
+}
+
+/// What is proposed, where it holds.
+fn taken(
+    alloc: Global,
+    question: &Question<'_>,
+    proposal: Option<Proposal>,
+) -> Result<Option<Possible>, NoMemory>
+    ensures { IfOk result (λ found. IfSome found (IsOutcomeOf question.now)) }
+{
+    match proposal {
+        Some(Proposal::Value(value)) => value_alone(alloc, question, value),
+        Some(Proposal::Tests(tests)) => conflict_of(alloc, question, tests),
+        None => Ok(None),
+    }
+}
+
+/// What the blocks of a key of addresses tell, where many of their tests are answered.
+fn among_blocks(alloc: Global, question: &Question<'_>) -> Result<Option<Possible>, NoMemory>
+    ensures { IfOk result (λ found. IfSome found (IsOutcomeOf question.now)) }
+{
+    let proposal = proposed_address(alloc, question, FEW_TESTS)?;
+    taken(alloc, question, proposal)
+}
+
 /// What a search with all answered tests answers, where a core that grows has come to many of them.
-pub fn all_at_once(
+fn at_last(
     alloc: Global,
     question: &Question<'_>,
     count: usize,
@@ -117,35 +200,27 @@ pub fn all_at_once(
     settled_by(alloc, question, tests)
 }
 
-/// Whether the path may answer many tests of a slot whose values are numbers.
-fn has_numbers(question: &Question<'_>) -> bool {
-    match rule_of(question) {
-        Some(rule) => rule.kind == Kind::Number && question.path.len() >= FEW_TESTS,
-        None => false,
+/// What is found in the place of a core that grows beyond so many tests: of addresses by their blocks as soon as it has
+/// a few, and else by all answered tests where it has come to many of them.
+pub fn all_at_once(
+    alloc: Global,
+    question: &Question<'_>,
+    count: usize,
+) -> Result<Option<Possible>, NoMemory>
+    ensures { IfOk result (λ found. IfSome found (IsOutcomeOf question.now)) }
+{
+    if count == FEW_BLOCKS {
+        if let Some(found) = among_blocks(alloc, question)? {
+            return Ok(Some(found));
+        }
     }
+    at_last(alloc, question, count)
 }
 
-/// The tests that bound the numbers of the slot, where many are answered and all are for bounds.
-fn bounding_tests(alloc: Global, question: &Question<'_>) -> Result<Option<Core>, NoMemory> {
-    let tests = answered_tests(alloc, question)?;
-    if tests.len() < FEW_TESTS {
-        return Ok(None);
-    }
-    match as_core(question, tests) {
-        Some(core) => bounding_of(alloc, question, core.as_slice()),
-        None => Ok(None),
-    }
-}
-
-/// What a search with the tests that bound the numbers of the slot answers, where many are answered.
+/// What the bounds of a key of numbers tell, where many of their tests are answered.
 pub fn between_bounds(alloc: Global, question: &Question<'_>) -> Result<Option<Possible>, NoMemory>
     ensures { IfOk result (λ found. IfSome found (IsOutcomeOf question.now)) }
 {
-    if !has_numbers(question) {
-        return Ok(None);
-    }
-    match bounding_tests(alloc, question)? {
-        Some(tests) => settled_by(alloc, question, tests),
-        None => Ok(None),
-    }
+    let proposal = proposed_number(alloc, question, FEW_TESTS)?;
+    taken(alloc, question, proposal)
 }

@@ -1,6 +1,6 @@
 use Rattle.std.proofs.Common.{◌-◌, List, ℕ, arith, length, subst, sym}
 use Rattle.set_operators.proofs.Falling.{FallBetween, between-falls, between-push, between-skip}
-use Rattle.set_operators.proofs.few.few_counted.Goals as goal
+use Rattle.set_operators.proofs.few.few_asks.Goals as goal
 
 pub asks-preserved-in-Continue-branch-4 : goal.asks-preserved-in-Continue-branch-4
 asks-preserved-in-Continue-branch-4 c = (
@@ -13,4 +13,4 @@ pub asks-preserved : goal.asks-preserved
 asks-preserved c = (omega (arith, c.asks.invariant.0), between-skip c.asks.left (c.asks.left - 1) (length c.args.asks.now) c.asks.few.items (omega arith) c.asks.invariant.1)
 
 pub returns : goal.returns
-returns c = between-falls c.asks.left (length c.args.asks.now) c.asks.few.items c.asks.invariant.1
+returns c = record { falling = between-falls c.asks.left (length c.args.asks.now) c.asks.few.items c.asks.invariant.1 }
