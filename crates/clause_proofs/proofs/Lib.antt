@@ -1,0 +1,5 @@
+pub mod Cited
+mod Falsifying
+mod Refuting
+mod Satisfying
+mod Stepping

@@ -1,0 +1,3 @@
+pub mod Refuting
+pub mod Checks
+pub mod Laws
