@@ -1,0 +1,321 @@
+//! Clauses that the order of bounds proposes for a key of numbers. Few of them are enough: by those of neighbours a
+//! narrower bound leads to each wider one.
+use crate::asked::Asked;
+use crate::store::{Literal, Store};
+use intervals::Compare;
+use plain_lists::NoMemory;
+use policy_model::{Cond, Slot, Test};
+use slot_theory::is_on;
+use std::alloc::Global;
+
+// Where fewer tests ask for a bound, the search finds soon what holds of them.
+const FEWEST_BOUNDS: usize = 4;
+
+/// A test that asks for a number, in units, or for those on one side of it.
+#[derive(Clone, Copy)]
+struct Bound {
+    limit: i128,
+    test: u32,
+}
+
+/// The tests of a key that ask for bounds, each list by rising limits.
+#[derive(Drop)]
+struct Bounds {
+    alloc: Global,
+    /// Those of the numbers from the limit on.
+    lower: Vec<Bound>,
+    /// Those of the numbers up to the limit.
+    upper: Vec<Bound>,
+    /// Those of the limit alone.
+    equal: Vec<Bound>,
+    /// The test whether the key has a value.
+    present: Option<u32>,
+}
+
+impl Bounds {
+    fn new(alloc: Global) -> Bounds {
+        Bounds {
+            alloc,
+            lower: Vec::new(alloc),
+            upper: Vec::new(alloc),
+            equal: Vec::new(alloc),
+            present: None,
+        }
+    }
+
+    fn len(&self) -> usize {
+        self.lower
+            .len()
+            .saturating_add(self.upper.len())
+            .saturating_add(self.equal.len())
+    }
+
+    // Adds the test of the number, if it is one of these.
+    fn take(&mut self, number: u32, test: &Test) -> Result<(), NoMemory> {
+        match test {
+            Test::Present(_) => {
+                self.present = Some(number);
+                Ok(())
+            }
+            Test::SomeMeets(_, Cond::Compares(compare, bound)) => {
+                self.push(*compare, bound.units(), number)
+            }
+            _ => Ok(()),
+        }
+    }
+
+    fn push(&mut self, compare: Compare, units: i128, test: u32) -> Result<(), NoMemory> {
+        match compare {
+            Compare::Equal => self.equal.push(Bound { limit: units, test })?,
+            Compare::Less => {
+                let limit = units.saturating_sub(1);
+                self.upper.push(Bound { limit, test })?
+            }
+            Compare::LessOrEqual => self.upper.push(Bound { limit: units, test })?,
+            Compare::Greater => {
+                let limit = units.saturating_add(1);
+                self.lower.push(Bound { limit, test })?
+            }
+            Compare::GreaterOrEqual => self.lower.push(Bound { limit: units, test })?,
+        }
+        Ok(())
+    }
+
+    fn sort(&mut self) -> Result<(), NoMemory> {
+        self.lower.sort_by_key(|bound| (bound.limit, bound.test))?;
+        self.upper.sort_by_key(|bound| (bound.limit, bound.test))?;
+        self.equal.sort_by_key(|bound| (bound.limit, bound.test))?;
+        Ok(())
+    }
+}
+
+fn bounds_of(asked: &Asked<'_>, slot: &Slot) -> Result<Bounds, NoMemory> {
+    let mut bounds = Bounds::new(asked.alloc);
+    let mut number: u32 = 0;
+    for test in asked.query.tests.as_slice() {
+        if is_on(slot, test) {
+            bounds.take(number, test)?;
+        }
+        number = number.saturating_add(1);
+    }
+    bounds.sort()?;
+    Ok(bounds)
+}
+
+// How many of the bounds are at most the limit.
+fn count_to(bounds: &[Bound], limit: i128) -> usize {
+    let mut low: usize = 0;
+    let mut high = bounds.len();
+    for _ in 0..usize::BITS {
+        let middle = low.saturating_add(high.saturating_sub(low) / 2);
+        match bounds.get(middle) {
+            Some(bound) if low < high => {
+                if bound.limit <= limit {
+                    low = middle.saturating_add(1);
+                } else {
+                    high = middle;
+                }
+            }
+            _ => return low,
+        }
+    }
+    low
+}
+
+// The last bound that is at most the limit.
+fn last_to(bounds: &[Bound], limit: i128) -> Option<u32> {
+    let before = count_to(bounds, limit).checked_sub(1)?;
+    Some(bounds.get(before)?.test)
+}
+
+// A bound with this limit.
+fn test_with(bounds: &[Bound], limit: i128) -> Option<u32> {
+    let before = count_to(bounds, limit).checked_sub(1)?;
+    let bound = bounds.get(before)?;
+    if bound.limit == limit {
+        Some(bound.test)
+    } else {
+        None
+    }
+}
+
+// The first bound that is above the limit.
+fn first_above(bounds: &[Bound], limit: i128) -> Option<u32> {
+    Some(bounds.get(count_to(bounds, limit))?.test)
+}
+
+// The one test leads to the other one.
+fn add_implication(
+    clauses: &mut Store,
+    from: Option<u32>,
+    to: Option<u32>,
+) -> Result<(), NoMemory> {
+    if let (Some(from), Some(to)) = (from, to) {
+        clauses.push(&[(from, false), (to, true)])?;
+    }
+    Ok(())
+}
+
+// The two tests exclude one another.
+fn add_exclusion(
+    clauses: &mut Store,
+    one: Option<u32>,
+    other: Option<u32>,
+) -> Result<(), NoMemory> {
+    if let (Some(one), Some(other)) = (one, other) {
+        clauses.push(&[(one, false), (other, false)])?;
+    }
+    Ok(())
+}
+
+fn test_at(bounds: &[Bound], index: usize) -> Option<u32> {
+    Some(bounds.get(index)?.test)
+}
+
+fn last_of(bounds: &[Bound]) -> Option<u32> {
+    test_at(bounds, bounds.len().checked_sub(1)?)
+}
+
+// Each bound leads to the next wider one.
+fn add_neighbours(bounds: &Bounds, clauses: &mut Store) -> Result<(), NoMemory> {
+    let lower = bounds.lower.as_slice();
+    for index in 1..lower.len() {
+        add_implication(clauses, test_at(lower, index), test_at(lower, index - 1))?;
+    }
+    let upper = bounds.upper.as_slice();
+    for index in 1..upper.len() {
+        add_implication(clauses, test_at(upper, index - 1), test_at(upper, index))?;
+    }
+    Ok(())
+}
+
+// Each number is on the sides on which it is, and on no other ones.
+fn add_numbers(bounds: &Bounds, clauses: &mut Store) -> Result<(), NoMemory> {
+    let mut previous = None;
+    for bound in bounds.equal.as_slice() {
+        let test = Some(bound.test);
+        let below = bound.limit.saturating_sub(1);
+        add_implication(clauses, test, last_to(bounds.lower.as_slice(), bound.limit))?;
+        add_implication(clauses, test, first_above(bounds.upper.as_slice(), below))?;
+        add_exclusion(
+            clauses,
+            test,
+            first_above(bounds.lower.as_slice(), bound.limit),
+        )?;
+        add_exclusion(clauses, test, last_to(bounds.upper.as_slice(), below))?;
+        add_exclusion(clauses, test, previous)?;
+        previous = test;
+    }
+    Ok(())
+}
+
+// Each upper bound excludes the nearest lower one above it.
+fn add_gaps(bounds: &Bounds, clauses: &mut Store) -> Result<(), NoMemory> {
+    for bound in bounds.upper.as_slice() {
+        let above = first_above(bounds.lower.as_slice(), bound.limit);
+        add_exclusion(clauses, Some(bound.test), above)?;
+    }
+    Ok(())
+}
+
+// What leads to the key's having a value.
+fn add_presence(bounds: &Bounds, clauses: &mut Store) -> Result<(), NoMemory> {
+    add_implication(clauses, test_at(bounds.lower.as_slice(), 0), bounds.present)?;
+    add_implication(clauses, last_of(bounds.upper.as_slice()), bounds.present)?;
+    for bound in bounds.equal.as_slice() {
+        add_implication(clauses, Some(bound.test), bounds.present)?;
+    }
+    Ok(())
+}
+
+// A key that has a value as this test says is on one of the sides.
+fn add_cover(
+    alloc: Global,
+    clauses: &mut Store,
+    sides: &[Literal],
+    there: Option<u32>,
+) -> Result<(), NoMemory> {
+    let Some(test) = there else {
+        return Ok(());
+    };
+    let mut clause = Vec::new(alloc);
+    clause.push((test, false))?;
+    for side in sides {
+        if side.0 == test {
+            return Ok(());
+        }
+        clause.push(*side)?;
+    }
+    clauses.push(clause.as_slice())?;
+    Ok(())
+}
+
+// The same by what is known of the key's having a value.
+fn add_covers_of(
+    bounds: &Bounds,
+    required: bool,
+    clauses: &mut Store,
+    sides: &[Literal],
+) -> Result<(), NoMemory> {
+    if required {
+        clauses.push(sides)?;
+        return Ok(());
+    }
+    if bounds.present.is_some() {
+        return add_cover(bounds.alloc, clauses, sides, bounds.present);
+    }
+    let (lowest, highest) = (
+        test_at(bounds.lower.as_slice(), 0),
+        last_of(bounds.upper.as_slice()),
+    );
+    add_cover(bounds.alloc, clauses, sides, lowest)?;
+    add_cover(bounds.alloc, clauses, sides, highest)
+}
+
+// Each upper bound and the nearest lower one have all numbers, if no number is between them.
+fn add_covers(bounds: &Bounds, required: bool, clauses: &mut Store) -> Result<(), NoMemory> {
+    for bound in bounds.upper.as_slice() {
+        let next = bound.limit.saturating_add(1);
+        if let Some(lower) = last_to(bounds.lower.as_slice(), next) {
+            add_covers_of(
+                bounds,
+                required,
+                clauses,
+                &[(bound.test, true), (lower, true)],
+            )?;
+        }
+    }
+    Ok(())
+}
+
+// Each number and the bounds right beside it have all numbers.
+fn add_points(bounds: &Bounds, required: bool, clauses: &mut Store) -> Result<(), NoMemory> {
+    for bound in bounds.equal.as_slice() {
+        let upper = test_with(bounds.upper.as_slice(), bound.limit.saturating_sub(1));
+        let lower = test_with(bounds.lower.as_slice(), bound.limit.saturating_add(1));
+        if let (Some(upper), Some(lower)) = (upper, lower) {
+            let sides = &[(bound.test, true), (upper, true), (lower, true)];
+            add_covers_of(bounds, required, clauses, sides)?;
+        }
+    }
+    Ok(())
+}
+
+/// Adds clauses that the bounds of the key's tests propose, where they are several.
+pub(crate) fn add_bound_clauses(
+    asked: &Asked<'_>,
+    slot: &Slot,
+    required: bool,
+    clauses: &mut Store,
+) -> Result<(), NoMemory> {
+    let bounds = bounds_of(asked, slot)?;
+    if bounds.len() < FEWEST_BOUNDS {
+        return Ok(());
+    }
+    add_neighbours(&bounds, clauses)?;
+    add_presence(&bounds, clauses)?;
+    add_gaps(&bounds, clauses)?;
+    add_covers(&bounds, required, clauses)?;
+    add_points(&bounds, required, clauses)?;
+    add_numbers(&bounds, clauses)
+}

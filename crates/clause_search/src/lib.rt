@@ -1,0 +1,29 @@
+//! A search by conflict-driven clause learning with the slots' theory behind it. What it refutes the check of clausal
+//! proofs refutes.
+#![tactic(auto)]
+
+mod activity;
+mod analysis;
+mod asked;
+mod assignment;
+mod blocks;
+mod bounds;
+mod choosing;
+mod guessing;
+mod learning;
+mod limits;
+mod meeting;
+mod outcome;
+mod patterns;
+mod propagation;
+mod relations;
+mod running;
+mod searching;
+mod size;
+mod slots;
+mod solver;
+mod store;
+mod watches;
+
+pub use outcome::Outcome;
+pub use searching::search;
