@@ -33,6 +33,9 @@ use Rattle.proof_text.specs.Reads.{IsReadFrom, IsProofRead}
 use Rattle.proof_text.specs.Spelling.{IsCertificateOf, certificate_text}
 use Rattle.proof_text.specs.declared.limits.TheConstants.{MOST_NUMBER}
 use Rattle.proof_text.specs.declared.read.ReadProof.{ReadProof}
+use Rattle.clause_search.specs.declared.outcome.Outcome.{Outcome}
+use Rattle.clause_search.specs.declared.outcome.Outcome.TheVariants as outcome
+use Rattle.clause_search.specs.Outcomes.{IsSearchOutcome}
 use Rattle.tree_search.specs.declared.outcome.Budgets.{Budgets}
 use Rattle.tree_search.specs.declared.outcome.Decided.{Decided}
 use Rattle.tree_search.specs.declared.outcome.Decided.TheVariants as decided
@@ -52,7 +55,7 @@ use Rattle.pair_answers.specs.declared.search.SearchAnswer.{SearchAnswer}
 use Rattle.run_sets.specs.ClosedQueries.{ClosesAll}
 use Rattle.pair_answers.specs.Certified.{Certifies, ClosesBy, FailsAtLine}
 use Rattle.pair_answers.specs.Comparison.{Covers, FewTestsAreDecided, IsWitness, NeedsStates, plan_of}
-use Rattle.pair_answers.specs.Decided.{IsChecked, IsComparison, IsDecisionAnswer, IsRefutedAnswer, IsSearchOf, IsVerdictOn, IsVerdictAnswer, IsVerdictIn}
+use Rattle.pair_answers.specs.Decided.{IsChecked, IsComparison, IsDecisionAnswer, IsLearnedVerdict, IsRefutedAnswer, IsSearchOf, IsVerdictOn, IsVerdictAnswer, IsVerdictIn}
 
 pub query_tests : (pair : Pair) (q : Query) → IsFitting pair → IsQuery (plan_of pair) q → All (TestSuits pair.schema) q.tests
 query_tests pair q fitting is = All-collects (TestSuits pair.schema) [] (tests_in (plan_of pair)) q.tests is.tests (All-nil (TestSuits pair.schema)) (suit-query pair.schema pair.first pair.second fitting.first fitting.second)
@@ -63,16 +66,21 @@ query_below pair q is = below-numbered q.tests (plan_of pair) (asked_tree q) is.
 asks : (pair : Pair) (q : Query) (r : Request) (answers : ℕ → Bool) → IsFitting pair → IsQuery (plan_of pair) q → IsValid pair.schema r → AnswersAs answers r q.tests → AsksPair pair.schema pair.first pair.second r answers (asked_tree q)
 asks pair q r answers fitting is valid say = record { first_fits = fitting.first; second_fits = fitting.second; valid = valid; tests = q.tests; say = say; numbered = is.tree }
 
--- a query that a refutation closes: the second set allows each valid request that the first allows
-pub covers_if_closed : ClosedQueriesAreNo → (pair : Pair) (q : Query) (p : Proof) → IsFitting pair → IsQuery (plan_of pair) q → ClosesAll pair.schema q p → Covers pair
-covers_if_closed law pair q p fitting is closes r valid allowed =
+-- a query that no valid request makes yes: the second set allows each valid request that the first allows
+pub covers_if_unmet : (pair : Pair) (q : Query) → IsFitting pair → IsQuery (plan_of pair) q → ((r : Request) → IsValid pair.schema r → MakesYes q.tests (asked_tree q) r → ⊥) → Covers pair
+covers_if_unmet pair q fitting is unmet r valid allowed =
     let some_yes : MakesYes q.tests tree.yes r = makes-yes q.tests tree.yes [] r (λ n b e. absurd (cc)) (λ n b t e at. absurd (cc)) refl in
     let total : ℕ → Bool = some_yes.0 in
     let say : AnswersAs total r q.tests = some_yes.1 in
     elim (cases_Bool (holds total (asked_tree q))) [
-      | inl e ↦ absurd (law pair.schema q.tests (asked_tree q) p (query_below pair q is) closes r valid (total, say, e))
+      | inl e ↦ absurd (unmet r valid (total, say, e))
       | inr e ↦ query-covers pair.schema pair.first pair.second r (asked_tree q) total (asks pair q r total fitting is valid say) e allowed
     ]
+
+-- and one that a refutation closes
+pub covers_if_closed : ClosedQueriesAreNo → (pair : Pair) (q : Query) (p : Proof) → IsFitting pair → IsQuery (plan_of pair) q → ClosesAll pair.schema q p → Covers pair
+covers_if_closed law pair q p fitting is closes =
+    covers_if_unmet pair q fitting is (λ r valid makes. law pair.schema q.tests (asked_tree q) p (query_below pair q is) closes r valid makes)
 
 -- a request that makes the query yes is one that only the first set allows
 pub witness_if_met : WrittenRequestsAreReadAgain → (pair : Pair) (q : Query) (r : Request) → IsFitting pair → IsQuery (plan_of pair) q → IsValid pair.schema r → MakesYes q.tests (asked_tree q) r → IsWellKept r → IsWitness pair r
@@ -141,9 +149,9 @@ verdicts-too : (pair : Pair) (first second : PolicySet) (o : Option ComparisonAn
 verdicts-too pair first second None same v = tt
 verdicts-too pair first second (Some a) same v = verdict-too pair first second a same v
 
-pub verdict-if-parts : {E : Type 0} (pair : Pair) (first second : PolicySet) → AskTheSamePair pair.first pair.second first second → (result : Result (Option ComparisonAnswer) E) → IfOk result (λ o. IfSome o (IsVerdictOn (pair_of_sets pair.schema first second))) → IfOk result (λ o. IfSome o (IsVerdictOn pair))
-verdict-if-parts pair first second same (Ok o) v = verdicts-too pair first second o same v
-verdict-if-parts pair first second same (Err e) v = tt
+pub verdict-if-smaller : {E : Type 0} (pair : Pair) (first second : PolicySet) → AskTheSamePair pair.first pair.second first second → (result : Result (Option ComparisonAnswer) E) → IfOk result (λ o. IfSome o (IsVerdictOn (pair_of_sets pair.schema first second))) → IfOk result (λ o. IfSome o (IsVerdictOn pair))
+verdict-if-smaller pair first second same (Ok o) v = verdicts-too pair first second o same v
+verdict-if-smaller pair first second same (Err e) v = tt
 
 -- a pair asks the same as itself
 pub itself : (first second : PolicySet) → IsSmallerPair first second first second
@@ -160,6 +168,12 @@ search_if_decided law written pair q budgets (decided.Met r) fitting is h a v =
     subst (IsSearchOf pair) (sym v.0) (witness_if_met written pair q r fitting is h.valid h.meets v.1)
 search_if_decided law written pair q budgets decided.OutOfSplits fitting is h a v = subst (IsSearchOf pair) (sym v) tt
 search_if_decided law written pair q budgets (decided.OutOfStates w) fitting is h a v = subst (IsSearchOf pair) (sym v) tt
+
+-- what a search that learns clauses came to is a verdict
+pub verdict_if_learned : WrittenRequestsAreReadAgain → (pair : Pair) (q : Query) (o : Outcome) → IsFitting pair → IsQuery (plan_of pair) q → IsSearchOutcome pair.schema q o → (v : Option ComparisonAnswer) → IsLearnedVerdict o v → IfSome v (IsVerdictOn pair)
+verdict_if_learned written pair q outcome.Refuted fitting is h v e = subst (λ (x : Option ComparisonAnswer). IfSome x (IsVerdictOn pair)) (sym e) (covers_if_unmet pair q fitting is h)
+verdict_if_learned written pair q (outcome.Met r) fitting is h v e = subst (λ (x : Option ComparisonAnswer). IfSome x (IsVerdictOn pair)) (sym e.0) (witness_if_met written pair q r fitting is h.valid h.meets e.1)
+verdict_if_learned written pair q outcome.Open fitting is h v e = subst (λ (x : Option ComparisonAnswer). IfSome x (IsVerdictOn pair)) (sym e) tt
 
 -- a decision within few splits is a comparison within more, where it didn't run out of them
 quick-refuted : (pair : Pair) → HasValidRequest pair.schema → (q : Query) (budgets : Budgets) (version : ℕ) (p : Proof) → IsQuery (plan_of pair) q → Covers pair → (a : ComparisonAnswer) → IsRefutedAnswer false version p a → IsComparison false budgets pair a
@@ -179,6 +193,12 @@ pub comparison_if_verdict : (pair : Pair) → HasValidRequest pair.schema → (q
 comparison_if_verdict pair some q budgets is answer.NotMore v = (refl, (q, is), (v, some))
 comparison_if_verdict pair some q budgets is (answer.More r) v = ((q, is), v)
 comparison_if_verdict pair some q budgets is _ v = absurd v
+
+-- and so are those of a call that may end early
+pub comparisons-if-verdicts : {E : Type 0} (pair : Pair) → HasValidRequest pair.schema → (q : Query) (budgets : Budgets) → IsQuery (plan_of pair) q → (result : Result (Option ComparisonAnswer) E) → IfOk result (λ o. IfSome o (IsVerdictOn pair)) → IfOk result (λ o. IfSome o (IsComparison false budgets pair))
+comparisons-if-verdicts pair some q budgets is (Ok None) v = tt
+comparisons-if-verdicts pair some q budgets is (Ok (Some a)) v = comparison_if_verdict pair some q budgets is a v
+comparisons-if-verdicts pair some q budgets is (Err e) v = tt
 
 -- what a certificate that was read says of the sets
 pub checked_if_read : ClosedQueriesAreNo → (pair : Pair) → HasValidRequest pair.schema → (q : Query) (bytes : List ℕ) (read : ReadProof) → IsFitting pair → IsQuery (plan_of pair) q → IsReadFrom (limits_of q.tests pair.schema.version) bytes read → (a : CheckAnswer) → IsVerdictAnswer pair.schema q read a → IsChecked bytes pair a

@@ -1,4 +1,3 @@
 mod Accepting
 mod Comparing
-mod Parts
 pub mod Laws

@@ -1,5 +1,7 @@
 -- What a comparison of two sets may answer, and a check of a certificate.
-use Rattle.std.specs.Prelude.{◌≡◌, ◌≤◌, ⊤, ℕ, List, slice_get, Bool, true, false, Some, string_bytes}
+use Rattle.std.specs.Prelude.{◌≡◌, ◌≤◌, ⊤, ℕ, List, slice_get, Bool, true, false, Option, Some, None, string_bytes}
+use Rattle.clause_search.specs.declared.outcome.Outcome.{Outcome}
+use Rattle.clause_search.specs.declared.outcome.Outcome.TheVariants as outcome
 use Rattle.policy_compile.specs.declared.outcome.Query.{Query}
 use Rattle.policy_model.specs.declared.schema.Schema.{Schema}
 use Rattle.proof_text.specs.Laws.{HoldsSmallNumbers}
@@ -78,6 +80,12 @@ IsVerdictIn (decided.Refuted r) answer = answer ≡ search.Told NotMore
 IsVerdictIn (decided.Met q) answer = (answer ≡ search.Told (More q)) × IsWellKept q
 IsVerdictIn decided.OutOfSplits answer = answer ≡ search.OutOfSplits
 IsVerdictIn (decided.OutOfStates w) answer = answer ≡ search.PastLimit
+
+-- the verdict by what a search that learns clauses came to
+abbrev pub IsLearnedVerdict : Outcome → Option ComparisonAnswer → Type 0
+IsLearnedVerdict outcome.Refuted verdict = verdict ≡ Some NotMore
+IsLearnedVerdict (outcome.Met q) verdict = (verdict ≡ Some (More q)) × IsWellKept q
+IsLearnedVerdict outcome.Open verdict = verdict ≡ None
 
 -- the answer to a certificate that was read
 abbrev pub IsVerdictAnswer : Schema → Query → ReadProof → CheckAnswer → Type 0

@@ -3,6 +3,5 @@ pub mod Checks
 pub mod Comparison
 pub mod Complete
 pub mod Decided
-pub mod Parts
 pub mod Printed
 pub mod Texts

@@ -13,10 +13,11 @@ ghost use Rattle.pair_answers.specs.Comparison.{FewTestsAreDecided, IsComparable
 ghost use Rattle.pair_answers.specs.Decided.{IsChecked, IsComparison, IsDecisionAnswer, IsPastLimit, IsRefutedAnswer, IsVerdictAnswer};
 
 use crate::answer::{CheckAnswer, ComparisonAnswer};
-use crate::part_search::{first_budgets, parts_answer};
-use crate::search::{is_out_of_splits, is_undecided};
+use crate::learned::learned_answer;
+use crate::search::{first_budgets, is_out_of_splits, is_undecided};
 use crate::smaller::difference_answer;
 use policy_compile::{Query, QueryFault, query};
+use policy_difference::without_shared;
 use policy_model::Schema;
 use proof_text::{
     ProofAnswer, ReadProof, closing_proofs_are_small, closing_proofs_have_no_fault, read_proof,
@@ -83,7 +84,7 @@ fn decision_answer(
     }
 }
 
-// The answer, where few splits tell it, or the parts of the sets.
+// The answer, where few splits tell it, or learned clauses.
 fn quick_answer(
     alloc: Global,
     pair: &Pair,
@@ -93,13 +94,14 @@ fn quick_answer(
     requires { IsComparable budgets pair.now query.now }
     ensures { IfOk result (λ answer. IfSome answer (IsComparison false budgets pair.now)) }
 {
-    let few = first_budgets(&pair.first, &pair.second, budgets);
+    let few = first_budgets(budgets);
     if budgets.splits <= few.splits {
         return Ok(None);
     }
     let decided = decide(alloc, &pair.schema, query, few)?;
     if is_undecided(&decided) {
-        if let Some(told) = parts_answer(alloc, pair, &pair.first, &pair.second, budgets)? {
+        let (first, second) = (&pair.first, &pair.second);
+        if let Some(told) = learned_answer(alloc, pair, first, second, budgets.states)? {
             return Ok(Some(told));
         }
     }
@@ -112,7 +114,7 @@ fn quick_answer(
     Ok(Some(answer))
 }
 
-// The answer, where it takes no search of the whole query with all splits.
+// The answer, where it takes no search of the whole query with all splits: by a smaller pair, where there is one.
 fn short_answer(
     alloc: Global,
     pair: &Pair,
@@ -122,10 +124,10 @@ fn short_answer(
     requires { IsComparable budgets pair.now query.now }
     ensures { IfOk result (λ answer. IfSome answer (IsComparison false budgets pair.now)) }
 {
-    if let Some(answer) = difference_answer(alloc, pair, budgets)? {
-        return Ok(Some(answer));
-    }
-    quick_answer(alloc, pair, query, budgets)
+    let Some(left) = without_shared(alloc, &pair.first, &pair.second)? else {
+        return quick_answer(alloc, pair, query, budgets);
+    };
+    difference_answer(alloc, pair, &left, budgets)
 }
 
 /// Whether the first set allows a request, valid under the schema, that the second doesn't, within the

@@ -5,7 +5,7 @@
 mod answer;
 mod certificates;
 mod decision;
-mod part_search;
+mod learned;
 mod printing;
 mod search;
 mod smaller;

@@ -12,6 +12,10 @@ use request_json::written_requests_are_read_again;
 use std::alloc::{AllocError, Global};
 use tree_search::{Budgets, Decided, decide};
 
+/// The splits of a first search of two sets. What takes more is asked of a search that learns clauses first, so that few
+/// of the splits in their fixed order are in vain.
+const FEW_SPLITS: u32 = 100;
+
 /// What a search of two sets within budgets comes to.
 #[derive(Drop)]
 pub(crate) enum SearchAnswer {
@@ -46,6 +50,18 @@ pub(crate) fn searched(
     written_requests_are_read_again();
     closed_queries_are_no();
     Ok(verdict_in(decided))
+}
+
+/// The budgets of a first search of two sets: few splits, and all states.
+pub(crate) fn first_budgets(budgets: Budgets) -> Budgets
+    requires { 1 ≤ budgets.splits }
+    ensures splits { 1 ≤ result.splits }
+    ensures states { result.states ≡ budgets.states }
+{
+    Budgets {
+        splits: budgets.splits.min(FEW_SPLITS),
+        states: budgets.states,
+    }
 }
 
 // What a search comes to by what it decided.

@@ -1,14 +1,15 @@
 //! Compares two sets by a smaller pair that asks the same.
 ghost use Rattle.std.specs.Prelude.{◌≡◌, ◌≤◌, IfOk, IfSome, unwrap_or};
 ghost use Rattle.policy_difference.specs.Apartness.{IsSmallerPair, IsWithoutApart};
+ghost use Rattle.policy_difference.specs.Differences.{IsDifference};
 ghost use Rattle.run_sets.specs.Pairs.{IsFitting};
 ghost use Rattle.pair_answers.specs.Decided.{IsVerdictOn};
 
 use crate::answer::ComparisonAnswer;
-use crate::part_search::{first_budgets, parts_answer};
-use crate::search::{SearchAnswer, is_short_of_splits, searched};
+use crate::learned::learned_answer;
+use crate::search::{SearchAnswer, first_budgets, is_short_of_splits, searched};
 use policy_difference::{
-    apart_statements_say_nothing, shared_statements_add_nothing, without_apart, without_shared,
+    apart_statements_say_nothing, shared_statements_add_nothing, without_apart,
 };
 use policy_model::{Document, PolicySet};
 use run_sets::Pair;
@@ -56,33 +57,32 @@ fn without_own_apart(alloc: Global, set: &PolicySet) -> Result<Option<PolicySet>
     }
 }
 
-/// The answer, where a smaller pair is enough to tell: the first set without the statements that the second has
-/// too, and both sets without what is apart from the Allow statements that are left of the first. Most often what
-/// a change adds is asked, and such a query is as small as the change.
+/// The answer, where a smaller pair is enough to tell: what is left of the first set without the statements that the
+/// second has too, and both sets without what is apart from the Allow statements that are left. Most often what a
+/// change adds is asked, and such a query is as small as the change.
 pub(crate) fn difference_answer(
     alloc: Global,
     pair: &Pair,
+    left: &PolicySet,
     budgets: Budgets,
 ) -> Result<Option<ComparisonAnswer>, AllocError>
     requires fitting { IsFitting pair.now }
+    requires left { IsDifference pair.now.first pair.now.second left.now }
     requires splits { 1 ≤ budgets.splits }
     requires states { 1 ≤ budgets.states }
     ensures { IfOk result (λ answer. IfSome answer (IsVerdictOn pair.now)) }
 {
-    let Some(left) = without_shared(alloc, &pair.first, &pair.second)? else {
-        return Ok(None);
-    };
     shared_statements_add_nothing();
-    let less = without_own_apart(alloc, &left)?;
-    let rest = without_apart(alloc, &left, &pair.second)?;
+    let less = without_own_apart(alloc, left)?;
+    let rest = without_apart(alloc, left, &pair.second)?;
     apart_statements_say_nothing();
-    let first = or_whole(&less, &left);
+    let first = or_whole(&less, left);
     let second = or_whole(&rest, &pair.second);
     smaller_answer(alloc, pair, first, second, budgets)
 }
 
-// The answer, where a smaller pair of sets tells it: by few splits, part by part, or by all splits where few were too
-// few.
+// The answer, where a smaller pair of sets tells it: by few splits, by learned clauses, or by all splits
+// where few were too few.
 fn smaller_answer(
     alloc: Global,
     pair: &Pair,
@@ -96,7 +96,7 @@ fn smaller_answer(
     requires states { 1 ≤ budgets.states }
     ensures { IfOk result (λ answer. IfSome answer (IsVerdictOn pair.now)) }
 {
-    let few = first_budgets(first, second, budgets);
+    let few = first_budgets(budgets);
     let found = searched(alloc, &pair.schema, first, second, few)?;
     let short = is_short_of_splits(&found);
     if let SearchAnswer::Told(answer) = found {
@@ -105,7 +105,7 @@ fn smaller_answer(
     if budgets.splits <= few.splits {
         return Ok(None);
     }
-    if let Some(told) = parts_answer(alloc, pair, first, second, budgets)? {
+    if let Some(told) = learned_answer(alloc, pair, first, second, budgets.states)? {
         return Ok(Some(told));
     }
     if !short {

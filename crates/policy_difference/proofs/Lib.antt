@@ -9,9 +9,6 @@ mod Cutting
 mod Remaining
 mod Differing
 mod Aparting
-mod Denying
-mod Alone
-mod Fewer
 mod Sizes
 mod Seen
 mod Tested
@@ -23,4 +20,3 @@ mod Itself
 mod Standing
 mod Going
 mod Covered
-mod Copied

@@ -72,12 +72,6 @@ of-true b P Q e p = subst (λ x. MatchBool x P Q) (sym e) p
 pub of-false : (b : Bool) (P Q : Type 0) → b ≡ false → Q → MatchBool b P Q
 of-false b P Q e q = subst (λ x. MatchBool x P Q) (sym e) q
 
-pub left-deny : (first second : PolicySet) (s : Statement) (l : LeftStatement) → s.allow ≡ false → StaysWhole s l → IsLeftRecord first second s l
-left-deny first second s l denies kept = record {
-  statement = of-false s.allow _ _ denies kept.0;
-  shared = (λ e. absurd (apart (sym e ∙ kept.1)), λ shared. absurd (apart (sym shared.allow ∙ denies)));
-}
-
 module _ (bounds : Bounds) (s : Statement) (rivals : Rivals) (rival : AreRivals bounds s rivals) where
   asked-alone : s.action.not ≡ false → (x : List Piece) → Any (λ y. y ≡ x) s.action.items → IsAskedOf s (item_alone x)
   asked-alone plain x (k, y, within, is, same) = of-false s.action.not _ _ plain (k, y, within, is, ap item_alone (sym same))

@@ -3,8 +3,6 @@ pub mod Elements
 pub mod Implications
 pub mod Differences
 pub mod Apartness
-pub mod Parts
-pub mod Denials
 pub mod Rivals
 pub mod Places
 pub mod Capped

@@ -1,8 +1,6 @@
 //! What shared statements mean for a comparison.
 ghost use Rattle.policy_difference.specs.Apartness.{ApartStatementsSayNothing, WithoutApartSaysNoLess};
-ghost use Rattle.policy_difference.specs.Denials.{SharedDeniesSayNothing};
 ghost use Rattle.policy_difference.specs.Differences.{NoAllowIsLeft, SharedStatementsAddNothing};
-ghost use Rattle.policy_difference.specs.Parts.{FewerAllowsAllowNoMore, OneAllowIsEnough};
 
 /// What a first set allows and a second doesn't is what is left of the first without statements that both share
 /// allows and the second doesn't, under each schema; and a schema that answers for the first answers for what is
@@ -27,23 +25,4 @@ pub fn without_apart_says_no_less()
 /// second doesn't, where both are without what is apart from the Allow statements that are left.
 pub fn apart_statements_say_nothing()
     ensures { ApartStatementsSayNothing }
-{}
-
-/// A set with fewer Allow statements in its grants allows no more, and a schema that answers for the set answers for it
-/// too.
-pub fn fewer_allows_allow_no_more()
-    ensures { FewerAllowsAllowNoMore }
-{}
-
-/// What a set allows it allows with one Allow statement of its grants alone, beside its Deny statements and its guards:
-/// where another set allows what each of these sets allows, it allows what the set allows.
-pub fn one_allow_is_enough()
-    ensures { OneAllowIsEnough }
-{}
-
-/// Where a second set without the Deny statements that a first has too allows what the first allows without its Deny
-/// statements, the second allows what the first allows; and a schema that answers for the two sets answers for the
-/// others.
-pub fn shared_denies_say_nothing()
-    ensures { SharedDeniesSayNothing }
 {}

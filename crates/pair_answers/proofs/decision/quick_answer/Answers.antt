@@ -10,8 +10,8 @@ decide-requires-clause-suit c = query_tests c.args.pair.now c.args.query.now c.r
 pub decide-requires-clause-below : goal.decide-requires-clause-below
 decide-requires-clause-below c = query_below c.args.pair.now c.args.query.now c.requires.asked
 
-pub parts_answer-requires-clause-smaller : goal.parts_answer-requires-clause-smaller
-parts_answer-requires-clause-smaller c = itself c.args.pair.now.first c.args.pair.now.second
+pub learned_answer-requires-clause-smaller : goal.learned_answer-requires-clause-smaller
+learned_answer-requires-clause-smaller c = itself c.args.pair.now.first c.args.pair.now.second
 
 pub returns-in-Some : goal.returns-in-Some
 returns-in-Some c =

@@ -1,15 +1,9 @@
-use Rattle.std.proofs.Common.{◌≡◌, Option, Some, None, IfSome, inl, inr, refl, subst}
+use Rattle.std.proofs.Common.{◌≡◌, Option, Some, None, IfSome, inl, inr, refl}
 use Rattle.std.specs.Prelude.{unwrap_or}
 use Rattle.policy_model.specs.declared.set.PolicySet.{PolicySet}
 use Rattle.policy_difference.specs.Apartness.{ApartStatementsSayNothing, IsSmallerPair, IsWithoutApart, MayBeWithoutApart}
-use Rattle.policy_difference.specs.Differences.{AskTheSame, FitsToo, IsDifference, SharedStatementsAddNothing}
+use Rattle.policy_difference.specs.Differences.{AskTheSame, FitsToo}
 use Rattle.pair_answers.proofs.smaller.difference_answer.Goals as goal
-
--- what is left asks the same beside the second set, and fits the schemas that the first set fits
-asks-same : (first second : PolicySet) (left : Option PolicySet) (less : PolicySet) → left ≡ Some less →
-    IfSome left (IsDifference first second) → SharedStatementsAddNothing → AskTheSame first less second × FitsToo first less
-asks-same first second left less is difference law =
-    law first second less (subst (λ (o : Option PolicySet). IfSome o (IsDifference first second)) is difference)
 
 -- a set without what is apart, or the set itself
 may-be : (first set : PolicySet) (less : Option PolicySet) → IfSome less (IsWithoutApart first set) → MayBeWithoutApart first set (unwrap_or less set)
@@ -26,7 +20,6 @@ smaller first second left one two less rest same without beside law is_less is_r
 
 pub smaller_answer-requires-clause-smaller : goal.smaller_answer-requires-clause-smaller
 smaller_answer-requires-clause-smaller c =
-    smaller c.args.pair.now.first c.args.pair.now.second c.in-Some.left _ _ c.in_ok-less.less c.in_ok-rest.rest
-    (asks-same c.args.pair.now.first c.args.pair.now.second _ c.in-Some.left c.in-Some.is c.in_ok-left.ensures.left
-    c.shared_statements_add_nothing.ensures)
+    smaller c.args.pair.now.first c.args.pair.now.second c.args.left.now _ _ c.in_ok-less.less c.in_ok-rest.rest
+    (c.shared_statements_add_nothing.ensures c.args.pair.now.first c.args.pair.now.second c.args.left.now c.requires.left)
     c.in_ok-less.ensures c.in_ok-rest.ensures.less c.apart_statements_say_nothing.ensures c.or_whole-first.ensures c.or_whole-second.ensures
