@@ -55,9 +55,21 @@ READERS = policy(
 REQUEST = {"Principal": {"AWS": ANN}, "Action": "s3:getobject", "Resource": "arn:aws:s3:::app-data/x",
            "Context": {"aws:SourceVpce": "vpce-1a2b3c4d"}}
 
+
+
+def interval(low, high):
+    return statement("*", "*", Condition={"NumericGreaterThanEquals": {"s3:max-keys": low},
+                                          "NumericLessThan": {"s3:max-keys": high}})
+
+
+# Intervals against those half-way between them need more splits than are spent before clauses are learned.
+INTERVALS = policy(*[interval(10 * i, 10 * i + 10) for i in range(14)])
+HALF_WAY = policy(*[interval(10 * i - 5, 10 * i + 5) for i in range(15)])
+
 # name: files, arguments; the certificate of `check` is printed by `compare --proof` first
 RUNS = {
     "compare": ({"a": ONE, "b": ONE}, "compare a b"),
+    "compare-learned": ({"a": INTERVALS, "b": HALF_WAY}, "compare a b"),
     "compare-conditions": ({"a": ORGANISATION, "b": BUCKET}, "compare a b"),
     "summary-conditions": ({"a": BUCKET}, "summary a principal aws:SourceVpce"),
     "check": ({"a": BLOCK, "b": HALVES}, "check a b proof"),
