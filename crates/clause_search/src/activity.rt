@@ -23,6 +23,13 @@ pub(crate) struct Activity {
     heap: Vec<u32>,
     // By variable its place in the heap.
     places: Vec<Option<usize>>,
+    // Whether variables are decided by their numbers, as the formula has them. Where much is alike in turn, as in lists of
+    // statements, that takes far fewer conflicts.
+    by_number: bool,
+    // All variables with lower numbers are decided or left out.
+    least: u32,
+    // By variable whether it is in no clause, and never decided.
+    left_out: Vec<bool>,
 }
 
 impl Activity {
@@ -39,6 +46,9 @@ impl Activity {
             bump: FIRST_BUMP,
             heap,
             places,
+            by_number: false,
+            least: 0,
+            left_out: vec![in alloc; false; variables]?,
         })
     }
 
@@ -67,11 +77,57 @@ impl Activity {
         }
     }
 
-    /// The most active variable that isn't decided.
-    pub(crate) fn best(&mut self, assignment: &Assignment) -> Option<u32> {
+    /// Whether variables are decided by their numbers.
+    pub(crate) fn is_by_number(&self) -> bool {
+        self.by_number
+    }
+
+    /// From now on variables are decided in the other order.
+    pub(crate) fn turn(&mut self) {
+        self.by_number = !self.by_number;
+    }
+
+    /// The variable is in no clause, and needn't be decided.
+    pub(crate) fn leave_out(&mut self, variable: u32) {
+        if let Some(left_out) = self.left_out.get_mut(variable as usize) {
+            *left_out = true;
+        }
+    }
+
+    /// Whether it was left out.
+    pub(crate) fn is_left_out(&self, variable: u32) -> bool {
+        self.left_out.as_slice().get(variable as usize) == Some(&true)
+    }
+
+    fn may_be_decided(&self, assignment: &Assignment, variable: u32) -> bool {
+        assignment.value(variable).is_none() && !self.is_left_out(variable)
+    }
+
+    /// The variable that is to be decided next.
+    pub(crate) fn next(&mut self, assignment: &Assignment) -> Option<u32> {
+        if self.by_number {
+            return self.first(assignment);
+        }
+        self.best(assignment)
+    }
+
+    // The undecided variable of the least number.
+    fn first(&mut self, assignment: &Assignment) -> Option<u32> {
+        for variable in self.least as usize..self.scores.len() {
+            let variable = variable.min(u32::MAX as usize) as u32;
+            if self.may_be_decided(assignment, variable) {
+                self.least = variable;
+                return Some(variable);
+            }
+        }
+        None
+    }
+
+    // The most active variable that isn't decided.
+    fn best(&mut self, assignment: &Assignment) -> Option<u32> {
         for _ in 0..=self.scores.len() {
             let variable = self.take()?;
-            if assignment.value(variable).is_none() {
+            if self.may_be_decided(assignment, variable) {
                 return Some(variable);
             }
         }
@@ -80,6 +136,7 @@ impl Activity {
 
     /// The variable is undecided again.
     pub(crate) fn put(&mut self, variable: u32) -> Result<(), NoMemory> {
+        self.least = self.least.min(variable);
         if self.place_of(variable).is_some() {
             return Ok(());
         }

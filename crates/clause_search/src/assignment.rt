@@ -15,6 +15,8 @@ struct Entry {
     level: u32,
     // The clause by which it has it, and none where it was decided.
     reason: Option<u32>,
+    // Where it stands in the trail.
+    place: usize,
     // The value that it had last.
     phase: bool,
 }
@@ -38,6 +40,7 @@ impl Assignment {
             value: None,
             level: 0,
             reason: None,
+            place: 0,
             phase: FIRST_PHASE,
         };
         let entries = vec![in alloc; entry; variables]?;
@@ -74,6 +77,21 @@ impl Assignment {
     /// The clause by which a variable has its value.
     pub(crate) fn reason_of(&self, variable: u32) -> Option<u32> {
         self.entries.as_slice().get(variable as usize)?.reason
+    }
+
+    /// The variable has its value by this clause too.
+    pub(crate) fn give_reason(&mut self, variable: u32, reason: u32) {
+        if let Some(entry) = self.entries.get_mut(variable as usize) {
+            entry.reason = Some(reason);
+        }
+    }
+
+    /// Where a decided variable stands in the trail.
+    pub(crate) fn place_of(&self, variable: u32) -> usize {
+        match self.entries.as_slice().get(variable as usize) {
+            Some(entry) => entry.place,
+            None => 0,
+        }
     }
 
     /// The value that the variable had last.
@@ -128,6 +146,7 @@ impl Assignment {
             entry.value = Some(literal.1);
             entry.level = level;
             entry.reason = reason;
+            entry.place = self.trail.len();
         }
         self.trail.push(literal)?;
         Ok(())

@@ -41,6 +41,12 @@ impl Span {
     }
 }
 
+/// Whether no address is in both blocks.
+pub(crate) fn are_disjoint(one: &Block, other: &Block) -> bool {
+    let (one, other) = (Span::of(one, 0), Span::of(other, 0));
+    !one.has(&other) && !other.has(&one)
+}
+
 fn is_long(address: Address) -> bool {
     match address {
         Address::V4(_) => false,
@@ -145,6 +151,19 @@ fn add_parts(
     Ok(())
 }
 
+fn add_clauses_of(
+    alloc: Global,
+    spans: &[Span],
+    parents: &[Option<usize>],
+    clauses: &mut Store,
+) -> Result<(), NoMemory> {
+    add_wider(spans, parents, clauses)?;
+    for index in 0..spans.len() {
+        add_parts(alloc, spans, parents, index, clauses)?;
+    }
+    Ok(())
+}
+
 /// Adds clauses that the blocks of the key's tests propose, where they are several.
 pub(crate) fn add_block_clauses(
     asked: &Asked<'_>,
@@ -156,15 +175,5 @@ pub(crate) fn add_block_clauses(
         return Ok(());
     }
     let parents = parents_of(asked.alloc, spans.as_slice())?;
-    add_wider(spans.as_slice(), parents.as_slice(), clauses)?;
-    for index in 0..spans.len() {
-        add_parts(
-            asked.alloc,
-            spans.as_slice(),
-            parents.as_slice(),
-            index,
-            clauses,
-        )?;
-    }
-    Ok(())
+    add_clauses_of(asked.alloc, spans.as_slice(), parents.as_slice(), clauses)
 }

@@ -301,6 +301,15 @@ fn add_points(bounds: &Bounds, required: bool, clauses: &mut Store) -> Result<()
     Ok(())
 }
 
+fn add_clauses_of(bounds: &Bounds, required: bool, clauses: &mut Store) -> Result<(), NoMemory> {
+    add_neighbours(bounds, clauses)?;
+    add_presence(bounds, clauses)?;
+    add_gaps(bounds, clauses)?;
+    add_covers(bounds, required, clauses)?;
+    add_points(bounds, required, clauses)?;
+    add_numbers(bounds, clauses)
+}
+
 /// Adds clauses that the bounds of the key's tests propose, where they are several.
 pub(crate) fn add_bound_clauses(
     asked: &Asked<'_>,
@@ -312,10 +321,5 @@ pub(crate) fn add_bound_clauses(
     if bounds.len() < FEWEST_BOUNDS {
         return Ok(());
     }
-    add_neighbours(&bounds, clauses)?;
-    add_presence(&bounds, clauses)?;
-    add_gaps(&bounds, clauses)?;
-    add_covers(&bounds, required, clauses)?;
-    add_points(&bounds, required, clauses)?;
-    add_numbers(&bounds, clauses)
+    add_clauses_of(&bounds, required, clauses)
 }

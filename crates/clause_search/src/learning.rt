@@ -13,21 +13,84 @@ impl Solver {
     /// Learns from the conflict of a clause all of whose literals are false, some at the last level, and goes back to the
     /// level at which the learned clause makes its first literal true. Whether it is empty, so that the lines end.
     pub(crate) fn learn(&mut self, number: u32) -> Result<bool, NoMemory> {
+        self.fix()?;
         let Learned { clause, hints } = self.analyse(number)?;
-        let ends = clause.is_empty();
         self.activity.decay();
         self.limits
             .count_conflict(clause.len().saturating_add(hints.len()));
-        if !ends {
-            let number = self.store.push(clause.as_slice())?;
-            self.draw_latest(number, 1);
-            self.assert(number)?;
+        let number = self.push_derived(clause.as_slice(), hints)?;
+        if clause.is_empty() {
+            self.trim()?;
+            return Ok(true);
         }
-        self.lines.push(Line::Derived {
+        self.draw_latest(number, 1);
+        self.assert(number)?;
+        Ok(false)
+    }
+
+    /// Learns each literal of level 0 that isn't a clause by itself, so that it takes one hint.
+    pub(crate) fn fix(&mut self) -> Result<(), NoMemory> {
+        let end = self.assignment.end_of(0);
+        for place in self.fixed..end {
+            if let Some(literal) = self.assignment.at(place) {
+                self.fix_literal(literal)?;
+            }
+        }
+        self.fixed = end;
+        Ok(())
+    }
+
+    fn fix_literal(&mut self, literal: Literal) -> Result<(), NoMemory> {
+        let Some(reason) = self.assignment.reason_of(literal.0) else {
+            return Ok(());
+        };
+        if self.store.get(reason).len() < 2 {
+            return Ok(());
+        }
+        self.limits.spend(self.store.get(reason).len());
+        let hints = self.unit_hints(reason, Some(literal.0))?;
+        let number = self.push_derived(&[literal], hints)?;
+        self.assignment.give_reason(literal.0, number);
+        Ok(())
+    }
+
+    /// The hints by which the clause says what it does at level 0 of its undecided literals, or else of this variable's: the
+    /// clauses that make the others false, and then itself.
+    pub(crate) fn unit_hints(
+        &self,
+        number: u32,
+        variable: Option<u32>,
+    ) -> Result<Vec<u32>, NoMemory> {
+        let mut hints = Vec::new(self.alloc);
+        for literal in self.store.get(number) {
+            if variable != Some(literal.0) && self.assignment.value(literal.0).is_some() {
+                if let Some(unit) = self.assignment.reason_of(literal.0) {
+                    hints.push(unit)?;
+                }
+            }
+        }
+        hints.push(number)?;
+        Ok(hints)
+    }
+
+    /// Adds a clause that follows by the hints. Its number.
+    pub(crate) fn push_derived(
+        &mut self,
+        clause: &[Literal],
+        hints: Vec<u32>,
+    ) -> Result<u32, NoMemory> {
+        let number = self.store.push(clause)?;
+        let line = self.derived(clause, hints)?;
+        self.lines.push(line)?;
+        Ok(number)
+    }
+
+    fn derived(&self, clause: &[Literal], hints: Vec<u32>) -> Result<Line, NoMemory> {
+        let clause = Vec::from_slice(self.alloc, clause)?;
+        Ok(Line::Derived {
             clause: List::from_vec(clause),
             hints: List::from_vec(hints),
-        })?;
-        Ok(ends)
+        })
     }
 
     // Goes back to the level of the clause's second literal, the latest of its false ones but for the first, and makes the
@@ -140,6 +203,7 @@ impl Solver {
             answers: List::from_vec(answers),
             proof,
         })?;
+        self.essential.push(number)?;
         self.take_in(number)
     }
 

@@ -9,6 +9,10 @@ mod assignment;
 mod blocks;
 mod bounds;
 mod choosing;
+mod clashing;
+mod elimination;
+mod exclusions;
+mod flipping;
 mod guessing;
 mod learning;
 mod limits;
@@ -23,6 +27,7 @@ mod size;
 mod slots;
 mod solver;
 mod store;
+mod trimming;
 mod watches;
 
 pub use outcome::Outcome;

@@ -1,11 +1,9 @@
 //! How long a search may go on, in numbers that don't rest on the machine.
 
 /// The most units of work: literals that are looked at, and product states of slots at a price in units. A unit takes some
-/// nanoseconds, so that a search takes less than half a second: it stands before one whose budgets the user gave.
-pub(crate) const MOST_WORK: usize = 40_000_000;
-
-// The most conflicts. Where a query is refuted by hostile policies some hundreds are usual.
-const MOST_CONFLICTS: u32 = 4_000;
+/// nanoseconds, so that a search takes less than a second: it stands before one whose budgets the user gave. The check of
+/// the lines isn't counted, which is made where the search ends with the empty clause.
+pub(crate) const MOST_WORK: usize = 80_000_000;
 
 // The most literals of learned clauses and hints together, so that their lines take some tens of megabytes.
 const MOST_LEARNED: usize = 2_000_000;
@@ -18,12 +16,13 @@ const FIRST_RESTART: u32 = 100;
 
 const RESTART_GROWTH: u32 = 8;
 
+// By number a search goes on so many times longer than by activity before it restarts.
+const BY_NUMBER: u32 = 2;
+
 #[derive(Clone, Copy)]
 pub(crate) struct Limits {
     // How many units of work are left.
     work: usize,
-    // How many conflicts are left.
-    conflicts: u32,
     // How many literals and hints may still be learned.
     learned: usize,
     // How many such rounds may still come.
@@ -37,7 +36,6 @@ impl Limits {
     pub(crate) fn new() -> Limits {
         Limits {
             work: MOST_WORK,
-            conflicts: MOST_CONFLICTS,
             learned: MOST_LEARNED,
             wide_rounds: MOST_WIDE_ROUNDS,
             interval: FIRST_RESTART,
@@ -50,10 +48,14 @@ impl Limits {
         self.work = self.work.saturating_sub(units);
     }
 
+    /// So many literals and hints more, of lines.
+    pub(crate) fn count_literals(&mut self, learned: usize) {
+        self.learned = self.learned.saturating_sub(learned);
+    }
+
     /// One more conflict, whose line has so many literals and hints.
     pub(crate) fn count_conflict(&mut self, learned: usize) {
-        self.conflicts = self.conflicts.saturating_sub(1);
-        self.learned = self.learned.saturating_sub(learned);
+        self.count_literals(learned);
         self.left = self.left.saturating_sub(1);
     }
 
@@ -68,16 +70,20 @@ impl Limits {
     }
 
     pub(crate) fn are_spent(&self) -> bool {
-        self.work == 0 || self.conflicts == 0 || self.learned == 0 || self.wide_rounds == 0
+        self.work == 0 || self.learned == 0 || self.wide_rounds == 0
     }
 
-    /// Whether the search is to restart now.
-    pub(crate) fn restarts(&mut self) -> bool {
+    /// Whether the search is to restart now, from then on by number or else by activity.
+    pub(crate) fn restarts(&mut self, by_number: bool) -> bool {
         if self.left > 0 {
             return false;
         }
         self.interval = self.interval.saturating_add(self.interval / RESTART_GROWTH);
-        self.left = self.interval;
+        self.left = if by_number {
+            self.interval.saturating_mul(BY_NUMBER)
+        } else {
+            self.interval
+        };
         true
     }
 }

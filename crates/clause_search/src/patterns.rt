@@ -131,33 +131,3 @@ pub(crate) fn add_pattern_clauses(
     }
     Ok(())
 }
-
-// Adds that what matches the pattern matches none of those that clash with it.
-fn add_clashes(
-    asking: &[Asking<'_>],
-    own: &Asking<'_>,
-    clauses: &mut Store,
-) -> Result<(), NoMemory> {
-    for other in asking {
-        if own.test < other.test && own.pattern.clashes(&other.pattern) {
-            clauses.push(&[(own.test, false), (other.test, false)])?;
-        }
-    }
-    Ok(())
-}
-
-/// Adds that no value matches two patterns of the slot's tests that clash.
-pub(crate) fn add_apart_clauses(
-    asked: &Asked<'_>,
-    slot: &Slot,
-    clauses: &mut Store,
-) -> Result<(), NoMemory> {
-    let asking = asking_of(asked, slot)?;
-    if !are_few(asking.as_slice()) {
-        return Ok(());
-    }
-    for own in asking.as_slice() {
-        add_clashes(asking.as_slice(), own, clauses)?;
-    }
-    Ok(())
-}

@@ -1,6 +1,7 @@
 //! Unit propagation by two watched literals a clause.
 use crate::solver::Solver;
 use crate::store::Literal;
+use crate::watches::Watch;
 use plain_lists::NoMemory;
 
 // What comes of a clause one of whose watched literals has become false.
@@ -34,9 +35,13 @@ impl Solver {
         let count = self.watches.count(falsified);
         self.limits.spend(count.saturating_mul(2));
         for _ in 0..count {
-            let Some(number) = self.watches.get(falsified, place) else {
+            let Some(Watch { number, other }) = self.watches.get(falsified, place) else {
                 return Ok(None);
             };
+            if self.assignment.truth(other) == Some(true) {
+                place = place.saturating_add(1);
+                continue;
+            }
             match self.visit(falsified, number)? {
                 Visit::Kept => place = place.saturating_add(1),
                 Visit::Moved => self.watches.remove(falsified, place),
@@ -58,7 +63,13 @@ impl Solver {
             return Ok(Visit::Kept);
         }
         if let Some(other) = self.draw(number, 1) {
-            self.watches.push(other, number)?;
+            self.watches.push(
+                other,
+                Watch {
+                    number,
+                    other: first,
+                },
+            )?;
             return Ok(Visit::Moved);
         }
         if truth == Some(false) {

@@ -1,13 +1,14 @@
 //! What holds of few tests of one slot. Where many tests ask for bounds, blocks or patterns, a slot excludes only few
 //! answers in a round; from the order of the tests it is known which ones it would exclude in later rounds.
-ghost use Rattle.std.specs.Prelude.{IsTrue};
+ghost use Rattle.std.specs.Prelude.{◌≤◌};
 ghost use Rattle.slot_theory.specs.Possible.{PathInRange};
 ghost use Rattle.clause_search.specs.Asked.{IsSearchAsked};
 
 use crate::asked::Asked;
 use crate::blocks::add_block_clauses;
 use crate::bounds::add_bound_clauses;
-use crate::patterns::{add_apart_clauses, add_pattern_clauses};
+use crate::clashing::told_conflict;
+use crate::patterns::add_pattern_clauses;
 use crate::searching::is_in_range;
 use crate::slots::{Failing, ask_levels};
 use crate::solver::Solver;
@@ -21,21 +22,18 @@ use std::mem::replace;
 // After so many clauses that a slot doesn't confirm it is left alone.
 const MOST_IN_VAIN: u32 = 3;
 
-// The most clauses that a slot is asked about.
-const MOST_PROPOSED: usize = 4_000;
+// The most clauses of a relation that a slot is asked about.
+const MOST_RELATED: u32 = 4_000;
 
 // How many product states are looked at to confirm a clause of patterns. Then it takes some microseconds, and its proof
 // is small.
 const FEW_STATES: u32 = 200;
 
-/// What tests of a slot have to do with one another.
-#[derive(Clone, Copy)]
-pub(crate) enum Relation {
-    /// One is wider than the other one, or each value is in some of them.
-    Order,
-    /// No value is in both.
-    Apart,
-}
+// The same of tests that exclude one another, and how many of these slots are asked about at once. Two long texts have
+// as many product states as characters.
+const EXCLUSION_STATES: u32 = 1_000;
+
+const MOST_EXCLUSIONS: u32 = 40_000;
 
 /// What came of a proposed clause.
 #[derive(Clone, Copy)]
@@ -47,13 +45,14 @@ enum Reply {
     Ends,
 }
 
-// The same question with fewer product states.
-fn with_few_states<'a>(asked: &Asked<'a>) -> Asked<'a>
+// The same question with so many product states at most.
+fn with_states<'a>(asked: &Asked<'a>, most: u32) -> Asked<'a>
     requires ready { IsSearchAsked asked.now }
+    requires positive { 1 ≤ most }
     ensures { IsSearchAsked result }
 {
-    let states = if asked.states > FEW_STATES {
-        FEW_STATES
+    let states = if asked.states > most {
+        most
     } else {
         asked.states
     };
@@ -65,38 +64,49 @@ fn with_few_states<'a>(asked: &Asked<'a>) -> Asked<'a>
     }
 }
 
-/// Learns clauses of few tests of one slot each, by this relation between them. No decision stands. Whether the lines
-/// end.
+/// Learns clauses of few tests of one slot each, by which one is wider than the other one, or each value is in some of
+/// them. No decision stands. Whether the lines end.
 pub(crate) fn relate(
     asked: &Asked<'_>,
     solver: &mut Solver,
     failing: &mut Failing,
-    relation: Relation,
 ) -> Result<bool, NoMemory>
     requires ready { IsSearchAsked asked.now }
 {
-    let few = with_few_states(asked);
-    relate_all(&few, solver, failing, relation)
+    let few = with_states(asked, FEW_STATES);
+    relate_all(&few, solver, failing)
+}
+
+/// Learns those pairs of tests of one slot that it confirms to exclude one another. Whether the lines end.
+pub(crate) fn learn_pairs(
+    asked: &Asked<'_>,
+    solver: &mut Solver,
+    failing: &mut Failing,
+    pairs: &Store,
+) -> Result<bool, NoMemory>
+    requires ready { IsSearchAsked asked.now }
+{
+    let few = with_states(asked, EXCLUSION_STATES);
+    learn_clauses(&few, solver, failing, pairs, MOST_EXCLUSIONS)
 }
 
 fn relate_all(
     asked: &Asked<'_>,
     solver: &mut Solver,
     failing: &mut Failing,
-    relation: Relation,
 ) -> Result<bool, NoMemory>
     requires ready { IsSearchAsked asked.now }
 {
-    if relate_slot(asked, solver, failing, relation, &Slot::Action)? {
+    if relate_slot(asked, solver, failing, &Slot::Action)? {
         return Ok(true);
     }
-    if relate_slot(asked, solver, failing, relation, &Slot::Resource)? {
+    if relate_slot(asked, solver, failing, &Slot::Resource)? {
         return Ok(true);
     }
     for index in 0..asked.schema.len() {
         if let Some((key, _)) = asked.schema.at(index) {
             let slot = Slot::Key(key.copy()?);
-            if relate_slot(asked, solver, failing, relation, &slot)? {
+            if relate_slot(asked, solver, failing, &slot)? {
                 return Ok(true);
             }
         }
@@ -109,17 +119,13 @@ fn relate_slot(
     asked: &Asked<'_>,
     solver: &mut Solver,
     failing: &mut Failing,
-    relation: Relation,
     slot: &Slot,
 ) -> Result<bool, NoMemory>
     requires ready { IsSearchAsked asked.now }
 {
     let mut clauses = Store::new(asked.alloc);
-    match relation {
-        Relation::Order => add_ordered(asked, slot, &mut clauses)?,
-        Relation::Apart => add_apart_clauses(asked, slot, &mut clauses)?,
-    }
-    learn_clauses(asked, solver, failing, &clauses)
+    add_ordered(asked, slot, &mut clauses)?;
+    learn_clauses(asked, solver, failing, &clauses, MOST_RELATED)
 }
 
 // Adds clauses of the order of the slot's tests.
@@ -138,27 +144,30 @@ fn add_ordered(asked: &Asked<'_>, slot: &Slot, clauses: &mut Store) -> Result<()
     }
 }
 
-// Learns those of the clauses that the slot confirms, until several weren't. Whether the lines end.
+// Learns those of the first clauses that the slot confirms, until several weren't, or a limit is met. Whether the lines
+// end.
 fn learn_clauses(
     asked: &Asked<'_>,
     solver: &mut Solver,
     failing: &mut Failing,
     clauses: &Store,
+    most: u32,
 ) -> Result<bool, NoMemory>
     requires ready { IsSearchAsked asked.now }
 {
     let mut path = Path::new(asked.alloc);
     let mut in_vain: u32 = 0;
-    for number in 0..clauses.len().min(MOST_PROPOSED) {
-        let clause = clauses.get(number as u32);
+    for number in 0..most {
+        let clause = clauses.get(number);
+        if clause.is_empty() || in_vain >= MOST_IN_VAIN || solver.limits.are_spent() {
+            return Ok(false);
+        }
         match learn_clause(asked, solver, failing, &mut path, clause)? {
             Reply::Learned => {}
             Reply::InVain => in_vain = in_vain.saturating_add(1),
             Reply::Ends => return Ok(true),
         }
-        if in_vain >= MOST_IN_VAIN {
-            return Ok(false);
-        }
+        solver.limits.spend(failing.take_work());
     }
     Ok(false)
 }
@@ -202,11 +211,14 @@ fn refute(path: &mut Path, clause: &[Literal]) -> Result<(), NoMemory> {
     Ok(())
 }
 
-// Asks the slots about these answers alone.
+// Asks the slots about these answers alone, unless the conflict is told without that.
 fn ask_anew(asked: &Asked<'_>, path: &Path, failing: &mut Failing) -> Result<(), NoMemory>
     requires ready { IsSearchAsked asked.now }
     requires range { PathInRange asked.now.query.now.tests path.now }
 {
+    if let Some((core, proof)) = told_conflict(asked, path)? {
+        return failing.take_told(core, proof);
+    }
     let mut values = SlotValues::new(asked.alloc);
     ask_levels(asked, path, &mut values, failing)
 }

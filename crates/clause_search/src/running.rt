@@ -6,6 +6,13 @@ use plain_lists::NoMemory;
 // What a decision or a conflict takes at least.
 const STEP_WORK: usize = 40;
 
+// The restart at which the clauses are made simpler, and from which on variables are decided in the other order in turn. It
+// comes after some 300 conflicts, and few queries come to it.
+const TURN_RESTART: u32 = 1;
+
+// The restart at which an assignment is looked for without learning, after some 4,000 conflicts.
+const WALK_RESTART: u32 = 12;
+
 /// How the search for an assignment ends.
 #[derive(Clone, Copy)]
 pub(crate) enum Ending {
@@ -38,16 +45,37 @@ impl Solver {
             if self.learn(number)? {
                 return Ok(Some(Ending::Refuted));
             }
-            if self.limits.restarts() {
-                self.back_to(0)?;
+            if self.limits.restarts(!self.activity.is_by_number()) {
+                return self.restart();
             }
             return Ok(None);
         }
-        let Some(variable) = self.activity.best(&self.assignment) else {
+        let Some(variable) = self.activity.next(&self.assignment) else {
             return Ok(Some(Ending::Satisfied));
         };
         let value = self.assignment.phase_of(variable);
         self.assignment.decide((variable, value))?;
+        Ok(None)
+    }
+
+    // Goes back to level 0. There clauses are left out and made shorter.
+    fn restart(&mut self) -> Result<Option<Ending>, NoMemory> {
+        self.back_to(0)?;
+        let restart = self.restarts;
+        self.restarts = restart.saturating_add(1);
+        if restart >= TURN_RESTART {
+            self.activity.turn();
+        }
+        if restart == WALK_RESTART {
+            self.walk()?;
+        }
+        if restart == TURN_RESTART {
+            if let Some(number) = self.simplify()? {
+                if self.learn(number)? {
+                    return Ok(Some(Ending::Refuted));
+                }
+            }
+        }
         Ok(None)
     }
 }

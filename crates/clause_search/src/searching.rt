@@ -9,11 +9,12 @@ ghost use Rattle.clause_search.specs.Outcomes.{IsSearchOutcome};
 
 use crate::asked::Asked;
 use crate::choosing::choose;
+use crate::exclusions::Exclusions;
 use crate::guessing::Guesses;
 use crate::limits::MOST_WORK;
 use crate::meeting::meet;
 use crate::outcome::Outcome;
-use crate::relations::{Relation, relate};
+use crate::relations::{learn_pairs, relate};
 use crate::running::Ending;
 use crate::size::size_of;
 use crate::slots::{Failing, ask_levels};
@@ -32,11 +33,9 @@ use std::mem::replace;
 // Formulas whose clauses have more literals are left open at once.
 const MOST_LITERALS: usize = 200_000;
 
-// The rounds before which it is learned which tests of a slot are wider than others, and which ones exclude one another.
-// Formulas that are refuted without the slots don't come to the first one.
+// The round before which it is learned which tests of a slot are wider than others. Formulas that are refuted without the
+// slots don't come to it.
 const ORDER_ROUND: usize = 1;
-
-const APART_ROUND: usize = 64;
 
 // What the choice of answers takes for each literal of the formula's clauses, in units of work.
 const CHOICE_WORK: usize = 4;
@@ -82,8 +81,21 @@ pub fn search(
 struct Theory {
     failing: Failing,
     guesses: Guesses,
+    exclusions: Exclusions,
     // How many literals the formula's clauses have.
     size: usize,
+}
+
+// Nothing is known yet.
+fn theory_of(asked: &Asked<'_>, size: usize) -> Result<Theory, NoMemory> {
+    let guesses = Guesses::new(asked.alloc, asked.query.tests.as_slice())?;
+    let exclusions = Exclusions::new(asked.alloc, asked.query.tests.len())?;
+    Ok(Theory {
+        failing: Failing::new(asked.alloc),
+        guesses,
+        exclusions,
+        size,
+    })
 }
 
 // The search over the clauses of the query's formula.
@@ -96,11 +108,7 @@ fn search_clauses(asked: &Asked<'_>, clauses: &Clauses) -> Result<Outcome, NoMem
         return Ok(Outcome::Open);
     }
     let mut solver = Solver::new(asked.alloc, size.variables)?;
-    let mut theory = Theory {
-        failing: Failing::new(asked.alloc),
-        guesses: Guesses::new(asked.alloc, asked.query.tests.as_slice())?,
-        size: size.literals,
-    };
+    let mut theory = theory_of(asked, size.literals)?;
     search_with(asked, clauses, &mut solver, &mut theory)
 }
 
@@ -137,15 +145,11 @@ fn relate_at(
 ) -> Result<bool, NoMemory>
     requires ready { IsSearchAsked asked.now }
 {
-    let relation = match number {
-        ORDER_ROUND => Relation::Order,
-        APART_ROUND => Relation::Apart,
-        _ => return Ok(false),
-    };
+    if number != ORDER_ROUND {
+        return Ok(false);
+    }
     solver.back_to(0)?;
-    let ends = relate(asked, solver, failing, relation)?;
-    solver.limits.spend(failing.take_work());
-    Ok(ends)
+    relate(asked, solver, failing)
 }
 
 // One assignment more, and what the slots say of it. None where the search goes on.
@@ -246,6 +250,28 @@ fn exclude(
     ensures { IfOk result (λ o.
         IfSome o (IsSearchOutcome asked.now.schema.now asked.now.query.now)) }
 {
+    theory.propose(asked, path)?;
+    if learn_cores(asked, solver, path, theory)? || learn_exclusions(asked, solver, theory)? {
+        return Ok(Some(checked(asked, solver)?));
+    }
+    Ok(None)
+}
+
+impl Theory {
+    // Proposes what slots exclude that exclude two answers yes.
+    fn propose(&mut self, asked: &Asked<'_>, path: &Path) -> Result<(), NoMemory> {
+        let cores = self.failing.cores.as_slice();
+        self.exclusions.propose(asked, &self.guesses, path, cores)
+    }
+}
+
+// Learns the cores. Where there is none other answers are looked for. Whether the lines end.
+fn learn_cores(
+    asked: &Asked<'_>,
+    solver: &mut Solver,
+    path: &Path,
+    theory: &mut Theory,
+) -> Result<bool, NoMemory> {
     let cores = replace(&mut theory.failing.cores, Vec::new(asked.alloc));
     if cores.is_empty() {
         solver.limits.count_wide_round();
@@ -253,10 +279,21 @@ fn exclude(
     }
     'cores: for (core, proof) in cores {
         if solver.exclude_core(path, core.as_slice(), proof)? {
-            return Ok(Some(checked(asked, solver)?));
+            return Ok(true);
         }
     }
-    Ok(None)
+    Ok(false)
+}
+
+// Learns what was proposed. Whether the lines end.
+fn learn_exclusions(
+    asked: &Asked<'_>,
+    solver: &mut Solver,
+    theory: &mut Theory,
+) -> Result<bool, NoMemory>
+    requires ready { IsSearchAsked asked.now }
+{
+    learn_pairs(asked, solver, &mut theory.failing, &theory.exclusions.pairs)
 }
 
 // Begins anew where tests of the slots that ran out of states rather have the other answers.

@@ -21,8 +21,14 @@ const FEW_STATES: u32 = 100;
 
 const LEVELS: u32 = 2;
 
+// What a question takes at least, in units of work.
+const QUESTION_WORK: usize = 500;
+
 // What a product state takes, in units of work.
 const STATE_WORK: usize = 100;
+
+// What one of a conflict takes that was told without a question.
+const TOLD_STATE_WORK: usize = 30;
 
 // What one of a closed set takes that is like the last: such a set needn't be searched for again, but is checked twice.
 const KNOWN_STATE_WORK: usize = 50;
@@ -72,17 +78,28 @@ impl Failing {
         replace(&mut self.work, 0)
     }
 
+    /// Takes in a conflict that was told without a question.
+    pub(crate) fn take_told(&mut self, core: Core, proof: SlotProof) -> Result<(), NoMemory> {
+        let looked = states_of(&proof).saturating_mul(TOLD_STATE_WORK);
+        let work = looked.saturating_add(QUESTION_WORK);
+        self.work = self.work.saturating_add(work);
+        self.cores.push((core, proof))?;
+        Ok(())
+    }
+
     // Counts the questions of a level. Where a slot has no value the product states are known that it took, and else only
     // how many they may be.
-    fn count(&mut self, asked: &Asked<'_>, path: &Path, states: u32, found: usize) {
+    fn count(&mut self, path: &Path, states: u32, found: usize) {
         let questions = self.slots.len().saturating_add(found);
         let others = questions.saturating_sub(self.cores.len());
         let looked = others
             .saturating_mul(states as usize)
             .saturating_mul(STATE_WORK);
         self.count_cores();
-        let length = asked.query.tests.len().saturating_add(path.len());
-        let read = length.saturating_mul(questions.saturating_add(1));
+        let read = path
+            .len()
+            .saturating_add(QUESTION_WORK)
+            .saturating_mul(questions);
         self.work = self.work.saturating_add(looked).saturating_add(read);
     }
 
@@ -263,7 +280,7 @@ pub(crate) fn ask_levels(
         let before = values.len();
         ask_slots(asked, path, states, values, failing)?;
         let found = values.len().saturating_sub(before);
-        failing.count(asked, path, states, found);
+        failing.count(path, states, found);
         if !failing.waits() {
             return Ok(());
         }

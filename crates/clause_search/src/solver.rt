@@ -3,7 +3,7 @@ use crate::activity::Activity;
 use crate::assignment::Assignment;
 use crate::limits::Limits;
 use crate::store::{Literal, Store};
-use crate::watches::Watches;
+use crate::watches::{Watch, Watches};
 use clause_proofs::Line;
 use cnf_clauses::Clauses;
 use plain_lists::NoMemory;
@@ -26,6 +26,14 @@ pub(crate) struct Solver {
     /// The slots' proofs in the lines, equal ones once.
     pub(crate) proofs: SharedProofs,
     pub(crate) limits: Limits,
+    /// How many restarts there were.
+    pub(crate) restarts: u32,
+    /// The clauses that slots exclude, and once they were made simpler those of the formula. All others follow from them.
+    pub(crate) essential: Vec<u32>,
+    /// How many clauses the formula has.
+    pub(crate) formula: usize,
+    /// How many literals of level 0 are clauses by themselves, from the first on.
+    pub(crate) fixed: usize,
 }
 
 impl Solver {
@@ -40,6 +48,10 @@ impl Solver {
             lines: Vec::new(alloc),
             proofs: SharedProofs::new(alloc),
             limits: Limits::new(),
+            restarts: 0,
+            essential: Vec::new(alloc),
+            formula: 0,
+            fixed: 0,
         })
     }
 
@@ -47,10 +59,13 @@ impl Solver {
     pub(crate) fn take_all(&mut self, clauses: &Clauses) -> Result<Option<u32>, NoMemory> {
         for number in 0..clauses.len() {
             if let Some(literals) = clauses.get(number) {
-                let number = self.store.push_distinct(self.alloc, literals)?;
-                if self.admit(number)? {
-                    return Ok(Some(number));
-                }
+                self.store.push_distinct(self.alloc, literals)?;
+            }
+        }
+        self.formula = self.store.len();
+        for number in 0..self.store.count() {
+            if self.admit(number)? {
+                return Ok(Some(number));
             }
         }
         Ok(None)
@@ -76,8 +91,20 @@ impl Solver {
             return Ok(());
         };
         if let Some(first) = self.store.literal(number, 0) {
-            self.watches.push(first, number)?;
-            self.watches.push(second, number)?;
+            self.watches.push(
+                first,
+                Watch {
+                    number,
+                    other: second,
+                },
+            )?;
+            self.watches.push(
+                second,
+                Watch {
+                    number,
+                    other: first,
+                },
+            )?;
         }
         Ok(())
     }

@@ -34,9 +34,30 @@ impl Store {
         self.spans.len()
     }
 
+    /// How many clauses there are, as numbers of clauses go.
+    pub(crate) fn count(&self) -> u32 {
+        self.spans.len().min(u32::MAX as usize) as u32
+    }
+
     /// How many literals they have together.
     pub(crate) fn size(&self) -> usize {
         self.literals.len()
+    }
+
+    /// Whether a clause has no literal.
+    pub(crate) fn has_empty(&self) -> bool {
+        for span in self.spans.as_slice() {
+            if span.start == span.end {
+                return true;
+            }
+        }
+        false
+    }
+
+    /// Takes all clauses away.
+    pub(crate) fn clear(&mut self) {
+        self.literals.truncate(0);
+        self.spans.truncate(0);
     }
 
     /// The literals of a clause, and none where there is no clause of the number.
