@@ -1,11 +1,12 @@
 -- What the search decides of a query says whether the set needs a statement.
-use Rattle.std.proofs.Common.{◌≡◌, ◌≤◌, ℕ, Bool, List, MatchBool, Option, None, Some, IfSome, false, true, refl, inl, arith, subst, sym}
+use Rattle.std.proofs.Common.{◌≡◌, ◌≤◌, ℕ, Bool, List, MatchBool, Option, None, Some, IfSome, if◌then◌else◌, false, true, refl, inl, arith, subst, sym}
 use Rattle.std.specs.Prelude.{Contains, string_bytes}
 use Rattle.findings.specs.Answers.{QueryIsAskable}
 use Rattle.policy_model.specs.declared.schema.Schema.{Schema}
 use Rattle.policy_model.specs.declared.set.PolicySet.{PolicySet}
 use Rattle.policy_model.specs.declared.set.Statement.{Statement}
 use Rattle.policy_model.specs.declared.set.StatementName.{StatementName}
+use Rattle.policy_model.specs.Soundness.{SchemaFits}
 use Rattle.policy_model.specs.StatementNames.{Named, named_set}
 use Rattle.policy_compile.specs.declared.outcome.Query.{Query}
 use Rattle.policy_compile.specs.Queries.{IsQuery, asked_tree}
@@ -17,25 +18,28 @@ use Rattle.proof_text.specs.Spelling.{certificate_text}
 use Rattle.proof_text.specs.declared.limits.TheConstants.{MOST_NUMBER}
 use Rattle.refute_check.specs.Proofs.{Proof, proof_of}
 use Rattle.run_sets.specs.declared.one_set.OneSet.{OneSet}
+use Rattle.run_sets.specs.declared.shortage.Shortage.TheVariants as shortage
 use Rattle.run_sets.specs.OneSets.{FitsItsSchema}
 use Rattle.set_questions.specs.Idle.{IsIdle, IsNameIn, OfNamed, without_statement}
 use Rattle.set_questions.specs.Laws.{SmallerQuestionsTell, DecidesUse, WithoutStaysSound}
 use Rattle.set_questions.specs.Narrowing.{IsNarrowed, IsNarrowedChange, NarrowedPairsAskTheSame}
 use Rattle.set_questions.specs.Settling.{RefutesQuery, SettlesQuery}
-use Rattle.set_questions.specs.Uses.{IsUseAt, IsUseOf, OfChange}
+use Rattle.set_questions.specs.Uses.{IsUseAt, IsUseOf, OfChange, change_plan}
 use Rattle.set_questions.specs.declared.narrowing.AskedPair.{AskedPair}
 use Rattle.set_questions.specs.declared.outcome.Use.{Use}
 use Rattle.set_questions.specs.declared.outcome.Use.TheVariants as use_of
-use Rattle.set_questions.specs.declared.settling.Settled.{Settled}
-use Rattle.set_questions.specs.declared.settling.Settled.TheVariants as settled
+use Rattle.staged_search.specs.declared.verdict.Verdict.{Verdict}
+use Rattle.staged_search.specs.declared.verdict.Verdict.TheVariants as verdict
+use Rattle.staged_search.specs.Stages.{IsStagedVerdict}
 use Rattle.tree_search.specs.declared.outcome.Budgets.{Budgets}
 use Rattle.tree_search.specs.declared.outcome.Decided.{Decided}
 use Rattle.tree_search.specs.declared.outcome.Decided.TheVariants as decided
 use Rattle.tree_search.specs.Decisions.{IsDecision}
 use Rattle.idle_answers.specs.declared.answer.UseAnswer.{UseAnswer}
 use Rattle.idle_answers.specs.declared.answer.UseAnswer.TheVariants as answer
-use Rattle.idle_answers.specs.Deciding.{IsAskedWithout, IsIdleAnswer, IsPairWithoutApart, IsSettledVerdict, IsSmallerFor, IsAnswerToUse, IsUseVerdict, settled_of}
+use Rattle.idle_answers.specs.Deciding.{IsAnswerByVerdict, IsAskedWithout, IsIdleAnswer, IsPairWithoutApart, IsSmallerFor, IsStagedUseAnswer, IsAnswerToUse, settled_of}
 use Rattle.idle_answers.specs.UseAnswers.{CertifiesChange, IsUseAnswer, IsUseAnswerAt}
+use Rattle.idle_answers.specs.UseTexts.{is_undecided}
 
 -- what is decided of a query settles it
 pub settles : (schema : Schema) (query : Query) (budgets : Budgets) (d : Decided) → IsDecision schema query budgets d
@@ -99,30 +103,97 @@ narrowed_asks law one name asked fitting named change =
     let there = there_is one name named in
     (there.0, there.1, law one.schema one.set name there.0 asked fitting.fits there.1 (change there.0 there.1))
 
+-- the change query stands for itself
+same_pair : (first second : PolicySet) → AskTheSamePair first second first second
+same_pair first second = record { covers = λ schema r allowed covers. covers allowed; only = λ schema r allowed denied. (allowed, denied) }
+
+itself_by_effect : (one : OneSet) (name : StatementName) (s : Statement) (q : Query) (allow : Bool) → s.allow ≡ allow → SchemaFits one.schema one.set
+    → SchemaFits one.schema (without_statement one.set name) → Contains (named_set one.set) (name, s)
+    → IsQuery (if allow then query_plan one.schema one.set (without_statement one.set name) else query_plan one.schema (without_statement one.set name) one.set) q
+    → IsSmallerFor one name q
+itself_by_effect one name s q true effect set_fits part_fits there is =
+    let part = without_statement one.set name in (
+      s,
+      record { less = one.set; rest = part },
+      record {
+        fits = set_fits;
+        named_there = there;
+        pair = record {
+          asks = subst (λ (b : Bool). MatchBool b (AskTheSamePair one.set part one.set part) (AskTheSamePair part one.set one.set part)) (sym effect) (same_pair one.set part);
+          less_fits = set_fits;
+          rest_fits = part_fits;
+        };
+        is = is;
+      },
+    )
+itself_by_effect one name s q false effect set_fits part_fits there is =
+    let part = without_statement one.set name in (
+      s,
+      record { less = part; rest = one.set },
+      record {
+        fits = set_fits;
+        named_there = there;
+        pair = record {
+          asks = subst (λ (b : Bool). MatchBool b (AskTheSamePair one.set part part one.set) (AskTheSamePair part one.set part one.set)) (sym effect) (same_pair part one.set);
+          less_fits = part_fits;
+          rest_fits = set_fits;
+        };
+        is = is;
+      },
+    )
+
+pub is_itself : WithoutStaysSound → (one : OneSet) (name : StatementName) (q : Query) → FitsItsSchema one → IsNameIn one.set name
+    → OfNamed one.set name (λ s. IsQuery (change_plan one.schema one.set (name, s)) q) → IsSmallerFor one name q
+is_itself stays one name q fitting named is =
+    let there = there_is one name named in
+    itself_by_effect one name there.0 q there.0.allow refl fitting.fits ((stays one.set name).fits one.schema fitting.fits) there.1 (is there.0 there.1)
+
 pub smaller_askable : SmallerQuestionsTell → (one : OneSet) (name : StatementName) (q : Query) → FitsItsSchema one → IsSmallerFor one name q
     → QueryIsAskable one.schema q
 smaller_askable law one name q fitting (s, asked, question) = (law one.schema one.set (name, s) asked q question).askable fitting.sound
 
-verdict_if_tells : (one : OneSet) (name : StatementName) (q : Query) (splits states : ℕ) → DecidesUse one.schema one.set name q
-    → (st : Settled) → SettlesQuery one.schema splits states q st → (o : Option UseAnswer) → IsSettledVerdict st o → IfSome o (IsUseVerdict one name)
-verdict_if_tells one name q splits states tells (settled.Nobody r) h o v =
-    subst (λ (x : Option UseAnswer). IfSome x (IsUseVerdict one name)) (sym v) (tells.idle (proof_of r.value) h.closes)
-verdict_if_tells one name q splits states tells (settled.Met r) h o v =
-    subst (λ (x : Option UseAnswer). IfSome x (IsUseVerdict one name)) (sym v.0) (v.1, tells.used r h)
-verdict_if_tells one name q splits states tells settled.OutOfSplits h o v = subst (λ (x : Option UseAnswer). IfSome x (IsUseVerdict one name)) (sym v) tt
-verdict_if_tells one name q splits states tells (settled.OutOfStates w) h o v = subst (λ (x : Option UseAnswer). IfSome x (IsUseVerdict one name)) (sym v) tt
+staged_if_tells : (budgets : Budgets) (one : OneSet) (name : StatementName) (q : Query) → DecidesUse one.schema one.set name q
+    → (v : Verdict) → IsStagedVerdict one.schema q budgets v → (a : UseAnswer) → IsAnswerByVerdict budgets v a → IsStagedUseAnswer budgets one name q a
+staged_if_tells budgets one name q tells verdict.Nobody h a by =
+    subst (λ (x : UseAnswer). IsStagedUseAnswer budgets one name q x) (sym by) (tells.idle (λ r met. h r met.valid met.meets))
+staged_if_tells budgets one name q tells (verdict.Met r) h a by =
+    subst (λ (x : UseAnswer). IsStagedUseAnswer budgets one name q x) (sym by.0)
+    (by.1, tells.used r (record { valid = h.valid; answers = λ n b t e at. absurd (cc); meets = h.meets }))
+staged_if_tells budgets one name q tells verdict.OutOfSplits h a by =
+    subst (λ (x : UseAnswer). IsStagedUseAnswer budgets one name q x) (sym by) (refl, (h.plain, h.propagated))
+staged_if_tells budgets one name q tells (verdict.OutOfStates w) h a by =
+    subst (λ (x : UseAnswer). IsStagedUseAnswer budgets one name q x) (sym by) (
+      refl,
+      record {
+        wide = record { path = w.path; slot = w.slot; texts = w.texts };
+        slot = refl;
+        fails = record { node = h.node; not_no = h.not_no; asked = h.asked; texts = h.texts };
+      },
+    )
 
--- what settles it is a verdict on the statement
-pub verdict_if_settled : SmallerQuestionsTell → (one : OneSet) (name : StatementName) (q : Query) (splits states : ℕ) → IsSmallerFor one name q
-    → (st : Settled) → SettlesQuery one.schema splits states q st → (o : Option UseAnswer) → IsSettledVerdict st o → IfSome o (IsUseVerdict one name)
-verdict_if_settled law one name q splits states (s, asked, question) st h o v =
-    verdict_if_tells one name q splits states (law one.schema one.set (name, s) asked q question) st h o v
+-- the verdict on it answers on the statement
+pub staged_if_verdict : SmallerQuestionsTell → (budgets : Budgets) (one : OneSet) (name : StatementName) (q : Query) → IsSmallerFor one name q
+    → (v : Verdict) → IsStagedVerdict one.schema q budgets v → (a : UseAnswer) → IsAnswerByVerdict budgets v a → IsStagedUseAnswer budgets one name q a
+staged_if_verdict law budgets one name q (s, asked, question) v h a by =
+    staged_if_tells budgets one name q (law one.schema one.set (name, s) asked q question) v h a by
 
--- and a verdict is an answer, where no certificate is asked for
-pub answer_if_verdict : (one : OneSet) (name : StatementName) (budgets : Budgets) (a : UseAnswer) → IsUseVerdict one name a → IsUseAnswerAt false budgets one name a
-answer_if_verdict one name budgets answer.Idle v = λ s there. (refl, v)
-answer_if_verdict one name budgets (answer.Used q) v = λ s there. v
-answer_if_verdict one name budgets _ v = absurd v
+-- which is an answer where no certificate is asked for: of whichever query, where it is decided
+pub answer_if_decided : (budgets : Budgets) (one : OneSet) (name : StatementName) (q : Query) (a : UseAnswer) → is_undecided a ≡ false
+    → IsStagedUseAnswer budgets one name q a → IsUseAnswerAt false budgets one name a
+answer_if_decided budgets one name q (answer.Used r) decides h = λ s there. h
+answer_if_decided budgets one name q answer.Idle decides h = λ s there. (refl, h)
+answer_if_decided budgets one name q (answer.Proved text) decides h = absurd h
+answer_if_decided budgets one name q (answer.Undecided short) decides h = absurd (cc)
+
+-- and of the change query in any case
+pub answer_if_itself : (budgets : Budgets) (one : OneSet) (name : StatementName) (q : Query)
+    → OfNamed one.set name (λ s. IsQuery (change_plan one.schema one.set (name, s)) q) → (a : UseAnswer) → IsStagedUseAnswer budgets one name q a
+    → IsUseAnswerAt false budgets one name a
+answer_if_itself budgets one name q is (answer.Used r) h = λ s there. h
+answer_if_itself budgets one name q is answer.Idle h = λ s there. (refl, h)
+answer_if_itself budgets one name q is (answer.Proved text) h = absurd h
+answer_if_itself budgets one name q is (answer.Undecided (shortage.Splits n)) h = λ s there. (h.0, record { query = q; is = is s there; holds = h.1 })
+answer_if_itself budgets one name q is (answer.Undecided (shortage.States n t)) h = λ s there. (h.0, record { query = q; is = is s there; holds = h.1 })
 
 -- ---- the change query
 

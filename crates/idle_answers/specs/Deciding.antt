@@ -1,5 +1,5 @@
 -- The answers to what a search decides.
-use Rattle.std.specs.Prelude.{◌≡◌, ◌≤◌, ℕ, Bool, true, false, Option, Some, None, Contains, string_bytes}
+use Rattle.std.specs.Prelude.{◌≡◌, ◌≤◌, ℕ, Bool, true, false, Contains, string_bytes}
 use Rattle.policy_compile.specs.declared.outcome.Query.{Query}
 use Rattle.policy_model.specs.declared.set.PolicySet.{PolicySet}
 use Rattle.policy_model.specs.declared.set.Statement.{Statement}
@@ -15,16 +15,20 @@ use Rattle.run_sets.specs.declared.one_set.OneSet.{OneSet}
 use Rattle.run_sets.specs.declared.shortage.Shortage.TheVariants.{Splits, States}
 use Rattle.set_questions.specs.Idle.{IsIdle, IsUsedBy}
 use Rattle.set_questions.specs.Laws.{AsksTheChange, IsSmallerQuestion}
+use Rattle.set_questions.specs.Settling.{BothRunsFail}
 use Rattle.set_questions.specs.declared.narrowing.AskedPair.{AskedPair}
 use Rattle.set_questions.specs.declared.outcome.Use.{Use}
 use Rattle.set_questions.specs.declared.outcome.Use.TheVariants as use_of
 use Rattle.set_questions.specs.declared.settling.Settled.{Settled}
 use Rattle.set_questions.specs.declared.settling.Settled.TheVariants as settled
+use Rattle.staged_search.specs.declared.verdict.Verdict.{Verdict}
+use Rattle.staged_search.specs.declared.verdict.Verdict.TheVariants as verdict
 use Rattle.tree_search.specs.declared.outcome.Budgets.{Budgets}
 use Rattle.tree_search.specs.declared.outcome.Decided.{Decided}
 use Rattle.tree_search.specs.declared.outcome.Decided.TheVariants as decided
 use Rattle.idle_answers.specs.declared.answer.UseAnswer.{UseAnswer}
 use Rattle.idle_answers.specs.declared.answer.UseAnswer.TheVariants.{Used, Idle, Proved, Undecided}
+use Rattle.idle_answers.specs.UseAnswers.{IsShortAt}
 
 -- what a search decided settles the query
 abbrev pub settled_of : Decided → Settled
@@ -61,15 +65,18 @@ abbrev pub IsSmallerFor : OneSet → StatementName → Query → Type 0
 IsSmallerFor one name query =
     (s : Statement) × (asked : AskedPair) × IsSmallerQuestion one.schema one.set (name, s) asked query
 
--- the verdict on a statement
-abbrev pub IsUseVerdict : OneSet → StatementName → UseAnswer → Type 0
-IsUseVerdict one name Idle = IsIdle one.schema one.set name
-IsUseVerdict one name (Used q) = IsWellKept q × IsUsedBy one.schema one.set name q
-IsUseVerdict one name _ = ⊥
+-- the answer by the verdict on a query
+abbrev pub IsAnswerByVerdict : Budgets → Verdict → UseAnswer → Type 0
+IsAnswerByVerdict budgets verdict.Nobody answer = answer ≡ Idle
+IsAnswerByVerdict budgets (verdict.Met q) answer = (answer ≡ Used q) × IsWellKept q
+IsAnswerByVerdict budgets verdict.OutOfSplits answer = answer ≡ Undecided (Splits budgets.splits)
+IsAnswerByVerdict budgets (verdict.OutOfStates w) answer = answer ≡ Undecided (States budgets.states w.slot)
 
--- the verdict in what settles a query, where there is one
-abbrev pub IsSettledVerdict : Settled → Option UseAnswer → Type 0
-IsSettledVerdict (settled.Nobody r) answer = answer ≡ Some Idle
-IsSettledVerdict (settled.Met q) answer = (answer ≡ Some (Used q)) × IsWellKept q
-IsSettledVerdict settled.OutOfSplits answer = answer ≡ None
-IsSettledVerdict (settled.OutOfStates w) answer = answer ≡ None
+-- the answer on a statement by a query that is asked in place of its change query: whether the statement is used, or a budget that is
+-- too small for the query that was asked
+abbrev pub IsStagedUseAnswer : Budgets → OneSet → StatementName → Query → UseAnswer → Type 0
+IsStagedUseAnswer budgets one name query (Used q) = IsWellKept q × IsUsedBy one.schema one.set name q
+IsStagedUseAnswer budgets one name query Idle = IsIdle one.schema one.set name
+IsStagedUseAnswer budgets one name query (Proved text) = ⊥
+IsStagedUseAnswer budgets one name query (Undecided (Splits n)) = (n ≡ budgets.splits) × BothRunsFail one.schema query n
+IsStagedUseAnswer budgets one name query (Undecided (States n s)) = (n ≡ budgets.states) × IsShortAt one.schema n s query

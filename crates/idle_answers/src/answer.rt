@@ -1,4 +1,7 @@
 //! The answers on a statement.
+ghost use Rattle.std.specs.Prelude.{◌≡◌};
+ghost use Rattle.idle_answers.specs.UseTexts.{is_idle, is_undecided};
+
 use policy_model::Request;
 use run_sets::Shortage;
 
@@ -13,4 +16,28 @@ pub enum UseAnswer {
     Proved(String),
     /// The search would need more than it may take.
     Undecided(Shortage),
+}
+
+/// Whether it says that the statement is idle.
+pub(crate) fn is_idle(answer: &UseAnswer) -> bool
+    ensures { result ≡ is_idle answer.now }
+{
+    match answer {
+        UseAnswer::Idle => true,
+        UseAnswer::Proved(_) => true,
+        UseAnswer::Used(_) => false,
+        UseAnswer::Undecided(_) => false,
+    }
+}
+
+/// Whether it says that the search would need more than it may take.
+pub(crate) fn is_undecided(answer: &UseAnswer) -> bool
+    ensures { result ≡ is_undecided answer.now }
+{
+    match answer {
+        UseAnswer::Undecided(_) => true,
+        UseAnswer::Used(_) => false,
+        UseAnswer::Idle => false,
+        UseAnswer::Proved(_) => false,
+    }
 }

@@ -1,5 +1,5 @@
 //! Decides whether a set needs one of its statements.
-ghost use Rattle.std.specs.Prelude.{◌≡◌, ◌≤◌, true, IfOk, IfSome, IsTrue};
+ghost use Rattle.std.specs.Prelude.{◌≡◌, ◌≤◌, true, false, IfOk, IfSome, IsTrue};
 ghost use Rattle.policy_compile.specs.Limits.{IsWithinLimits};
 ghost use Rattle.policy_compile.specs.Sets.{set_plan};
 ghost use Rattle.policy_difference.specs.Apartness.{IsWithoutApart};
@@ -7,10 +7,10 @@ ghost use Rattle.refute_check.specs.Proofs.{proof_of};
 ghost use Rattle.run_sets.specs.OneSets.{FitsItsSchema};
 ghost use Rattle.set_questions.specs.Idle.{IsNameIn, OfNamed};
 ghost use Rattle.set_questions.specs.Narrowing.{IsNarrowedChange};
-ghost use Rattle.idle_answers.specs.Deciding.{IsAskedWithout, IsIdleAnswer, IsPairWithoutApart, IsSettledVerdict, IsSmallerFor, IsAnswerToUse, IsUseVerdict};
+ghost use Rattle.idle_answers.specs.Deciding.{IsAnswerByVerdict, IsAskedWithout, IsIdleAnswer, IsPairWithoutApart, IsSmallerFor, IsAnswerToUse, IsStagedUseAnswer};
 ghost use Rattle.idle_answers.specs.UseAnswers.{IsUseAnswerAt};
 
-use crate::answer::UseAnswer;
+use crate::answer::{UseAnswer, is_undecided};
 use crate::settling::ByRefutation;
 use crate::sizes::has_few_items;
 use plain_lists::NoMemory;
@@ -23,9 +23,10 @@ use proof_text::{closing_proofs_are_small, closing_proofs_have_no_fault, write_p
 use refute_check::Refutation;
 use run_sets::{OneSet, Shortage};
 use set_questions::{
-    AskedPair, Settle, Settled, Use, is_allow, named_statement, narrowed,
-    narrowed_pairs_ask_the_same, smaller_questions_tell, use_of, without, without_stays_sound,
+    AskedPair, Use, change_query, is_allow, named_statement, narrowed, narrowed_pairs_ask_the_same,
+    smaller_questions_tell, use_of, without, without_stays_sound,
 };
+use staged_search::{Verdict, decide_in_stages};
 use std::alloc::{AllocError, Global};
 use tree_search::Budgets;
 
@@ -69,57 +70,57 @@ fn told_use(
     }
 }
 
-// The verdict in what settles a query, where there is one.
-fn verdict_in(settled: Settled) -> Option<UseAnswer>
-    ensures { IsSettledVerdict settled result }
+// The answer by the verdict on a query.
+fn answer_by(verdict: Verdict, budgets: Budgets) -> UseAnswer
+    ensures { IsAnswerByVerdict budgets verdict result }
 {
-    match settled {
-        Settled::Nobody(_) => Some(UseAnswer::Idle),
-        Settled::Met(request) => {
+    match verdict {
+        Verdict::Nobody => UseAnswer::Idle,
+        Verdict::Met(request) => {
             request.keys_are_well_kept();
-            Some(UseAnswer::Used(request))
+            UseAnswer::Used(request)
         }
-        Settled::OutOfSplits => None,
-        Settled::OutOfStates(_) => None,
+        Verdict::OutOfSplits => UseAnswer::Undecided(Shortage::Splits(budgets.splits)),
+        Verdict::OutOfStates(wide) => {
+            UseAnswer::Undecided(Shortage::States(budgets.states, wide.slot))
+        }
     }
 }
 
-// What the search says of the query of what is left of the set, where it decides it.
-fn verdict_on(
+// The answer by a query of two sets that are asked in place of the set and the set without the statement, or of
+// these two themselves. No certificate of it is asked for, so searches in any order may tell it.
+fn staged_answer(
     alloc: Global,
     one: &OneSet,
     name: StatementName,
     query: &Query,
     budgets: Budgets,
-) -> Result<Option<UseAnswer>, NoMemory>
+) -> Result<UseAnswer, NoMemory>
     requires fitting { FitsItsSchema one.now }
     requires smaller { IsSmallerFor one.now name query.now }
     requires splits { 1 ≤ budgets.splits }
     requires states { 1 ≤ budgets.states }
-    ensures { IfOk result (λ answer. IfSome answer (IsUseVerdict one.now name)) }
+    ensures { IfOk result (IsStagedUseAnswer budgets one.now name query.now) }
 {
-    let mut by = ByRefutation::new(&one.schema, budgets);
     smaller_questions_tell();
-    let settled = by.settle(alloc, query)?;
-    Ok(verdict_in(settled))
+    let verdict = decide_in_stages(alloc, &one.schema, query, budgets)?;
+    Ok(answer_by(verdict, budgets))
 }
 
-// The answer by two sets that are asked in place of the set and the set without the statement, where it is decided.
-fn pair_answer(
+// The query of two sets that are asked in place of the set and the set without the statement, unless it is past
+// a limit.
+fn pair_query(
     alloc: Global,
     one: &OneSet,
     name: StatementName,
     asked: &AskedPair,
-    budgets: Budgets,
-) -> Result<Option<UseAnswer>, NoMemory>
+) -> Result<Option<Query>, NoMemory>
     requires fitting { FitsItsSchema one.now }
     requires asked { IsAskedWithout one.now name asked.now }
-    requires splits { 1 ≤ budgets.splits }
-    requires states { 1 ≤ budgets.states }
-    ensures { IfOk result (λ answer. IfSome answer (IsUseVerdict one.now name)) }
+    ensures { IfOk result (λ query. IfSome query (IsSmallerFor one.now name)) }
 {
     match query(alloc, &one.schema, &asked.less, &asked.rest) {
-        Ok(query) => verdict_on(alloc, one, name, &query, budgets),
+        Ok(query) => Ok(Some(query)),
         Err(QueryFault::TooManyTests) => Ok(None),
         Err(QueryFault::TooManyPieces) => Ok(None),
         Err(QueryFault::NoMemory) => Err(AllocError),
@@ -157,20 +158,17 @@ fn pair_without_apart(
     })
 }
 
-// The answer to an Allow statement of the grants, where the set without what it allows without the statement too
-// is enough to tell: most often hardly more than the statement is left, and what else can apply with it.
-fn difference_answer(
+// The query for an Allow statement of the grants of the set without what it allows without the statement too, where
+// that is enough to tell: most often hardly more than the statement is left, and what else can apply with it.
+fn difference_query(
     alloc: Global,
     one: &OneSet,
     name: StatementName,
-    budgets: Budgets,
-) -> Result<Option<UseAnswer>, NoMemory>
+) -> Result<Option<Query>, NoMemory>
     requires fitting { FitsItsSchema one.now }
     requires named { IsNameIn one.now.set name }
     requires allow { OfNamed one.now.set name (λ s. s.allow ≡ true) }
-    requires splits { 1 ≤ budgets.splits }
-    requires states { 1 ≤ budgets.states }
-    ensures { IfOk result (λ answer. IfSome answer (IsUseVerdict one.now name)) }
+    ensures { IfOk result (λ query. IfSome query (IsSmallerFor one.now name)) }
 {
     let part = without(alloc, &one.set, name)?;
     let Some(left) = without_shared(alloc, &one.set, &part)? else {
@@ -180,7 +178,7 @@ fn difference_answer(
     shared_statements_add_nothing();
     apart_statements_say_nothing();
     without_stays_sound();
-    pair_answer(alloc, one, name, &asked, budgets)
+    pair_query(alloc, one, name, &asked)
 }
 
 // Of the set and the set without the statement, in the order of the change query, what can apply with the
@@ -203,18 +201,15 @@ fn narrowed_change(
     }
 }
 
-// The answer to a statement of either effect, of the grants or a guard, by what can apply with it.
-fn narrowed_answer(
+// The query for a statement of either effect, of the grants or a guard, of what can apply with it.
+fn narrowed_query(
     alloc: Global,
     one: &OneSet,
     name: StatementName,
-    budgets: Budgets,
-) -> Result<Option<UseAnswer>, NoMemory>
+) -> Result<Option<Query>, NoMemory>
     requires fitting { FitsItsSchema one.now }
     requires named { IsNameIn one.now.set name }
-    requires splits { 1 ≤ budgets.splits }
-    requires states { 1 ≤ budgets.states }
-    ensures { IfOk result (λ answer. IfSome answer (IsUseVerdict one.now name)) }
+    ensures { IfOk result (λ query. IfSome query (IsSmallerFor one.now name)) }
 {
     if !has_few_items(&one.set) {
         return Ok(None);
@@ -223,7 +218,7 @@ fn narrowed_answer(
         return Ok(None);
     };
     narrowed_pairs_ask_the_same();
-    pair_answer(alloc, one, name, &asked, budgets)
+    pair_query(alloc, one, name, &asked)
 }
 
 // The answer by the whole change query, with a certificate of it where one is asked for.
@@ -259,24 +254,64 @@ fn is_grant(set: &PolicySet, name: StatementName) -> bool
     is_allow(set, name)
 }
 
-// The answer by a smaller query, where there is one and it is decided.
-fn quick_answer(
+// A smaller query that tells, where there is one.
+fn smaller_query(
+    alloc: Global,
+    one: &OneSet,
+    name: StatementName,
+) -> Result<Option<Query>, NoMemory>
+    requires fitting { FitsItsSchema one.now }
+    requires named { IsNameIn one.now.set name }
+    ensures { IfOk result (λ query. IfSome query (IsSmallerFor one.now name)) }
+{
+    if is_grant(&one.set, name) {
+        difference_query(alloc, one, name)
+    } else {
+        narrowed_query(alloc, one, name)
+    }
+}
+
+// The answer by the change query, which no smaller one stands for, without a certificate.
+fn change_answer(
     alloc: Global,
     one: &OneSet,
     name: StatementName,
     budgets: Budgets,
-) -> Result<Option<UseAnswer>, NoMemory>
+) -> Result<UseAnswer, NoMemory>
     requires fitting { FitsItsSchema one.now }
     requires named { IsNameIn one.now.set name }
+    requires within { IsWithinLimits (set_plan one.now.schema one.now.set) }
     requires splits { 1 ≤ budgets.splits }
     requires states { 1 ≤ budgets.states }
-    ensures { IfOk result (λ answer. IfSome answer (IsUseVerdict one.now name)) }
+    ensures { IfOk result (IsUseAnswerAt false budgets one.now name) }
 {
-    if is_grant(&one.set, name) {
-        difference_answer(alloc, one, name, budgets)
-    } else {
-        narrowed_answer(alloc, one, name, budgets)
+    let query = change_query(alloc, &one.schema, &one.set, name)?;
+    without_stays_sound();
+    staged_answer(alloc, one, name, &query, budgets)
+}
+
+// The answer without a certificate: by a smaller query, where there is one and it is decided.
+fn plain_answer(
+    alloc: Global,
+    one: &OneSet,
+    name: StatementName,
+    budgets: Budgets,
+) -> Result<UseAnswer, NoMemory>
+    requires fitting { FitsItsSchema one.now }
+    requires named { IsNameIn one.now.set name }
+    requires within { IsWithinLimits (set_plan one.now.schema one.now.set) }
+    requires splits { 1 ≤ budgets.splits }
+    requires states { 1 ≤ budgets.states }
+    ensures { IfOk result (IsUseAnswerAt false budgets one.now name) }
+{
+    let Some(query) = smaller_query(alloc, one, name)? else {
+        return change_answer(alloc, one, name, budgets);
+    };
+    let answer = staged_answer(alloc, one, name, &query, budgets)?;
+    if is_undecided(&answer) {
+        return whole_answer(alloc, one, name, budgets, false);
     }
+    Ok(answer)
 }
 
 /// Whether the set needs the statement, within the budgets; with a certificate that it doesn't, where one is
@@ -296,9 +331,7 @@ pub(crate) fn use_answer(
     ensures { IfOk result (IsUseAnswerAt certified budgets one.now name) }
 {
     if !certified {
-        if let Some(answer) = quick_answer(alloc, one, name, budgets)? {
-            return Ok(answer);
-        }
+        return plain_answer(alloc, one, name, budgets);
     }
     whole_answer(alloc, one, name, budgets, certified)
 }

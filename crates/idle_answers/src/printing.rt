@@ -9,11 +9,10 @@ ghost use Rattle.run_sets.specs.OneSets.{FitsItsSchema, set_contents};
 ghost use Rattle.run_sets.specs.Refusals.{IsRefusedBy};
 ghost use Rattle.set_questions.specs.Idle.{IsNameIn};
 ghost use Rattle.idle_answers.specs.Telling.{AddsUse, AreUsesWritten, IsStarted, AddsNextUse, told_status};
-ghost use Rattle.idle_answers.specs.UseTexts.{is_idle, is_undecided};
 ghost use Rattle.run_sets.specs.PastLimits.{IsSetPastLimit};
 ghost use Rattle.idle_answers.specs.UsesPrinted.{AreUsesPrinted, IsIdlePrinted};
 
-use crate::answer::UseAnswer;
+use crate::answer::{UseAnswer, is_idle, is_undecided};
 use crate::deciding::use_answer;
 use crate::text::{statement_start, statements_line, use_text};
 use command_words::IdleArguments;
@@ -31,28 +30,6 @@ struct Told {
     text: String,
     idle: bool,
     undecided: bool,
-}
-
-fn is_idle(answer: &UseAnswer) -> bool
-    ensures { result ≡ is_idle answer.now }
-{
-    match answer {
-        UseAnswer::Idle => true,
-        UseAnswer::Proved(_) => true,
-        UseAnswer::Used(_) => false,
-        UseAnswer::Undecided(_) => false,
-    }
-}
-
-fn is_undecided(answer: &UseAnswer) -> bool
-    ensures { result ≡ is_undecided answer.now }
-{
-    match answer {
-        UseAnswer::Undecided(_) => true,
-        UseAnswer::Used(_) => false,
-        UseAnswer::Idle => false,
-        UseAnswer::Proved(_) => false,
-    }
 }
 
 // Nothing is said of any statement so far, of which there are so many.

@@ -1,5 +1,5 @@
 -- What the search decides of a query, and what a certificate shows of it, says what the sets allow.
-use Rattle.std.proofs.Common.{◌≡◌, ◌≢◌, ◌^◌, ◌≤◌, ℕ, Bool, List, [], ◌∷◌, ◌++◌, length, All, Option, Some, None, IfSome, IfOk, false, slice_get, refl, ap, inl, inr, subst, sym, arith, Result, Ok, Err}
+use Rattle.std.proofs.Common.{◌≡◌, ◌^◌, ◌≤◌, ℕ, Bool, List, [], ◌∷◌, ◌++◌, length, All, Option, Some, None, IfSome, IfOk, false, slice_get, refl, ap, inl, inr, subst, sym, arith, Result, Ok, Err}
 use Rattle.std.specs.Prelude.{string_bytes}
 use Rattle.std.proofs.Math.Pow.{pow_mono}
 use Rattle.std.proofs.lemmas.Bool.{cases_Bool}
@@ -33,14 +33,14 @@ use Rattle.proof_text.specs.Reads.{IsReadFrom, IsProofRead}
 use Rattle.proof_text.specs.Spelling.{IsCertificateOf, certificate_text}
 use Rattle.proof_text.specs.declared.limits.TheConstants.{MOST_NUMBER}
 use Rattle.proof_text.specs.declared.read.ReadProof.{ReadProof}
-use Rattle.clause_search.specs.declared.outcome.Outcome.{Outcome}
-use Rattle.clause_search.specs.declared.outcome.Outcome.TheVariants as outcome
-use Rattle.clause_search.specs.Outcomes.{IsSearchOutcome}
 use Rattle.tree_search.specs.declared.outcome.Budgets.{Budgets}
 use Rattle.tree_search.specs.declared.outcome.Decided.{Decided}
 use Rattle.tree_search.specs.declared.outcome.Decided.TheVariants as decided
 use Rattle.tree_search.specs.Decisions.{IsDecision, IsRefutation}
 use Rattle.tree_search.proofs.Laws.{makes-yes}
+use Rattle.staged_search.specs.declared.verdict.Verdict.{Verdict}
+use Rattle.staged_search.specs.declared.verdict.Verdict.TheVariants as verdict
+use Rattle.staged_search.specs.Stages.{IsStagedVerdict}
 use Rattle.formula_tree.specs.Trees as tree
 use Rattle.request_json.specs.Laws.{WrittenRequestsAreReadAgain}
 use Rattle.command_words.specs.declared.limits.TheConstants.{MOST_SPLITS}
@@ -51,11 +51,10 @@ use Rattle.pair_answers.specs.declared.answer.CheckAnswer.{CheckAnswer}
 use Rattle.pair_answers.specs.declared.answer.CheckAnswer.TheVariants as check
 use Rattle.pair_answers.specs.declared.answer.ComparisonAnswer.{ComparisonAnswer}
 use Rattle.pair_answers.specs.declared.answer.ComparisonAnswer.TheVariants as answer
-use Rattle.pair_answers.specs.declared.search.SearchAnswer.{SearchAnswer}
 use Rattle.run_sets.specs.ClosedQueries.{ClosesAll}
 use Rattle.pair_answers.specs.Certified.{Certifies, ClosesBy, FailsAtLine}
-use Rattle.pair_answers.specs.Comparison.{Covers, FewTestsAreDecided, IsWitness, NeedsStates, plan_of}
-use Rattle.pair_answers.specs.Decided.{IsChecked, IsComparison, IsDecisionAnswer, IsLearnedVerdict, IsRefutedAnswer, IsSearchOf, IsVerdictOn, IsVerdictAnswer, IsVerdictIn}
+use Rattle.pair_answers.specs.Comparison.{Covers, FewTestsAreDecided, IsWitness, plan_of}
+use Rattle.pair_answers.specs.Decided.{IsChecked, IsComparison, IsDecisionAnswer, IsRefutedAnswer, IsStagedAnswer, IsToldBy, IsVerdictOn, IsVerdictAnswer}
 
 pub query_tests : (pair : Pair) (q : Query) → IsFitting pair → IsQuery (plan_of pair) q → All (TestSuits pair.schema) q.tests
 query_tests pair q fitting is = All-collects (TestSuits pair.schema) [] (tests_in (plan_of pair)) q.tests is.tests (All-nil (TestSuits pair.schema)) (suit-query pair.schema pair.first pair.second fitting.first fitting.second)
@@ -145,48 +144,23 @@ verdict-too pair first second answer.NotMore same v = covers-too pair first seco
 verdict-too pair first second (answer.More r) same v = witness-too pair first second r same v
 verdict-too pair first second _ same v = absurd v
 
-verdicts-too : (pair : Pair) (first second : PolicySet) (o : Option ComparisonAnswer) → AskTheSamePair pair.first pair.second first second → IfSome o (IsVerdictOn (pair_of_sets pair.schema first second)) → IfSome o (IsVerdictOn pair)
+pub verdicts-too : (pair : Pair) (first second : PolicySet) (o : Option ComparisonAnswer) → AskTheSamePair pair.first pair.second first second → IfSome o (IsVerdictOn (pair_of_sets pair.schema first second)) → IfSome o (IsVerdictOn pair)
 verdicts-too pair first second None same v = tt
 verdicts-too pair first second (Some a) same v = verdict-too pair first second a same v
 
-pub verdict-if-smaller : {E : Type 0} (pair : Pair) (first second : PolicySet) → AskTheSamePair pair.first pair.second first second → (result : Result (Option ComparisonAnswer) E) → IfOk result (λ o. IfSome o (IsVerdictOn (pair_of_sets pair.schema first second))) → IfOk result (λ o. IfSome o (IsVerdictOn pair))
-verdict-if-smaller pair first second same (Ok o) v = verdicts-too pair first second o same v
-verdict-if-smaller pair first second same (Err e) v = tt
+-- what its query tells is a verdict on a pair
+pub told_if_staged : WrittenRequestsAreReadAgain → (pair : Pair) (q : Query) (budgets : Budgets) (v : Verdict) → IsFitting pair → IsQuery (plan_of pair) q → IsStagedVerdict pair.schema q budgets v → (told : Option ComparisonAnswer) → IsToldBy v told → IfSome told (IsVerdictOn pair)
+told_if_staged written pair q budgets verdict.Nobody fitting is h told e = subst (λ (x : Option ComparisonAnswer). IfSome x (IsVerdictOn pair)) (sym e) (covers_if_unmet pair q fitting is h)
+told_if_staged written pair q budgets (verdict.Met r) fitting is h told e = subst (λ (x : Option ComparisonAnswer). IfSome x (IsVerdictOn pair)) (sym e.0) (witness_if_met written pair q r fitting is h.valid h.meets e.1)
+told_if_staged written pair q budgets verdict.OutOfSplits fitting is h told e = subst (λ (x : Option ComparisonAnswer). IfSome x (IsVerdictOn pair)) (sym e) tt
+told_if_staged written pair q budgets (verdict.OutOfStates w) fitting is h told e = subst (λ (x : Option ComparisonAnswer). IfSome x (IsVerdictOn pair)) (sym e) tt
 
--- a pair asks the same as itself
-pub itself : (first second : PolicySet) → IsSmallerPair first second first second
-itself first second = record {
-  asks = record { covers = λ schema r allows gives. gives allows; only = λ schema r allows refused. (allows, refused) };
-  first_fits = λ schema fits. fits;
-  second_fits = λ schema fits. fits;
-}
-
-pub search_if_decided : ClosedQueriesAreNo → WrittenRequestsAreReadAgain → (pair : Pair) (q : Query) (budgets : Budgets) (d : Decided) → IsFitting pair → IsQuery (plan_of pair) q → IsDecision pair.schema q budgets d → (a : SearchAnswer) → IsVerdictIn d a → IsSearchOf pair a
-search_if_decided law written pair q budgets (decided.Refuted r) fitting is h a v =
-    subst (IsSearchOf pair) (sym v) (covers_if_closed law pair q (proof_of r.value) fitting is h.closes)
-search_if_decided law written pair q budgets (decided.Met r) fitting is h a v =
-    subst (IsSearchOf pair) (sym v.0) (witness_if_met written pair q r fitting is h.valid h.meets v.1)
-search_if_decided law written pair q budgets decided.OutOfSplits fitting is h a v = subst (IsSearchOf pair) (sym v) tt
-search_if_decided law written pair q budgets (decided.OutOfStates w) fitting is h a v = subst (IsSearchOf pair) (sym v) tt
-
--- what a search that learns clauses came to is a verdict
-pub verdict_if_learned : WrittenRequestsAreReadAgain → (pair : Pair) (q : Query) (o : Outcome) → IsFitting pair → IsQuery (plan_of pair) q → IsSearchOutcome pair.schema q o → (v : Option ComparisonAnswer) → IsLearnedVerdict o v → IfSome v (IsVerdictOn pair)
-verdict_if_learned written pair q outcome.Refuted fitting is h v e = subst (λ (x : Option ComparisonAnswer). IfSome x (IsVerdictOn pair)) (sym e) (covers_if_unmet pair q fitting is h)
-verdict_if_learned written pair q (outcome.Met r) fitting is h v e = subst (λ (x : Option ComparisonAnswer). IfSome x (IsVerdictOn pair)) (sym e.0) (witness_if_met written pair q r fitting is h.valid h.meets e.1)
-verdict_if_learned written pair q outcome.Open fitting is h v e = subst (λ (x : Option ComparisonAnswer). IfSome x (IsVerdictOn pair)) (sym e) tt
-
--- a decision within few splits is a comparison within more, where it didn't run out of them
-quick-refuted : (pair : Pair) → HasValidRequest pair.schema → (q : Query) (budgets : Budgets) (version : ℕ) (p : Proof) → IsQuery (plan_of pair) q → Covers pair → (a : ComparisonAnswer) → IsRefutedAnswer false version p a → IsComparison false budgets pair a
-quick-refuted pair some q budgets version p is covers answer.NotMore v = (refl, (q, is), (covers, some))
-quick-refuted pair some q budgets version p is covers (answer.Proved text) v = absurd (cc)
-quick-refuted pair some q budgets version p is covers _ v = absurd v
-
-pub comparison_if_quick : ClosedQueriesAreNo → WrittenRequestsAreReadAgain → (pair : Pair) → HasValidRequest pair.schema → (q : Query) (few budgets : Budgets) (d : Decided) → IsFitting pair → IsQuery (plan_of pair) q → few.states ≡ budgets.states → d ≢ decided.OutOfSplits → IsDecision pair.schema q few d → (a : ComparisonAnswer) → IsDecisionAnswer false pair.schema.version budgets d a → IsComparison false budgets pair a
-comparison_if_quick law written pair some q few budgets (decided.Refuted r) fitting is states ended h a v = quick-refuted pair some q budgets pair.schema.version (proof_of r.value) is (covers_if_closed law pair q (proof_of r.value) fitting is h.closes) a v
-comparison_if_quick law written pair some q few budgets (decided.Met r) fitting is states ended h a v = subst (λ (x : ComparisonAnswer). IsComparison false budgets pair x) (sym v.0) ((q, is), witness_if_met written pair q r fitting is h.valid h.meets v.1)
-comparison_if_quick law written pair some q few budgets decided.OutOfSplits fitting is states ended h a v = absurd (ended refl)
-comparison_if_quick law written pair some q few budgets (decided.OutOfStates w) fitting is states ended h a v =
-    subst (λ (x : ComparisonAnswer). IsComparison false budgets pair x) (sym v) (refl, subst (λ (n : ℕ). NeedsStates pair n w.slot) states (record { query = q; is = is; path = w.path; node = h.node; not_no = h.not_no; asked = h.asked; wider = (w.texts, h.texts) }))
+-- what its query comes to in stages is a comparison of a pair
+pub comparison_if_staged : WrittenRequestsAreReadAgain → (pair : Pair) → HasValidRequest pair.schema → (q : Query) (budgets : Budgets) (v : Verdict) → IsFitting pair → IsQuery (plan_of pair) q → IsStagedVerdict pair.schema q budgets v → (a : ComparisonAnswer) → IsStagedAnswer budgets v a → IsComparison false budgets pair a
+comparison_if_staged written pair some q budgets verdict.Nobody fitting is h a e = subst (λ (x : ComparisonAnswer). IsComparison false budgets pair x) (sym e) (refl, (q, is), (covers_if_unmet pair q fitting is h, some))
+comparison_if_staged written pair some q budgets (verdict.Met r) fitting is h a e = subst (λ (x : ComparisonAnswer). IsComparison false budgets pair x) (sym e.0) ((q, is), witness_if_met written pair q r fitting is h.valid h.meets e.1)
+comparison_if_staged written pair some q budgets verdict.OutOfSplits fitting is h a e = subst (λ (x : ComparisonAnswer). IsComparison false budgets pair x) (sym e) (refl, record { query = q; is = is; holds = h })
+comparison_if_staged written pair some q budgets (verdict.OutOfStates w) fitting is h a e = subst (λ (x : ComparisonAnswer). IsComparison false budgets pair x) (sym e) (refl, record { query = q; is = is; path = w.path; node = h.node; not_no = h.not_no; asked = h.asked; wider = (w.texts, h.texts) })
 
 -- a verdict is a comparison, where the pair has a query
 pub comparison_if_verdict : (pair : Pair) → HasValidRequest pair.schema → (q : Query) (budgets : Budgets) → IsQuery (plan_of pair) q → (a : ComparisonAnswer) → IsVerdictOn pair a → IsComparison false budgets pair a

@@ -1,7 +1,5 @@
 -- What a comparison of two sets may answer, and a check of a certificate.
-use Rattle.std.specs.Prelude.{◌≡◌, ◌≤◌, ⊤, ℕ, List, slice_get, Bool, true, false, Option, Some, None, string_bytes}
-use Rattle.clause_search.specs.declared.outcome.Outcome.{Outcome}
-use Rattle.clause_search.specs.declared.outcome.Outcome.TheVariants as outcome
+use Rattle.std.specs.Prelude.{◌≡◌, ◌≤◌, ℕ, List, slice_get, Bool, true, false, Option, Some, None, string_bytes}
 use Rattle.policy_compile.specs.declared.outcome.Query.{Query}
 use Rattle.policy_model.specs.declared.schema.Schema.{Schema}
 use Rattle.proof_text.specs.Laws.{HoldsSmallNumbers}
@@ -12,6 +10,8 @@ use Rattle.refute_check.specs.Proofs.{Proof, proof_of}
 use Rattle.tree_search.specs.declared.outcome.Budgets.{Budgets}
 use Rattle.tree_search.specs.declared.outcome.Decided.{Decided}
 use Rattle.tree_search.specs.declared.outcome.Decided.TheVariants as decided
+use Rattle.staged_search.specs.declared.verdict.Verdict.{Verdict}
+use Rattle.staged_search.specs.declared.verdict.Verdict.TheVariants as verdict
 use Rattle.run_sets.specs.declared.pair.Pair.{Pair}
 use Rattle.run_sets.specs.declared.refusal.Refusal.{Refusal}
 use Rattle.run_sets.specs.declared.shortage.Shortage.TheVariants.{Splits, States}
@@ -20,8 +20,6 @@ use Rattle.pair_answers.specs.declared.answer.CheckAnswer.{CheckAnswer}
 use Rattle.pair_answers.specs.declared.answer.CheckAnswer.TheVariants.{Accepted, NotClosing, BadProof}
 use Rattle.pair_answers.specs.declared.answer.ComparisonAnswer.{ComparisonAnswer}
 use Rattle.pair_answers.specs.declared.answer.ComparisonAnswer.TheVariants.{NotMore, Proved, More, Undecided}
-use Rattle.pair_answers.specs.declared.search.SearchAnswer.{SearchAnswer}
-use Rattle.pair_answers.specs.declared.search.SearchAnswer.TheVariants as search
 use Rattle.run_sets.specs.ClosedQueries.{ClosesAll, FailsAll}
 use Rattle.run_sets.specs.PastLimits.{IsPlanPastLimit}
 use Rattle.pair_answers.specs.Certified.{Certifies, ClosesBy, FailsAtLine, HasProofFault}
@@ -68,24 +66,19 @@ IsVerdictOn pair NotMore = Covers pair
 IsVerdictOn pair (More q) = IsWitness pair q
 IsVerdictOn pair _ = ⊥
 
--- what a search tells of two sets
-abbrev pub IsSearchOf : Pair → SearchAnswer → Type 0
-IsSearchOf pair (search.Told answer) = IsVerdictOn pair answer
-IsSearchOf pair search.OutOfSplits = ⊤
-IsSearchOf pair search.PastLimit = ⊤
+-- the answer to what a query that is decided in stages comes to within the budgets
+abbrev pub IsStagedAnswer : Budgets → Verdict → ComparisonAnswer → Type 0
+IsStagedAnswer budgets verdict.Nobody answer = answer ≡ NotMore
+IsStagedAnswer budgets (verdict.Met q) answer = (answer ≡ More q) × IsWellKept q
+IsStagedAnswer budgets verdict.OutOfSplits answer = answer ≡ Undecided (Splits budgets.splits)
+IsStagedAnswer budgets (verdict.OutOfStates w) answer = answer ≡ Undecided (States budgets.states w.slot)
 
--- what a search comes to by what it decided
-abbrev pub IsVerdictIn : Decided → SearchAnswer → Type 0
-IsVerdictIn (decided.Refuted r) answer = answer ≡ search.Told NotMore
-IsVerdictIn (decided.Met q) answer = (answer ≡ search.Told (More q)) × IsWellKept q
-IsVerdictIn decided.OutOfSplits answer = answer ≡ search.OutOfSplits
-IsVerdictIn (decided.OutOfStates w) answer = answer ≡ search.PastLimit
-
--- the verdict by what a search that learns clauses came to
-abbrev pub IsLearnedVerdict : Outcome → Option ComparisonAnswer → Type 0
-IsLearnedVerdict outcome.Refuted verdict = verdict ≡ Some NotMore
-IsLearnedVerdict (outcome.Met q) verdict = (verdict ≡ Some (More q)) × IsWellKept q
-IsLearnedVerdict outcome.Open verdict = verdict ≡ None
+-- what it tells of the pair, where it is decided
+abbrev pub IsToldBy : Verdict → Option ComparisonAnswer → Type 0
+IsToldBy verdict.Nobody told = told ≡ Some NotMore
+IsToldBy (verdict.Met q) told = (told ≡ Some (More q)) × IsWellKept q
+IsToldBy verdict.OutOfSplits told = told ≡ None
+IsToldBy (verdict.OutOfStates w) told = told ≡ None
 
 -- the answer to a certificate that was read
 abbrev pub IsVerdictAnswer : Schema → Query → ReadProof → CheckAnswer → Type 0

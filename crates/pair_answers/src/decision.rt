@@ -13,9 +13,8 @@ ghost use Rattle.pair_answers.specs.Comparison.{FewTestsAreDecided, IsComparable
 ghost use Rattle.pair_answers.specs.Decided.{IsChecked, IsComparison, IsDecisionAnswer, IsPastLimit, IsRefutedAnswer, IsVerdictAnswer};
 
 use crate::answer::{CheckAnswer, ComparisonAnswer};
-use crate::learned::learned_answer;
-use crate::search::{first_budgets, is_out_of_splits, is_undecided};
 use crate::smaller::difference_answer;
+use crate::staged::staged_answer;
 use policy_compile::{Query, QueryFault, query};
 use policy_difference::without_shared;
 use policy_model::Schema;
@@ -28,6 +27,7 @@ use request_build::sound_schemas_have_requests;
 use request_json::written_requests_are_read_again;
 use run_files::EarlyEnd;
 use run_sets::{Pair, Refusal, Shortage, refused};
+use staged_search::decide_in_stages;
 use std::alloc::{AllocError, Global};
 use tree_search::{Budgets, Decided, decide, queries_have_runs};
 
@@ -84,37 +84,7 @@ fn decision_answer(
     }
 }
 
-// The answer, where few splits tell it, or learned clauses.
-fn quick_answer(
-    alloc: Global,
-    pair: &Pair,
-    query: &Query,
-    budgets: Budgets,
-) -> Result<Option<ComparisonAnswer>, AllocError>
-    requires { IsComparable budgets pair.now query.now }
-    ensures { IfOk result (λ answer. IfSome answer (IsComparison false budgets pair.now)) }
-{
-    let few = first_budgets(budgets);
-    if budgets.splits <= few.splits {
-        return Ok(None);
-    }
-    let decided = decide(alloc, &pair.schema, query, few)?;
-    if is_undecided(&decided) {
-        let (first, second) = (&pair.first, &pair.second);
-        if let Some(told) = learned_answer(alloc, pair, first, second, budgets.states)? {
-            return Ok(Some(told));
-        }
-    }
-    if is_out_of_splits(&decided) {
-        return Ok(None);
-    }
-    written_requests_are_read_again();
-    closed_queries_are_no();
-    let answer = decision_answer(alloc, decided, pair.schema.version, budgets, false)?;
-    Ok(Some(answer))
-}
-
-// The answer, where it takes no search of the whole query with all splits: by a smaller pair, where there is one.
+// The answer without a certificate: by a smaller pair, where there is one, and it tells; or else by the query in stages.
 fn short_answer(
     alloc: Global,
     pair: &Pair,
@@ -125,7 +95,9 @@ fn short_answer(
     ensures { IfOk result (λ answer. IfSome answer (IsComparison false budgets pair.now)) }
 {
     let Some(left) = without_shared(alloc, &pair.first, &pair.second)? else {
-        return quick_answer(alloc, pair, query, budgets);
+        let verdict = decide_in_stages(alloc, &pair.schema, query, budgets)?;
+        written_requests_are_read_again();
+        return Ok(Some(staged_answer(verdict, budgets)));
     };
     difference_answer(alloc, pair, &left, budgets)
 }

@@ -5,10 +5,9 @@
 mod answer;
 mod certificates;
 mod decision;
-mod learned;
 mod printing;
-mod search;
 mod smaller;
+mod staged;
 mod text;
 
 pub use answer::{CheckAnswer, ComparisonAnswer};

@@ -6,13 +6,15 @@ ghost use Rattle.run_sets.specs.Pairs.{IsFitting};
 ghost use Rattle.pair_answers.specs.Decided.{IsVerdictOn};
 
 use crate::answer::ComparisonAnswer;
-use crate::learned::learned_answer;
-use crate::search::{SearchAnswer, first_budgets, is_short_of_splits, searched};
+use crate::staged::told_by;
+use policy_compile::{QueryFault, query};
 use policy_difference::{
     apart_statements_say_nothing, shared_statements_add_nothing, without_apart,
 };
 use policy_model::{Document, PolicySet};
+use request_json::written_requests_are_read_again;
 use run_sets::Pair;
+use staged_search::decide_in_stages;
 use std::alloc::{AllocError, Global};
 use tree_search::Budgets;
 
@@ -81,8 +83,7 @@ pub(crate) fn difference_answer(
     smaller_answer(alloc, pair, first, second, budgets)
 }
 
-// The answer, where a smaller pair of sets tells it: by few splits, by learned clauses, or by all splits
-// where few were too few.
+// The answer, where the query of a smaller pair of sets tells it.
 fn smaller_answer(
     alloc: Global,
     pair: &Pair,
@@ -96,24 +97,13 @@ fn smaller_answer(
     requires states { 1 ≤ budgets.states }
     ensures { IfOk result (λ answer. IfSome answer (IsVerdictOn pair.now)) }
 {
-    let few = first_budgets(budgets);
-    let found = searched(alloc, &pair.schema, first, second, few)?;
-    let short = is_short_of_splits(&found);
-    if let SearchAnswer::Told(answer) = found {
-        return Ok(Some(answer));
-    }
-    if budgets.splits <= few.splits {
-        return Ok(None);
-    }
-    if let Some(told) = learned_answer(alloc, pair, first, second, budgets.states)? {
-        return Ok(Some(told));
-    }
-    if !short {
-        return Ok(None);
-    }
-    match searched(alloc, &pair.schema, first, second, budgets)? {
-        SearchAnswer::Told(answer) => Ok(Some(answer)),
-        SearchAnswer::PastLimit => Ok(None),
-        SearchAnswer::OutOfSplits => Ok(None),
-    }
+    let asked = match query(alloc, &pair.schema, first, second) {
+        Ok(query) => query,
+        Err(QueryFault::TooManyTests) => return Ok(None),
+        Err(QueryFault::TooManyPieces) => return Ok(None),
+        Err(QueryFault::NoMemory) => return Err(AllocError),
+    };
+    let verdict = decide_in_stages(alloc, &pair.schema, &asked, budgets)?;
+    written_requests_are_read_again();
+    Ok(told_by(verdict))
 }

@@ -25,7 +25,7 @@ use Rattle.policy_compile.specs.Queries.{IsQuery, IsQueryOf, asked_tree}
 use Rattle.policy_compile.specs.Sets.{query_plan, set_plan}
 use Rattle.policy_compile.proofs.Laws.{All-collects, below-numbered, holds-numbered, part-asks, query-covers, query-holds, query-within, same-limits, suit-query}
 use Rattle.policy_difference.specs.Apartness.{AskTheSamePair}
-use Rattle.refute_check.specs.Laws.{IsMetBy, MakesYes}
+use Rattle.refute_check.specs.Laws.{IsMetBy, MakesYes, NoneMeets}
 use Rattle.refute_check.specs.Proofs.{Proof, proof_of}
 use Rattle.refute_check.proofs.Laws.{queries_are_no}
 use Rattle.refute_check.proofs.RunLaws.{makes-yes}
@@ -61,17 +61,21 @@ module _ (schema : Schema) (first second : PolicySet) (first_fits : SchemaFits s
       let plan_says = holds-numbered met.meets.0 r q.tests met.meets.1 (query_plan schema first second) (asked_tree q) is.tree in
       (query-holds schema r first second first_fits second_fits met.valid).0 (plan_says.0 met.meets.2)
 
-  -- where a refutation closes the query, the second set allows each valid request that the first allows
-  pub closed-covers : (p : Proof) → IsClosedBy schema q p → (r : Request) → IsValid schema r → Allows schema first r → Allows schema second r
-  closed-covers p closes r valid allowed =
+  -- where none makes it yes, the second set allows each valid request that the first allows
+  pub unmet-covers : NoneMeets schema q.tests (asked_tree q) [] → (r : Request) → IsValid schema r → Allows schema first r → Allows schema second r
+  unmet-covers none r valid allowed =
       let some_yes : MakesYes q.tests tree.yes r = makes-yes q.tests tree.yes [] r (λ n b e. absurd (cc)) (λ n b t e at. absurd (cc)) refl in
       let total : ℕ → Bool = some_yes.0 in
       let say : AnswersAs total r q.tests = some_yes.1 in
       let asks : AsksPair schema first second r total (asked_tree q) = record { first_fits = first_fits; second_fits = second_fits; valid = valid; tests = q.tests; say = say; numbered = is.tree } in
       elim (cases_Bool (holds total (asked_tree q))) [
-        | inl e ↦ absurd (queries_are_no schema q.tests (asked_tree q) p below closes r valid (total, say, e))
+        | inl e ↦ absurd (none r (record { valid = valid; answers = λ n b t e at. absurd (cc); meets = (total, say, e) }))
         | inr e ↦ query-covers schema first second r (asked_tree q) total asks e allowed
       ]
+
+  -- as where a refutation closes it
+  pub closed-covers : (p : Proof) → IsClosedBy schema q p → (r : Request) → IsValid schema r → Allows schema first r → Allows schema second r
+  closed-covers p closes = unmet-covers (λ r met. queries_are_no schema q.tests (asked_tree q) p below closes r met.valid met.meets)
 
 -- ---- change queries
 
@@ -151,7 +155,7 @@ limits-met plan (Err query_fault.NoMemory) is = tt
 
 -- ---- smaller questions
 
--- a request that only `less` allows is one on which the sets differ, and a refutation shows them the same
+-- a request that only `less` allows is one on which the sets differ, and that there is none shows them the same
 module _ (schema : Schema) (set : PolicySet) (named : Named) (asked : AskedPair) (q : Query) (question : IsSmallerQuestion schema set named asked q) where
   abbrev part : PolicySet
   part = without_statement set named.0
@@ -167,8 +171,8 @@ module _ (schema : Schema) (set : PolicySet) (named : Named) (asked : AskedPair)
     used = λ r met.
         (let only = met-only schema asked.less asked.rest question.pair.less_fits question.pair.rest_fits q question.is r met in
         record { valid = met.valid; differ = differ r (asks.only schema r only.0 only.1) });
-    idle = λ p closes r valid.
-        alike r (λ allows. asks.covers schema r allows (λ few. closed-covers schema asked.less asked.rest question.pair.less_fits question.pair.rest_fits q question.is p closes r valid few));
+    idle = λ none r valid.
+        alike r (λ allows. asks.covers schema r allows (λ few. unmet-covers schema asked.less asked.rest question.pair.less_fits question.pair.rest_fits q question.is none r valid few));
   }
 
   tells-by : (allow : Bool) → named.1.allow ≡ allow → MatchBool allow (AskTheSamePair set part asked.less asked.rest) (AskTheSamePair part set asked.less asked.rest) → DecidesUse schema set named.0 q

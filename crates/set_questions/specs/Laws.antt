@@ -14,12 +14,10 @@ use Rattle.policy_compile.specs.Limits.{AskTheSameTests, MeetLimitsAlike}
 use Rattle.policy_compile.specs.Queries.{IsQuery, asked_tree}
 use Rattle.policy_compile.specs.Sets.{query_plan, set_plan}
 use Rattle.policy_difference.specs.Apartness.{AskTheSamePair}
-use Rattle.refute_check.specs.Laws.{IsMetBy}
-use Rattle.refute_check.specs.Proofs.{Proof}
+use Rattle.refute_check.specs.Laws.{IsMetBy, NoneMeets}
 use Rattle.findings.specs.Answers.{QueryIsAskable}
 use Rattle.set_questions.specs.declared.narrowing.AskedPair.{AskedPair}
 use Rattle.set_questions.specs.Idle.{IsIdle, IsUsedBy, without_statement}
-use Rattle.set_questions.specs.Settling.{IsClosedBy}
 use Rattle.set_questions.specs.Uses.{change_plan}
 
 -- ---- sets without a statement
@@ -74,11 +72,11 @@ pub record IsSmallerQuestion (schema : Schema) (set : PolicySet) (named : Named)
   pub pair : AsksTheChange schema set named.0 named.1 asked
   pub is : IsQuery (query_plan schema asked.less asked.rest) query
 
--- a request that meets it shows the statement used, and a refutation that closes it shows the statement idle
+-- a request that meets it shows the statement used, and that none meets it shows the statement idle
 pub record DecidesUse (schema : Schema) (set : PolicySet) (name : StatementName) (query : Query) : Type 0 where
   pub askable : SchemaIsSound schema → QueryIsAskable schema query
   pub used : (r : Request) → IsMetBy schema query.tests (asked_tree query) [] r → IsUsedBy schema set name r
-  pub idle : (proof : Proof) → IsClosedBy schema query proof → IsIdle schema set name
+  pub idle : NoneMeets schema query.tests (asked_tree query) [] → IsIdle schema set name
 
 abbrev pub SmallerQuestionsTell : Type 0
 SmallerQuestionsTell =

@@ -56,8 +56,10 @@ fn directed_query(
     }
 }
 
-// The change query of the statement.
-fn change_query(
+/// The change query of the statement of this name: of an Allow statement whether the set allows a valid request
+/// that it doesn't allow without the statement, of a Deny statement the other way round. The set's query is within
+/// its limits, and so is this one. The only error is want of memory.
+pub fn change_query(
     alloc: Global,
     schema: &Schema,
     set: &PolicySet,

@@ -9,7 +9,7 @@ mod outcome;
 mod removal;
 mod settling;
 
-pub use asking::{meet_limits, use_of, uses};
+pub use asking::{change_query, meet_limits, use_of, uses};
 pub use meaning::{
     changes_ask_as_the_set, last_allows_of_guards, narrowed_pairs_ask_the_same,
     smaller_questions_tell, twins_are_idle, without_stays_sound, without_takes_one,

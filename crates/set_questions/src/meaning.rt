@@ -20,7 +20,7 @@ pub fn changes_ask_as_the_set()
 {}
 
 /// Where two sets ask the same as the set and the set without a statement, a request that meets their query
-/// shows the statement used, and a refutation that closes it shows the statement idle.
+/// shows the statement used, and that no valid request does shows the statement idle.
 pub fn smaller_questions_tell()
     ensures { SmallerQuestionsTell }
 {}

@@ -6,11 +6,11 @@ use findings::{Asked, Decide, Wide};
 use plain_lists::NoMemory;
 use policy_compile::Query;
 use policy_model::Schema;
-use refute_check::closed_queries_are_no;
+use staged_search::{Verdict, decide_in_stages};
 use std::alloc::Global;
-use tree_search::{Budgets, Decided, decide};
+use tree_search::Budgets;
 
-/// Answers the queries of findings by the search, within budgets.
+/// Answers the queries of findings by the search in stages, within budgets. No certificate comes from it.
 #[derive(Drop)]
 pub struct BySearch<'a> {
     schema: &'a Schema,
@@ -37,15 +37,15 @@ impl<'a> BySearch<'a> {
     }
 }
 
-// What the search decided, as an answer.
-fn answer_to(decided: Decided) -> Asked
-    ensures { result ≡ answer_to decided }
+// The verdict of the search, as an answer.
+fn answer_to(verdict: Verdict) -> Asked
+    ensures { result ≡ answer_to verdict }
 {
-    match decided {
-        Decided::Refuted(_) => Asked::Nobody,
-        Decided::Met(request) => Asked::Met(request),
-        Decided::OutOfSplits => Asked::OutOfSplits,
-        Decided::OutOfStates(wide) => Asked::OutOfStates(Wide {
+    match verdict {
+        Verdict::Nobody => Asked::Nobody,
+        Verdict::Met(request) => Asked::Met(request),
+        Verdict::OutOfSplits => Asked::OutOfSplits,
+        Verdict::OutOfStates(wide) => Asked::OutOfStates(Wide {
             path: wide.path,
             slot: wide.slot,
             texts: wide.texts,
@@ -65,8 +65,7 @@ impl<'a> Decide for BySearch<'a> {
             splits: self.splits,
             states: self.states,
         };
-        closed_queries_are_no();
-        let decided = decide(alloc, self.schema, query, budgets)?;
-        Ok(answer_to(decided))
+        let verdict = decide_in_stages(alloc, self.schema, query, budgets)?;
+        Ok(answer_to(verdict))
     }
 }

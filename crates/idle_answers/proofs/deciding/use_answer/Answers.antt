@@ -1,12 +1,11 @@
 use Rattle.std.proofs.Common.{rules, ◌≡◌, Bool, false, subst, sym}
-use Rattle.idle_answers.specs.Deciding.{IsUseVerdict}
+use Rattle.std.proofs.lemmas.Result.{IfOk-weaker}
 use Rattle.idle_answers.specs.UseAnswers.{IsUseAnswerAt}
-use Rattle.idle_answers.proofs.Verdicts.{answer_if_verdict}
 use Rattle.idle_answers.proofs.deciding.use_answer.Goals as goal
 
-pub returns-in-Some : goal.returns-in-Some
-returns-in-Some c =
-    let verdict : IsUseVerdict c.args.one.now c.args.name c.in-Some.answer = search rules in
+pub returns-then-not-certified : goal.returns-then-not-certified
+returns-then-not-certified c =
     let plain : c.args.certified ≡ false = search rules in
-    subst (λ (b : Bool). IsUseAnswerAt b c.args.budgets c.args.one.now c.args.name c.in-Some.answer) (sym plain)
-    (answer_if_verdict c.args.one.now c.args.name c.args.budgets c.in-Some.answer verdict)
+    IfOk-weaker c.plain_answer.result _ _
+    (λ a h. subst (λ (b : Bool). IsUseAnswerAt b c.args.budgets c.args.one.now c.args.name a) (sym plain) h)
+    c.plain_answer.ensures

@@ -1,21 +1,19 @@
-use Rattle.std.proofs.Common.{subst}
 use Rattle.run_sets.specs.Pairs.{pair_of_sets}
-use Rattle.pair_answers.specs.Decided.{IsSearchOf}
-use Rattle.pair_answers.proofs.Comparing.{smaller-fits, verdict-too}
+use Rattle.pair_answers.proofs.Comparing.{query_below, query_tests, smaller-fits, told_if_staged, verdicts-too}
 use Rattle.pair_answers.proofs.smaller.smaller_answer.Goals as goal
 
-pub searched-requires-clause-fitting : goal.searched-requires-clause-fitting
-searched-requires-clause-fitting c = smaller-fits c.args.pair.now c.args.first.now c.args.second.now c.requires.smaller c.requires.fitting
+pub decide_in_stages-requires-clause-suit : goal.decide_in_stages-requires-clause-suit
+decide_in_stages-requires-clause-suit c =
+    let fits = smaller-fits c.args.pair.now c.args.first.now c.args.second.now c.requires.smaller c.requires.fitting in
+    query_tests (pair_of_sets c.args.pair.now.schema c.args.first.now c.args.second.now) c.in-Ok.query fits c.in-Ok.ensures
 
-pub returns-in-Told : goal.returns-in-Told
-returns-in-Told c =
-    let pair = pair_of_sets c.args.pair.now.schema c.args.first.now c.args.second.now in
-    verdict-too c.args.pair.now c.args.first.now c.args.second.now c.in-Told.answer c.requires.smaller.asks (subst (IsSearchOf pair) c.in-Told.is c.in_ok-found.ensures)
+pub decide_in_stages-requires-clause-below : goal.decide_in_stages-requires-clause-below
+decide_in_stages-requires-clause-below c =
+    query_below (pair_of_sets c.args.pair.now.schema c.args.first.now c.args.second.now) c.in-Ok.query c.in-Ok.ensures
 
-pub searched-requires-2-clause-fitting : goal.searched-requires-2-clause-fitting
-searched-requires-2-clause-fitting c = smaller-fits c.args.pair.now c.args.first.now c.args.second.now c.requires.smaller c.requires.fitting
-
-pub returns-in-Told-2 : goal.returns-in-Told-2
-returns-in-Told-2 c =
-    let pair = pair_of_sets c.args.pair.now.schema c.args.first.now c.args.second.now in
-    verdict-too c.args.pair.now c.args.first.now c.args.second.now c.in-Told-2.answer c.requires.smaller.asks (subst (IsSearchOf pair) c.in-Told-2.is c.in_ok-answer.ensures)
+pub returns : goal.returns
+returns c =
+    let fits = smaller-fits c.args.pair.now c.args.first.now c.args.second.now c.requires.smaller c.requires.fitting in
+    verdicts-too c.args.pair.now c.args.first.now c.args.second.now c.told_by.result c.requires.smaller.asks
+    (told_if_staged c.written_requests_are_read_again.ensures (pair_of_sets c.args.pair.now.schema c.args.first.now c.args.second.now) c.in-Ok.query c.args.budgets c.in_ok-verdict.verdict
+    fits c.in-Ok.ensures c.in_ok-verdict.ensures c.told_by.result c.told_by.ensures)

@@ -8,4 +8,4 @@ pub returns-clause-answer : goal.returns-clause-answer
 returns-clause-answer c =
     let by = c.args.self.now in
     subst (λ (a : Asked). AnswersQuery by.schema.now by.splits by.states c.args.query.now a) (sym c.answer_to.ensures)
-    (answers c.closed_queries_are_no.ensures by.schema.now c.args.query.now (record { splits = by.splits; states = by.states }) c.requires.askable c.in_ok-decided.decided c.in_ok-decided.ensures.decision)
+    (answers by.schema.now c.args.query.now (record { splits = by.splits; states = by.states }) c.in_ok-verdict.verdict c.in_ok-verdict.ensures)

@@ -4,14 +4,14 @@ use Rattle.policy_difference.specs.Differences.{IsDifference}
 use Rattle.set_questions.specs.Idle.{without_statement}
 use Rattle.idle_answers.specs.Deciding.{IsPairWithoutApart}
 use Rattle.idle_answers.proofs.Verdicts.{difference_asks}
-use Rattle.idle_answers.proofs.deciding.difference_answer.Goals as goal
+use Rattle.idle_answers.proofs.deciding.difference_query.Goals as goal
 
 -- what is left, where something is
 difference_of : (first second : PolicySet) (left : Option PolicySet) (less : PolicySet) → left ≡ Some less → IfSome left (IsDifference first second) → IsDifference first second less
 difference_of first second left less is difference = subst (λ (o : Option PolicySet). IfSome o (IsDifference first second)) is difference
 
-pub pair_answer-requires-clause-asked : goal.pair_answer-requires-clause-asked
-pair_answer-requires-clause-asked c =
+pub pair_query-requires-clause-asked : goal.pair_query-requires-clause-asked
+pair_query-requires-clause-asked c =
     let one = c.args.one.now in
     let part : c.in_ok-part.part ≡ without_statement one.set c.args.name = c.in_ok-part.ensures in
     let left : IsDifference one.set (without_statement one.set c.args.name) c.in-Some.left =

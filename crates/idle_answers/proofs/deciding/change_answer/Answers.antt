@@ -1,0 +1,13 @@
+use Rattle.std.proofs.lemmas.Result.{IfOk-weaker}
+use Rattle.idle_answers.proofs.Verdicts.{answer_if_itself, is_itself}
+use Rattle.idle_answers.proofs.deciding.change_answer.Goals as goal
+
+pub staged_answer-requires-clause-smaller : goal.staged_answer-requires-clause-smaller
+staged_answer-requires-clause-smaller c =
+    is_itself c.without_stays_sound.ensures c.args.one.now c.args.name c.in_ok-query.query c.requires.fitting c.requires.named c.in_ok-query.ensures
+
+pub returns : goal.returns
+returns c =
+    IfOk-weaker c.staged_answer.result _ _
+    (λ a h. answer_if_itself c.args.budgets c.args.one.now c.args.name c.in_ok-query.query c.in_ok-query.ensures a h)
+    c.staged_answer.ensures

@@ -1,0 +1,8 @@
+//! A query decided by two searches in turn, without a certificate.
+#![tactic(auto)]
+
+mod stages;
+mod verdict;
+
+pub use stages::decide_in_stages;
+pub use verdict::Verdict;
