@@ -13,21 +13,56 @@ fn is_marked(words: &[u64], mark: usize) -> bool {
     }
 }
 
-/// How many pieces for one character are behind the last place of the pattern that is marked.
-fn pieces_left(pattern: &Pattern, end: usize, words: &[u64]) -> Option<usize> {
-    let pieces = pattern.as_slice();
-    let mut left: usize = 0;
-    for back in 0..pieces.len() {
-        if is_marked(words, end.saturating_sub(back)) {
-            return Some(left);
-        }
-        let piece = pieces[pieces.len() - 1 - back];
-        left = left.saturating_add(usize::from(!piece.is_many()));
+/// The bits of the word at an index that stand for marks from one on up to another.
+fn bits_between(words: &[u64], index: usize, from: usize, to: usize) -> u64 {
+    let mut word = match words.get(index) {
+        Some(word) => *word,
+        None => return 0,
+    };
+    if index == from / 64 {
+        word = (word >> (from % 64)) << (from % 64);
     }
-    if is_marked(words, end.saturating_sub(pieces.len())) {
-        return Some(left);
+    if index == to / 64 {
+        word = (word << (63 - to % 64)) >> (63 - to % 64);
+    }
+    word
+}
+
+/// The last mark that is set from one on up to another.
+fn last_marked(words: &[u64], from: usize, to: usize) -> Option<usize> {
+    for index in (from / 64..to / 64 + 1).rev() {
+        let bits = bits_between(words, index, from, to);
+        if bits != 0 {
+            let zeros = bits.leading_zeros() as usize;
+            return Some(
+                index
+                    .saturating_mul(64)
+                    .saturating_add(63usize.saturating_sub(zeros)),
+            );
+        }
     }
     None
+}
+
+/// How many marks are set from one on up to another.
+fn count_between(words: &[u64], from: usize, to: usize) -> usize {
+    let mut count: usize = 0;
+    for index in from / 64..to / 64 + 1 {
+        let bits = bits_between(words, index, from, to);
+        count = count.saturating_add(bits.count_ones() as usize);
+    }
+    count
+}
+
+/// How many pieces for one character are behind the last place of the pattern that is marked.
+fn pieces_left(machine: &Machine, pattern: &Pattern, end: usize, words: &[u64]) -> Option<usize> {
+    let last = last_marked(words, end.saturating_sub(pattern.len()), end)?;
+    if last == end {
+        return Some(0);
+    }
+    let behind = last.saturating_add(1);
+    let stars = count_between(machine.masks.many.as_slice(), behind, end);
+    Some(end.saturating_sub(last).saturating_sub(stars))
 }
 
 /// How many characters at least a pattern that is not to match needs for that, if it can.
@@ -52,7 +87,7 @@ fn literal_left(
     let pattern = wants.patterns.as_slice().get(number)?;
     let end = *machine.ends.as_slice().get(number)?;
     if literal.holds {
-        pieces_left(pattern, end, words)
+        pieces_left(machine, pattern, end, words)
     } else {
         escape(pattern, end, words)
     }

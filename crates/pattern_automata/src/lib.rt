@@ -6,6 +6,7 @@ mod check;
 mod eager;
 mod found;
 mod fronts;
+mod joined;
 mod last;
 mod left;
 mod machine;

@@ -1,10 +1,11 @@
 //! A text that is tried before any product is made: a shortest one of the pattern that asks for most
-//! characters, whose last wildcards take what the other patterns name.
+//! characters, whose last wildcards take what the other patterns name; or one of all patterns.
 ghost use Rattle.std.specs.Prelude.{◌≡◌, ◌↔◌, ◌<◌, length, All, Any, IfOk, IfSome, IsTrue, OnOk};
 ghost use Rattle.std.specs.Char.{IsScalar};
 ghost use Rattle.pattern_automata.specs.Closed.{InRange, IsLiteralMet, Meets};
 ghost use Rattle.pattern_automata.specs.Answer.{IsTextFor};
 
+use crate::joined::joined;
 use crate::names::{named_characters, spare};
 use crate::wants::{Literal, LiteralList, Wants};
 use plain_lists::NoMemory;
@@ -58,7 +59,7 @@ fn least_length(pattern: &Pattern) -> usize {
 }
 
 /// The pattern that is to match, where the clause says so of one alone.
-fn wanted<'a>(patterns: &'a [Pattern], clause: &[Literal]) -> Option<&'a Pattern> {
+pub fn wanted<'a>(patterns: &'a [Pattern], clause: &[Literal]) -> Option<&'a Pattern> {
     match clause {
         [literal] if literal.holds => patterns.get(literal.pattern as usize),
         _ => None,
@@ -99,13 +100,22 @@ fn is_named(patterns: &[Pattern]) -> bool {
 }
 
 /// Whether the piece takes any one character, but for a colon maybe.
-fn is_one(piece: Piece) -> bool {
+pub fn is_one(piece: Piece) -> bool {
     matches!(piece, Piece::One | Piece::OneNoColon)
 }
 
 /// Whether a piece takes any one character.
 fn asks_any(pattern: &Pattern) -> bool {
     pattern.as_slice().iter().any(|p| is_one(*p))
+}
+
+/// A character that none of the patterns names, if there is one.
+pub fn unnamed(alloc: Global, patterns: &[Pattern]) -> Result<Option<char>, NoMemory> {
+    if !is_named(patterns) {
+        return Ok(Some(ANY));
+    }
+    let named = named_characters(alloc, patterns)?;
+    Ok(spare(&named))
 }
 
 /// The character that stands for those that a wildcard of the pattern takes: the one by which a search
@@ -115,15 +125,14 @@ fn any_of(
     patterns: &[Pattern],
     pattern: &Pattern,
 ) -> Result<Option<char>, NoMemory> {
-    if asks_any(pattern) && is_named(patterns) {
-        let named = named_characters(alloc, patterns)?;
-        return Ok(spare(&named));
+    if asks_any(pattern) {
+        return unnamed(alloc, patterns);
     }
     Ok(Some(ANY))
 }
 
 /// Adds the least that the piece takes, a wildcard the given character.
-fn push_least(piece: Piece, any: char, text: &mut Vec<char>) -> Result<(), NoMemory>
+pub fn push_least(piece: Piece, any: char, text: &mut Vec<char>) -> Result<(), NoMemory>
     requires { All IsScalar text.old.items }
     ensures { OnOk result (All IsScalar text.new.items) }
 {
@@ -205,8 +214,8 @@ pub fn verified(wants: &Wants, text: Text) -> Option<Text>
     None
 }
 
-/// The proposed text, where it meets the wants.
-pub fn proposed(alloc: Global, wants: &Wants) -> Result<Option<Text>, NoMemory>
+/// The text of the pattern that asks for most characters, where it meets the wants.
+fn of_longest(alloc: Global, wants: &Wants) -> Result<Option<Text>, NoMemory>
     requires { InRange (length wants.now.patterns) wants.now.clauses }
     ensures { IfOk result (λ found. IfSome found (IsTextFor wants.now)) }
 {
@@ -230,4 +239,15 @@ pub fn proposed(alloc: Global, wants: &Wants) -> Result<Option<Text>, NoMemory>
     }
     let text = shortest(alloc, pattern, any, named.as_slice())?;
     Ok(verified(wants, text))
+}
+
+/// A proposed text, where one meets the wants.
+pub fn proposed(alloc: Global, wants: &Wants) -> Result<Option<Text>, NoMemory>
+    requires { InRange (length wants.now.patterns) wants.now.clauses }
+    ensures { IfOk result (λ found. IfSome found (IsTextFor wants.now)) }
+{
+    if let Some(text) = of_longest(alloc, wants)? {
+        return Ok(Some(text));
+    }
+    joined(alloc, wants)
 }
