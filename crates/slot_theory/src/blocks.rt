@@ -1,5 +1,6 @@
 //! Proposals for a key of addresses: an address that answers all tests of blocks as the path does, or tests that no
-//! address answers so, read off the blocks in the order of their first addresses. Nothing is promised of them.
+//! address answers so, read off the blocks in the order of their first addresses; or, where the key is to be absent, a
+//! test that says so and one that wants it to have a value. Nothing is promised of them.
 use crate::keys::rule_of;
 use crate::outcome::Core;
 use crate::question::Question;
@@ -44,6 +45,10 @@ struct Tested {
     /// In the order of their first addresses, and of two with the same one the larger first.
     holes: Vec<Hole>,
     answered: usize,
+    /// The test, answered yes, whether the key has a value.
+    there: Option<u32>,
+    /// The same test, answered no.
+    absent: Option<u32>,
 }
 
 fn place_of(address: Address) -> u128 {
@@ -103,17 +108,29 @@ fn narrowed(asked: Asked, span: Span, test: u32) -> Asked {
     }
 }
 
-// Adds the test of this number, if it is of a block.
+// Adds that the test whether the key has a value is answered so.
+fn add_presence(number: u32, answer: Option<bool>, tested: &mut Tested) {
+    match answer {
+        Some(true) => tested.there = Some(number),
+        Some(false) => tested.absent = Some(number),
+        None => {}
+    }
+}
+
+// Adds the test of this number, if it is of a block or asks whether the key has a value.
 fn add_test(
     question: &Question<'_>,
     number: u32,
     test: &Test,
     tested: &mut Tested,
 ) -> Result<(), NoMemory> {
+    let answer = question.path.answer(number);
+    if let Test::Present(_) = test {
+        add_presence(number, answer, tested);
+    }
     let Some(span) = span_of(test) else {
         return Ok(());
     };
-    let answer = question.path.answer(number);
     if answer.is_some() {
         tested.answered = tested.answered.saturating_add(1);
     }
@@ -144,6 +161,8 @@ fn tested_of(alloc: Global, question: &Question<'_>) -> Result<Tested, NoMemory>
         },
         holes: Vec::new(alloc),
         answered: 0,
+        there: None,
+        absent: None,
     };
     for (number, test) in question.tests.iter().enumerate() {
         if is_on(question.slot, test) {
@@ -209,49 +228,95 @@ fn add_cover(holes: &[Hole], span: Span, tests: &mut Vec<u32>) -> Result<(), NoM
     Ok(())
 }
 
-// The tests that bound the addresses and those of holes that have all of them.
-fn conflict_of(alloc: Global, tested: &Tested, low: u32, high: u32) -> Result<Core, NoMemory> {
-    let mut tests = Vec::new(alloc);
-    tests.push(low)?;
-    if high != low {
-        tests.push(high)?;
+// Adds the tests that bound the addresses, or else the one that wants a value, unless each request has one.
+fn add_bounding(tested: &Tested, required: bool, tests: &mut Vec<u32>) -> Result<(), NoMemory> {
+    if let (Some(low), Some(high)) = (tested.asked.low, tested.asked.high) {
+        tests.push(low)?;
+        if high != low {
+            tests.push(high)?;
+        }
+        return Ok(());
     }
+    if required {
+        return Ok(());
+    }
+    if let Some(there) = tested.there {
+        tests.push(there)?;
+    }
+    Ok(())
+}
+
+// The tests that bound the addresses, or want one, and those of holes that have all of them.
+fn conflict_of(alloc: Global, tested: &Tested, required: bool) -> Result<Core, NoMemory> {
+    let mut tests = Vec::new(alloc);
+    add_bounding(tested, required, &mut tests)?;
     add_cover(tested.holes.as_slice(), tested.asked.span, &mut tests)?;
     tests.sort()?;
     Ok(Core::from_vec(tests))
 }
 
-// Whether the slot is a key with at most one address.
-fn has_one_address(question: &Question<'_>) -> bool {
-    match rule_of(question) {
-        Some(rule) => rule.kind == Kind::Address && !rule.many && rule.among.is_none(),
-        None => false,
+// The test that the key is to be absent by, and the one that wants a value where a key that isn't required has to have
+// one.
+fn absence_of(alloc: Global, absent: u32, wanted: Option<u32>) -> Result<Core, NoMemory> {
+    let mut tests = Vec::new(alloc);
+    tests.push(absent)?;
+    if let Some(test) = wanted {
+        tests.push(test)?;
+    }
+    tests.sort()?;
+    Ok(Core::from_vec(tests))
+}
+
+// An address in all blocks that are answered yes and in no hole, or the tests by which there is none.
+fn address_or_conflict(
+    alloc: Global,
+    tested: &Tested,
+    required: bool,
+    orders: u32,
+) -> Result<Proposal, NoMemory> {
+    let (holes, span) = (tested.holes.as_slice(), tested.asked.span);
+    match first_free(holes, span, 0) {
+        Some(first) => {
+            let place = last_free(holes, span, first, orders);
+            Ok(Proposal::Value(Value::Address(address_at(place))))
+        }
+        None => Ok(Proposal::Tests(conflict_of(alloc, tested, required)?)),
     }
 }
 
-/// A proposal where at least so many tests of blocks are answered, and one of them yes. An address lies, if it can, in
-/// none of the blocks whose tests are answered next: where a search answers them no, it still has this address.
+// Whether the slot is a key with at most one address, and whether that is required.
+fn required_address(question: &Question<'_>) -> Option<bool> {
+    match rule_of(question) {
+        Some(rule) if rule.kind == Kind::Address && !rule.many && rule.among.is_none() => {
+            Some(rule.required)
+        }
+        _ => None,
+    }
+}
+
+/// A proposal where at least so many tests of blocks are answered, and the key has to have a value. An address lies, if
+/// it can, in none of the blocks whose tests are answered next: where a search answers them no, it still has this
+/// address.
 pub fn proposed_address(
     alloc: Global,
     question: &Question<'_>,
     least: usize,
 ) -> Result<Option<Proposal>, NoMemory> {
-    if question.path.len() < least || !has_one_address(question) {
+    if question.path.len() < least {
         return Ok(None);
     }
-    let tested = tested_of(alloc, question)?;
-    let (Some(low), Some(high)) = (tested.asked.low, tested.asked.high) else {
+    let Some(required) = required_address(question) else {
         return Ok(None);
     };
-    if tested.answered < least {
+    let tested = tested_of(alloc, question)?;
+    let wanted = tested.asked.low.or(tested.there);
+    if tested.answered < least || (!required && wanted.is_none()) {
         return Ok(None);
     }
-    let (holes, span) = (tested.holes.as_slice(), tested.asked.span);
-    match first_free(holes, span, 0) {
-        Some(first) => {
-            let place = last_free(holes, span, first, question.tests.len() as u32);
-            Ok(Some(Proposal::Value(Value::Address(address_at(place)))))
-        }
-        None => Ok(Some(Proposal::Tests(conflict_of(alloc, &tested, low, high)?))),
+    if let Some(absent) = tested.absent {
+        let wanted = if required { None } else { wanted };
+        return Ok(Some(Proposal::Tests(absence_of(alloc, absent, wanted)?)));
     }
+    let orders = question.tests.len() as u32;
+    Ok(Some(address_or_conflict(alloc, &tested, required, orders)?))
 }

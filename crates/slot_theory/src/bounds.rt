@@ -1,6 +1,7 @@
-//! Proposals for a key of numbers each of whose answered tests is for the numbers on one side of a bound: a number
-//! that answers all of them, or few tests that no number answers, read off the bounds in a few passes. Nothing is
-//! promised of them.
+//! Proposals for a key of numbers: a number that answers all answered tests of the key, or few of them that no number
+//! answers, read off the tests in a few passes. A test is answered by the numbers on one side of a bound, by all but
+//! one number, by all numbers or, where it is the one that wants the key to be absent, by none. Tests of other forms
+//! are passed over. Nothing is promised of proposals.
 use crate::keys::rule_of;
 use crate::outcome::Core;
 use crate::question::Question;
@@ -11,8 +12,9 @@ use plain_lists::NoMemory;
 use policy_model::{Cond, Kind, Test, Value};
 use std::alloc::Global;
 
-/// The most tests that a conflict of bounds needs: two that no number is between, and one that asks for a value.
-const MOST_TESTS: usize = 3;
+/// The most tests that a conflict of bounds needs: two that at most one number is between, one that excludes this
+/// number, and one that asks for a value.
+const MOST_TESTS: usize = 4;
 
 /// The numbers that some tests are answered by, in units, and whether the tests want the key to have a value.
 #[derive(Clone, Copy)]
@@ -20,6 +22,8 @@ struct Bounds {
     least: i128,
     most: i128,
     there: bool,
+    /// Whether some test excludes the one number that is between the bounds of all tests.
+    excluded: bool,
 }
 
 // No test.
@@ -27,6 +31,7 @@ const NO_TEST: Bounds = Bounds {
     least: i128::MIN,
     most: i128::MAX,
     there: false,
+    excluded: false,
 };
 
 /// An answered test by its number.
@@ -36,84 +41,69 @@ struct Bounding {
     bounds: Bounds,
 }
 
+/// An answered test by its number, and the only number, in units, that doesn't answer it.
+#[derive(Clone, Copy)]
+struct Excluding {
+    test: u32,
+    units: i128,
+}
+
+/// The answered tests of the slot.
+#[derive(Drop)]
+struct Tested {
+    /// Those with bounds.
+    bounding: Vec<Bounding>,
+    /// Those with a number that they exclude, in the order of these numbers.
+    excluding: Vec<Excluding>,
+}
+
 fn at_least(least: i128, there: bool) -> Bounds {
     Bounds {
         least,
-        most: i128::MAX,
         there,
+        ..NO_TEST
     }
 }
 
 fn at_most(most: i128, there: bool) -> Bounds {
     Bounds {
-        least: i128::MIN,
         most,
         there,
+        ..NO_TEST
     }
 }
 
-// The numbers that stand to the bound as named, or those that don't. Those that aren't the bound are on both its
+// The numbers that stand to the limit as named, or those that don't. Those that aren't the limit are on both its
 // sides.
-fn bounds_of(compare: Compare, bound: Scaled, holds: bool) -> Option<Bounds> {
-    let limit = bound.units();
+fn bounds_of(compare: Compare, limit: i128, holds: bool) -> Option<Bounds> {
     match (compare, holds) {
-        (Compare::Equal, true) => Some(Bounds {
-            least: limit,
-            most: limit,
-            there: true,
-        }),
+        (Compare::Equal, true) => Some(met(at_least(limit, true), at_most(limit, true))),
         (Compare::Equal, false) => None,
-        (Compare::Less, true) => Some(at_most(limit.saturating_sub(1), true)),
-        (Compare::Less, false) => Some(at_least(limit, false)),
-        (Compare::LessOrEqual, true) => Some(at_most(limit, true)),
-        (Compare::LessOrEqual, false) => Some(at_least(limit.saturating_add(1), false)),
-        (Compare::Greater, true) => Some(at_least(limit.saturating_add(1), true)),
-        (Compare::Greater, false) => Some(at_most(limit, false)),
-        (Compare::GreaterOrEqual, true) => Some(at_least(limit, true)),
-        (Compare::GreaterOrEqual, false) => Some(at_most(limit.saturating_sub(1), false)),
-    }
-}
-
-fn tested_bounds(test: &Test, holds: bool) -> Option<Bounds> {
-    match test {
-        Test::SomeMeets(_, Cond::Compares(compare, bound)) => bounds_of(*compare, *bound, holds),
-        _ => None,
-    }
-}
-
-// Adds the test, if it is answered and on the slot, and says whether it is for the numbers on one side of a bound.
-fn add_bounding(
-    question: &Question<'_>,
-    number: u32,
-    test: &Test,
-    all: &mut Vec<Bounding>,
-) -> Result<bool, NoMemory> {
-    let Some(holds) = question.path.answer(number) else {
-        return Ok(true);
-    };
-    if !is_on(question.slot, test) {
-        return Ok(true);
-    }
-    let Some(bounds) = tested_bounds(test, holds) else {
-        return Ok(false);
-    };
-    let test = number;
-    all.push(Bounding { test, bounds })?;
-    Ok(true)
-}
-
-// The answered tests of the slot in the order of their numbers, or none where some isn't for one side of a bound.
-fn bounding_tests(
-    alloc: Global,
-    question: &Question<'_>,
-) -> Result<Option<Vec<Bounding>>, NoMemory> {
-    let mut all = Vec::new(alloc);
-    for (number, test) in question.tests.iter().enumerate() {
-        if !add_bounding(question, number as u32, test, &mut all)? {
-            return Ok(None);
+        (Compare::Less, true) | (Compare::GreaterOrEqual, false) => {
+            Some(at_most(limit.saturating_sub(1), holds))
+        }
+        (Compare::Less, false) | (Compare::GreaterOrEqual, true) => Some(at_least(limit, holds)),
+        (Compare::LessOrEqual, true) | (Compare::Greater, false) => Some(at_most(limit, holds)),
+        (Compare::LessOrEqual, false) | (Compare::Greater, true) => {
+            Some(at_least(limit.saturating_add(1), holds))
         }
     }
-    Ok(Some(all))
+}
+
+// All numbers, or none where the key is to be absent.
+fn bounds_of_presence(holds: bool) -> Bounds {
+    if holds {
+        Bounds {
+            there: true,
+            ..NO_TEST
+        }
+    } else {
+        Bounds {
+            least: i128::MAX,
+            most: i128::MIN,
+            ..NO_TEST
+        }
+    }
 }
 
 fn met(first: Bounds, second: Bounds) -> Bounds {
@@ -121,13 +111,95 @@ fn met(first: Bounds, second: Bounds) -> Bounds {
         least: first.least.max(second.least),
         most: first.most.min(second.most),
         there: first.there || second.there,
+        excluded: first.excluded || second.excluded,
     }
 }
 
-// Whether no number is between the bounds. Where the key may be absent, that answers tests of which none wants a
-// value.
+impl Tested {
+    fn add_bounds(&mut self, test: u32, bounds: Bounds) -> Result<(), NoMemory> {
+        self.bounding.push(Bounding { test, bounds })?;
+        Ok(())
+    }
+
+    fn add_comparison(
+        &mut self,
+        test: u32,
+        compare: Compare,
+        bound: Scaled,
+        holds: bool,
+    ) -> Result<(), NoMemory> {
+        let units = bound.units();
+        match bounds_of(compare, units, holds) {
+            Some(bounds) => self.add_bounds(test, bounds),
+            None => {
+                self.excluding.push(Excluding { test, units })?;
+                Ok(())
+            }
+        }
+    }
+
+    fn add_test(&mut self, number: u32, test: &Test, holds: bool) -> Result<(), NoMemory> {
+        match test {
+            Test::Present(_) => self.add_bounds(number, bounds_of_presence(holds)),
+            Test::SomeMeets(_, Cond::Compares(compare, bound)) => {
+                self.add_comparison(number, *compare, *bound, holds)
+            }
+            _ => Ok(()),
+        }
+    }
+
+    // Adds to the bounds the tests that exclude the one number between them, if it is one.
+    fn exclude_only_number(&mut self) -> Result<(), NoMemory> {
+        let all = all_met(self.bounding.as_slice());
+        if all.least != all.most {
+            return Ok(());
+        }
+        for next in self.excluding.as_slice() {
+            if next.units == all.least {
+                let test = next.test;
+                let bounds = Bounds {
+                    excluded: true,
+                    ..NO_TEST
+                };
+                self.bounding.push(Bounding { test, bounds })?;
+            }
+        }
+        Ok(())
+    }
+}
+
+fn tested_of(alloc: Global, question: &Question<'_>) -> Result<Tested, NoMemory> {
+    let mut tested = Tested {
+        bounding: Vec::new(alloc),
+        excluding: Vec::new(alloc),
+    };
+    for (number, test) in question.tests.iter().enumerate() {
+        if let Some(holds) = question.path.answer(number as u32) {
+            if is_on(question.slot, test) {
+                tested.add_test(number as u32, test, holds)?;
+            }
+        }
+    }
+    tested.excluding.sort_by_key(|excluding| excluding.units)?;
+    tested.exclude_only_number()?;
+    Ok(tested)
+}
+
+fn all_met(all: &[Bounding]) -> Bounds {
+    let mut bounds = NO_TEST;
+    for next in all {
+        bounds = met(bounds, next.bounds);
+    }
+    bounds
+}
+
+// Whether no number is between the bounds, or only one that is excluded. Where the key may be absent, that answers
+// tests of which none wants a value.
 fn is_conflict(bounds: Bounds, required: bool) -> bool {
-    bounds.least > bounds.most && (required || bounds.there)
+    if !required && !bounds.there {
+        return false;
+    }
+    bounds.least > bounds.most || (bounds.least == bounds.most && bounds.excluded)
 }
 
 // The first test that conflicts with those before it and those that were found.
@@ -171,16 +243,51 @@ fn units_in(bounds: Bounds) -> i128 {
     }
 }
 
-// A number between the bounds of the tests. Where none is needed, the key is to be absent.
-fn number_in(all: &[Bounding], required: bool) -> Option<Proposal> {
-    let mut bounds = NO_TEST;
-    for next in all {
-        bounds = met(bounds, next.bounds);
+// The least number from the first on that isn't excluded.
+fn free_above(excluding: &[Excluding], first: i128) -> i128 {
+    let mut units = first;
+    for next in excluding {
+        if next.units == units {
+            units = units.saturating_add(1);
+        }
     }
+    units
+}
+
+// The greatest number up to the first that isn't excluded.
+fn free_below(excluding: &[Excluding], first: i128) -> i128 {
+    let mut units = first;
+    for next in excluding.iter().rev() {
+        if next.units == units {
+            units = units.saturating_sub(1);
+        }
+    }
+    units
+}
+
+// The units of a number between the bounds that isn't excluded.
+fn free_in(excluding: &[Excluding], bounds: Bounds) -> Option<i128> {
+    let first = units_in(bounds);
+    let above = free_above(excluding, first);
+    if above <= bounds.most {
+        return Some(above);
+    }
+    let below = free_below(excluding, first);
+    if below >= bounds.least {
+        Some(below)
+    } else {
+        None
+    }
+}
+
+// A number for all tests. Where none is needed, the key is to be absent.
+fn number_for(tested: &Tested, required: bool) -> Option<Proposal> {
+    let bounds = all_met(tested.bounding.as_slice());
     if !required && !bounds.there {
         return None;
     }
-    match Scaled::from_units(units_in(bounds)) {
+    let units = free_in(tested.excluding.as_slice(), bounds)?;
+    match Scaled::from_units(units) {
         Ok(number) => Some(Proposal::Value(Value::Number(number))),
         Err(_) => None,
     }
@@ -208,14 +315,13 @@ pub fn proposed_number(
     let Some(required) = required_number(question) else {
         return Ok(None);
     };
-    let Some(all) = bounding_tests(alloc, question)? else {
-        return Ok(None);
-    };
-    if all.len() < least {
+    let tested = tested_of(alloc, question)?;
+    let count = tested.bounding.len().saturating_add(tested.excluding.len());
+    if count < least {
         return Ok(None);
     }
-    match few_tests(alloc, all.as_slice(), required)? {
+    match few_tests(alloc, tested.bounding.as_slice(), required)? {
         Some(few) => Ok(Some(Proposal::Tests(few))),
-        None => Ok(number_in(all.as_slice(), required)),
+        None => Ok(number_for(&tested, required)),
     }
 }

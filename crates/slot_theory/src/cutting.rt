@@ -4,7 +4,7 @@ ghost use Rattle.std.specs.Prelude.{◌≡◌, IfOk, IfSome};
 ghost use Rattle.slot_theory.specs.Question.{IsConflictOf};
 ghost use Rattle.slot_theory.specs.Shrinking.{IsKept, found_or};
 
-use crate::attempt::{attempt, has_word_soon};
+use crate::attempt::{attempt, attempt_soon};
 use crate::cores::{is_core, without};
 use crate::outcome::{Core, SlotProof};
 use crate::question::Question;
@@ -67,7 +67,7 @@ fn is_met_soon(alloc: Global, question: &Question<'_>, core: &[u32]) -> Result<b
         return Ok(false);
     }
     match question.slot {
-        Slot::Action | Slot::Resource => has_word_soon(alloc, question, core),
+        Slot::Action | Slot::Resource => Ok(attempt_soon(alloc, question, core)?.is_some()),
         Slot::Principal | Slot::Key(_) => Ok(false),
     }
 }

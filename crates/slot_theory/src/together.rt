@@ -1,14 +1,14 @@
 //! The search with many answered tests of a slot at once. A key whose values aren't texts has finitely many
 //! values that stand for all, which are looked at in one pass however many tests there are, while a core
-//! that grows test by test takes a pass for each. Of numbers between bounds two or three tests tell all, and
-//! of address blocks those that cover another.
+//! that grows test by test takes a pass for each. Of numbers between bounds at most four tests tell all, and
+//! of address blocks those that cover another. A word for all tests is mostly found soon or not at all.
 ghost use Rattle.std.specs.Prelude.{◌≡◌, IfOk, IfSome, IsTrue};
 ghost use Rattle.slot_theory.specs.declared.outcome.SlotValue.TheVariants.{Values};
 ghost use Rattle.slot_theory.specs.Question.{IsCoreOf, IsOutcomeOf, PermitsOne};
-ghost use Rattle.slot_theory.specs.Slots.{Permits};
+ghost use Rattle.slot_theory.specs.Slots.{IsWordSlot, Permits};
 ghost use Rattle.slot_theory.specs.Shrinking.{IsKept};
 
-use crate::attempt::attempt;
+use crate::attempt::{attempt, attempt_soon};
 use crate::blocks::proposed_address;
 use crate::bounds::proposed_number;
 use crate::cores::is_core;
@@ -21,7 +21,7 @@ use crate::steps::{Attempt, Kept, Proposal};
 use crate::trial::tried;
 use pattern_automata::LastClosed;
 use plain_lists::NoMemory;
-use policy_model::{Kind, Value, ValueList, is_value_of};
+use policy_model::{Kind, Slot, Value, ValueList, is_value_of};
 use std::alloc::Global;
 
 /// Cores with fewer tests grow test by test.
@@ -29,6 +29,9 @@ const FEW_TESTS: usize = 16;
 
 /// A core with fewer tests of blocks mostly comes to its end soon.
 const FEW_BLOCKS: usize = 2;
+
+/// A core with fewer tests of words mostly comes to its end soon.
+const FEW_WORDS: usize = 8;
 
 /// Whether a core of so many tests has taken as long to grow as all tests at once would take.
 fn is_long(question: &Question<'_>, count: usize) -> bool {
@@ -200,8 +203,36 @@ fn at_last(
     settled_by(alloc, question, tests)
 }
 
+/// What a word for the core tells, where one is found soon that answers all answered tests of the slot.
+fn by_word(
+    alloc: Global,
+    question: &Question<'_>,
+    core: &[u32],
+) -> Result<Option<Possible>, NoMemory>
+    requires slot { IsWordSlot question.now.slot.now }
+    requires core { IsCoreOf question.now core.now }
+    ensures { IfOk result (λ found. IfSome found (IsOutcomeOf question.now)) }
+{
+    match attempt_soon(alloc, question, core)? {
+        Some(Attempt::Right(value)) => Ok(Some(Possible::Found(value))),
+        _ => Ok(None),
+    }
+}
+
+/// What a word for all answered tests tells, where the slot has words and one is found soon.
+fn among_words(alloc: Global, question: &Question<'_>) -> Result<Option<Possible>, NoMemory>
+    ensures { IfOk result (λ found. IfSome found (IsOutcomeOf question.now)) }
+{
+    let tests = answered_tests(alloc, question)?;
+    match (question.slot, as_core(question, tests)) {
+        (Slot::Action | Slot::Resource, Some(core)) => by_word(alloc, question, core.as_slice()),
+        _ => Ok(None),
+    }
+}
+
 /// What is found in the place of a core that grows beyond so many tests: of addresses by their blocks as soon as it has
-/// a few, and else by all answered tests where it has come to many of them.
+/// a few, of words by one for all answered tests once it has some more, and else by all answered tests where it has come
+/// to many of them.
 pub fn all_at_once(
     alloc: Global,
     question: &Question<'_>,
@@ -211,6 +242,11 @@ pub fn all_at_once(
 {
     if count == FEW_BLOCKS {
         if let Some(found) = among_blocks(alloc, question)? {
+            return Ok(Some(found));
+        }
+    }
+    if count == FEW_WORDS {
+        if let Some(found) = among_words(alloc, question)? {
             return Ok(Some(found));
         }
     }
