@@ -1,7 +1,10 @@
-//! How much part each variable had in the last conflicts. The most active undecided one is decided next.
+//! How much part each variable had in the last conflicts. The most active undecided one is decided next, or in turn the first
+//! one.
 use crate::assignment::Assignment;
+use crate::gain::Gain;
 use plain_lists::NoMemory;
 use std::alloc::Global;
+use std::mem::replace;
 
 // What the first conflict adds.
 const FIRST_BUMP: u64 = 1 << 20;
@@ -15,6 +18,11 @@ const MOST_BUMP: u64 = 1 << 40;
 // A heap of so many levels has room for every variable.
 const MOST_DEPTH: u32 = 64;
 
+// How many times longer variables are decided in an order that wasn't tried, and in the one by which more was gained.
+const UNTRIED: u32 = 2;
+
+const BETTER: u32 = 8;
+
 #[derive(Drop)]
 pub(crate) struct Activity {
     scores: Vec<u64>,
@@ -26,6 +34,9 @@ pub(crate) struct Activity {
     // Whether variables are decided by their numbers, as the formula has them. Where much is alike in turn, as in lists of
     // statements, that takes far fewer conflicts.
     by_number: bool,
+    // What was gained since variables are decided in this order, and in the other one where they were last.
+    gained: Gain,
+    gained_before: Gain,
     // All variables with lower numbers are decided or left out.
     least: u32,
     // By variable whether it is in no clause, and never decided.
@@ -47,6 +58,8 @@ impl Activity {
             heap,
             places,
             by_number: false,
+            gained: Gain::new(),
+            gained_before: Gain::new(),
             least: 0,
             left_out: vec![in alloc; false; variables]?,
         })
@@ -77,14 +90,26 @@ impl Activity {
         }
     }
 
-    /// Whether variables are decided by their numbers.
-    pub(crate) fn is_by_number(&self) -> bool {
-        self.by_number
+    /// A clause of so many levels was learned.
+    pub(crate) fn count(&mut self, levels: u32) {
+        self.gained.add(levels);
+    }
+
+    /// How many times longer than else variables are to be decided in the other order, were it to begin now.
+    pub(crate) fn times(&self) -> u32 {
+        if self.gained_before.is_none() {
+            return UNTRIED;
+        }
+        if self.gained_before.is_more(&self.gained) {
+            return BETTER;
+        }
+        1
     }
 
     /// From now on variables are decided in the other order.
     pub(crate) fn turn(&mut self) {
         self.by_number = !self.by_number;
+        self.gained_before = replace(&mut self.gained, Gain::new());
     }
 
     /// The variable is in no clause, and needn't be decided.

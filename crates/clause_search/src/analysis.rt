@@ -7,7 +7,7 @@ use plain_lists::NoMemory;
 use std::alloc::Global;
 use std::mem::replace;
 
-// How many literals are looked at at most to leave one out.
+// The clauses of how many literals are looked at at most to leave one out.
 const MOST_IMPLIED: usize = 100;
 
 // What a hint takes, in units of work.
@@ -19,6 +19,8 @@ const HINT_WORK: usize = 4;
 pub(crate) struct Learned {
     pub(crate) clause: Vec<Literal>,
     pub(crate) hints: Vec<u32>,
+    /// At how many levels its literals became false.
+    pub(crate) levels: u32,
 }
 
 // How far a conflict was traced.
@@ -276,8 +278,12 @@ impl Solver {
         self.limits.spend(self.assignment.variables() / 8);
         let hints = hints_of(self.alloc, &self.assignment, &trace)?;
         self.limits.spend(hints.len().saturating_mul(HINT_WORK));
-        let Trace { clause, .. } = trace;
-        Ok(Learned { clause, hints })
+        let Trace { clause, levels, .. } = trace;
+        Ok(Learned {
+            clause,
+            hints,
+            levels: levels.count_ones().saturating_add(1),
+        })
     }
 
     fn trace_all(&mut self, trace: &mut Trace, number: u32) -> Result<(), NoMemory> {

@@ -34,7 +34,7 @@ fn length_of(pattern: &Pattern) -> Option<u32> {
 }
 
 // Whether no character is taken by both of these pieces. The answer may be no where none is.
-fn are_apart(piece: Piece, other: Piece) -> bool {
+fn differ(piece: Piece, other: Piece) -> bool {
     match (piece, other) {
         (Piece::Lit(own), Piece::Lit(other)) => own != other,
         (Piece::LitFold(own), Piece::LitFold(other)) => own != other,
@@ -49,7 +49,7 @@ fn alike(pattern: &Pattern, other: &Pattern) -> Option<u32> {
     for piece in pattern.as_slice() {
         match others.get(count as usize) {
             Some(own) if *own == *piece => count = count.saturating_add(1),
-            Some(own) if !are_apart(*piece, *own) => return None,
+            Some(own) if !differ(*piece, *own) => return None,
             _ => return Some(count),
         }
     }

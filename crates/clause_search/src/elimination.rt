@@ -250,8 +250,8 @@ impl Solver {
         self.keep(kept, clause.as_slice(), hints)
     }
 
-    // The clause's literals that are undecided.
-    fn open_literals(&self, number: u32) -> Result<Vec<Literal>, NoMemory> {
+    /// The clause's literals that are undecided.
+    pub(crate) fn open_literals(&self, number: u32) -> Result<Vec<Literal>, NoMemory> {
         let mut clause = Vec::new(self.alloc);
         for literal in self.store.get(number) {
             if self.assignment.value(literal.0).is_none() {

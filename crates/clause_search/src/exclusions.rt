@@ -32,7 +32,7 @@ pub(crate) struct Exclusions {
 }
 
 // Whether no value meets both conditions. The answer may be no where none does.
-fn are_conds_apart(one: &Cond, other: &Cond) -> bool {
+fn exclude_as_conditions(one: &Cond, other: &Cond) -> bool {
     match (one, other) {
         (Cond::Matches(one), Cond::Matches(other)) => clashes(one, other),
         (Cond::Compares(Compare::Equal, _), Cond::Compares(Compare::Equal, _)) => true,
@@ -42,21 +42,21 @@ fn are_conds_apart(one: &Cond, other: &Cond) -> bool {
     }
 }
 
-// Whether one value of the tests' slot doesn't meet both of these different tests. The answer may be no where none does.
-fn are_apart(one: &Test, other: &Test) -> bool {
+// Whether no one value of the tests' slot meets both of these different tests. The answer may be no where none does.
+fn exclude(one: &Test, other: &Test) -> bool {
     match (one, other) {
         (Test::Action(one), Test::Action(other)) => clashes(one, other),
         (Test::Resource(one), Test::Resource(other)) => clashes(one, other),
-        (Test::SomeMeets(_, one), Test::SomeMeets(_, other)) => are_conds_apart(one, other),
+        (Test::SomeMeets(_, one), Test::SomeMeets(_, other)) => exclude_as_conditions(one, other),
         (Test::Principal(Entry::Exact(_, _)), Test::Principal(Entry::Exact(_, _))) => true,
         _ => false,
     }
 }
 
-fn are_apart_at(asked: &Asked<'_>, one: u32, other: u32) -> bool {
+fn exclude_at(asked: &Asked<'_>, one: u32, other: u32) -> bool {
     let tests = asked.query.tests.as_slice();
     match (tests.get(one as usize), tests.get(other as usize)) {
-        (Some(one), Some(other)) => are_apart(one, other),
+        (Some(one), Some(other)) => exclude(one, other),
         _ => false,
     }
 }
@@ -126,7 +126,7 @@ impl Exclusions {
 
     // Adds the pair, where no value is in both of its tests.
     fn add_pair(&mut self, asked: &Asked<'_>, own: u32, other: u32) -> Result<(), NoMemory> {
-        if are_apart_at(asked, own, other) {
+        if exclude_at(asked, own, other) {
             self.pairs.push(&[(own, false), (other, false)])?;
         }
         Ok(())

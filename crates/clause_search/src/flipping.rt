@@ -63,17 +63,15 @@ impl Walk {
         self.values.as_slice().get(literal.0 as usize) == Some(&literal.1)
     }
 
-    // Takes in a clause that isn't satisfied at level 0.
-    fn add(&mut self, assignment: &Assignment, literals: &[Literal]) -> Result<(), NoMemory> {
+    // Takes in a clause none of whose literals is known at level 0.
+    fn add(&mut self, literals: &[Literal]) -> Result<(), NoMemory> {
         let number = self.clauses.count();
         let mut count: u32 = 0;
         for literal in literals {
-            if assignment.value(literal.0).is_none() {
-                if let Some(list) = self.lists.get_mut(index_of(*literal)) {
-                    list.push(number)?;
-                }
-                count = count.saturating_add(u32::from(self.is_true(*literal)));
+            if let Some(list) = self.lists.get_mut(index_of(*literal)) {
+                list.push(number)?;
             }
+            count = count.saturating_add(u32::from(self.is_true(*literal)));
         }
         self.clauses.push(literals)?;
         self.counts.push(count)?;
@@ -166,20 +164,17 @@ impl Walk {
     }
 
     // A literal of the clause that is to become true.
-    fn choose(&mut self, assignment: &Assignment, number: u32) -> Option<Literal> {
+    fn choose(&mut self, number: u32) -> Option<Literal> {
         let mut chosen = None;
         let mut sum: u64 = 0;
         for place in 0..self.clauses.get(number).len() {
             let literal = self.clauses.literal(number, place)?;
-            if assignment.value(literal.0).is_none() {
-                let weight = self.weight(literal);
-                self.work = self
-                    .work
-                    .saturating_add(self.holding(complement(literal)).len());
-                sum = sum.saturating_add(weight);
-                if self.draw(sum) < weight {
-                    chosen = Some(literal);
-                }
+            let weight = self.weight(literal);
+            let looked = self.holding(complement(literal)).len();
+            self.work = self.work.saturating_add(looked).saturating_add(1);
+            sum = sum.saturating_add(weight);
+            if self.draw(sum) < weight {
+                chosen = Some(literal);
             }
         }
         chosen
@@ -209,7 +204,7 @@ impl Walk {
     }
 
     // Whether an assignment was found that satisfies each clause.
-    fn run(&mut self, assignment: &Assignment) -> Result<bool, NoMemory> {
+    fn run(&mut self) -> Result<bool, NoMemory> {
         for _ in 0..MOST_WALK {
             if self.refuted.is_empty() {
                 return Ok(true);
@@ -220,7 +215,7 @@ impl Walk {
             let count = self.refuted.len() as u64;
             let place = self.draw(count) as usize;
             if let Some(number) = self.refuted.as_slice().get(place).copied() {
-                match self.choose(assignment, number) {
+                match self.choose(number) {
                     Some(literal) => self.flip(literal)?,
                     None => return Ok(false),
                 }
@@ -235,7 +230,7 @@ impl Solver {
     pub(crate) fn walk(&mut self) -> Result<(), NoMemory> {
         let mut walk = Walk::new(self.alloc, &self.assignment)?;
         self.take_essential(&mut walk)?;
-        let found = walk.run(&self.assignment)?;
+        let found = walk.run()?;
         self.limits.spend(walk.work / 2);
         if found {
             self.prefer_all(walk.values.as_slice());
@@ -246,9 +241,9 @@ impl Solver {
     // Takes in each clause that wasn't learned from conflicts.
     fn take_essential(&self, walk: &mut Walk) -> Result<(), NoMemory> {
         for number in self.essential.as_slice() {
-            let literals = self.store.get(*number);
-            if !self.is_satisfied(literals) {
-                walk.add(&self.assignment, literals)?;
+            if !self.is_satisfied(self.store.get(*number)) {
+                let open = self.open_literals(*number)?;
+                walk.add(open.as_slice())?;
             }
         }
         Ok(())

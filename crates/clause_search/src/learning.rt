@@ -14,8 +14,13 @@ impl Solver {
     /// level at which the learned clause makes its first literal true. Whether it is empty, so that the lines end.
     pub(crate) fn learn(&mut self, number: u32) -> Result<bool, NoMemory> {
         self.fix()?;
-        let Learned { clause, hints } = self.analyse(number)?;
+        let Learned {
+            clause,
+            hints,
+            levels,
+        } = self.analyse(number)?;
         self.activity.decay();
+        self.activity.count(levels);
         self.limits
             .count_conflict(clause.len().saturating_add(hints.len()));
         let number = self.push_derived(clause.as_slice(), hints)?;
@@ -23,6 +28,7 @@ impl Solver {
             self.trim()?;
             return Ok(true);
         }
+        self.remember(number, levels)?;
         self.draw_latest(number, 1);
         self.assert(number)?;
         Ok(false)

@@ -13,6 +13,8 @@ mod clashing;
 mod elimination;
 mod exclusions;
 mod flipping;
+mod forgetting;
+mod gain;
 mod guessing;
 mod learning;
 mod limits;

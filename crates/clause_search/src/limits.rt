@@ -1,7 +1,7 @@
 //! How long a search may go on, in numbers that don't rest on the machine.
 
 /// The most units of work: literals that are looked at, and product states of slots at a price in units. A unit takes some
-/// nanoseconds, so that a search takes less than a second: it stands before one whose budgets the user gave. The check of
+/// nanoseconds, so that a search takes about a second: it stands before one whose budgets the user gave. The check of
 /// the lines isn't counted, which is made where the search ends with the empty clause.
 pub(crate) const MOST_WORK: usize = 80_000_000;
 
@@ -15,9 +15,6 @@ const MOST_WIDE_ROUNDS: u32 = 8;
 const FIRST_RESTART: u32 = 100;
 
 const RESTART_GROWTH: u32 = 8;
-
-// By number a search goes on so many times longer than by activity before it restarts.
-const BY_NUMBER: u32 = 2;
 
 #[derive(Clone, Copy)]
 pub(crate) struct Limits {
@@ -73,17 +70,13 @@ impl Limits {
         self.work == 0 || self.learned == 0 || self.wide_rounds == 0
     }
 
-    /// Whether the search is to restart now, from then on by number or else by activity.
-    pub(crate) fn restarts(&mut self, by_number: bool) -> bool {
+    /// Whether the search is to restart now. Then it goes on so many times longer than else before the next restart.
+    pub(crate) fn restarts(&mut self, times: u32) -> bool {
         if self.left > 0 {
             return false;
         }
         self.interval = self.interval.saturating_add(self.interval / RESTART_GROWTH);
-        self.left = if by_number {
-            self.interval.saturating_mul(BY_NUMBER)
-        } else {
-            self.interval
-        };
+        self.left = self.interval.saturating_mul(times);
         true
     }
 }

@@ -11,7 +11,7 @@ const STEP_WORK: usize = 40;
 const TURN_RESTART: u32 = 1;
 
 // The restart at which an assignment is looked for without learning, after some 4,000 conflicts.
-const WALK_RESTART: u32 = 12;
+const WALK_RESTART: u32 = 8;
 
 /// How the search for an assignment ends.
 #[derive(Clone, Copy)]
@@ -45,7 +45,8 @@ impl Solver {
             if self.learn(number)? {
                 return Ok(Some(Ending::Refuted));
             }
-            if self.limits.restarts(!self.activity.is_by_number()) {
+            let times = self.times();
+            if self.limits.restarts(times) {
                 return self.restart();
             }
             return Ok(None);
@@ -58,14 +59,28 @@ impl Solver {
         Ok(None)
     }
 
+    // Whether variables are decided in the other order from the next restart on.
+    fn turns(&self) -> bool {
+        self.restarts >= TURN_RESTART
+    }
+
+    // How many times longer than else the search is to go on after a restart that comes now.
+    fn times(&self) -> u32 {
+        if self.turns() {
+            return self.activity.times();
+        }
+        1
+    }
+
     // Goes back to level 0. There clauses are left out and made shorter.
     fn restart(&mut self) -> Result<Option<Ending>, NoMemory> {
         self.back_to(0)?;
-        let restart = self.restarts;
-        self.restarts = restart.saturating_add(1);
-        if restart >= TURN_RESTART {
+        if self.turns() {
             self.activity.turn();
         }
+        let restart = self.restarts;
+        self.restarts = restart.saturating_add(1);
+        self.forget()?;
         if restart == WALK_RESTART {
             self.walk()?;
         }

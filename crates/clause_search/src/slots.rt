@@ -17,7 +17,14 @@ use std::alloc::Global;
 use std::mem::replace;
 
 // How many product states of a slot are looked at first; then as many as may be. Most conflicts need few.
-const FEW_STATES: u32 = 100;
+const FIRST_STATES: u32 = 100;
+
+// The most product states times answers: a state of many patterns is dear.
+const MOST_STATES_OF_ANSWERS: usize = 1_000_000;
+
+// So many may be looked at however many answers there are: with some more than two thousand, texts that are near are
+// looked for first.
+const LEAST_STATES: u32 = 2_500;
 
 const LEVELS: u32 = 2;
 
@@ -250,15 +257,19 @@ fn ask_slots(
     Ok(())
 }
 
-// How many product states are looked at on a level, of as many as may be.
-fn states_at(most: u32, level: u32) -> u32
+// How many product states are looked at on a level, of as many as may be, where there are so many answers.
+fn states_at(most: u32, level: u32, answers: usize) -> u32
     requires { 1 ≤ most }
     ensures { 1 ≤ result }
 {
-    if level == 0 && most > FEW_STATES {
-        return FEW_STATES;
+    if most <= FIRST_STATES {
+        return most;
     }
-    most
+    if level == 0 {
+        return FIRST_STATES;
+    }
+    let affordable = (MOST_STATES_OF_ANSWERS / answers.max(1)).min(u32::MAX as usize);
+    most.min(LEAST_STATES.max(affordable as u32))
 }
 
 /// Asks each slot of a test of the path for a value that answers the slot's tests as the path does. More product
@@ -276,7 +287,7 @@ pub(crate) fn ask_levels(
 {
     'levels: for level in 0..LEVELS {
         failing.clear(asked.alloc);
-        let states = states_at(asked.states, level);
+        let states = states_at(asked.states, level, path.len());
         let before = values.len();
         ask_slots(asked, path, states, values, failing)?;
         let found = values.len().saturating_sub(before);

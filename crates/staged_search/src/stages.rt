@@ -20,8 +20,9 @@ const FEW_SPLITS: u32 = 100;
 
 /// Decides a query within budgets: by few splits, by a search that learns clauses, and by all splits, each where
 /// those before it don't decide. The search that learns clauses splits in any order, so it decides much that takes the
-/// search in the fixed order many splits, or states of slots that don't matter. Where a budget is too small it is one
-/// that `tree_search::decide` names.
+/// search in the fixed order many splits, or states of slots that don't matter. A budget of at most 100 splits is spent
+/// at once, and clauses aren't learned; and where few splits end at a slot that is too wide, all would end there. Where a
+/// budget is too small it is one that `tree_search::decide` names.
 ///
 /// The schema is sound and every test suits it, the formula's test numbers are below the number of
 /// tests, and both budgets are at least 1. The only error is want of memory.
