@@ -151,6 +151,18 @@ fn whole(alloc: Global, front: &[char], back: &[char]) -> Result<Text, NoMemory>
     Ok(Text::from_chars(chars))
 }
 
+/// With how many characters at most the front ends that the back begins with.
+fn overlap(front: &[char], back: &[char]) -> usize {
+    for count in (1..front.len().min(back.len()) + 1).rev() {
+        let (_, end) = front.split_at(front.len() - count);
+        let (begin, _) = back.split_at(count);
+        if end == begin {
+            return count;
+        }
+    }
+    0
+}
+
 /// The longest beginning and the longest end that the patterns ask for, and between them what each pattern asks for that
 /// doesn't match without.
 fn joined_by(alloc: Global, all: &[&Pattern], fillers: Fillers) -> Result<Text, NoMemory> {
@@ -168,6 +180,8 @@ fn joined_by(alloc: Global, all: &[&Pattern], fillers: Fillers) -> Result<Text, 
             push_between(pattern, from, to, fillers, &mut front)?;
         }
     }
+    let shared = overlap(front.as_slice(), back.as_slice());
+    front.truncate(front.len().saturating_sub(shared));
     whole(alloc, front.as_slice(), back.as_slice())
 }
 
