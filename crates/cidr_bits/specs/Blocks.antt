@@ -14,6 +14,10 @@ block_size block = 2 ^ (width block.first - block.prefix)
 abbrev pub LiesIn : Block → Address → Type 0
 LiesIn block a = lies_in block.first block.prefix a ≡ true
 
+-- no address lies in both
+abbrev pub AreDisjoint : Block → Block → Type 0
+AreDisjoint one other = (a : Address) → LiesIn one a → ¬ LiesIn other a
+
 -- the address lies in the block, and no address of the block is less
 pub record IsLeast (block : Block) (least : Address) : Type 0 where
   pub inside : LiesIn block least

@@ -1,7 +1,7 @@
 //! Which addresses lie in a block.
-ghost use Rattle.std.specs.Prelude.{◌≡◌, ◌+◌, ◌-◌, ◌*◌, ◌/◌, ◌%◌, ◌^◌, ◌<◌, ◌≤◌, true};
+ghost use Rattle.std.specs.Prelude.{◌≡◌, ◌+◌, ◌-◌, ◌*◌, ◌/◌, ◌%◌, ◌^◌, ◌<◌, ◌≤◌, ◌↔◌, IsTrue, true};
 ghost use Rattle.cidr_bits.specs.Numbers.{width, number, same_family, lies_in};
-ghost use Rattle.cidr_bits.specs.Blocks.{block_size, IsLeast, IsGreatest};
+ghost use Rattle.cidr_bits.specs.Blocks.{AreDisjoint, block_size, IsLeast, IsGreatest};
 
 use crate::address::Address;
 use crate::block::Block;
@@ -12,6 +12,13 @@ pub fn contains(block: &Block, address: &Address) -> bool
     ensures { result ≡ lies_in block.now.first block.now.prefix address.now }
 {
     is_inside(block.first, block.prefix, *address)
+}
+
+/// Whether no address lies in both blocks. Of two blocks that share an address, one lies in the other.
+pub fn are_disjoint(one: &Block, other: &Block) -> bool
+    ensures { IsTrue result ↔ AreDisjoint one.now other.now }
+{
+    !contains(one, &other.first) && !contains(other, &one.first)
 }
 
 fn is_inside(first: Address, prefix: u8, address: Address) -> bool

@@ -10,7 +10,7 @@ mod read;
 mod write;
 
 pub use address::{Address, BadAddress};
-pub use bits::{bounds, contains};
+pub use bits::{are_disjoint, bounds, contains};
 pub use block::Block;
 pub use meanings::{
     address_is_read_back, address_of_is_the_form, block_is_read_back, block_of_is_the_form,

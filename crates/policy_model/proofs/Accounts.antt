@@ -1,5 +1,6 @@
 -- The test that computes whether an id is an ARN of an account agrees with the relation.
-use Rattle.std.proofs.Common.{◌≡◌, ℕ, List, [], ◌∷◌, ◌++◌, true, false, Option, Some, None, refl, ap, ◌∙◌, inl, inr, arith, codes, ◌==◌, option_and_then}
+use Rattle.std.proofs.Common.{◌≡◌, ℕ, List, [], ◌∷◌, ◌++◌, true, false, Option, Some, None, length, take, refl, sym, ap, ◌∙◌, inl, inr, arith, codes, ◌==◌, option_and_then}
+use Rattle.std.proofs.Math.Seq.{take-append_seam}
 use Rattle.std.proofs.lemmas.Bool.{cases_Bool}
 use Rattle.policy_model.specs.Principals.{IsOfAccount, has_colon, after_colon, after_prefix, begins_colon, account_test}
 
@@ -77,12 +78,26 @@ pub account_test-is : (account id : List ℕ) → account_test account id ≡ tr
 account_test-is account id e =
     let last = begins_colon-is _ e in parts account id last.0 _ _ _ _ refl refl refl refl last.1
 
-pub account_test-of : (account id : List ℕ) → IsOfAccount account id → account_test account id ≡ true
-account_test-of account id h =
+-- what stands behind the region of an id of the account
+behind_region : (account id : List ℕ) (h : IsOfAccount account id) →
+    option_and_then after_colon (option_and_then after_colon (option_and_then after_colon (after_prefix (codes "arn:") id))) ≡ Some (account ++ 58 ∷ h.rest)
+behind_region account id h =
     rw (
       h.is,
       behind_colon-append h.partition (h.service ++ 58 ∷ (h.region ++ 58 ∷ (account ++ 58 ∷ h.rest))) h.plain_partition,
       behind_colon-append h.service (h.region ++ 58 ∷ (account ++ 58 ∷ h.rest)) h.plain_service,
       behind_colon-append h.region (account ++ 58 ∷ h.rest) h.plain_region,
-      behind_prefix-append account (58 ∷ h.rest),
     ) refl
+
+pub account_test-of : (account id : List ℕ) → IsOfAccount account id → account_test account id ≡ true
+account_test-of account id h = rw (behind_region account id h, behind_prefix-append account (58 ∷ h.rest)) refl
+
+-- accounts of one length that have an id in common are the same
+some-same : (x y : List ℕ) → Some x ≡ Some y → x ≡ y
+some-same x y e = cc
+
+pub one-account : (a b id : List ℕ) → length a ≡ length b → IsOfAccount a id → IsOfAccount b id → a ≡ b
+one-account a b id same h g =
+    let texts : a ++ 58 ∷ h.rest ≡ b ++ 58 ∷ g.rest = some-same _ _ (sym (behind_region a id h) ∙ behind_region b id g) in
+    sym (take-append_seam a (58 ∷ h.rest)) ∙ (ap (λ (t : List ℕ). take (length a) t) texts ∙
+    (ap (λ (n : ℕ). take n (b ++ 58 ∷ g.rest)) same ∙ take-append_seam b (58 ∷ g.rest)))

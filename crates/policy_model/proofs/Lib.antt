@@ -1,4 +1,5 @@
 mod Accounts
+mod Apart
 mod Entries
 mod Items
 pub mod Laws

@@ -24,6 +24,10 @@ CondMeets (value.Address a) c = ⊥
 CondMeets (value.Bytes bs) (cond.Equals bytes) = bs ≡ bytes
 CondMeets (value.Bytes bs) c = ⊥
 
+-- no value meets both
+abbrev pub SharesNoValue : Cond → Cond → Type 0
+SharesNoValue one other = (v : Value) → CondMeets v one → ¬ CondMeets v other
+
 -- the value meets some of what is asked
 abbrev pub MeetsSome : List Cond → Value → Type 0
 MeetsSome cs v = Any (CondMeets v) cs

@@ -40,6 +40,10 @@ EntryNames k t (Exact kind id) = (k ≡ kind) × (t ≡ id)
 abbrev pub EntryHolds : Request → Entry → Type 0
 EntryHolds r entry = EntryNames r.kind r.id entry
 
+-- no principal is one of both entries
+abbrev pub SharesNoPrincipal : Entry → Entry → Type 0
+SharesNoPrincipal one other = (kind : PrincipalKind) (id : List ℕ) → EntryNames kind id one → ¬ EntryNames kind id other
+
 -- what follows the first colon
 abbrev pub after_colon : List ℕ → Option (List ℕ)
 after_colon [] = None

@@ -1,14 +1,14 @@
 //! What a policy asks of one value of a condition key.
 ghost use Rattle.std.specs.Prelude.{◌≡◌, ◌↔◌, IsTrue};
 ghost use Rattle.std.proofs.Common.{rules};
-ghost use Rattle.policy_model.specs.Conds.{CondMeets, MeetsSome, cond_kind};
+ghost use Rattle.policy_model.specs.Conds.{CondMeets, MeetsSome, SharesNoValue, cond_kind};
 ghost use Rattle.policy_model.specs.declared.cond.Cond.TheVariants as cond;
 
 use crate::value::{Kind, Value};
-use cidr_bits::{Block, contains};
+use cidr_bits::{Block, are_disjoint, contains};
 use intervals::{ByteList, Compare, Scaled, satisfies};
 use plain_lists::{EqualClone, List};
-use wildcard_lang::{Pattern, matches};
+use wildcard_lang::{Pattern, clashes, matches};
 
 /// What is asked of one value.
 #[derive(Clone, Drop, PartialEq, Eq, Hash)]
@@ -111,4 +111,26 @@ pub fn meets_some(value: &Value, conds: &CondList) -> bool
     ensures { IsTrue result ↔ MeetsSome conds.now value.now }
 {
     conds.as_slice().iter().any(|cond| cond_meets(value, cond))
+}
+
+/// Whether no value meets both. The answer may be no although none does: of patterns whose beginnings or ends don't tell
+/// them apart, and of two numbers of which neither is asked to be met exactly. It takes no memory.
+pub fn are_conds_apart(one: &Cond, other: &Cond) -> bool
+    ensures { IsTrue result → SharesNoValue one.now other.now }
+{
+    match (one, other) {
+        (Cond::Matches(first), Cond::Matches(second)) => clashes(first, second),
+        (Cond::Compares(Compare::Equal, number), Cond::Compares(compare, bound)) => {
+            !satisfies(*compare, *bound, *number)
+        }
+        (Cond::Compares(compare, bound), Cond::Compares(Compare::Equal, number)) => {
+            !satisfies(*compare, *bound, *number)
+        }
+        (Cond::Inside(first), Cond::Inside(second)) => are_disjoint(first, second),
+        (Cond::Flag(at_true, at_false), Cond::Flag(also_at_true, also_at_false)) => {
+            !(*at_true && *also_at_true) && !(*at_false && *also_at_false)
+        }
+        (Cond::Equals(first), Cond::Equals(second)) => first != second,
+        _ => false,
+    }
 }

@@ -16,7 +16,7 @@ mod test;
 mod validity;
 mod value;
 
-pub use cond::{Cond, CondList, cond_meets, meets_some};
+pub use cond::{Cond, CondList, are_conds_apart, cond_meets, meets_some};
 pub use context::Context;
 pub use matcher::Matcher;
 pub use operand::{cond_of, conds_of, operand_meets};
@@ -27,8 +27,8 @@ pub use operator::{
 pub use parts::{behind_colon, behind_prefix};
 pub use plain_lists::{EqualClone, List, NoMemory};
 pub use principal::{
-    ACCOUNT_DIGITS, Entry, EntryList, PrincipalKind, accounts_have_twelve_digits, entry_holds,
-    entry_names, is_account,
+    ACCOUNT_DIGITS, Entry, EntryList, PrincipalKind, accounts_have_twelve_digits,
+    are_entries_apart, entry_holds, entry_names, is_account,
 };
 pub use request::Request;
 pub use schema::{KeyRule, KeyRules, Schema, Shapes};

@@ -1,8 +1,8 @@
 //! Principals of requests, and the entries of a policy that name them.
-ghost use Rattle.std.specs.Prelude.{◌≡◌, ◌↔◌, IsTrue};
+ghost use Rattle.std.specs.Prelude.{◌≡◌, ◌≢◌, ◌↔◌, length, IsTrue};
 ghost use Rattle.std.proofs.Common.{rules};
 ghost use Rattle.policy_model.specs.Limits.{AccountsHaveTwelveDigits};
-ghost use Rattle.policy_model.specs.Principals.{EntryHolds, EntryNames, IsOfAccount, account_test, kind_word};
+ghost use Rattle.policy_model.specs.Principals.{EntryHolds, EntryNames, IsOfAccount, SharesNoPrincipal, account_test, kind_word};
 ghost use Rattle.policy_model.specs.Soundness.{IsAccount};
 
 use crate::parts::{behind_colon, behind_prefix};
@@ -114,4 +114,28 @@ pub fn entry_holds(entry: &Entry, request: &Request) -> bool
     ensures { IsTrue result ↔ EntryHolds request.now entry.now }
 {
     entry_names(entry, request.kind, &request.id)
+}
+
+// Whether the accounts are different ones of one length, as all accounts of a policy have it.
+fn are_accounts_apart(one: &Text, other: &Text) -> bool
+    ensures { IsTrue result ↔ (length one.now ≡ length other.now) × (one.now ≢ other.now) }
+{
+    one.len() == other.len() && one != other
+}
+
+/// Whether no principal is one of both entries, by kind, account and id. The answer may be no although they share none where
+/// an account doesn't have twelve digits. It takes no memory.
+pub fn are_entries_apart(one: &Entry, other: &Entry) -> bool
+    ensures { IsTrue result → SharesNoPrincipal one.now other.now }
+{
+    match (one, other) {
+        (Entry::Exact(kind, id), _) => !entry_names(other, *kind, id),
+        (_, Entry::Exact(kind, id)) => !entry_names(one, *kind, id),
+        (Entry::Kind(first), Entry::Kind(second)) => first != second,
+        (Entry::Account(_), Entry::Kind(kind)) | (Entry::Kind(kind), Entry::Account(_)) => {
+            *kind != PrincipalKind::Aws
+        }
+        (Entry::Account(first), Entry::Account(second)) => are_accounts_apart(first, second),
+        (Entry::All, _) | (_, Entry::All) => false,
+    }
 }
