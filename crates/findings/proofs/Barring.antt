@@ -43,20 +43,20 @@ at-some [] i within = absurd (omega (arith, within))
 at-some (x ∷ xs) zero within = (x, refl)
 at-some (x ∷ xs) (suc i) within = at-some xs i (omega (arith, within))
 
-module _ (tests : List Test) (ds : List Stratum) (known : KnownAnswers) (f : List ℕ) (is : IsFinding ds f) (r : Request) where
-  came-met : IsAnswerTable true ds tests known.met → LiesInFinding r ds f → (n : ℕ) (b : Bool) → ComesFromMet known f n b → (t : Test) → slice_get tests n ≡ Some t → MatchBool b (TestHolds r t) (¬ TestHolds r t)
+module _ (schema : Schema) (tests : List Test) (ds : List Stratum) (known : KnownAnswers) (f : List ℕ) (is : IsFinding ds f) (r : Request) (valid : IsValid schema r) where
+  came-met : IsAnswerTable schema true ds tests known.met → LiesInFinding r ds f → (n : ℕ) (b : Bool) → ComesFromMet known f n b → (t : Test) → slice_get tests n ≡ Some t → MatchBool b (TestHolds r t) (¬ TestHolds r t)
   came-met table lies n b from t there =
       let d = at-some ds from.dimension (omega (arith, from.inside, finding-long ds f is)) in
-      table from.dimension d.0 d.1 (predicate_number_at f from.dimension) r (lies-at r ds f is lies from.dimension d.0 d.1) n b t from.has there
+      table from.dimension d.0 d.1 (predicate_number_at f from.dimension) r valid (lies-at r ds f is lies from.dimension d.0 d.1) n b t from.has there
 
-  came-missed : IsAnswerTable false ds tests known.missed → ¬ MeetsFiner r ds f → (n : ℕ) (b : Bool) → ComesFromMissed known ds f n b → (t : Test) → slice_get tests n ≡ Some t → MatchBool b (TestHolds r t) (¬ TestHolds r t)
+  came-missed : IsAnswerTable schema false ds tests known.missed → ¬ MeetsFiner r ds f → (n : ℕ) (b : Bool) → ComesFromMissed known ds f n b → (t : Test) → slice_get tests n ≡ Some t → MatchBool b (TestHolds r t) (¬ TestHolds r t)
   came-missed table none n b from t there =
-      table from.dimension from.stratum from.at from.finer.lower r (λ meets. none (finer-at r ds f is from.dimension from.stratum from.at (from.finer.lower, from.finer.among, meets))) n b t from.finer.has there
+      table from.dimension from.stratum from.at from.finer.lower r valid (λ meets. none (finer-at r ds f is from.dimension from.stratum from.at (from.finer.lower, from.finer.among, meets))) n b t from.finer.has there
 
-  met-says : (path : Answers) → IsAnswerTable true ds tests known.met → AreInsideAnswers known f path → LiesInFinding r ds f → AnswersPath tests path r
+  met-says : (path : Answers) → IsAnswerTable schema true ds tests known.met → AreInsideAnswers known f path → LiesInFinding r ds f → AnswersPath tests path r
   met-says path table are lies n b t answered there = came-met table lies n b (are n b answered) t there
 
-  lying-says : (path : Answers) → IsAnswerTable true ds tests known.met → IsAnswerTable false ds tests known.missed → AreOwnAnswers known ds f path → LiesInFinding r ds f → ¬ MeetsFiner r ds f → AnswersPath tests path r
+  lying-says : (path : Answers) → IsAnswerTable schema true ds tests known.met → IsAnswerTable schema false ds tests known.missed → AreOwnAnswers known ds f path → LiesInFinding r ds f → ¬ MeetsFiner r ds f → AnswersPath tests path r
   lying-says path met missed are lies none n b t answered there = elim (are n b answered) [
     | inl from ↦ came-met met lies n b from t there
     | inr from ↦ came-missed missed none n b from t there
@@ -96,10 +96,10 @@ barred schema set base path fits query no_ r valid gives allowed =
 
 pub plainly-nobody : (base : Query) (known : KnownAnswers) (f : List ℕ) (path : Answers) → AreInsideAnswers known f path → value path (tree_of base.formula.value) ≡ No → HasPlainlyNobody base known f
 plainly-nobody base known f path are no_ schema set strata made table is r valid allowed lies =
-    barred schema set base path made.fits made.query no_ r valid (met-says base.tests strata.dimensions known f is r path table are lies) allowed
+    barred schema set base path made.fits made.query no_ r valid (met-says schema base.tests strata.dimensions known f is r valid path table are lies) allowed
 
 -- no request is the finding's own
-pub plainly-reducible : (schema : Schema) (set : PolicySet) (base : Query) (strata : Strata) (known : KnownAnswers) (f : List ℕ) (path : Answers) → AreMadeFor schema set base strata → AreKnownAnswers base strata known → IsFinding strata.dimensions f →
+pub plainly-reducible : (schema : Schema) (set : PolicySet) (base : Query) (strata : Strata) (known : KnownAnswers) (f : List ℕ) (path : Answers) → AreMadeFor schema set base strata → AreKnownAnswers schema base strata known → IsFinding strata.dimensions f →
     AreOwnAnswers known strata.dimensions f path → value path (tree_of base.formula.value) ≡ No → ¬ IsIrreducible schema set strata.dimensions f
 plainly-reducible schema set base strata known f path made says is are no_ irreducible =
     let ds = strata.dimensions in
@@ -109,7 +109,7 @@ plainly-reducible schema set base strata known f path made says is are no_ irred
     let none : ¬ MeetsFiner r ds f = λ meets. (
     let lower = lies-finer schema r ds f own.lies meets in
     own.no_finer lower.finer (under-finding schema ds steps lower.finer f lower.under is) (under-finer schema ds steps lower.finer f lower.under) lower.lies) in
-    barred schema set base path made.fits made.query no_ r own.valid (lying-says base.tests ds known f is r path says.met says.missed are own.lies none) own.allowed
+    barred schema set base path made.fits made.query no_ r own.valid (lying-says schema base.tests ds known f is r own.valid path says.met says.missed are own.lies none) own.allowed
 
 -- ---- which findings are kept
 
@@ -142,7 +142,7 @@ module _ (base : Query) (known : KnownAnswers) where
   }))
 
 -- those that are kept of those that were kept
-pub both-kept : (schema : Schema) (set : PolicySet) (base : Query) (strata : Strata) (known : KnownAnswers) (fs few kept : List (List ℕ)) → AreMadeFor schema set base strata → AreKnownAnswers base strata known → All (IsFinding strata.dimensions) fs →
+pub both-kept : (schema : Schema) (set : PolicySet) (base : Query) (strata : Strata) (known : KnownAnswers) (fs few kept : List (List ℕ)) → AreMadeFor schema set base strata → AreKnownAnswers schema base strata known → All (IsFinding strata.dimensions) fs →
     DropsPlainlyEmpty base known fs few → KeepInhabited schema base strata few kept → KeepsInhabited schema set strata.dimensions fs kept
 both-kept schema set base strata known fs few kept made says are plainly inhabited =
     let more = inhabited set made in

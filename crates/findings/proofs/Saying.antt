@@ -1,25 +1,33 @@
 -- What the predicates say, as the table grows and as answers are joined.
-use Rattle.std.proofs.Common.{◌≡◌, ◌≢◌, ◌↔◌, ℕ, zero, suc, ◌<◌, Bool, true, false, List, [], ◌∷◌, ◌++◌, Option, Some, None, length, get_or, inl, inr, refl, sym, ap, subst, ◌∙◌}
-use Rattle.std.specs.Prelude.{Contains, MatchBool, MatchOption, slice_get}
+use Rattle.std.proofs.Common.{◌≡◌, ◌≢◌, ◌↔◌, ℕ, zero, suc, ◌<◌, ◌≤◌, Bool, true, false, List, [], ◌∷◌, ◌++◌, Option, Some, None, length, get_or, inl, inr, refl, sym, ap, subst, ◌∙◌}
+use Rattle.std.specs.Prelude.{Contains, IsTrue, MatchBool, MatchOption, slice_get}
 use Rattle.std.proofs.lemmas.Bool.{cases_eq}
 use Rattle.std.proofs.lemmas.List.Elements.{All-nil, All-push}
 use Rattle.std.proofs.lemmas.Option.{slice_get-get_or}
 use Rattle.formula_tree.specs.Answers.{Answers, answer_of}
 use Rattle.formula_tree.proofs.Laws.{answer_of-besides, answer_of-last}
+use Rattle.text_table.specs.Table.{item_at}
 use Rattle.policy_model.specs.declared.request.Request.{Request}
+use Rattle.policy_model.specs.declared.schema.KeyRule.{KeyRule}
+use Rattle.policy_model.specs.declared.schema.Schema.{Schema}
 use Rattle.policy_model.specs.declared.test.Slot.{Slot}
 use Rattle.policy_model.specs.declared.test.Slot.TheVariants as slot
 use Rattle.policy_model.specs.declared.test.Test.{Test}
+use Rattle.policy_model.specs.declared.value.Value.{Value}
+use Rattle.policy_model.specs.Conditions.{values_at}
+use Rattle.policy_model.specs.Requests.{IsValid, PermitsValues}
 use Rattle.policy_model.specs.Tests.{TestHolds}
+use Rattle.policy_model.proofs.Laws.{values-permitted}
 use Rattle.strata.specs.declared.predicate.Predicate.{Predicate}
 use Rattle.strata.specs.declared.predicate.Predicate.TheVariants.{Every, Principal, Word, Meets}
 use Rattle.strata.specs.declared.stratum.Stratum.{Stratum}
 use Rattle.strata.specs.Covers.{predicate_at}
+use Rattle.strata.specs.Plain.{HasOneValueAtMost}
 use Rattle.strata.specs.Predicates.{MeetsPredicate, test_of}
 use Rattle.findings.specs.declared.known.KnownAnswers.{KnownAnswers}
 use Rattle.findings.specs.Queries.{numbers_below}
 use Rattle.findings.specs.Steps.{predicate_number_at}
-use Rattle.findings.specs.KnownAnswers.{AddsFinerAt, AddsTestAnswer, AreOwnAnswers, AreInsideAnswers, ArePassedWhereMet, IsPassedWhereMet, JoinsAnswers, AreGivenByEach, AreGivenForNamed, AreGivenInDimension, DecidesOther, IsAnswerTable, answers_in}
+use Rattle.findings.specs.KnownAnswers.{AddsFinerAt, AddsTestAnswer, AreOwnAnswers, AreInsideAnswers, ArePassedWhereMet, IsPassedWhereMet, JoinsAnswers, AreGivenByEach, AreGivenForNamed, AreGivenInDimension, DecidesOther, IsAnswerTable, IsSingleSlot, answers_in}
 
 -- ---- lists that grow
 
@@ -71,37 +79,62 @@ named-next s tests old new i n p t before within at number is grows =
     let own : slice_get tests i ≡ Some u = subst (λ (k : ℕ). slice_get tests k ≡ Some u) number read in
     is ∙ sym there ∙ own)))
 
-pub no-answers : (met : Bool) (s : Slot) (p : Predicate) (tests : List Test) → AreGivenByEach met s p tests []
-no-answers met s p tests r stands n b t at is = absurd (cc)
+pub no-answers : (Of : Request → Type 0) (met : Bool) (s : Slot) (p : Predicate) (tests : List Test) → AreGivenByEach Of met s p tests []
+no-answers Of met s p tests r of stands n b t at is = absurd (cc)
 
-pub says-none : (named : List (ℕ × Predicate)) (met : Bool) (p : Predicate) (path : Answers) → path ≡ [] → AreGivenForNamed named met p path
-says-none named met p path empty = subst (AreGivenForNamed named met p) (sym empty) (λ s tests are. no-answers met s p tests)
+pub says-none : (single : Bool) (named : List (ℕ × Predicate)) (met : Bool) (p : Predicate) (path : Answers) → path ≡ [] → AreGivenForNamed single named met p path
+says-none single named met p path empty =
+    subst (AreGivenForNamed single named met p) (sym empty) (λ s tests are. no-answers (λ r. IsTrue single → HasOneValueAtMost s r) met s p tests)
 
-pub says-next : (named : List (ℕ × Predicate)) (met : Bool) (p : Predicate) (old new : Answers) (i : ℕ) (q : ℕ × Predicate) (b : Bool) → AreGivenForNamed named met p old → i < length named → q ≡ get_or named i q → DecidesOther met p q.1 b → AddsTestAnswer old q.0 b new → AreGivenForNamed named met p new
-says-next named met p old new i q b before within at says adds s tests are r stands n c t answered there = elim (adds n c answered) [
-  | inl was ↦ before s tests are r stands n c t was there
+pub says-next : (single : Bool) (named : List (ℕ × Predicate)) (met : Bool) (p : Predicate) (old new : Answers) (i : ℕ) (q : ℕ × Predicate) (b : Bool) → AreGivenForNamed single named met p old → i < length named → q ≡ get_or named i q →
+    DecidesOther single met p q.1 b → AddsTestAnswer old q.0 b new → AreGivenForNamed single named met p new
+says-next single named met p old new i q b before within at says adds s tests are r few stands n c t answered there = elim (adds n c answered) [
+  | inl was ↦ before s tests are r few stands n c t was there
   | inr this ↦ (
       let passed : IsPassedWhereMet s tests q = subst (IsPassedWhereMet s tests) (sym at) (are i q within) in
       let own : slice_get tests q.0 ≡ Some t = subst (λ (k : ℕ). slice_get tests k ≡ Some t) this.0 there in
-      subst (λ (x : Bool). MatchBool x (TestHolds r t) (¬ TestHolds r t)) (sym this.1) (turned b (test-meets s q.1 t r (passed t own)) (says s r stands)))
+      subst (λ (x : Bool). MatchBool x (TestHolds r t) (¬ TestHolds r t)) (sym this.1) (turned b (test-meets s q.1 t r (passed t own)) (says s r few stands)))
 ]
+
+-- a valid request has one value in a slot that is a single one
+few-values : (rule : KeyRule) (values : List Value) → rule.many ≡ false → PermitsValues rule values → length values ≤ 1
+few-values rule values once permits = elim permits.count [
+  | inl many ↦ absurd (cc)
+  | inr few ↦ few
+]
+
+given-once : (schema : Schema) (r : Request) (key : List ℕ) (found : Option KeyRule) → item_at key schema.keys ≡ found → MatchOption found ⊥ (λ rule. rule.many ≡ false) → IsValid schema r → length (values_at r key) ≤ 1
+given-once schema r key None at once valid = absurd once
+given-once schema r key (Some rule) at once valid = few-values rule (values_at r key) once (values-permitted schema r key rule valid at)
+
+single-value : (schema : Schema) (s : Slot) (r : Request) → IsSingleSlot schema s → IsValid schema r → HasOneValueAtMost s r
+single-value schema slot.Principal r single valid = tt
+single-value schema slot.Action r single valid = tt
+single-value schema slot.Resource r single valid = tt
+single-value schema (slot.Key key) r single valid = given-once schema r key (item_at key schema.keys) refl single valid
+
+pub given-by-valid : (schema : Schema) (single met : Bool) (s : Slot) (p : Predicate) (tests : List Test) (path : Answers) → (IsTrue single ↔ IsSingleSlot schema s) → AreGivenByEach (λ r. IsTrue single → HasOneValueAtMost s r) met s p tests path →
+    AreGivenByEach (IsValid schema) met s p tests path
+given-by-valid schema single met s p tests path is says r valid stands = says r (λ set. single-value schema s r (is.0 set) valid) stands
 
 -- ---- the table
 
-pub none-say : (met : Bool) (d : Stratum) (tests : List Test) (paths : List Answers) → paths ≡ [] → AreGivenInDimension met d tests paths
-none-say met d tests paths empty = subst (AreGivenInDimension met d tests) (sym empty) (λ n. no-answers met d.slot (predicate_at d.predicates n) tests)
+pub none-say : (schema : Schema) (met : Bool) (d : Stratum) (tests : List Test) (paths : List Answers) → paths ≡ [] → AreGivenInDimension schema met d tests paths
+none-say schema met d tests paths empty = subst (AreGivenInDimension schema met d tests) (sym empty) (λ n. no-answers (IsValid schema) met d.slot (predicate_at d.predicates n) tests)
 
-pub paths-say : (met : Bool) (d : Stratum) (tests : List Test) (old new : List Answers) (path : Answers) (n : ℕ) → length old ≡ n → new ≡ old ++ path ∷ [] → AreGivenInDimension met d tests old → AreGivenByEach met d.slot (predicate_at d.predicates n) tests path → AreGivenInDimension met d tests new
-paths-say met d tests old new path n count grows before here =
-    each-pushed (λ k p. AreGivenByEach met d.slot (predicate_at d.predicates k) tests p) [] old new path n count grows before here
+pub paths-say : (schema : Schema) (met : Bool) (d : Stratum) (tests : List Test) (old new : List Answers) (path : Answers) (n : ℕ) → length old ≡ n → new ≡ old ++ path ∷ [] → AreGivenInDimension schema met d tests old →
+    AreGivenByEach (IsValid schema) met d.slot (predicate_at d.predicates n) tests path → AreGivenInDimension schema met d tests new
+paths-say schema met d tests old new path n count grows before here =
+    each-pushed (λ k p. AreGivenByEach (IsValid schema) met d.slot (predicate_at d.predicates k) tests p) [] old new path n count grows before here
 
-pub table-none : (met : Bool) (ds : List Stratum) (tests : List Test) (table : List (List Answers)) → table ≡ [] → IsAnswerTable met ds tests table
-table-none met ds tests table empty = subst (IsAnswerTable met ds tests) (sym empty) (λ i d at n. no-answers met d.slot (predicate_at d.predicates n) tests)
+pub table-none : (schema : Schema) (met : Bool) (ds : List Stratum) (tests : List Test) (table : List (List Answers)) → table ≡ [] → IsAnswerTable schema met ds tests table
+table-none schema met ds tests table empty = subst (IsAnswerTable schema met ds tests) (sym empty) (λ i d at n. no-answers (IsValid schema) met d.slot (predicate_at d.predicates n) tests)
 
-pub table-says : (met : Bool) (ds : List Stratum) (tests : List Test) (old new : List (List Answers)) (paths : List Answers) (n : ℕ) (d : Stratum) → length old ≡ n → new ≡ old ++ paths ∷ [] → IsAnswerTable met ds tests old → slice_get ds n ≡ Some d → AreGivenInDimension met d tests paths → IsAnswerTable met ds tests new
-table-says met ds tests old new paths n d count grows before at here =
-    each-pushed (λ k ps. (e : Stratum) → slice_get ds k ≡ Some e → AreGivenInDimension met e tests ps) [] old new paths n count grows before
-    (λ e there. (let same : d ≡ e = cc in subst (λ (x : Stratum). AreGivenInDimension met x tests paths) same here))
+pub table-says : (schema : Schema) (met : Bool) (ds : List Stratum) (tests : List Test) (old new : List (List Answers)) (paths : List Answers) (n : ℕ) (d : Stratum) → length old ≡ n → new ≡ old ++ paths ∷ [] → IsAnswerTable schema met ds tests old →
+    slice_get ds n ≡ Some d → AreGivenInDimension schema met d tests paths → IsAnswerTable schema met ds tests new
+table-says schema met ds tests old new paths n d count grows before at here =
+    each-pushed (λ k ps. (e : Stratum) → slice_get ds k ≡ Some e → AreGivenInDimension schema met e tests ps) [] old new paths n count grows before
+    (λ e there. (let same : d ≡ e = cc in subst (λ (x : Stratum). AreGivenInDimension schema met x tests paths) same here))
 
 -- ---- answers that are added
 

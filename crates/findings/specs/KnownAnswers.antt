@@ -1,15 +1,20 @@
 -- What predicates plainly say of the tests of a set: answers that each request gives that meets a predicate, or misses it.
-use Rattle.std.specs.Prelude.{◌≡◌, ◌⊎◌, ◌<◌, ℕ, Bool, true, false, List, [], All, Contains, MatchBool, Some, length, slice_get, slice_index_or}
+use Rattle.std.specs.Prelude.{◌≡◌, ◌⊎◌, ◌<◌, ⊤, ℕ, Bool, true, false, IsTrue, List, [], All, Contains, MatchBool, Some, length, slice_get, slice_index_or}
 use Rattle.formula_tree.specs.Answers.{Answers, answer_of}
 use Rattle.policy_model.specs.declared.request.Request.{Request}
+use Rattle.policy_model.specs.declared.schema.Schema.{Schema}
 use Rattle.policy_model.specs.declared.test.Slot.{Slot}
+use Rattle.policy_model.specs.declared.test.Slot.TheVariants.{Key}
 use Rattle.policy_model.specs.declared.test.Test.{Test}
+use Rattle.policy_model.specs.Requests.{IsValid}
+use Rattle.policy_model.specs.Soundness.{IsKeyWith}
 use Rattle.policy_compile.specs.declared.outcome.Query.{Query}
 use Rattle.slot_theory.specs.Possible.{AnswersPath}
 use Rattle.strata.specs.declared.predicate.Predicate.{Predicate}
 use Rattle.strata.specs.declared.stratum.Strata.{Strata}
 use Rattle.strata.specs.declared.stratum.Stratum.{Stratum}
 use Rattle.strata.specs.Covers.{predicate_at}
+use Rattle.strata.specs.Plain.{HasOneValueAtMost}
 use Rattle.strata.specs.Predicates.{MeetsPredicate, test_of}
 use Rattle.findings.specs.declared.known.KnownAnswers.{KnownAnswers}
 use Rattle.findings.specs.Queries.{numbers_below}
@@ -19,9 +24,16 @@ use Rattle.findings.specs.Steps.{predicate_number_at}
 abbrev pub MeetsOrMisses : Bool → Slot → Predicate → Request → Type 0
 MeetsOrMisses met s p r = MatchBool met (MeetsPredicate s p r) (¬ MeetsPredicate s p r)
 
--- each request that meets, or misses, the one predicate meets or misses the other in the same slot, as the answer says
-abbrev pub DecidesOther : Bool → Predicate → Predicate → Bool → Type 0
-DecidesOther met one other answer = (s : Slot) (r : Request) → MeetsOrMisses met s one r → MeetsOrMisses answer s other r
+-- the slot is no key that a request may have several values of
+abbrev pub IsSingleSlot : Schema → Slot → Type 0
+IsSingleSlot schema (Key key) = IsKeyWith schema (λ rule. rule.many ≡ false) key
+IsSingleSlot schema s = ⊤
+
+-- each request that meets, or misses, the one predicate meets or misses the other in the same slot, as the answer says; of those
+-- that have one value there at most, where that is given
+abbrev pub DecidesOther : Bool → Bool → Predicate → Predicate → Bool → Type 0
+DecidesOther single met one other answer =
+    (s : Slot) (r : Request) → (IsTrue single → HasOneValueAtMost s r) → MeetsOrMisses met s one r → MeetsOrMisses answer s other r
 
 -- the test of this number is passed where the predicate is met
 abbrev pub IsPassedWhereMet : Slot → List Test → ℕ × Predicate → Type 0
@@ -31,26 +43,30 @@ IsPassedWhereMet s tests p = (t : Test) → slice_get tests p.0 ≡ Some t → t
 abbrev pub ArePassedWhereMet : Slot → List Test → List (ℕ × Predicate) → Type 0
 ArePassedWhereMet s tests named = All (IsPassedWhereMet s tests) named
 
--- each request that stands so to the predicate answers the path
-abbrev pub AreGivenByEach : Bool → Slot → Predicate → List Test → Answers → Type 0
-AreGivenByEach met s p tests path = (r : Request) → MeetsOrMisses met s p r → AnswersPath tests path r
+-- each request of these that stands so to the predicate answers the path
+abbrev pub AreGivenByEach : (Request → Type 0) → Bool → Slot → Predicate → List Test → Answers → Type 0
+AreGivenByEach Of met s p tests path = (r : Request) → Of r → MeetsOrMisses met s p r → AnswersPath tests path r
 
 -- of whichever slot and tests these are
-abbrev pub AreGivenForNamed : List (ℕ × Predicate) → Bool → Predicate → Answers → Type 0
-AreGivenForNamed named met p path = (s : Slot) (tests : List Test) → ArePassedWhereMet s tests named → AreGivenByEach met s p tests path
+abbrev pub AreGivenForNamed : Bool → List (ℕ × Predicate) → Bool → Predicate → Answers → Type 0
+AreGivenForNamed single named met p path =
+    (s : Slot) (tests : List Test) → ArePassedWhereMet s tests named →
+    AreGivenByEach (λ r. IsTrue single → HasOneValueAtMost s r) met s p tests path
 
--- for each predicate of a dimension such answers
-abbrev pub AreGivenInDimension : Bool → Stratum → List Test → List Answers → Type 0
-AreGivenInDimension met d tests paths = (n : ℕ) → AreGivenByEach met d.slot (predicate_at d.predicates n) tests (slice_index_or paths n [])
+-- for each predicate of a dimension such answers, of valid requests
+abbrev pub AreGivenInDimension : Schema → Bool → Stratum → List Test → List Answers → Type 0
+AreGivenInDimension schema met d tests paths =
+    (n : ℕ) → AreGivenByEach (IsValid schema) met d.slot (predicate_at d.predicates n) tests (slice_index_or paths n [])
 
 -- for each dimension
-abbrev pub IsAnswerTable : Bool → List Stratum → List Test → List (List Answers) → Type 0
-IsAnswerTable met ds tests table = (i : ℕ) (d : Stratum) → slice_get ds i ≡ Some d → AreGivenInDimension met d tests (slice_index_or table i [])
+abbrev pub IsAnswerTable : Schema → Bool → List Stratum → List Test → List (List Answers) → Type 0
+IsAnswerTable schema met ds tests table =
+    (i : ℕ) (d : Stratum) → slice_get ds i ≡ Some d → AreGivenInDimension schema met d tests (slice_index_or table i [])
 
 -- for the predicates that are met and for those that are missed
-pub record AreKnownAnswers (base : Query) (strata : Strata) (known : KnownAnswers) : Type 0 where
-  pub met : IsAnswerTable true strata.dimensions base.tests known.met
-  pub missed : IsAnswerTable false strata.dimensions base.tests known.missed
+pub record AreKnownAnswers (schema : Schema) (base : Query) (strata : Strata) (known : KnownAnswers) : Type 0 where
+  pub met : IsAnswerTable schema true strata.dimensions base.tests known.met
+  pub missed : IsAnswerTable schema false strata.dimensions base.tests known.missed
 
 -- the answers of the predicate of a number
 abbrev pub answers_in : List (List Answers) → ℕ → ℕ → Answers

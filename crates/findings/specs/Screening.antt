@@ -13,7 +13,7 @@ use Rattle.findings.specs.KnownAnswers.{IsAnswerTable}
 abbrev pub HasPlainlyNobody : Query → KnownAnswers → List ℕ → Type 0
 HasPlainlyNobody base known f =
     (schema : Schema) (set : PolicySet) (strata : Strata) → AreMadeFor schema set base strata →
-    IsAnswerTable true strata.dimensions base.tests known.met → IsFinding strata.dimensions f →
+    IsAnswerTable schema true strata.dimensions base.tests known.met → IsFinding strata.dimensions f →
     HasNobody schema set strata.dimensions f
 
 -- some of the findings are kept, and in each of the others nobody plainly is allowed anything

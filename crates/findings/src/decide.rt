@@ -1,7 +1,8 @@
 //! Who decides queries.
-ghost use Rattle.std.specs.Prelude.{◌≡◌, ℕ, IfOk};
+ghost use Rattle.std.specs.Prelude.{◌≡◌, ◌↔◌, ℕ, IfOk, IsTrue};
 ghost use Rattle.policy_model.specs.declared.schema.Schema.{Schema};
 ghost use Rattle.findings.specs.Answers.{AnswersQuery, QueryIsAskable};
+ghost use Rattle.findings.specs.KnownAnswers.{IsSingleSlot};
 
 use formula_tree::Path;
 use plain_lists::NoMemory;
@@ -43,6 +44,11 @@ pub trait Decide {
 
     /// The most product states of a slot's patterns that it looks at. The number never changes.
     ghost states: { Self → ℕ };
+
+    /// Whether a valid request has one value in the slot at most: it is no key, or a key of the schema that
+    /// isn't given several values.
+    fn is_single(&self, slot: &Slot) -> bool
+        ensures { IsTrue result ↔ IsSingleSlot (schema self.now) slot.now };
 
     /// Whether some valid request makes the query yes. `OutOfSplits` comes only where the plain run of
     /// the query needs more splits than it makes, and `OutOfStates` only where a slot needs more states

@@ -1,10 +1,11 @@
 //! What the predicates of findings plainly say of the tests of a set: a table, made once for a summary, by
 //! which much is known of a finding without a search.
-ghost use Rattle.std.specs.Prelude.{◌≡◌, ◌<◌, ◌^◌, IfOk, IfSome, OnOk, Some, false, length, true};
+ghost use Rattle.std.specs.Prelude.{◌≡◌, ◌<◌, ◌^◌, Bool, IfOk, IfSome, OnOk, Some, false, length, true};
 ghost use Rattle.strata.specs.Predicates.{test_of};
 ghost use Rattle.findings.specs.Findings.{IsFinding};
 ghost use Rattle.findings.specs.KnownAnswers.{AddsFinerAt, AddsTestAnswer, AreGivenForNamed, AreGivenInDimension, AreInsideAnswers, AreKnownAnswers, AreOwnAnswers, ArePassedWhereMet, DecidesOther, IsAnswerTable, JoinsAnswers, answers_in};
 
+use crate::decide::Decide;
 use crate::outcome::Finding;
 use crate::reading::{dimension_at, predicate_number_at};
 use formula_tree::Path;
@@ -30,13 +31,13 @@ pub(crate) struct KnownAnswers {
 }
 
 // Whether a request meets the other predicate, where that is plain of each that meets the one.
-fn answer_where_met(one: &Predicate, other: &Predicate) -> Option<bool>
-    ensures { IfSome result (DecidesOther true one.now other.now) }
+fn answer_where_met(one: &Predicate, other: &Predicate, single: bool) -> Option<bool>
+    ensures { IfSome result (DecidesOther single true one.now other.now) }
 {
     if is_plainly_below(one, other) {
         return Some(true);
     }
-    if are_plainly_apart(one, other) {
+    if are_plainly_apart(one, other, single) {
         return Some(false);
     }
     None
@@ -44,7 +45,7 @@ fn answer_where_met(one: &Predicate, other: &Predicate) -> Option<bool>
 
 // The same of each that misses the one.
 fn answer_where_missed(one: &Predicate, other: &Predicate) -> Option<bool>
-    ensures { IfSome result (DecidesOther false one.now other.now) }
+    ensures { (single : Bool) → IfSome result (DecidesOther single false one.now other.now) }
 {
     if is_plainly_below(other, one) {
         return Some(false);
@@ -52,11 +53,11 @@ fn answer_where_missed(one: &Predicate, other: &Predicate) -> Option<bool>
     None
 }
 
-fn answer_where(met: bool, one: &Predicate, other: &Predicate) -> Option<bool>
-    ensures { IfSome result (DecidesOther met one.now other.now) }
+fn answer_where(met: bool, one: &Predicate, other: &Predicate, single: bool) -> Option<bool>
+    ensures { IfSome result (DecidesOther single met one.now other.now) }
 {
     if met {
-        return answer_where_met(one, other);
+        return answer_where_met(one, other, single);
     }
     answer_where_missed(one, other)
 }
@@ -111,14 +112,20 @@ fn named_tests(alloc: Global, slot: &Slot, tests: &[Test]) -> Result<NamedTests,
     Ok(named)
 }
 
-// What the predicate says of these tests.
-fn path_of(alloc: Global, met: bool, one: &Predicate, named: &NamedTests) -> Result<Path, NoMemory>
-    ensures { IfOk result (AreGivenForNamed named.now met one.now) }
+// What the predicate says of these tests, on a slot that is a single one or not.
+fn path_of(
+    alloc: Global,
+    met: bool,
+    one: &Predicate,
+    named: &NamedTests,
+    single: bool,
+) -> Result<Path, NoMemory>
+    ensures { IfOk result (AreGivenForNamed single named.now met one.now) }
 {
     let mut path = Path::new(alloc);
     'others: for i in 0..named.len() {
         let other = &named.as_slice()[i];
-        let Some(answer) = answer_where(met, one, &other.1) else {
+        let Some(answer) = answer_where(met, one, &other.1, single) else {
             continue;
         };
         add_answer(&mut path, other.0, answer)?;
@@ -127,37 +134,47 @@ fn path_of(alloc: Global, met: bool, one: &Predicate, named: &NamedTests) -> Res
 }
 
 // What each predicate of the dimension says.
-fn paths_in(
+fn paths_in<D: Decide>(
     alloc: Global,
     met: bool,
     stratum: &Stratum,
     tests: &[Test],
+    asks: &D,
 ) -> Result<PathList, NoMemory>
     requires few { length tests.now < 2 ^ 32 }
-    ensures { IfOk result (AreGivenInDimension met stratum.now tests.now) }
+    ensures { IfOk result (AreGivenInDimension (D.schema asks.now) met stratum.now tests.now) }
 {
+    let single = asks.is_single(&stratum.slot);
     let named = named_tests(alloc, &stratum.slot, tests)?;
     let mut paths = List::new(alloc);
     'numbers: for number in 0..stratum.predicates.len() {
-        let path = path_of(alloc, met, &stratum.predicates.as_slice()[number], &named)?;
+        let path = path_of(
+            alloc,
+            met,
+            &stratum.predicates.as_slice()[number],
+            &named,
+            single,
+        )?;
         paths.push(path)?;
     }
     Ok(paths)
 }
 
 // What those of each dimension say.
-fn table_of(
+fn table_of<D: Decide>(
     alloc: Global,
     met: bool,
     strata: &Strata,
     tests: &[Test],
+    asks: &D,
 ) -> Result<List<PathList>, NoMemory>
     requires few { length tests.now < 2 ^ 32 }
-    ensures { IfOk result (IsAnswerTable met strata.now.dimensions tests.now) }
+    ensures { IfOk result
+        (IsAnswerTable (D.schema asks.now) met strata.now.dimensions tests.now) }
 {
     let mut table = List::new(alloc);
     'dimensions: for i in 0..strata.dimensions.len() {
-        let paths = paths_in(alloc, met, dimension_at(strata, i), tests)?;
+        let paths = paths_in(alloc, met, dimension_at(strata, i), tests, asks)?;
         table.push(paths)?;
     }
     Ok(table)
@@ -198,17 +215,18 @@ fn join_at(path: &mut Path, table: &List<PathList>, i: usize, number: usize) -> 
 
 impl KnownAnswers {
     /// The table for the set whose query is `base`.
-    pub(crate) fn new(
+    pub(crate) fn new<D: Decide>(
         alloc: Global,
         strata: &Strata,
         base: &Query,
+        asks: &D,
     ) -> Result<KnownAnswers, NoMemory>
         requires few { length base.now.tests < 2 ^ 32 }
-        ensures { IfOk result (AreKnownAnswers base.now strata.now) }
+        ensures { IfOk result (AreKnownAnswers (D.schema asks.now) base.now strata.now) }
     {
         let tests = base.tests.as_slice();
-        let met = table_of(alloc, true, strata, tests)?;
-        let missed = table_of(alloc, false, strata, tests)?;
+        let met = table_of(alloc, true, strata, tests, asks)?;
+        let missed = table_of(alloc, false, strata, tests, asks)?;
         Ok(KnownAnswers { met, missed })
     }
 

@@ -97,7 +97,7 @@ pub(crate) fn answer_on<D: Decide>(
     finding: &Finding,
 ) -> Result<Asked, NoMemory>
     requires made { AreMadeUnder (D.schema asks.old) base.now strata.now }
-    requires known { AreKnownAnswers base.now strata.now known.now }
+    requires known { AreKnownAnswers (D.schema asks.old) base.now strata.now known.now }
     requires finding { IsFinding strata.now.dimensions finding.now }
     ensures answer { IfOk result (IsOwnAnswered (D.schema asks.old)
         (D.splits asks.old) (D.states asks.old) base.now strata.now finding.now) }

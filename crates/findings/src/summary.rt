@@ -43,7 +43,7 @@ fn look_at_each<D: Decide>(
     findings: u32,
 ) -> Result<(), SummaryFault>
     requires made { AreMadeUnder (D.schema asks.old) base.now strata.now }
-    requires known { AreKnownAnswers base.now strata.now known.now }
+    requires known { AreKnownAnswers (D.schema asks.old) base.now strata.now known.now }
     requires start { StartsAt strata.now.dimensions walk.old }
     ensures ended { OnOk result
         (HasEnded (D.schema asks.old) base.now strata.now walk.new) }
@@ -91,7 +91,7 @@ pub fn summarise<D: Decide>(
     ensures splits { D.splits asks.new ≡ D.splits asks.old }
     ensures states { D.states asks.new ≡ D.states asks.old }
 {
-    let known = KnownAnswers::new(alloc, strata, base)?;
+    let known = KnownAnswers::new(alloc, strata, base, &*asks)?;
     let mut walk = Walk::start(alloc, strata)?;
     look_at_each(&mut walk, strata, base, &known, asks, findings)?;
     Ok(found_in(alloc, walk)?)

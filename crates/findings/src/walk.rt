@@ -113,7 +113,7 @@ impl Walk {
         finding: Finding,
     ) -> Result<(), SummaryFault>
         requires made { AreMadeUnder (D.schema asks.old) base.now strata.now }
-        requires known { AreKnownAnswers base.now strata.now known.now }
+        requires known { AreKnownAnswers (D.schema asks.old) base.now strata.now known.now }
         requires due { IsTaken (D.schema asks.old) base.now strata.now self.old finding }
         ensures looked { OnOk result (self.new.looked.keys ≡ self.old.looked.keys ++ finding ∷ []) }
         ensures stands { OnOk result
@@ -159,7 +159,7 @@ impl Walk {
         finding: Finding,
     ) -> Result<(), NoMemory>
         requires made { AreMadeUnder (D.schema asks.old) base.now strata.now }
-        requires known { AreKnownAnswers base.now strata.now known.now }
+        requires known { AreKnownAnswers (D.schema asks.old) base.now strata.now known.now }
         requires finding { IsFinding strata.now.dimensions finding }
         requires numbered { AreNumberedBelow strata.now.dimensions }
         ensures below { OnOk result

@@ -1,15 +1,20 @@
 -- Predicates of which one plainly lies below the other, or apart from it.
-use Rattle.std.proofs.Common.{◌≡◌, ℕ, List, sym, subst}
+use Rattle.std.proofs.Common.{◌≡◌, ◌≤◌, ℕ, zero, suc, Bool, List, [], ◌∷◌, Any, length, arith, sym, subst, ◌∙◌}
+use Rattle.std.specs.Prelude.{IsTrue}
 use Rattle.wildcard_lang.specs.declared.piece.Piece.{Piece}
 use Rattle.wildcard_lang.specs.Matching.{Matches}
 use Rattle.policy_model.specs.declared.cond.Cond.{Cond}
 use Rattle.policy_model.specs.declared.cond.Cond.TheVariants as cond
 use Rattle.policy_model.specs.declared.principal.Entry.{Entry}
 use Rattle.policy_model.specs.declared.test.Slot.TheVariants as slot
+use Rattle.policy_model.specs.declared.value.Value.{Value}
 use Rattle.policy_model.specs.declared.value.Value.TheVariants as value
+use Rattle.policy_model.specs.Conditions.{values_at}
+use Rattle.policy_model.specs.Conds.{CondMeets, SharesNoValue}
+use Rattle.policy_model.specs.Principals.{SharesNoPrincipal}
 use Rattle.strata.specs.declared.predicate.Predicate.{Predicate}
 use Rattle.strata.specs.declared.predicate.Predicate.TheVariants.{Meets, Principal, Word}
-use Rattle.strata.specs.Plain.{EachMatches, EachMeets, EachNames, IsPlainlyApart, IsPlainlyBelow, SharesNone}
+use Rattle.strata.specs.Plain.{EachMatches, EachMeets, EachNames, IsPlainlyApart, IsPlainlyBelow}
 
 -- an entry lies below one that has all its principals
 pub entries-below : (first second : Entry) → EachNames first second → IsPlainlyBelow (Principal first) (Principal second)
@@ -50,19 +55,34 @@ meet-equal one other first second is has each =
     subst (λ (p : Cond). EachMeets p other) (sym is) (subst (λ (q : Cond). EachMeets first q) (sym has) each)
 
 -- entries that share no principal are apart
-pub entries-apart : (first second : Entry) → SharesNone first second → IsPlainlyApart (Principal first) (Principal second)
-entries-apart first second none slot.Principal r meets = none r.kind r.id meets
-entries-apart first second none slot.Action r meets = absurd meets
-entries-apart first second none slot.Resource r meets = absurd meets
-entries-apart first second none (slot.Key key) r meets = absurd meets
+pub entries-apart : (single : Bool) (first second : Entry) → SharesNoPrincipal first second → IsPlainlyApart single (Principal first) (Principal second)
+entries-apart single first second none slot.Principal r few meets = none r.kind r.id meets
+entries-apart single first second none slot.Action r few meets = absurd meets
+entries-apart single first second none slot.Resource r few meets = absurd meets
+entries-apart single first second none (slot.Key key) r few meets = absurd meets
 
 -- and so are patterns that match no text both
-pub patterns-apart : (first second : List Piece) → ((t : List ℕ) → Matches first t → ¬ Matches second t) → IsPlainlyApart (Word first) (Word second)
-patterns-apart first second none slot.Principal r meets = absurd meets
-patterns-apart first second none slot.Action r meets = none r.action meets
-patterns-apart first second none slot.Resource r meets = none r.resource meets
-patterns-apart first second none (slot.Key key) r meets = absurd meets
+pub patterns-apart : (single : Bool) (first second : List Piece) → ((t : List ℕ) → Matches first t → ¬ Matches second t) → IsPlainlyApart single (Word first) (Word second)
+patterns-apart single first second none slot.Principal r few meets = absurd meets
+patterns-apart single first second none slot.Action r few meets = none r.action meets
+patterns-apart single first second none slot.Resource r few meets = none r.resource meets
+patterns-apart single first second none (slot.Key key) r few meets = absurd meets
 
-pub apart-equal : (one other first second : Predicate) → one ≡ first → other ≡ second → IsPlainlyApart first second → IsPlainlyApart one other
-apart-equal one other first second is has apart =
-    subst (λ (p : Predicate). IsPlainlyApart p other) (sym is) (subst (λ (q : Predicate). IsPlainlyApart first q) (sym has) apart)
+-- of one value, those that it doesn't meet both
+one-value : (first second : Cond) → SharesNoValue first second → (vs : List Value) → length vs ≤ 1 → Any (λ v. CondMeets v first) vs → ¬ Any (λ v. CondMeets v second) vs
+one-value first second none [] few (n, v, within, at, meets) also = absurd (omega (arith, within))
+one-value first second none (w ∷ []) few (zero, v, within, at, meets) (zero, u, inside, there, also) =
+    none v meets (subst (λ (x : Value). CondMeets x second) (sym there ∙ at) also)
+one-value first second none (w ∷ []) few (suc n, v, within, at, meets) also = absurd (omega (arith, within))
+one-value first second none (w ∷ []) few (zero, v, within, at, meets) (suc m, u, inside, there, also) = absurd (omega (arith, inside))
+one-value first second none (w ∷ x ∷ vs) few meets also = absurd (omega (arith, few))
+
+pub conditions-apart : (single : Bool) (first second : Cond) → IsTrue single → SharesNoValue first second → IsPlainlyApart single (Meets first) (Meets second)
+conditions-apart single first second set none slot.Principal r few meets = absurd meets
+conditions-apart single first second set none slot.Action r few meets = absurd meets
+conditions-apart single first second set none slot.Resource r few meets = absurd meets
+conditions-apart single first second set none (slot.Key key) r few meets = one-value first second none (values_at r key) (few set) meets
+
+pub apart-equal : (single : Bool) (one other first second : Predicate) → one ≡ first → other ≡ second → IsPlainlyApart single first second → IsPlainlyApart single one other
+apart-equal single one other first second is has apart =
+    subst (λ (p : Predicate). IsPlainlyApart single p other) (sym is) (subst (λ (q : Predicate). IsPlainlyApart single first q) (sym has) apart)

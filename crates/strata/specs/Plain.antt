@@ -1,5 +1,5 @@
 -- Predicates of which one lies below the other, or apart from it, whatever the schema is.
-use Rattle.std.specs.Prelude.{ℕ, List}
+use Rattle.std.specs.Prelude.{◌≤◌, ⊤, ℕ, Bool, IsTrue, List, length}
 use Rattle.wildcard_lang.specs.declared.piece.Piece.{Piece}
 use Rattle.wildcard_lang.specs.Matching.{Matches}
 use Rattle.policy_model.specs.declared.cond.Cond.{Cond}
@@ -7,7 +7,9 @@ use Rattle.policy_model.specs.declared.principal.Entry.{Entry}
 use Rattle.policy_model.specs.declared.principal.PrincipalKind.{PrincipalKind}
 use Rattle.policy_model.specs.declared.request.Request.{Request}
 use Rattle.policy_model.specs.declared.test.Slot.{Slot}
+use Rattle.policy_model.specs.declared.test.Slot.TheVariants.{Key}
 use Rattle.policy_model.specs.declared.value.Value.{Value}
+use Rattle.policy_model.specs.Conditions.{values_at}
 use Rattle.policy_model.specs.Conds.{CondMeets}
 use Rattle.policy_model.specs.Principals.{EntryNames}
 use Rattle.strata.specs.declared.predicate.Predicate.{Predicate}
@@ -16,10 +18,6 @@ use Rattle.strata.specs.Predicates.{MeetsPredicate}
 -- each principal of the one entry is one of the other
 abbrev pub EachNames : Entry → Entry → Type 0
 EachNames one other = (kind : PrincipalKind) (id : List ℕ) → EntryNames kind id one → EntryNames kind id other
-
--- no principal is one of both entries
-abbrev pub SharesNone : Entry → Entry → Type 0
-SharesNone one other = (kind : PrincipalKind) (id : List ℕ) → EntryNames kind id one → ¬ EntryNames kind id other
 
 -- each text that the one pattern matches the other matches
 abbrev pub EachMatches : List Piece → List Piece → Type 0
@@ -33,6 +31,12 @@ EachMeets one other = (v : Value) → CondMeets v one → CondMeets v other
 abbrev pub IsPlainlyBelow : Predicate → Predicate → Type 0
 IsPlainlyBelow one other = (s : Slot) (r : Request) → MeetsPredicate s one r → MeetsPredicate s other r
 
--- no request meets both in a slot
-abbrev pub IsPlainlyApart : Predicate → Predicate → Type 0
-IsPlainlyApart one other = (s : Slot) (r : Request) → MeetsPredicate s one r → ¬ MeetsPredicate s other r
+-- a key has one value at most on the request; a principal, an action and a resource each request has one of
+abbrev pub HasOneValueAtMost : Slot → Request → Type 0
+HasOneValueAtMost (Key key) r = length (values_at r key) ≤ 1
+HasOneValueAtMost s r = ⊤
+
+-- no request meets both in a slot, of those that have one value there at most where that is given
+abbrev pub IsPlainlyApart : Bool → Predicate → Predicate → Type 0
+IsPlainlyApart single one other =
+    (s : Slot) (r : Request) → (IsTrue single → HasOneValueAtMost s r) → MeetsPredicate s one r → ¬ MeetsPredicate s other r

@@ -1,10 +1,10 @@
 //! Predicates of which one plainly lies below the other or apart from it, without a product.
 ghost use Rattle.std.specs.Prelude.{IsTrue};
-ghost use Rattle.strata.specs.Plain.{EachMeets, EachNames, IsPlainlyApart, IsPlainlyBelow, SharesNone};
+ghost use Rattle.strata.specs.Plain.{EachMeets, EachNames, IsPlainlyApart, IsPlainlyBelow};
 
 use crate::asking::is_equal;
 use crate::predicate::Predicate;
-use policy_model::{Cond, Entry, PrincipalKind, entry_names};
+use policy_model::{Cond, Entry, PrincipalKind, are_conds_apart, are_entries_apart, entry_names};
 use wildcard_lang::{clashes, covers};
 
 // Whether each principal of the one entry plainly is one of the other.
@@ -15,18 +15,6 @@ fn is_entry_below(one: &Entry, other: &Entry) -> bool
         (_, Entry::All) => true,
         (Entry::Exact(kind, id), _) => entry_names(other, *kind, id),
         (Entry::Account(_), Entry::Kind(kind)) => *kind == PrincipalKind::Aws,
-        _ => false,
-    }
-}
-
-// Whether no principal plainly is one of both entries.
-fn are_entries_apart(one: &Entry, other: &Entry) -> bool
-    ensures { IsTrue result → SharesNone one.now other.now }
-{
-    match (one, other) {
-        (Entry::Exact(kind, id), _) => !entry_names(other, *kind, id),
-        (_, Entry::Exact(kind, id)) => !entry_names(one, *kind, id),
-        (Entry::Kind(first), Entry::Kind(second)) => first != second,
         _ => false,
     }
 }
@@ -61,16 +49,20 @@ pub fn is_plainly_below(one: &Predicate, other: &Predicate) -> bool
     }
 }
 
-/// Whether no request plainly meets both: entries are apart by kind, account and id, and patterns that
-/// clash are.
-pub fn are_plainly_apart(one: &Predicate, other: &Predicate) -> bool
-    ensures { IsTrue result → IsPlainlyApart one.now other.now }
+/// Whether no request plainly meets both: entries are apart by kind, account and id, patterns that clash
+/// are, and conditions that no value meets both are apart on a key that has one value at most. Whether
+/// the slot is a `single` one, no key that may have several, is what is given.
+pub fn are_plainly_apart(one: &Predicate, other: &Predicate, single: bool) -> bool
+    ensures { IsTrue result → IsPlainlyApart single one.now other.now }
 {
     match (one, other) {
         (Predicate::Principal(first), Predicate::Principal(second)) => {
             are_entries_apart(first, second)
         }
         (Predicate::Word(first), Predicate::Word(second)) => clashes(first, second),
+        (Predicate::Meets(first), Predicate::Meets(second)) => {
+            single && are_conds_apart(first, second)
+        }
         _ => false,
     }
 }

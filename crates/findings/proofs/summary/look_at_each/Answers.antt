@@ -1,6 +1,7 @@
 use Rattle.std.proofs.Common.{arith, refl, subst, sym, ◌∙◌}
 use Rattle.std.proofs.lemmas.Result.{err_from_is_err_and}
 use Rattle.policy_model.specs.declared.schema.Schema.{Schema}
+use Rattle.findings.specs.KnownAnswers.{AreKnownAnswers}
 use Rattle.findings.specs.Walked.{IsNextFinding, IsTaken, StandsAt}
 use Rattle.findings.proofs.Counted.{no-more-looked}
 use Rattle.findings.proofs.Passing.{none-of}
@@ -37,6 +38,10 @@ look_at-requires-clause-due g c =
     let next = subst (IsNextFinding c.args.strata.now.dimensions c.findings.walk c.next.new.self) c.in-Some.is c.in_ok-finding.ensures.next in
     subst (λ (s : Schema). IsTaken s c.args.base.now c.args.strata.now c.next.new.self c.in-Some.finding) (sym c.findings.invariant.schema)
     (next-taken (g.D.Decide.schema c.args.asks.now) c.args.base.now c.args.strata.now c.findings.walk c.next.new.self c.in-Some.finding c.findings.invariant.walked.stands next c.in_ok-finding.ensures.same)
+
+pub look_at-requires-clause-known : goal.look_at-requires-clause-known
+look_at-requires-clause-known g c =
+    subst (λ (s : Schema). AreKnownAnswers s c.args.base.now c.args.strata.now c.args.known.now) (sym c.findings.invariant.schema) c.requires.known
 
 pub findings-preserved : goal.findings-preserved
 findings-preserved g c = record {
