@@ -1,5 +1,5 @@
 //! How much part each variable had in the last conflicts. The most active undecided one is decided next, or in turn the first
-//! one.
+//! one of an order.
 use crate::assignment::Assignment;
 use crate::gain::Gain;
 use plain_lists::NoMemory;
@@ -21,7 +21,7 @@ const MOST_DEPTH: u32 = 64;
 // How many times longer variables are decided in an order that wasn't tried, and in the one by which more was gained.
 const UNTRIED: u32 = 2;
 
-const BETTER: u32 = 8;
+const BETTER: u32 = 16;
 
 #[derive(Drop)]
 pub(crate) struct Activity {
@@ -31,14 +31,18 @@ pub(crate) struct Activity {
     heap: Vec<u32>,
     // By variable its place in the heap.
     places: Vec<Option<usize>>,
-    // Whether variables are decided by their numbers, as the formula has them. Where much is alike in turn, as in lists of
-    // statements, that takes far fewer conflicts.
-    by_number: bool,
+    // Whether variables are decided in the order below. Where much is alike in turn, as in lists of statements, that takes
+    // far fewer conflicts.
+    in_order: bool,
+    // The variables in that order: at first by number, as the formula has them.
+    order: Vec<u32>,
+    // By variable its place there.
+    ranks: Vec<usize>,
     // What was gained since variables are decided in this order, and in the other one where they were last.
     gained: Gain,
     gained_before: Gain,
-    // All variables with lower numbers are decided or left out.
-    least: u32,
+    // All variables before this place of the order are decided or left out.
+    least: usize,
     // By variable whether it is in no clause, and never decided.
     left_out: Vec<bool>,
 }
@@ -48,16 +52,21 @@ impl Activity {
         let scores = vec![in alloc; 0u64; variables]?;
         let mut heap = Vec::new(alloc);
         let mut places = Vec::new(alloc);
+        let mut ranks = Vec::new(alloc);
         for variable in 0..variables {
             heap.push(variable.min(u32::MAX as usize) as u32)?;
             places.push(Some(variable))?;
+            ranks.push(variable)?;
         }
+        let order = Vec::from_slice(alloc, heap.as_slice())?;
         Ok(Activity {
             scores,
             bump: FIRST_BUMP,
             heap,
             places,
-            by_number: false,
+            in_order: false,
+            order,
+            ranks,
             gained: Gain::new(),
             gained_before: Gain::new(),
             least: 0,
@@ -106,10 +115,28 @@ impl Activity {
         1
     }
 
+    /// Whether variables are decided in order, and not by activity.
+    pub(crate) fn is_in_order(&self) -> bool {
+        self.in_order
+    }
+
     /// From now on variables are decided in the other order.
     pub(crate) fn turn(&mut self) {
-        self.by_number = !self.by_number;
+        self.in_order = !self.in_order;
         self.gained_before = replace(&mut self.gained, Gain::new());
+    }
+
+    /// Variables are decided in this order from now on, where they aren't by activity. Each is there once.
+    pub(crate) fn arrange(&mut self, order: Vec<u32>) {
+        let mut place: usize = 0;
+        for variable in order.as_slice() {
+            if let Some(rank) = self.ranks.get_mut(*variable as usize) {
+                *rank = place;
+            }
+            place = place.saturating_add(1);
+        }
+        self.order = order;
+        self.least = 0;
     }
 
     /// The variable is in no clause, and needn't be decided.
@@ -130,18 +157,18 @@ impl Activity {
 
     /// The variable that is to be decided next.
     pub(crate) fn next(&mut self, assignment: &Assignment) -> Option<u32> {
-        if self.by_number {
+        if self.in_order {
             return self.first(assignment);
         }
         self.best(assignment)
     }
 
-    // The undecided variable of the least number.
+    // The first undecided variable of the order.
     fn first(&mut self, assignment: &Assignment) -> Option<u32> {
-        for variable in self.least as usize..self.scores.len() {
-            let variable = variable.min(u32::MAX as usize) as u32;
+        for place in self.least..self.order.len() {
+            let variable = self.order.as_slice().get(place).copied()?;
             if self.may_be_decided(assignment, variable) {
-                self.least = variable;
+                self.least = place;
                 return Some(variable);
             }
         }
@@ -161,7 +188,9 @@ impl Activity {
 
     /// The variable is undecided again.
     pub(crate) fn put(&mut self, variable: u32) -> Result<(), NoMemory> {
-        self.least = self.least.min(variable);
+        if let Some(rank) = self.ranks.as_slice().get(variable as usize).copied() {
+            self.least = self.least.min(rank);
+        }
         if self.place_of(variable).is_some() {
             return Ok(());
         }

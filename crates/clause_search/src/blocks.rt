@@ -41,12 +41,6 @@ impl Span {
     }
 }
 
-/// Whether no address is in both blocks.
-pub(crate) fn are_disjoint(one: &Block, other: &Block) -> bool {
-    let (one, other) = (Span::of(one, 0), Span::of(other, 0));
-    !one.has(&other) && !other.has(&one)
-}
-
 fn is_long(address: Address) -> bool {
     match address {
         Address::V4(_) => false,

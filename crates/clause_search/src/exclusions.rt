@@ -1,13 +1,11 @@
 //! Pairs of tests of one slot that exclude one another, such as two texts of a key. A slot excludes one pair in a round;
 //! from that it is known which ones it would exclude in later rounds.
 use crate::asked::Asked;
-use crate::blocks::are_disjoint;
 use crate::guessing::Guesses;
 use crate::store::Store;
 use formula_tree::Path;
-use intervals::Compare;
 use plain_lists::NoMemory;
-use policy_model::{Cond, Entry, Test};
+use policy_model::{Test, are_conds_apart, are_entries_apart};
 use slot_theory::{Core, SlotProof};
 use std::alloc::Global;
 use wildcard_lang::clashes;
@@ -31,24 +29,13 @@ pub(crate) struct Exclusions {
     left: usize,
 }
 
-// Whether no value meets both conditions. The answer may be no where none does.
-fn exclude_as_conditions(one: &Cond, other: &Cond) -> bool {
-    match (one, other) {
-        (Cond::Matches(one), Cond::Matches(other)) => clashes(one, other),
-        (Cond::Compares(Compare::Equal, _), Cond::Compares(Compare::Equal, _)) => true,
-        (Cond::Inside(one), Cond::Inside(other)) => are_disjoint(one, other),
-        (Cond::Equals(_), Cond::Equals(_)) => true,
-        _ => false,
-    }
-}
-
 // Whether no one value of the tests' slot meets both of these different tests. The answer may be no where none does.
 fn exclude(one: &Test, other: &Test) -> bool {
     match (one, other) {
         (Test::Action(one), Test::Action(other)) => clashes(one, other),
         (Test::Resource(one), Test::Resource(other)) => clashes(one, other),
-        (Test::SomeMeets(_, one), Test::SomeMeets(_, other)) => exclude_as_conditions(one, other),
-        (Test::Principal(Entry::Exact(_, _)), Test::Principal(Entry::Exact(_, _))) => true,
+        (Test::SomeMeets(_, one), Test::SomeMeets(_, other)) => are_conds_apart(one, other),
+        (Test::Principal(one), Test::Principal(other)) => are_entries_apart(one, other),
         _ => false,
     }
 }

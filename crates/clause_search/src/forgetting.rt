@@ -5,7 +5,7 @@ use plain_lists::NoMemory;
 // How many learned clauses may be watched before half of them are forgotten, and how many more with each restart.
 const FIRST_WATCHED: usize = 500;
 
-const MORE_WATCHED: usize = 100;
+const MORE_WATCHED: usize = 400;
 
 // A clause of so few levels is never forgotten.
 const FEW_LEVELS: u32 = 2;

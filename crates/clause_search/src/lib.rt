@@ -4,6 +4,7 @@
 
 mod activity;
 mod analysis;
+mod arranging;
 mod asked;
 mod assignment;
 mod blocks;

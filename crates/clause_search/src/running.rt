@@ -7,11 +7,12 @@ use plain_lists::NoMemory;
 const STEP_WORK: usize = 40;
 
 // The restart at which the clauses are made simpler, and from which on variables are decided in the other order in turn. It
-// comes after some 300 conflicts, and few queries come to it.
+// comes after some 200 conflicts, and few queries come to it.
 const TURN_RESTART: u32 = 1;
 
-// The restart at which an assignment is looked for without learning, after some 4,000 conflicts.
-const WALK_RESTART: u32 = 8;
+// The restart at which an assignment is looked for without learning. It comes after some 6,000 conflicts where one order
+// stays the better one.
+const WALK_RESTART: u32 = 6;
 
 /// How the search for an assignment ends.
 #[derive(Clone, Copy)]
@@ -54,9 +55,18 @@ impl Solver {
         let Some(variable) = self.activity.next(&self.assignment) else {
             return Ok(Some(Ending::Satisfied));
         };
-        let value = self.assignment.phase_of(variable);
+        let value = self.value_for(variable);
         self.assignment.decide((variable, value))?;
         Ok(None)
+    }
+
+    // The value at which the variable is decided. In order it is no, unless yes is wanted: then what is learned names the
+    // variables of a clause that are left, and holds whichever of the others is yes.
+    fn value_for(&self, variable: u32) -> bool {
+        if self.activity.is_in_order() {
+            return self.assignment.is_wanted(variable);
+        }
+        self.assignment.phase_of(variable)
     }
 
     // Whether variables are decided in the other order from the next restart on.
