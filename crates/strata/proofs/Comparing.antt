@@ -1,6 +1,7 @@
 -- Predicates of which one plainly lies below the other, or apart from it.
-use Rattle.std.proofs.Common.{◌≡◌, ◌≤◌, ℕ, zero, suc, Bool, List, [], ◌∷◌, Any, length, arith, sym, subst, ◌∙◌}
+use Rattle.std.proofs.Common.{◌≡◌, ◌≤◌, ℕ, ℤ, zero, suc, Bool, List, [], ◌∷◌, Any, length, arith, sym, subst, ◌∙◌}
 use Rattle.std.specs.Prelude.{IsTrue}
+use Rattle.intervals.specs.declared.compare.Compare.{Compare}
 use Rattle.wildcard_lang.specs.declared.piece.Piece.{Piece}
 use Rattle.wildcard_lang.specs.Matching.{Matches}
 use Rattle.policy_model.specs.declared.cond.Cond.{Cond}
@@ -14,7 +15,7 @@ use Rattle.policy_model.specs.Conds.{CondMeets, SharesNoValue}
 use Rattle.policy_model.specs.Principals.{SharesNoPrincipal}
 use Rattle.strata.specs.declared.predicate.Predicate.{Predicate}
 use Rattle.strata.specs.declared.predicate.Predicate.TheVariants.{Meets, Principal, Word}
-use Rattle.strata.specs.Plain.{EachMatches, EachMeets, EachNames, IsPlainlyApart, IsPlainlyBelow}
+use Rattle.strata.specs.Plain.{EachMatches, EachMeets, EachNames, EachStands, IsPlainlyApart, IsPlainlyBelow}
 
 -- an entry lies below one that has all its principals
 pub entries-below : (first second : Entry) → EachNames first second → IsPlainlyBelow (Principal first) (Principal second)
@@ -44,6 +45,14 @@ texts-meet first second each (value.Truth b) meets = absurd meets
 texts-meet first second each (value.Number n) meets = absurd meets
 texts-meet first second each (value.Address a) meets = absurd meets
 texts-meet first second each (value.Bytes bs) meets = absurd meets
+
+-- what a number meets is a bound
+pub numbers-meet : (one other : Compare) (bound limit : ℤ) → EachStands one bound other limit → EachMeets (cond.Compares one bound) (cond.Compares other limit)
+numbers-meet one other bound limit each (value.Word t) meets = absurd meets
+numbers-meet one other bound limit each (value.Truth b) meets = absurd meets
+numbers-meet one other bound limit each (value.Number n) meets = each n meets
+numbers-meet one other bound limit each (value.Address a) meets = absurd meets
+numbers-meet one other bound limit each (value.Bytes bs) meets = absurd meets
 
 -- the same of predicates and conditions that are equal to these
 pub below-equal : (one other first second : Predicate) → one ≡ first → other ≡ second → IsPlainlyBelow first second → IsPlainlyBelow one other

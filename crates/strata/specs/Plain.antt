@@ -1,5 +1,7 @@
 -- Predicates of which one lies below the other, or apart from it, whatever the schema is.
-use Rattle.std.specs.Prelude.{◌≤◌, ⊤, ℕ, Bool, IsTrue, List, length}
+use Rattle.std.specs.Prelude.{◌≤◌, ⊤, ℕ, ℤ, Bool, IsTrue, List, length}
+use Rattle.intervals.specs.declared.compare.Compare.{Compare}
+use Rattle.intervals.specs.Compare.{StandsTo}
 use Rattle.wildcard_lang.specs.declared.piece.Piece.{Piece}
 use Rattle.wildcard_lang.specs.Matching.{Matches}
 use Rattle.policy_model.specs.declared.cond.Cond.{Cond}
@@ -22,6 +24,10 @@ EachNames one other = (kind : PrincipalKind) (id : List ℕ) → EntryNames kind
 -- each text that the one pattern matches the other matches
 abbrev pub EachMatches : List Piece → List Piece → Type 0
 EachMatches one other = (t : List ℕ) → Matches one t → Matches other t
+
+-- each number that stands to the one bound as named stands to the other
+abbrev pub EachStands : Compare → ℤ → Compare → ℤ → Type 0
+EachStands one bound other limit = (n : ℤ) → StandsTo one bound n → StandsTo other limit n
 
 -- each value that meets the one condition meets the other
 abbrev pub EachMeets : Cond → Cond → Type 0

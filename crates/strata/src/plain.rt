@@ -1,9 +1,10 @@
 //! Predicates of which one plainly lies below the other or apart from it, without a product.
 ghost use Rattle.std.specs.Prelude.{IsTrue};
-ghost use Rattle.strata.specs.Plain.{EachMeets, EachNames, IsPlainlyApart, IsPlainlyBelow};
+ghost use Rattle.strata.specs.Plain.{EachMeets, EachNames, EachStands, IsPlainlyApart, IsPlainlyBelow};
 
 use crate::asking::is_equal;
 use crate::predicate::Predicate;
+use intervals::{Compare, Scaled, satisfies};
 use policy_model::{Cond, Entry, PrincipalKind, are_conds_apart, are_entries_apart, entry_names};
 use wildcard_lang::{clashes, covers};
 
@@ -19,19 +20,39 @@ fn is_entry_below(one: &Entry, other: &Entry) -> bool
     }
 }
 
+// Whether each number that stands to the one bound as named plainly stands to the other.
+fn is_range_below(one: Compare, bound: Scaled, other: Compare, limit: Scaled) -> bool
+    ensures { IsTrue result → EachStands one bound other limit }
+{
+    match (one, other) {
+        (Compare::Less, Compare::Less) => satisfies(Compare::LessOrEqual, limit, bound),
+        (Compare::Greater, Compare::Greater) => satisfies(Compare::GreaterOrEqual, limit, bound),
+        (Compare::Equal, _)
+        | (Compare::Less | Compare::LessOrEqual, Compare::Less | Compare::LessOrEqual)
+        | (
+            Compare::Greater | Compare::GreaterOrEqual,
+            Compare::Greater | Compare::GreaterOrEqual,
+        ) => { satisfies(other, limit, bound) }
+        _ => false,
+    }
+}
+
 // Whether each value that meets the one condition plainly meets the other.
 fn is_condition_below(one: &Cond, other: &Cond) -> bool
     ensures { IsTrue result → EachMeets one.now other.now }
 {
     match (one, other) {
         (Cond::Matches(first), Cond::Matches(second)) => covers(second, first),
+        (Cond::Compares(first, bound), Cond::Compares(second, limit)) => {
+            is_range_below(*first, *bound, *second, *limit)
+        }
         _ => false,
     }
 }
 
 /// Whether every request that meets the one plainly meets the other: a predicate lies below an equal one
-/// and below `Every`, entries lie below one another by kind and account, and a pattern lies below one that
-/// covers it.
+/// and below `Every`, entries lie below one another by kind and account, a pattern lies below one that
+/// covers it, and a bound of numbers below a wider one.
 pub fn is_plainly_below(one: &Predicate, other: &Predicate) -> bool
     ensures { IsTrue result → IsPlainlyBelow one.now other.now }
 {
