@@ -7,10 +7,24 @@ use plain_lists::{List, NoMemory};
 use policy_model::{Condition, Document, DocumentList, Entry, Matcher, PolicySet, Statement};
 use std::alloc::Global;
 use std::marker::Model;
-use wildcard_lang::{MarkedPattern, Pattern};
+use wildcard_lang::{MarkedPattern, Pattern, Text};
 
 /// A list of marked patterns.
 type MarkedPatternList<'a> = List<MarkedPattern<'a>>;
+
+// Of fewer conditions each is looked at.
+const FEW_CONDITIONS: usize = 8;
+
+// How many conditions are looked at first, as the ones that are likely on a key: each has another operator.
+const MOST_LIKELY: usize = 8;
+
+// The sum of an empty key, and by what it grows with each character (the FNV-1a hash of 64 bits).
+const FIRST_SUM: u64 = 0xcbf2_9ce4_8422_2325;
+
+const SUM_FACTOR: u64 = 0x0000_0100_0000_01b3;
+
+/// The place of a condition in its statement, by a sum of its key.
+pub(crate) type KeyPlace = (u64, usize);
 
 /// A statement with the items of its action and of its resource marked. Contracts see it as the statement.
 #[derive(Drop)]
@@ -18,6 +32,8 @@ pub(crate) struct MarkedStatement<'a> {
     statement: &'a Statement,
     actions: MarkedPatternList<'a>,
     resources: MarkedPatternList<'a>,
+    // Where it has many conditions, their places by their sums. Nothing is promised of them.
+    places: Vec<KeyPlace>,
 }
 
 impl<'a> Model for MarkedStatement<'a> {
@@ -98,6 +114,26 @@ fn marked_patterns<'a>(
     Ok(marked)
 }
 
+fn sum_of(key: &Text) -> u64 {
+    let mut sum = FIRST_SUM;
+    for c in key.as_slice() {
+        sum = (sum ^ u64::from(*c as u32)).wrapping_mul(SUM_FACTOR);
+    }
+    sum
+}
+
+fn key_places(alloc: Global, conditions: &[Condition]) -> Result<Vec<KeyPlace>, NoMemory> {
+    let mut places = Vec::new(alloc);
+    if conditions.len() < FEW_CONDITIONS {
+        return Ok(places);
+    }
+    for (place, condition) in conditions.iter().enumerate() {
+        places.push((sum_of(&condition.key), place))?;
+    }
+    places.sort_by_key(|place| place.0)?;
+    Ok(places)
+}
+
 impl<'a> MarkedStatement<'a> {
     // The statement, marked.
     fn of(alloc: Global, statement: &'a Statement) -> Result<MarkedStatement<'a>, NoMemory>
@@ -105,10 +141,12 @@ impl<'a> MarkedStatement<'a> {
     {
         let actions = marked_patterns(alloc, statement.action.items.as_slice())?;
         let resources = marked_patterns(alloc, items_of(&statement.resource))?;
+        let places = key_places(alloc, statement.conditions.as_slice())?;
         Ok(MarkedStatement {
             statement,
             actions,
             resources,
+            places,
         })
     }
 
@@ -172,6 +210,19 @@ impl<'a> MarkedStatement<'a> {
         ensures { result.now ≡ self.now.conditions }
     {
         self.statement.conditions.as_slice()
+    }
+
+    /// The places of conditions that are likely on the key, where it has many.
+    pub(crate) fn likely(&self, key: &Text) -> &[KeyPlace] {
+        let places = self.places.as_slice();
+        if places.is_empty() {
+            return places;
+        }
+        let sum = sum_of(key);
+        let first = places.partition_point(|place| place.0 < sum);
+        let (_, rest) = places.split_at(first.min(places.len()));
+        let (likely, _) = rest.split_at(rest.len().min(MOST_LIKELY));
+        likely
     }
 }
 

@@ -6,7 +6,7 @@ ghost use Rattle.policy_difference.specs.Rivals.{AsksNoMoreElse, ClashElse, Clas
 
 use crate::elements::{Element, clash_elements, clash_optional, covers_element, covers_optional};
 use crate::implications::implies;
-use crate::marked::{MarkedDocument, MarkedStatement};
+use crate::marked::{KeyPlace, MarkedDocument, MarkedStatement};
 use policy_model::Condition;
 use wildcard_lang::MarkedPattern;
 
@@ -17,11 +17,43 @@ fn some_implies(conditions: &[Condition], other: &Condition) -> bool
     conditions.iter().any(|condition| implies(condition, other))
 }
 
-// Whether each of the others is implied by one of the conditions.
-fn imply_each(conditions: &[Condition], others: &[Condition]) -> bool
-    ensures { IsTrue result ↔ All (λ d. Any (λ c. Implies c d) conditions.now) others.now }
+// Whether the condition at the place implies the other.
+fn implies_at(conditions: &[Condition], place: usize, other: &Condition) -> bool
+    ensures { IsTrue result → Any (λ c. Implies c other.now) conditions.now }
 {
-    others.iter().all(|other| some_implies(conditions, other))
+    if place < conditions.len() {
+        return implies(&conditions[place], other);
+    }
+    false
+}
+
+// Whether one of those at these places does.
+fn likely_implies(conditions: &[Condition], places: &[KeyPlace], other: &Condition) -> bool
+    ensures { IsTrue result → Any (λ c. Implies c other.now) conditions.now }
+{
+    for place in places {
+        if implies_at(conditions, place.1, other) {
+            return true;
+        }
+    }
+    false
+}
+
+// Whether one of the statement's conditions implies the other. Where it has many, those are looked at first that are
+// likely on the key: to look at all of them for each of as many takes as many times as long.
+fn has_implying(statement: &MarkedStatement<'_>, other: &Condition) -> bool
+    ensures { IsTrue result ↔ Any (λ c. Implies c other.now) statement.now.conditions }
+{
+    let conditions = statement.conditions();
+    likely_implies(conditions, statement.likely(&other.key), other)
+        || some_implies(conditions, other)
+}
+
+// Whether each of the others is implied by one of the statement's conditions.
+fn imply_each(statement: &MarkedStatement<'_>, others: &[Condition]) -> bool
+    ensures { IsTrue result ↔ All (λ d. Any (λ c. Implies c d) statement.now.conditions) others.now }
+{
+    others.iter().all(|other| has_implying(statement, other))
 }
 
 /// Whether the statement asks no more than the other, whatever their actions are.
@@ -40,7 +72,7 @@ pub(crate) fn asks_no_more_else(
     if !covers_element(&statement.resource(), &other.resource()) {
         return false;
     }
-    imply_each(other.conditions(), statement.conditions())
+    imply_each(other, statement.conditions())
 }
 
 /// Whether the statement's action takes whatever the element takes.

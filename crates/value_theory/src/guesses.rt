@@ -14,6 +14,11 @@ const PLACE_OF_ZERO: u128 = 1 << 127;
 /// The place of the least IPv6 address, behind all IPv4 addresses.
 const PLACE_OF_IPV6: u128 = 1 << 32;
 
+/// The sum of no bytes, and by what it grows with each (the FNV-1a hash of 128 bits).
+const FIRST_SUM: u128 = 0x6c62_272e_07bb_0142_62b8_2175_6295_c58d;
+
+const SUM_FACTOR: u128 = 0x0000_0000_0100_0000_0000_0000_0000_013b;
+
 /// Of fewer conditions each point is looked at through all clauses.
 const FEW_CONDS: usize = 8;
 
@@ -59,11 +64,21 @@ fn place_of_address(address: Address) -> u128 {
     }
 }
 
+// The place of bytes is a sum of them: where two have the same one a guess is wrong, which it may be.
+fn place_of_bytes(bytes: &[u8]) -> u128 {
+    let mut place: u128 = FIRST_SUM;
+    for byte in bytes {
+        place = (place ^ u128::from(*byte)).wrapping_mul(SUM_FACTOR);
+    }
+    place
+}
+
 fn place_of(point: &PlainValue) -> Option<u128> {
     match point {
         PlainValue::Number(number) => Some(place_of_number(*number)),
         PlainValue::Address(address) => Some(place_of_address(*address)),
-        PlainValue::Truth(_) | PlainValue::Bytes(_) => None,
+        PlainValue::Bytes(bytes) => Some(place_of_bytes(bytes.as_slice())),
+        PlainValue::Truth(_) => None,
     }
 }
 
@@ -88,12 +103,22 @@ fn inside(block: &Block) -> Span {
     }
 }
 
+// The place of these bytes alone.
+fn equal(bytes: &[u8]) -> Span {
+    let first = place_of_bytes(bytes);
+    Span {
+        first,
+        end: first.saturating_add(1),
+    }
+}
+
 // The places of the values that meet the literal's condition.
 fn span_of(conds: &[PlainCond], literal: &Literal) -> Option<Span> {
     match conds.get(literal.pattern as usize)? {
         PlainCond::Compares(compare, bound) => Some(compared(*compare, *bound)),
         PlainCond::Inside(block) => Some(inside(block)),
-        PlainCond::Flag(_, _) | PlainCond::Equals(_) => None,
+        PlainCond::Equals(bytes) => Some(equal(bytes.as_slice())),
+        PlainCond::Flag(_, _) => None,
     }
 }
 

@@ -1,4 +1,4 @@
-use Rattle.std.proofs.Common.{All, Any, List, [], ◌∷◌, rules, sym, ◌∙◌}
+use Rattle.std.proofs.Common.{refl, All, Any, List, [], ◌∷◌, rules, sym, ◌∙◌}
 use Rattle.wildcard_lang.specs.Covering.{CoversPattern, Clash}
 use Rattle.wildcard_lang.specs.declared.piece.Piece.TheVariants.{Many}
 use Rattle.policy_model.specs.declared.operator.Condition.{Condition}
@@ -31,7 +31,7 @@ returns c = (
     allow = search rules;
     principal = moved (CoversElement CoversEntry ClashEntry AnyPrincipal) _ _ _ _ c.principal.ensures c.principal-2.ensures (c.covers_optional.ensures.0 c.if-not-covers_optional.false);
     resource = moved (CoversMatcher CoversPattern Clash (Many ∷ [])) _ _ _ _ c.resource.ensures c.resource-2.ensures (c.covers_element.ensures.0 c.if-not-covers_element.false);
-    conditions = moved ImplyEach _ _ _ _ c.conditions.ensures c.conditions-2.ensures (c.imply_each.ensures.0 yes);
+    conditions = moved ImplyEach c.args.other.now.conditions _ _ _ refl c.conditions.ensures (c.imply_each.ensures.0 yes);
   },
-  λ more. c.imply_each.ensures.1 (moved ImplyEach _ _ _ _ (sym c.conditions.ensures) (sym c.conditions-2.ensures) more.conditions),
+  λ more. c.imply_each.ensures.1 (moved ImplyEach c.args.other.now.conditions _ _ _ refl (sym c.conditions.ensures) more.conditions),
 )

@@ -8,5 +8,5 @@ use Rattle.policy_difference.proofs.statements.imply_each.Goals as goal
 
 pub returns : goal.returns
 returns c =
-    let P : Condition → Type 0 = λ d. Any (λ x. Implies x d) c.args.conditions.now in
+    let P : Condition → Type 0 = λ d. Any (λ x. Implies x d) c.args.statement.now.conditions in
     all-tested P _ _ (cases_from_all _ _ _ P (λ v. ¬ P v) c.all.ensures.ran (YieldsList-from_slice c.args.others.now cc) (λ x q k. search (rules, tests)) (λ x q k. search (rules, tests)))
