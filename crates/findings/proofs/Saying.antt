@@ -1,23 +1,20 @@
 -- What the predicates say, as the table grows and as answers are joined.
-use Rattle.std.proofs.Common.{◌≡◌, ◌≢◌, ◌↔◌, ℕ, zero, suc, ◌<◌, ◌≤◌, Bool, true, false, List, [], ◌∷◌, ◌++◌, Option, Some, None, length, get_or, inl, inr, refl, sym, ap, subst, ◌∙◌}
+use Rattle.std.proofs.Common.{◌≡◌, ◌≢◌, ◌↔◌, ℕ, zero, suc, ◌<◌, Bool, true, false, List, [], ◌∷◌, ◌++◌, Option, Some, None, length, get_or, inl, inr, refl, sym, ap, subst, ◌∙◌}
 use Rattle.std.specs.Prelude.{Contains, IsTrue, MatchBool, MatchOption, slice_get}
 use Rattle.std.proofs.lemmas.Bool.{cases_eq}
 use Rattle.std.proofs.lemmas.List.Elements.{All-nil, All-push}
 use Rattle.std.proofs.lemmas.Option.{slice_get-get_or}
 use Rattle.formula_tree.specs.Answers.{Answers, answer_of}
 use Rattle.formula_tree.proofs.Laws.{answer_of-besides, answer_of-last}
-use Rattle.text_table.specs.Table.{item_at}
 use Rattle.policy_model.specs.declared.request.Request.{Request}
-use Rattle.policy_model.specs.declared.schema.KeyRule.{KeyRule}
 use Rattle.policy_model.specs.declared.schema.Schema.{Schema}
 use Rattle.policy_model.specs.declared.test.Slot.{Slot}
 use Rattle.policy_model.specs.declared.test.Slot.TheVariants as slot
 use Rattle.policy_model.specs.declared.test.Test.{Test}
-use Rattle.policy_model.specs.declared.value.Value.{Value}
-use Rattle.policy_model.specs.Conditions.{values_at}
-use Rattle.policy_model.specs.Requests.{IsValid, PermitsValues}
+use Rattle.policy_model.specs.Requests.{IsValid}
+use Rattle.policy_model.specs.Soundness.{IsSingleSlot}
 use Rattle.policy_model.specs.Tests.{TestHolds}
-use Rattle.policy_model.proofs.Laws.{values-permitted}
+use Rattle.policy_model.proofs.Laws.{one-value-permitted}
 use Rattle.strata.specs.declared.predicate.Predicate.{Predicate}
 use Rattle.strata.specs.declared.predicate.Predicate.TheVariants.{Every, Principal, Word, Meets}
 use Rattle.strata.specs.declared.stratum.Stratum.{Stratum}
@@ -27,7 +24,7 @@ use Rattle.strata.specs.Predicates.{MeetsPredicate, test_of}
 use Rattle.findings.specs.declared.known.KnownAnswers.{KnownAnswers}
 use Rattle.findings.specs.Queries.{numbers_below}
 use Rattle.findings.specs.Steps.{predicate_number_at}
-use Rattle.findings.specs.KnownAnswers.{AddsFinerAt, AddsTestAnswer, AreOwnAnswers, AreInsideAnswers, ArePassedWhereMet, IsPassedWhereMet, JoinsAnswers, AreGivenByEach, AreGivenForNamed, AreGivenInDimension, DecidesOther, IsAnswerTable, IsSingleSlot, answers_in}
+use Rattle.findings.specs.KnownAnswers.{AddsFinerAt, AddsTestAnswer, AreOwnAnswers, AreInsideAnswers, ArePassedWhereMet, IsPassedWhereMet, JoinsAnswers, AreGivenByEach, AreGivenForNamed, AreGivenInDimension, DecidesOther, IsAnswerTable, answers_in}
 
 -- ---- lists that grow
 
@@ -97,21 +94,11 @@ says-next single named met p old new i q b before within at says adds s tests ar
 ]
 
 -- a valid request has one value in a slot that is a single one
-few-values : (rule : KeyRule) (values : List Value) → rule.many ≡ false → PermitsValues rule values → length values ≤ 1
-few-values rule values once permits = elim permits.count [
-  | inl many ↦ absurd (cc)
-  | inr few ↦ few
-]
-
-given-once : (schema : Schema) (r : Request) (key : List ℕ) (found : Option KeyRule) → item_at key schema.keys ≡ found → MatchOption found ⊥ (λ rule. rule.many ≡ false) → IsValid schema r → length (values_at r key) ≤ 1
-given-once schema r key None at once valid = absurd once
-given-once schema r key (Some rule) at once valid = few-values rule (values_at r key) once (values-permitted schema r key rule valid at)
-
 single-value : (schema : Schema) (s : Slot) (r : Request) → IsSingleSlot schema s → IsValid schema r → HasOneValueAtMost s r
 single-value schema slot.Principal r single valid = tt
 single-value schema slot.Action r single valid = tt
 single-value schema slot.Resource r single valid = tt
-single-value schema (slot.Key key) r single valid = given-once schema r key (item_at key schema.keys) refl single valid
+single-value schema (slot.Key key) r single valid = one-value-permitted schema r key (λ rule. rule.many ≡ false) (λ rule once. once) valid single
 
 pub given-by-valid : (schema : Schema) (single met : Bool) (s : Slot) (p : Predicate) (tests : List Test) (path : Answers) → (IsTrue single ↔ IsSingleSlot schema s) → AreGivenByEach (λ r. IsTrue single → HasOneValueAtMost s r) met s p tests path →
     AreGivenByEach (IsValid schema) met s p tests path

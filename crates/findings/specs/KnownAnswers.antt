@@ -1,13 +1,11 @@
 -- What predicates plainly say of the tests of a set: answers that each request gives that meets a predicate, or misses it.
-use Rattle.std.specs.Prelude.{◌≡◌, ◌⊎◌, ◌<◌, ⊤, ℕ, Bool, true, false, IsTrue, List, [], All, Contains, MatchBool, Some, length, slice_get, slice_index_or}
+use Rattle.std.specs.Prelude.{◌≡◌, ◌⊎◌, ◌<◌, ℕ, Bool, true, false, IsTrue, List, [], All, Contains, MatchBool, Some, length, slice_get, slice_index_or}
 use Rattle.formula_tree.specs.Answers.{Answers, answer_of}
 use Rattle.policy_model.specs.declared.request.Request.{Request}
 use Rattle.policy_model.specs.declared.schema.Schema.{Schema}
 use Rattle.policy_model.specs.declared.test.Slot.{Slot}
-use Rattle.policy_model.specs.declared.test.Slot.TheVariants.{Key}
 use Rattle.policy_model.specs.declared.test.Test.{Test}
 use Rattle.policy_model.specs.Requests.{IsValid}
-use Rattle.policy_model.specs.Soundness.{IsKeyWith}
 use Rattle.policy_compile.specs.declared.outcome.Query.{Query}
 use Rattle.slot_theory.specs.Possible.{AnswersPath}
 use Rattle.strata.specs.declared.predicate.Predicate.{Predicate}
@@ -23,11 +21,6 @@ use Rattle.findings.specs.Steps.{predicate_number_at}
 -- the request meets the predicate, or misses it
 abbrev pub MeetsOrMisses : Bool → Slot → Predicate → Request → Type 0
 MeetsOrMisses met s p r = MatchBool met (MeetsPredicate s p r) (¬ MeetsPredicate s p r)
-
--- the slot is no key that a request may have several values of
-abbrev pub IsSingleSlot : Schema → Slot → Type 0
-IsSingleSlot schema (Key key) = IsKeyWith schema (λ rule. rule.many ≡ false) key
-IsSingleSlot schema s = ⊤
 
 -- each request that meets, or misses, the one predicate meets or misses the other in the same slot, as the answer says; of those
 -- that have one value there at most, where that is given

@@ -2,7 +2,7 @@
 ghost use Rattle.std.specs.Prelude.{◌≡◌, ◌↔◌, ℕ, IfOk, IsTrue};
 ghost use Rattle.policy_model.specs.declared.schema.Schema.{Schema};
 ghost use Rattle.findings.specs.Answers.{AnswersQuery, QueryIsAskable};
-ghost use Rattle.findings.specs.KnownAnswers.{IsSingleSlot};
+ghost use Rattle.policy_model.specs.Soundness.{IsSingleSlot};
 
 use formula_tree::Path;
 use plain_lists::NoMemory;

@@ -92,10 +92,10 @@ behind_region account id h =
 pub account_test-of : (account id : List ℕ) → IsOfAccount account id → account_test account id ≡ true
 account_test-of account id h = rw (behind_region account id h, behind_prefix-append account (58 ∷ h.rest)) refl
 
--- accounts of one length that have an id in common are the same
 some-same : (x y : List ℕ) → Some x ≡ Some y → x ≡ y
 some-same x y e = cc
 
+-- accounts of one length that have an id in common are the same
 pub one-account : (a b id : List ℕ) → length a ≡ length b → IsOfAccount a id → IsOfAccount b id → a ≡ b
 one-account a b id same h g =
     let texts : a ++ 58 ∷ h.rest ≡ b ++ 58 ∷ g.rest = some-same _ _ (sym (behind_region a id h) ∙ behind_region b id g) in

@@ -22,3 +22,5 @@ pub use Rattle.policy_model.proofs.Meets.{meets-some-asked}
 pub use Rattle.policy_model.proofs.Valued.{has-value-some}
 -- the rule of a key permits the values that a valid request gives it
 pub use Rattle.policy_model.proofs.Valued.{values-permitted}
+-- a valid request gives a key at most one value where what is known of its rule keeps it from having several
+pub use Rattle.policy_model.proofs.Valued.{one-value-permitted}

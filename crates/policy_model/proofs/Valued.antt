@@ -1,5 +1,5 @@
 -- The values that requests give keys.
-use Rattle.std.proofs.Common.{◌≡◌, ◌≢◌, ◌↔◌, ℕ, List, [], Option, Some, None, inr, refl, subst, arith}
+use Rattle.std.proofs.Common.{◌≡◌, ◌≢◌, ◌≤◌, ◌↔◌, ℕ, List, [], Option, Some, None, length, false, inl, inr, refl, subst, arith}
 use Rattle.std.specs.Prelude.{unwrap_or, MatchOption}
 use Rattle.std.proofs.lemmas.List.Elements.{All-nil}
 use Rattle.text_table.specs.Table.{item_at}
@@ -10,6 +10,7 @@ use Rattle.policy_model.specs.declared.schema.Schema.{Schema}
 use Rattle.policy_model.specs.declared.value.Value.{Value}
 use Rattle.policy_model.specs.Conditions.{values_at}
 use Rattle.policy_model.specs.Requests.{EntryIsValid, HasValue, IsValid, IsValueOf, PermitsValues}
+use Rattle.policy_model.specs.Soundness.{IsKeyWith}
 
 some-given : (given : Option (List Value)) → MatchOption given ⊥ (λ values. values ≢ []) ↔ (unwrap_or given [] ≢ [])
 some-given None = (λ h. absurd h, λ h. absurd (h refl))
@@ -31,3 +32,16 @@ permitted schema r key rule (Some values) valid e f =
 
 pub values-permitted : (schema : Schema) (r : Request) (key : List ℕ) (rule : KeyRule) → IsValid schema r → item_at key schema.keys ≡ Some rule → PermitsValues rule (values_at r key)
 values-permitted schema r key rule valid e = permitted schema r key rule (item_at key r.context) valid e refl
+
+few-values : (rule : KeyRule) (values : List Value) → rule.many ≡ false → PermitsValues rule values → length values ≤ 1
+few-values rule values once permits = elim permits.count [
+  | inl many ↦ absurd (cc)
+  | inr few ↦ few
+]
+
+one-found : (schema : Schema) (r : Request) (key : List ℕ) (P : KeyRule → Type 0) (found : Option KeyRule) → ((rule : KeyRule) → P rule → rule.many ≡ false) → IsValid schema r → item_at key schema.keys ≡ found → MatchOption found ⊥ P → length (values_at r key) ≤ 1
+one-found schema r key P None single valid e at = absurd at
+one-found schema r key P (Some rule) single valid e at = few-values rule (values_at r key) (single rule at) (values-permitted schema r key rule valid e)
+
+pub one-value-permitted : (schema : Schema) (r : Request) (key : List ℕ) (P : KeyRule → Type 0) → ((rule : KeyRule) → P rule → rule.many ≡ false) → IsValid schema r → IsKeyWith schema P key → length (values_at r key) ≤ 1
+one-value-permitted schema r key P single valid has = one-found schema r key P (item_at key schema.keys) single valid refl has

@@ -1,5 +1,5 @@
 -- When a statement of a zone's document denies a request.
-use Rattle.std.proofs.Common.{◌≡◌, ◌≢◌, ◌≤◌, ◌↔◌, ◌⊎◌, ℕ, List, [], ◌∷◌, length, map, true, false, Any, Option, Some, None, inl, inr, refl, subst, sym, ap}
+use Rattle.std.proofs.Common.{◌≡◌, ◌≢◌, ◌≤◌, ◌↔◌, ℕ, List, [], ◌∷◌, length, map, false, Any, Option, Some, None, inl, inr, refl, subst, sym, ap}
 use Rattle.std.specs.Prelude.{MatchOption, unwrap_or, option_map}
 use Rattle.std.proofs.lemmas.List.Elements.{All-nil, All-cons, All-head}
 use Rattle.cidr_bits.specs.declared.block.Block.{Block}
@@ -28,7 +28,7 @@ use Rattle.policy_model.specs.Operators.{cond_of}
 use Rattle.policy_model.specs.Principals.{EntryHolds}
 use Rattle.policy_model.specs.Requests.{IsValid}
 use Rattle.policy_model.specs.Sets.{Decides}
-use Rattle.policy_model.proofs.Laws.{Any-nil, Any-here, Any-map, values-permitted}
+use Rattle.policy_model.proofs.Laws.{Any-nil, Any-here, Any-map, one-value-permitted}
 use Rattle.trust_zones.specs.ZoneKeys.{HasSingleKey, IsSingleOf, address_name, key_named}
 use Rattle.trust_zones.specs.Zones.{GivesAddressIn, GivesText, IsAddressIn, block_values, denial, every_action, has_one_of, of_accounts, text_values, where_some}
 use Rattle.trust_zones.proofs.Items.{Meets, any-one, any-contains, any-weaker, contains-any, met-by-one, one-meets, one-weaker}
@@ -95,14 +95,8 @@ kind-given schema name k has =
     let found = ruled (IsSingleOf k) (item_at (key_named name) schema.keys) has in
     kind-found (item_at (key_named name) schema.keys) found.0 k found.1 found.2.kind
 
-single : (rule : KeyRule) (values : List Value) → rule.many ≡ false → (rule.many ≡ true) ⊎ (length values ≤ 1) → length values ≤ 1
-single rule values is (inl many) = absurd (cc)
-single rule values is (inr few) = few
-
 pub one-given : (schema : Schema) (r : Request) (name : List ℕ) (k : Kind) → IsValid schema r → HasSingleKey schema name k → length (values_at r (key_named name)) ≤ 1
-one-given schema r name k valid has =
-    let found = ruled (IsSingleOf k) (item_at (key_named name) schema.keys) has in
-    single found.0 (values_at r (key_named name)) found.2.single (values-permitted schema r (key_named name) found.0 valid found.1).count
+one-given schema r name k valid has = one-value-permitted schema r (key_named name) (IsSingleOf k) (λ rule is. is.single) valid has
 
 -- ---- texts
 
