@@ -1,8 +1,8 @@
 -- The test that computes whether an id is an ARN of an account agrees with the relation.
-use Rattle.std.proofs.Common.{◌≡◌, ℕ, List, [], ◌∷◌, ◌++◌, true, false, Option, Some, None, length, take, refl, sym, ap, ◌∙◌, inl, inr, arith, codes, ◌==◌, option_and_then}
+use Rattle.std.proofs.Common.{◌≡◌, ◌≢◌, ◌↔◌, ℕ, List, [], ◌∷◌, ◌++◌, true, false, Option, Some, None, length, take, refl, subst, sym, ap, ◌∙◌, inl, inr, arith, codes, ◌==◌, option_and_then}
 use Rattle.std.proofs.Math.Seq.{take-append_seam}
 use Rattle.std.proofs.lemmas.Bool.{cases_Bool}
-use Rattle.policy_model.specs.Principals.{IsOfAccount, has_colon, after_colon, after_prefix, begins_colon, account_test}
+use Rattle.policy_model.specs.Principals.{IsOfAccount, SharesNoId, has_colon, after_colon, after_prefix, begins_colon, account_test}
 
 -- a text that has the prefix is the prefix and what follows
 pub behind_prefix-is : (p t r : List ℕ) → after_prefix p t ≡ Some r → t ≡ p ++ r
@@ -96,8 +96,28 @@ some-same : (x y : List ℕ) → Some x ≡ Some y → x ≡ y
 some-same x y e = cc
 
 -- accounts of one length that have an id in common are the same
-pub one-account : (a b id : List ℕ) → length a ≡ length b → IsOfAccount a id → IsOfAccount b id → a ≡ b
+one-account : (a b id : List ℕ) → length a ≡ length b → IsOfAccount a id → IsOfAccount b id → a ≡ b
 one-account a b id same h g =
     let texts : a ++ 58 ∷ h.rest ≡ b ++ 58 ∷ g.rest = some-same _ _ (sym (behind_region a id h) ∙ behind_region b id g) in
     sym (take-append_seam a (58 ∷ h.rest)) ∙ (ap (λ (t : List ℕ). take (length a) t) texts ∙
     (ap (λ (n : ℕ). take n (b ++ 58 ∷ g.rest)) same ∙ take-append_seam b (58 ∷ g.rest)))
+
+-- each account has an id: one whose other parts are empty
+own-id : (account : List ℕ) → IsOfAccount account (codes "arn:" ++ 58 ∷ 58 ∷ 58 ∷ (account ++ 58 ∷ []))
+own-id account = record {
+  partition = [];
+  service = [];
+  region = [];
+  rest = [];
+  plain_partition = refl;
+  plain_service = refl;
+  plain_region = refl;
+  is = refl;
+}
+
+-- accounts of one length have no id in common exactly where they differ
+pub accounts-apart : (a b : List ℕ) → length a ≡ length b → (a ≢ b) ↔ SharesNoId a b
+accounts-apart a b same = (
+  λ differ id one other. differ (one-account a b id same one other),
+  λ apart e. apart (codes "arn:" ++ 58 ∷ 58 ∷ 58 ∷ (a ++ 58 ∷ [])) (own-id a) (subst (λ (t : List ℕ). IsOfAccount t (codes "arn:" ++ 58 ∷ 58 ∷ 58 ∷ (a ++ 58 ∷ []))) e (own-id a)),
+)

@@ -29,6 +29,10 @@ pub record IsOfAccount (account id : List ℕ) : Type 0 where
   pub plain_region : has_colon region ≡ false
   pub is : id ≡ codes "arn:" ++ (partition ++ 58 ∷ (service ++ 58 ∷ (region ++ 58 ∷ (account ++ 58 ∷ rest))))
 
+-- no id is an ARN of both accounts
+abbrev pub SharesNoId : List ℕ → List ℕ → Type 0
+SharesNoId one other = (id : List ℕ) → IsOfAccount one id → ¬ IsOfAccount other id
+
 -- the principal of this kind and id is one of the entry
 abbrev pub EntryNames : PrincipalKind → List ℕ → Entry → Type 0
 EntryNames k t All = ⊤

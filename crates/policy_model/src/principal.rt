@@ -1,8 +1,8 @@
 //! Principals of requests, and the entries of a policy that name them.
-ghost use Rattle.std.specs.Prelude.{◌≡◌, ◌≢◌, ◌↔◌, length, IsTrue};
+ghost use Rattle.std.specs.Prelude.{◌≡◌, ◌↔◌, length, IsTrue};
 ghost use Rattle.std.proofs.Common.{rules};
 ghost use Rattle.policy_model.specs.Limits.{AccountsHaveTwelveDigits};
-ghost use Rattle.policy_model.specs.Principals.{EntryHolds, EntryNames, IsOfAccount, SharesNoPrincipal, account_test, kind_word};
+ghost use Rattle.policy_model.specs.Principals.{EntryHolds, EntryNames, IsOfAccount, SharesNoId, SharesNoPrincipal, account_test, kind_word};
 ghost use Rattle.policy_model.specs.Soundness.{IsAccount};
 
 use crate::parts::{behind_colon, behind_prefix};
@@ -116,9 +116,9 @@ pub fn entry_holds(entry: &Entry, request: &Request) -> bool
     entry_names(entry, request.kind, &request.id)
 }
 
-// Whether the accounts are different ones of one length, as all accounts of a policy have it.
+// Whether the accounts have one length, as all accounts of a policy do, and no id is one of both.
 fn are_accounts_apart(one: &Text, other: &Text) -> bool
-    ensures { IsTrue result ↔ (length one.now ≡ length other.now) × (one.now ≢ other.now) }
+    ensures { IsTrue result ↔ (length one.now ≡ length other.now) × SharesNoId one.now other.now }
 {
     one.len() == other.len() && one != other
 }
