@@ -84,7 +84,7 @@ says-none single named met p path empty =
     subst (AreGivenForNamed single named met p) (sym empty) (λ s tests are. no-answers (λ r. IsTrue single → HasOneValueAtMost s r) met s p tests)
 
 pub says-next : (single : Bool) (named : List (ℕ × Predicate)) (met : Bool) (p : Predicate) (old new : Answers) (i : ℕ) (q : ℕ × Predicate) (b : Bool) → AreGivenForNamed single named met p old → i < length named → q ≡ get_or named i q →
-    DecidesOther single met p q.1 b → AddsTestAnswer old q.0 b new → AreGivenForNamed single named met p new
+    DecidesOther single p met q.1 b → AddsTestAnswer old q.0 b new → AreGivenForNamed single named met p new
 says-next single named met p old new i q b before within at says adds s tests are r few stands n c t answered there = elim (adds n c answered) [
   | inl was ↦ before s tests are r few stands n c t was there
   | inr this ↦ (

@@ -22,10 +22,10 @@ use Rattle.findings.specs.Steps.{predicate_number_at}
 abbrev pub MeetsOrMisses : Bool → Slot → Predicate → Request → Type 0
 MeetsOrMisses met s p r = MatchBool met (MeetsPredicate s p r) (¬ MeetsPredicate s p r)
 
--- each request that meets, or misses, the one predicate meets or misses the other in the same slot, as the answer says; of those
--- that have one value there at most, where that is given
-abbrev pub DecidesOther : Bool → Bool → Predicate → Predicate → Bool → Type 0
-DecidesOther single met one other answer =
+-- each request that meets the one predicate, or misses it, meets or misses the other in the same slot, as the answer says; of
+-- those that have one value there at most, where that is given
+abbrev pub DecidesOther : Bool → Predicate → Bool → Predicate → Bool → Type 0
+DecidesOther single one met other answer =
     (s : Slot) (r : Request) → (IsTrue single → HasOneValueAtMost s r) → MeetsOrMisses met s one r → MeetsOrMisses answer s other r
 
 -- the test of this number is passed where the predicate is met

@@ -32,7 +32,7 @@ pub(crate) struct KnownAnswers {
 
 // Whether a request meets the other predicate, where that is plain of each that meets the one.
 fn answer_where_met(one: &Predicate, other: &Predicate, single: bool) -> Option<bool>
-    ensures { IfSome result (DecidesOther single true one.now other.now) }
+    ensures { IfSome result (DecidesOther single one.now true other.now) }
 {
     if is_plainly_below(one, other) {
         return Some(true);
@@ -45,7 +45,7 @@ fn answer_where_met(one: &Predicate, other: &Predicate, single: bool) -> Option<
 
 // The same of each that misses the one.
 fn answer_where_missed(one: &Predicate, other: &Predicate) -> Option<bool>
-    ensures { (single : Bool) → IfSome result (DecidesOther single false one.now other.now) }
+    ensures { (single : Bool) → IfSome result (DecidesOther single one.now false other.now) }
 {
     if is_plainly_below(other, one) {
         return Some(false);
@@ -54,7 +54,7 @@ fn answer_where_missed(one: &Predicate, other: &Predicate) -> Option<bool>
 }
 
 fn answer_where(met: bool, one: &Predicate, other: &Predicate, single: bool) -> Option<bool>
-    ensures { IfSome result (DecidesOther single met one.now other.now) }
+    ensures { IfSome result (DecidesOther single one.now met other.now) }
 {
     if met {
         return answer_where_met(one, other, single);
