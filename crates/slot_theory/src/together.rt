@@ -1,7 +1,8 @@
 //! The search with many answered tests of a slot at once. A key whose values aren't texts has finitely many
 //! values that stand for all, which are looked at in one pass however many tests there are, while a core
 //! that grows test by test takes a pass for each. Of numbers between bounds at most four tests tell all, and
-//! of address blocks those that cover another. A word for all tests is mostly found soon or not at all.
+//! of address blocks those that cover another. A word for all tests is mostly found soon or not at all, and so
+//! are the members of a key with several texts, of which a core that grows test by test finds one after the other.
 ghost use Rattle.std.specs.Prelude.{◌≡◌, IfOk, IfSome, IsTrue};
 ghost use Rattle.slot_theory.specs.declared.outcome.SlotValue.TheVariants.{Values};
 ghost use Rattle.slot_theory.specs.Question.{IsCoreOf, IsOutcomeOf, PermitsOne};
@@ -13,7 +14,7 @@ use crate::blocks::proposed_address;
 use crate::bounds::proposed_number;
 use crate::cores::is_core;
 use crate::cutting::{confirmed, found_or};
-use crate::keys::{few_of, rule_of};
+use crate::keys::{attempt_key_soon, few_of, rule_of};
 use crate::outcome::{Core, Possible, SlotValue};
 use crate::question::Question;
 use crate::slots::is_on;
@@ -32,6 +33,9 @@ const FEW_BLOCKS: usize = 2;
 
 /// A core with fewer tests of words mostly comes to its end soon.
 const FEW_WORDS: usize = 8;
+
+/// And one with fewer tests of a key with several texts: each may take a member of its own.
+const FEW_MEMBERS: usize = 8;
 
 /// Whether a core of so many tests has taken as long to grow as all tests at once would take.
 fn is_long(question: &Question<'_>, count: usize) -> bool {
@@ -230,9 +234,45 @@ fn among_words(alloc: Global, question: &Question<'_>) -> Result<Option<Possible
     }
 }
 
+/// What values for the core tell, where the slot is a key with several texts and they are found soon that answer all
+/// answered tests of the slot.
+fn by_members(
+    alloc: Global,
+    question: &Question<'_>,
+    core: &[u32],
+) -> Result<Option<Possible>, NoMemory>
+    requires core { IsCoreOf question.now core.now }
+    ensures { IfOk result (λ found. IfSome found (IsOutcomeOf question.now)) }
+{
+    let Slot::Key(name) = question.slot else {
+        return Ok(None);
+    };
+    let Some(rule) = question.schema.get(name) else {
+        return Ok(None);
+    };
+    if !rule.many || rule.kind != Kind::Text {
+        return Ok(None);
+    }
+    match attempt_key_soon(alloc, question, rule, core)? {
+        Some(Attempt::Right(value)) => Ok(Some(Possible::Found(value))),
+        _ => Ok(None),
+    }
+}
+
+/// What texts for all answered tests tell, where the slot is a key with several of them and they are found soon.
+fn among_members(alloc: Global, question: &Question<'_>) -> Result<Option<Possible>, NoMemory>
+    ensures { IfOk result (λ found. IfSome found (IsOutcomeOf question.now)) }
+{
+    let tests = answered_tests(alloc, question)?;
+    match as_core(question, tests) {
+        Some(core) => by_members(alloc, question, core.as_slice()),
+        None => Ok(None),
+    }
+}
+
 /// What is found in the place of a core that grows beyond so many tests: of addresses by their blocks as soon as it has
-/// a few, of words by one for all answered tests once it has some more, and else by all answered tests where it has come
-/// to many of them.
+/// a few, of words and of keys with several texts by a value for all answered tests once it has some more, and else by
+/// all answered tests where it has come to many of them.
 pub fn all_at_once(
     alloc: Global,
     question: &Question<'_>,
@@ -247,6 +287,11 @@ pub fn all_at_once(
     }
     if count == FEW_WORDS {
         if let Some(found) = among_words(alloc, question)? {
+            return Ok(Some(found));
+        }
+    }
+    if count == FEW_MEMBERS {
+        if let Some(found) = among_members(alloc, question)? {
             return Ok(Some(found));
         }
     }
