@@ -8,6 +8,7 @@ mod elements;
 mod implications;
 mod items;
 mod left;
+mod likely;
 mod marked;
 mod meaning;
 mod operands;

@@ -3,6 +3,7 @@ ghost use Rattle.std.specs.Prelude.{◌≡◌, IfOk};
 ghost use Rattle.policy_difference.specs.Elements.{element_of};
 
 use crate::elements::Element;
+use crate::likely::{SumPlace, likely, sum_of_text, sum_places};
 use plain_lists::{List, NoMemory};
 use policy_model::{Condition, Document, DocumentList, Entry, Matcher, PolicySet, Statement};
 use std::alloc::Global;
@@ -12,19 +13,30 @@ use wildcard_lang::{MarkedPattern, Pattern, Text};
 /// A list of marked patterns.
 type MarkedPatternList<'a> = List<MarkedPattern<'a>>;
 
+/// A list of conditions with the places of their values.
+type MarkedConditionList<'a> = List<MarkedCondition<'a>>;
+
 // Of fewer conditions each is looked at.
-const FEW_CONDITIONS: usize = 8;
+const MANY_CONDITIONS: usize = 8;
 
-// How many conditions are looked at first, as the ones that are likely on a key: each has another operator.
-const MOST_LIKELY: usize = 8;
+// Of fewer values each is looked at.
+const MANY_VALUES: usize = 16;
 
-// The sum of an empty key, and by what it grows with each character (the FNV-1a hash of 64 bits).
-const FIRST_SUM: u64 = 0xcbf2_9ce4_8422_2325;
+/// A condition with the places of its values. Contracts see it as the condition.
+#[derive(Drop)]
+pub(crate) struct MarkedCondition<'a> {
+    condition: &'a Condition,
+    // Nothing is promised of them.
+    places: Vec<SumPlace>,
+}
 
-const SUM_FACTOR: u64 = 0x0000_0100_0000_01b3;
+impl<'a> Model for MarkedCondition<'a> {
+    ghost use Rattle.policy_model.specs.declared.operator.Condition.{Condition};
 
-/// The place of a condition in its statement, by a sum of its key.
-pub(crate) type KeyPlace = (u64, usize);
+    ghost Value = { Condition };
+
+    ghost view = { λ c. c.condition.now };
+}
 
 /// A statement with the items of its action and of its resource marked. Contracts see it as the statement.
 #[derive(Drop)]
@@ -32,8 +44,9 @@ pub(crate) struct MarkedStatement<'a> {
     statement: &'a Statement,
     actions: MarkedPatternList<'a>,
     resources: MarkedPatternList<'a>,
-    // Where it has many conditions, their places by their sums. Nothing is promised of them.
-    places: Vec<KeyPlace>,
+    conditions: MarkedConditionList<'a>,
+    // The places of its conditions by their keys. Nothing is promised of them.
+    places: Vec<SumPlace>,
 }
 
 impl<'a> Model for MarkedStatement<'a> {
@@ -46,7 +59,8 @@ impl<'a> Model for MarkedStatement<'a> {
     ghost view = { λ s. s.statement.now };
 
     ghost invariant = { λ s. (s.actions ≡ s.statement.now.action.items) ×
-        (s.resources ≡ (element_of s.statement.now.resource).items) };
+        (s.resources ≡ (element_of s.statement.now.resource).items) ×
+        (s.conditions ≡ s.statement.now.conditions) };
 }
 
 /// A document of marked statements. Contracts see it as the document.
@@ -114,24 +128,40 @@ fn marked_patterns<'a>(
     Ok(marked)
 }
 
-fn sum_of(key: &Text) -> u64 {
-    let mut sum = FIRST_SUM;
-    for c in key.as_slice() {
-        sum = (sum ^ u64::from(*c as u32)).wrapping_mul(SUM_FACTOR);
+impl<'a> MarkedCondition<'a> {
+    // The condition, marked.
+    fn of(alloc: Global, condition: &'a Condition) -> Result<MarkedCondition<'a>, NoMemory>
+        ensures { IfOk result (λ marked. marked ≡ condition.now) }
+    {
+        let places = sum_places(alloc, MANY_VALUES, condition.values.as_slice())?;
+        Ok(MarkedCondition { condition, places })
     }
-    sum
+
+    /// The condition itself.
+    pub(crate) fn condition(&self) -> &'a Condition
+        ensures { result.now ≡ self.now }
+    {
+        self.condition
+    }
+
+    /// The places of its values, where they are many.
+    pub(crate) fn places(&self) -> &[SumPlace] {
+        self.places.as_slice()
+    }
 }
 
-fn key_places(alloc: Global, conditions: &[Condition]) -> Result<Vec<KeyPlace>, NoMemory> {
-    let mut places = Vec::new(alloc);
-    if conditions.len() < FEW_CONDITIONS {
-        return Ok(places);
+fn marked_conditions<'a>(
+    alloc: Global,
+    conditions: &'a [Condition],
+) -> Result<MarkedConditionList<'a>, NoMemory>
+    ensures { IfOk result (λ marked. marked ≡ conditions.now) }
+{
+    let mut marked = List::new(alloc);
+    'conditions: for condition in conditions {
+        let own = MarkedCondition::of(alloc, condition)?;
+        marked.push(own)?;
     }
-    for (place, condition) in conditions.iter().enumerate() {
-        places.push((sum_of(&condition.key), place))?;
-    }
-    places.sort_by_key(|place| place.0)?;
-    Ok(places)
+    Ok(marked)
 }
 
 impl<'a> MarkedStatement<'a> {
@@ -141,11 +171,13 @@ impl<'a> MarkedStatement<'a> {
     {
         let actions = marked_patterns(alloc, statement.action.items.as_slice())?;
         let resources = marked_patterns(alloc, items_of(&statement.resource))?;
-        let places = key_places(alloc, statement.conditions.as_slice())?;
+        let conditions = marked_conditions(alloc, statement.conditions.as_slice())?;
+        let places = sum_places(alloc, MANY_CONDITIONS, statement.conditions.as_slice())?;
         Ok(MarkedStatement {
             statement,
             actions,
             resources,
+            conditions,
             places,
         })
     }
@@ -206,23 +238,15 @@ impl<'a> MarkedStatement<'a> {
     }
 
     /// Its conditions.
-    pub(crate) fn conditions(&self) -> &[Condition]
+    pub(crate) fn conditions(&self) -> &[MarkedCondition<'a>]
         ensures { result.now ≡ self.now.conditions }
     {
-        self.statement.conditions.as_slice()
+        self.conditions.as_slice()
     }
 
     /// The places of conditions that are likely on the key, where it has many.
-    pub(crate) fn likely(&self, key: &Text) -> &[KeyPlace] {
-        let places = self.places.as_slice();
-        if places.is_empty() {
-            return places;
-        }
-        let sum = sum_of(key);
-        let first = places.partition_point(|place| place.0 < sum);
-        let (_, rest) = places.split_at(first.min(places.len()));
-        let (likely, _) = rest.split_at(rest.len().min(MOST_LIKELY));
-        likely
+    pub(crate) fn likely(&self, key: &Text) -> &[SumPlace] {
+        likely(self.places.as_slice(), sum_of_text(key))
     }
 }
 

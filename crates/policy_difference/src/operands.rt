@@ -4,6 +4,7 @@ ghost use Rattle.policy_difference.specs.Elements.{CoverEach};
 ghost use Rattle.policy_difference.specs.Implications.{AsksAbove, AsksBelow, CoversBlock, CoversNumber, CoversOperand, CoversValues, HasTruth};
 ghost use Rattle.policy_model.specs.declared.operator.Operand.TheVariants.{Truth};
 
+use crate::likely::{SumPlace, likely, sum_sought};
 use cidr_bits::{Block, contains};
 use intervals::{Compare, Scaled, satisfies};
 use policy_model::{Condition, Operand};
@@ -75,17 +76,71 @@ fn some_covers(how: Compare, its: Compare, values: &[Operand], other: &Operand) 
         .any(|value| covers_operand(how, its, value, other))
 }
 
+// Whether the value at the place covers the other.
+fn covers_at(how: Compare, its: Compare, values: &[Operand], place: usize, other: &Operand) -> bool
+    ensures { IsTrue result → Any (λ o. CoversOperand how its o other.now) values.now }
+{
+    match values.get(place) {
+        None => false,
+        Some(value) => covers_operand(how, its, value, other),
+    }
+}
+
+// Whether one of those at these places does.
+fn likely_covers(
+    how: Compare,
+    its: Compare,
+    values: &[Operand],
+    places: &[SumPlace],
+    other: &Operand,
+) -> bool
+    ensures { IsTrue result → Any (λ o. CoversOperand how its o other.now) values.now }
+{
+    for place in places {
+        if covers_at(how, its, values, place.1, other) {
+            return true;
+        }
+    }
+    false
+}
+
+// Whether one of the values covers the other. Where they are many, those are looked at first that are likely to: to look
+// at all of them for each of as many takes as many times as long.
+fn has_covering(
+    how: Compare,
+    its: Compare,
+    values: &[Operand],
+    places: &[SumPlace],
+    other: &Operand,
+) -> bool
+    ensures { IsTrue result ↔ Any (λ o. CoversOperand how its o other.now) values.now }
+{
+    likely_covers(
+        how,
+        its,
+        values,
+        likely(places, sum_sought(how, other)),
+        other,
+    ) || some_covers(how, its, values, other)
+}
+
 // Whether each of the others is covered by one of the values.
-fn cover_each(how: Compare, its: Compare, values: &[Operand], others: &[Operand]) -> bool
+fn cover_each(
+    how: Compare,
+    its: Compare,
+    values: &[Operand],
+    places: &[SumPlace],
+    others: &[Operand],
+) -> bool
     ensures { IsTrue result ↔ CoverEach (CoversOperand how its) values.now others.now }
 {
     others
         .iter()
-        .all(|other| some_covers(how, its, values, other))
+        .all(|other| has_covering(how, its, values, places, other))
 }
 
-/// Whether each value of the other condition is covered by one of this condition's.
-pub(crate) fn covers_values(condition: &Condition, other: &Condition) -> bool
+/// Whether each value of the other condition is covered by one of this condition's, whose places these are.
+pub(crate) fn covers_values(condition: &Condition, other: &Condition, places: &[SumPlace]) -> bool
     ensures { IsTrue result ↔ CoversValues condition.now other.now }
 {
     let how = condition.operator.base.compare();
@@ -94,6 +149,7 @@ pub(crate) fn covers_values(condition: &Condition, other: &Condition) -> bool
         how,
         its,
         condition.values.as_slice(),
+        places,
         other.values.as_slice(),
     )
 }

@@ -7,10 +7,9 @@ ghost use Rattle.policy_difference.specs.Rivals.{AllowedByEach, ApartFromEach, A
 
 use crate::bounds::Bounds;
 use crate::elements::{Element, element_of};
-use crate::marked::{MarkedDocument, MarkedStatement};
+use crate::marked::{MarkedCondition, MarkedDocument, MarkedStatement};
 use crate::statements::{asks_no_more_else, clash_else, clashes_with_action, covers_action};
 use plain_lists::NoMemory;
-use policy_model::Condition;
 use std::alloc::Global;
 use std::slice::from_ref;
 use wildcard_lang::MarkedPattern;
@@ -54,8 +53,8 @@ fn covers_some_alone(other: &MarkedStatement<'_>, items: &[MarkedPattern<'_>]) -
     items.iter().any(|item| covers_alone(other, item))
 }
 
-fn is_long(condition: &Condition) -> bool {
-    condition.values.len() >= LONG_LIST
+fn is_long(condition: &MarkedCondition<'_>) -> bool {
+    condition.condition().values.len() >= LONG_LIST
 }
 
 // Whether a list of the statement besides its actions is long.

@@ -6,19 +6,19 @@ ghost use Rattle.policy_difference.specs.Rivals.{AsksNoMoreElse, ClashElse, Clas
 
 use crate::elements::{Element, clash_elements, clash_optional, covers_element, covers_optional};
 use crate::implications::implies;
-use crate::marked::{KeyPlace, MarkedDocument, MarkedStatement};
-use policy_model::Condition;
+use crate::likely::SumPlace;
+use crate::marked::{MarkedCondition, MarkedDocument, MarkedStatement};
 use wildcard_lang::MarkedPattern;
 
 // Whether one of the conditions implies the other.
-fn some_implies(conditions: &[Condition], other: &Condition) -> bool
+fn some_implies(conditions: &[MarkedCondition<'_>], other: &MarkedCondition<'_>) -> bool
     ensures { IsTrue result ↔ Any (λ c. Implies c other.now) conditions.now }
 {
     conditions.iter().any(|condition| implies(condition, other))
 }
 
 // Whether the condition at the place implies the other.
-fn implies_at(conditions: &[Condition], place: usize, other: &Condition) -> bool
+fn implies_at(conditions: &[MarkedCondition<'_>], place: usize, other: &MarkedCondition<'_>) -> bool
     ensures { IsTrue result → Any (λ c. Implies c other.now) conditions.now }
 {
     if place < conditions.len() {
@@ -28,7 +28,11 @@ fn implies_at(conditions: &[Condition], place: usize, other: &Condition) -> bool
 }
 
 // Whether one of those at these places does.
-fn likely_implies(conditions: &[Condition], places: &[KeyPlace], other: &Condition) -> bool
+fn likely_implies(
+    conditions: &[MarkedCondition<'_>],
+    places: &[SumPlace],
+    other: &MarkedCondition<'_>,
+) -> bool
     ensures { IsTrue result → Any (λ c. Implies c other.now) conditions.now }
 {
     for place in places {
@@ -41,16 +45,16 @@ fn likely_implies(conditions: &[Condition], places: &[KeyPlace], other: &Conditi
 
 // Whether one of the statement's conditions implies the other. Where it has many, those are looked at first that are
 // likely on the key: to look at all of them for each of as many takes as many times as long.
-fn has_implying(statement: &MarkedStatement<'_>, other: &Condition) -> bool
+fn has_implying(statement: &MarkedStatement<'_>, other: &MarkedCondition<'_>) -> bool
     ensures { IsTrue result ↔ Any (λ c. Implies c other.now) statement.now.conditions }
 {
     let conditions = statement.conditions();
-    likely_implies(conditions, statement.likely(&other.key), other)
+    likely_implies(conditions, statement.likely(&other.condition().key), other)
         || some_implies(conditions, other)
 }
 
 // Whether each of the others is implied by one of the statement's conditions.
-fn imply_each(statement: &MarkedStatement<'_>, others: &[Condition]) -> bool
+fn imply_each(statement: &MarkedStatement<'_>, others: &[MarkedCondition<'_>]) -> bool
     ensures { IsTrue result ↔ All (λ d. Any (λ c. Implies c d) statement.now.conditions) others.now }
 {
     others.iter().all(|other| has_implying(statement, other))

@@ -1,0 +1,137 @@
+//! Where in a list that is looked at is likely to stand, told by sums. Nothing is promised of it: who takes a place from here
+//! looks at what stands there, and at all the others where that isn't it.
+use cidr_bits::Address;
+use intervals::{Compare, Scaled};
+use plain_lists::NoMemory;
+use policy_model::{Condition, Operand};
+use std::alloc::Global;
+use wildcard_lang::{Piece, Text};
+
+// How many places are looked at first.
+const MOST_LIKELY: usize = 9;
+
+// The sum of nothing, and by what it grows with each character or byte (the FNV-1a hash of 64 bits).
+const FIRST_SUM: u64 = 0xcbf2_9ce4_8422_2325;
+
+const SUM_FACTOR: u64 = 0x0000_0100_0000_01b3;
+
+/// A sum of what stands in a list, and its place there. Lists of them are in the order of the sums.
+pub(crate) type SumPlace = (u128, usize);
+
+/// What has a sum, by which equal ones are found: numbers and addresses by themselves, so that near ones stand side by side.
+pub(crate) trait Summed {
+    /// Its sum.
+    fn sum(&self) -> u128;
+}
+
+impl Summed for Condition {
+    fn sum(&self) -> u128 {
+        sum_of_text(&self.key)
+    }
+}
+
+impl Summed for Operand {
+    fn sum(&self) -> u128 {
+        match self {
+            Operand::Pattern(pattern) => sum_of_pieces(pattern.as_slice()),
+            Operand::Number(number) => place_of_number(*number),
+            Operand::Block(block) => place_of_address(block.first),
+            Operand::Truth(truth) => u128::from(*truth),
+            Operand::Bytes(bytes) => sum_of_bytes(bytes.as_slice()),
+        }
+    }
+}
+
+fn grown(sum: u64, by: u32) -> u64 {
+    (sum ^ u64::from(by)).wrapping_mul(SUM_FACTOR)
+}
+
+/// The sum of a text.
+pub(crate) fn sum_of_text(text: &Text) -> u128 {
+    let mut sum = FIRST_SUM;
+    for c in text.as_slice() {
+        sum = grown(sum, *c as u32);
+    }
+    u128::from(sum)
+}
+
+fn sum_of_bytes(bytes: &[u8]) -> u128 {
+    let mut sum = FIRST_SUM;
+    for byte in bytes {
+        sum = grown(sum, u32::from(*byte));
+    }
+    u128::from(sum)
+}
+
+// Letters in both cases are taken alike, since what takes both covers what takes one.
+fn number_of_piece(piece: Piece) -> u32 {
+    match piece {
+        Piece::Lit(c) | Piece::LitFold(c) => c.to_ascii_lowercase() as u32,
+        Piece::One | Piece::OneNoColon => 1,
+        Piece::Many | Piece::ManyNoColon => 2,
+    }
+}
+
+/// The sum of a pattern.
+pub(crate) fn sum_of_pieces(pieces: &[Piece]) -> u128 {
+    let mut sum = FIRST_SUM;
+    for piece in pieces {
+        sum = grown(sum, number_of_piece(*piece));
+    }
+    u128::from(sum)
+}
+
+fn place_of_number(number: Scaled) -> u128 {
+    let units = number.units();
+    let zero = u128::MAX / 2;
+    if units < 0 {
+        zero.wrapping_sub(units.unsigned_abs())
+    } else {
+        zero.wrapping_add(units.unsigned_abs())
+    }
+}
+
+fn place_of_address(address: Address) -> u128 {
+    match address {
+        Address::V4(number) => u128::from(number),
+        Address::V6(number) => number,
+    }
+}
+
+/// Where to look for a value that covers this one, under an operator that compares so: the greatest bound from above covers
+/// most, and the least from below.
+pub(crate) fn sum_sought(how: Compare, operand: &Operand) -> u128 {
+    match how {
+        Compare::Less | Compare::LessOrEqual => u128::MAX,
+        Compare::Greater | Compare::GreaterOrEqual => 0,
+        Compare::Equal => operand.sum(),
+    }
+}
+
+/// The places of the items by their sums, where they are as many as said.
+pub(crate) fn sum_places<T: Summed>(
+    alloc: Global,
+    many: usize,
+    items: &[T],
+) -> Result<Vec<SumPlace>, NoMemory> {
+    let mut places = Vec::new(alloc);
+    if items.len() < many {
+        return Ok(places);
+    }
+    for (place, item) in items.iter().enumerate() {
+        places.push((item.sum(), place))?;
+    }
+    places.sort_by_key(|place| place.0)?;
+    Ok(places)
+}
+
+/// The places to look at first for the sum: the last before it, and the first that have it or a greater one.
+pub(crate) fn likely(places: &[SumPlace], sum: u128) -> &[SumPlace] {
+    if places.is_empty() {
+        return places;
+    }
+    let first = places.partition_point(|place| place.0 < sum);
+    let (_, rest) = places.split_at(first.saturating_sub(1).min(places.len()));
+    let (likely, _) = rest.split_at(rest.len().min(MOST_LIKELY));
+    likely
+}
