@@ -1,20 +1,20 @@
 //! Elements of statements, compared by what they take.
-ghost use Rattle.std.specs.Prelude.{◌≡◌, ◌↔◌, All, Any, IfNone, IfSome, IsTrue, is_some, true};
+ghost use Rattle.std.specs.Prelude.{◌≡◌, ◌↔◌, All, Any, IsTrue, is_some, true};
 ghost use Rattle.policy_difference.specs.Elements.{ClashAll, ClashElement, ClashMatcher, CoverEach, CoversElement, CoversMatcher, element_of};
 
 use crate::items::Item;
+use crate::likely::{MANY_ITEMS, SumPlace, likely};
 use crate::places::next_place;
 use policy_model::Matcher;
 use std::marker::Model;
-
-// How many items a list has at least that is gone through side by side with another.
-const MANY_ITEMS: usize = 16;
 
 /// An element of a statement, or its Not element. Contracts see it as the matcher of its items.
 #[derive(Drop)]
 pub(crate) struct Element<'a, T> {
     pub(crate) not: bool,
     pub(crate) items: &'a [T],
+    // Where it has many. Nothing is promised of them.
+    pub(crate) places: &'a [SumPlace],
 }
 
 impl<'a, T> Model for Element<'a, T> {
@@ -25,26 +25,32 @@ impl<'a, T> Model for Element<'a, T> {
     ghost view = { λ e. record { not = e.not; items = e.items.now } };
 }
 
-/// The element as it stands in a statement. An absent one takes everything, as a Not element without items does.
-pub(crate) fn element_of<T>(matcher: &Option<Matcher<T>>) -> Element<'_, T>
+/// The element as it stands in a statement, with the places of its items. An absent one takes everything, as a Not
+/// element without items does.
+pub(crate) fn element_of<'a, T>(
+    matcher: &'a Option<Matcher<T>>,
+    places: &'a [SumPlace],
+) -> Element<'a, T>
     ensures { result ≡ element_of matcher.now }
 {
     match matcher {
         None => Element {
             not: true,
             items: &[],
+            places,
         },
-        Some(matcher) => own_element(matcher),
+        Some(matcher) => own_element(matcher, places),
     }
 }
 
-/// The element that a matcher is.
-pub(crate) fn own_element<T>(matcher: &Matcher<T>) -> Element<'_, T>
+// The element that a matcher is.
+fn own_element<'a, T>(matcher: &'a Matcher<T>, places: &'a [SumPlace]) -> Element<'a, T>
     ensures { result ≡ matcher.now }
 {
     Element {
         not: matcher.not,
         items: matcher.items.as_slice(),
+        places,
     }
 }
 
@@ -90,21 +96,50 @@ fn nearest<T: Item>(items: &[T], near: usize, other: &T) -> Option<usize>
     None
 }
 
-// The first of the others that isn't covered where it is looked for, side by side with the items.
-fn first_elsewhere<'a, T: Item>(items: &[T], others: &'a [T]) -> Option<&'a T>
-    ensures found { IfSome result (λ x. CoverEach T.covering items.now others.now →
-        Any (λ y. T.covering y x.now) items.now) }
-    ensures none { IfNone result (CoverEach T.covering items.now others.now) }
+// The number of an item that covers the other, among those at these places.
+fn likely_place<T: Item>(items: &[T], places: &[SumPlace], other: &T) -> Option<usize>
+    ensures { is_some result ≡ true → Any (λ y. T.covering y other.now) items.now }
 {
-    let mut near = 0;
-    'others: for other in others {
-        let place = nearest(items, near, other);
-        if place.is_none() {
-            return Some(other);
+    for place in places {
+        if covers_at(items, place.1, other) {
+            return Some(place.1);
         }
-        near = next_place(near, place);
     }
     None
+}
+
+// The number of the first item that covers the other.
+fn first_place<T: Item>(items: &[T], other: &T) -> Option<usize>
+    ensures { (is_some result ≡ true) ↔ Any (λ y. T.covering y other.now) items.now }
+{
+    let mut place: usize = 0;
+    'items: for item in items {
+        if item.covers(other) {
+            return Some(place);
+        }
+        place = place.wrapping_add(1);
+    }
+    None
+}
+
+// The number of an item that covers the other: near this one, or where it is likely by its sum, or elsewhere.
+fn covering_place<T: Item>(
+    items: &[T],
+    places: &[SumPlace],
+    near: usize,
+    other: &T,
+) -> Option<usize>
+    ensures { (is_some result ≡ true) ↔ Any (λ y. T.covering y other.now) items.now }
+{
+    let place = nearest(items, near, other);
+    if place.is_some() {
+        return place;
+    }
+    let place = likely_place(items, likely(places, other.sum()), other);
+    if place.is_some() {
+        return place;
+    }
+    first_place(items, other)
 }
 
 // Whether each of the others is covered by one of the items.
@@ -114,22 +149,30 @@ fn cover_all<T: Item>(items: &[T], others: &[T]) -> bool
     others.iter().all(|other| some_covers(items, other))
 }
 
-// Whether each of the others is covered by one of the items. Lists that are nearly the same are gone through side by
-// side. Only where one of the others is covered elsewhere is more done, since most often the first that isn't
-// covered near isn't covered at all.
-fn cover_each<T: Item>(items: &[T], others: &[T]) -> bool
+// Whether each of the others is covered by one of the many items. The lists are gone through side by side, since they
+// may be nearly the same.
+fn cover_many<T: Item>(items: &[T], places: &[SumPlace], others: &[T]) -> bool
     ensures { IsTrue result ↔ CoverEach T.covering items.now others.now }
 {
-    if items.len() < MANY_ITEMS || others.len() < 2 {
+    let mut near = 0;
+    'others: for other in others {
+        let place = covering_place(items, places, near, other);
+        if place.is_none() {
+            return false;
+        }
+        near = next_place(near, place);
+    }
+    true
+}
+
+// Whether each of the others is covered by one of the items.
+fn cover_each<T: Item>(items: &[T], places: &[SumPlace], others: &[T]) -> bool
+    ensures { IsTrue result ↔ CoverEach T.covering items.now others.now }
+{
+    if items.len() < MANY_ITEMS {
         return cover_all(items, others);
     }
-    let Some(other) = first_elsewhere(items, others) else {
-        return true;
-    };
-    if !some_covers(items, other) {
-        return false;
-    }
-    cover_all(items, others)
+    cover_many(items, places, others)
 }
 
 // Whether each of the items clashes with the other.
@@ -152,10 +195,10 @@ pub(crate) fn covers_element<T: Item>(element: &Element<'_, T>, other: &Element<
         CoversMatcher T.covering T.clashing T.whole element.now other.now }
 {
     match (element.not, other.not) {
-        (false, false) => cover_each(element.items, other.items),
+        (false, false) => cover_each(element.items, element.places, other.items),
         (false, true) => some_is_whole(element.items),
         (true, false) => clash_all(element.items, other.items),
-        (true, true) => cover_each(other.items, element.items),
+        (true, true) => cover_each(other.items, other.places, element.items),
     }
 }
 
@@ -165,29 +208,39 @@ pub(crate) fn clash_elements<T: Item>(element: &Element<'_, T>, other: &Element<
 {
     match (element.not, other.not) {
         (false, false) => clash_all(element.items, other.items),
-        (false, true) => cover_each(other.items, element.items),
-        (true, false) => cover_each(element.items, other.items),
+        (false, true) => cover_each(other.items, other.places, element.items),
+        (true, false) => cover_each(element.items, element.places, other.items),
         (true, true) => false,
     }
 }
 
-/// Whether the element, which may be absent, takes whatever the other takes.
+/// Whether the element, which may be absent, takes whatever the other takes. The places are those of their items.
 pub(crate) fn covers_optional<T: Item>(
     matcher: &Option<Matcher<T>>,
+    places: &[SumPlace],
     other: &Option<Matcher<T>>,
+    other_places: &[SumPlace],
 ) -> bool
     ensures { IsTrue result ↔
         CoversElement T.covering T.clashing T.whole matcher.now other.now }
 {
-    covers_element(&element_of(matcher), &element_of(other))
+    covers_element(
+        &element_of(matcher, places),
+        &element_of(other, other_places),
+    )
 }
 
-/// Whether the elements, which may be absent, take nothing together.
+/// Whether the elements, which may be absent, take nothing together. The places are those of their items.
 pub(crate) fn clash_optional<T: Item>(
     matcher: &Option<Matcher<T>>,
+    places: &[SumPlace],
     other: &Option<Matcher<T>>,
+    other_places: &[SumPlace],
 ) -> bool
     ensures { IsTrue result ↔ ClashElement T.covering T.clashing matcher.now other.now }
 {
-    clash_elements(&element_of(matcher), &element_of(other))
+    clash_elements(
+        &element_of(matcher, places),
+        &element_of(other, other_places),
+    )
 }

@@ -5,11 +5,12 @@ ghost use Rattle.wildcard_lang.specs.declared.piece.Piece.TheVariants.{Many};
 ghost use Rattle.policy_model.specs.declared.principal.Entry.TheVariants as an;
 ghost use Rattle.policy_difference.specs.Entries.{ClashEntry, CoversEntry, HaveOtherKinds, IsUnnamed, entry_kind};
 
+use crate::likely::Summed;
 use policy_model::{Entry, PrincipalKind, entry_names};
 use wildcard_lang::{MarkedPattern, Piece, Text};
 
 /// An item of an element of a statement.
-pub(crate) trait Item {
+pub(crate) trait Item: Summed {
     // The first takes all that the second takes.
     ghost covering: { Self → Self → Type 0 };
 

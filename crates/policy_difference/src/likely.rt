@@ -3,9 +3,12 @@
 use cidr_bits::Address;
 use intervals::{Compare, Scaled};
 use plain_lists::NoMemory;
-use policy_model::{Condition, Operand};
+use policy_model::{Condition, Entry, Operand};
 use std::alloc::Global;
-use wildcard_lang::{Piece, Text};
+use wildcard_lang::{MarkedPattern, Piece, Text};
+
+/// Of fewer items each is looked at.
+pub(crate) const MANY_ITEMS: usize = 16;
 
 // How many places are looked at first.
 const MOST_LIKELY: usize = 9;
@@ -42,6 +45,21 @@ impl Summed for Operand {
     }
 }
 
+impl Summed for MarkedPattern<'_> {
+    fn sum(&self) -> u128 {
+        sum_of_pieces(self.pattern().as_slice())
+    }
+}
+
+impl Summed for Entry {
+    fn sum(&self) -> u128 {
+        match self {
+            Entry::All | Entry::Kind(_) => 0,
+            Entry::Account(text) | Entry::Exact(_, text) => sum_of_text(text),
+        }
+    }
+}
+
 fn grown(sum: u64, by: u32) -> u64 {
     (sum ^ u64::from(by)).wrapping_mul(SUM_FACTOR)
 }
@@ -72,8 +90,7 @@ fn number_of_piece(piece: Piece) -> u32 {
     }
 }
 
-/// The sum of a pattern.
-pub(crate) fn sum_of_pieces(pieces: &[Piece]) -> u128 {
+fn sum_of_pieces(pieces: &[Piece]) -> u128 {
     let mut sum = FIRST_SUM;
     for piece in pieces {
         sum = grown(sum, number_of_piece(*piece));

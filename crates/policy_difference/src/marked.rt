@@ -2,8 +2,8 @@
 ghost use Rattle.std.specs.Prelude.{◌≡◌, IfOk};
 ghost use Rattle.policy_difference.specs.Elements.{element_of};
 
-use crate::elements::Element;
-use crate::likely::{SumPlace, likely, sum_of_text, sum_places};
+use crate::elements::{Element, element_of};
+use crate::likely::{MANY_ITEMS, SumPlace, likely, sum_of_text, sum_places};
 use plain_lists::{List, NoMemory};
 use policy_model::{Condition, Document, DocumentList, Entry, Matcher, PolicySet, Statement};
 use std::alloc::Global;
@@ -18,9 +18,6 @@ type MarkedConditionList<'a> = List<MarkedCondition<'a>>;
 
 // Of fewer conditions each is looked at.
 const MANY_CONDITIONS: usize = 8;
-
-// Of fewer values each is looked at.
-const MANY_VALUES: usize = 16;
 
 /// A condition with the places of its values. Contracts see it as the condition.
 #[derive(Drop)]
@@ -38,6 +35,16 @@ impl<'a> Model for MarkedCondition<'a> {
     ghost view = { λ c. c.condition.now };
 }
 
+/// Places in the lists of a statement. Nothing is promised of them.
+#[derive(Drop)]
+struct StatementPlaces {
+    principals: Vec<SumPlace>,
+    actions: Vec<SumPlace>,
+    resources: Vec<SumPlace>,
+    // Of the conditions, by their keys.
+    conditions: Vec<SumPlace>,
+}
+
 /// A statement with the items of its action and of its resource marked. Contracts see it as the statement.
 #[derive(Drop)]
 pub(crate) struct MarkedStatement<'a> {
@@ -45,8 +52,7 @@ pub(crate) struct MarkedStatement<'a> {
     actions: MarkedPatternList<'a>,
     resources: MarkedPatternList<'a>,
     conditions: MarkedConditionList<'a>,
-    // The places of its conditions by their keys. Nothing is promised of them.
-    places: Vec<SumPlace>,
+    places: StatementPlaces,
 }
 
 impl<'a> Model for MarkedStatement<'a> {
@@ -133,7 +139,7 @@ impl<'a> MarkedCondition<'a> {
     fn of(alloc: Global, condition: &'a Condition) -> Result<MarkedCondition<'a>, NoMemory>
         ensures { IfOk result (λ marked. marked ≡ condition.now) }
     {
-        let places = sum_places(alloc, MANY_VALUES, condition.values.as_slice())?;
+        let places = sum_places(alloc, MANY_ITEMS, condition.values.as_slice())?;
         Ok(MarkedCondition { condition, places })
     }
 
@@ -164,6 +170,22 @@ fn marked_conditions<'a>(
     Ok(marked)
 }
 
+// The places in the lists of a statement with these marked items.
+fn statement_places(
+    alloc: Global,
+    statement: &Statement,
+    actions: &[MarkedPattern<'_>],
+    resources: &[MarkedPattern<'_>],
+) -> Result<StatementPlaces, NoMemory> {
+    let principal = element_of(&statement.principal, &[]);
+    Ok(StatementPlaces {
+        principals: sum_places(alloc, MANY_ITEMS, principal.items)?,
+        actions: sum_places(alloc, MANY_ITEMS, actions)?,
+        resources: sum_places(alloc, MANY_ITEMS, resources)?,
+        conditions: sum_places(alloc, MANY_CONDITIONS, statement.conditions.as_slice())?,
+    })
+}
+
 impl<'a> MarkedStatement<'a> {
     // The statement, marked.
     fn of(alloc: Global, statement: &'a Statement) -> Result<MarkedStatement<'a>, NoMemory>
@@ -172,7 +194,7 @@ impl<'a> MarkedStatement<'a> {
         let actions = marked_patterns(alloc, statement.action.items.as_slice())?;
         let resources = marked_patterns(alloc, items_of(&statement.resource))?;
         let conditions = marked_conditions(alloc, statement.conditions.as_slice())?;
-        let places = sum_places(alloc, MANY_CONDITIONS, statement.conditions.as_slice())?;
+        let places = statement_places(alloc, statement, actions.as_slice(), resources.as_slice())?;
         Ok(MarkedStatement {
             statement,
             actions,
@@ -203,6 +225,11 @@ impl<'a> MarkedStatement<'a> {
         &self.statement.principal
     }
 
+    /// The places of the items of its principal, where they are many.
+    pub(crate) fn principal_places(&self) -> &[SumPlace] {
+        self.places.principals.as_slice()
+    }
+
     /// Its action.
     pub(crate) fn action(&self) -> Element<'_, MarkedPattern<'a>>
         ensures { result ≡ self.now.action }
@@ -210,6 +237,7 @@ impl<'a> MarkedStatement<'a> {
         Element {
             not: self.statement.action.not,
             items: self.actions.as_slice(),
+            places: self.places.actions.as_slice(),
         }
     }
 
@@ -234,6 +262,7 @@ impl<'a> MarkedStatement<'a> {
         Element {
             not: is_not(&self.statement.resource),
             items: self.resources.as_slice(),
+            places: self.places.resources.as_slice(),
         }
     }
 
@@ -246,7 +275,7 @@ impl<'a> MarkedStatement<'a> {
 
     /// The places of conditions that are likely on the key, where it has many.
     pub(crate) fn likely(&self, key: &Text) -> &[SumPlace] {
-        likely(self.places.as_slice(), sum_of_text(key))
+        likely(self.places.conditions.as_slice(), sum_of_text(key))
     }
 }
 

@@ -36,6 +36,7 @@ pub(crate) fn item_alone<'a>(item: &'a MarkedPattern<'a>) -> Element<'a, MarkedP
     Element {
         not: false,
         items: from_ref(item),
+        places: &[],
     }
 }
 
@@ -59,7 +60,7 @@ fn is_long(condition: &MarkedCondition<'_>) -> bool {
 
 // Whether a list of the statement besides its actions is long.
 fn has_long_list(statement: &MarkedStatement<'_>) -> bool {
-    element_of(statement.principal()).items.len() >= LONG_LIST
+    element_of(statement.principal(), &[]).items.len() >= LONG_LIST
         || statement.resource().items.len() >= LONG_LIST
         || statement
             .conditions()

@@ -70,7 +70,12 @@ pub(crate) fn asks_no_more_else(
     if statement.allows() != other.allows() {
         return false;
     }
-    if !covers_optional(statement.principal(), other.principal()) {
+    if !covers_optional(
+        statement.principal(),
+        statement.principal_places(),
+        other.principal(),
+        other.principal_places(),
+    ) {
         return false;
     }
     if !covers_element(&statement.resource(), &other.resource()) {
@@ -129,6 +134,10 @@ pub(crate) fn has_wider(documents: &[MarkedDocument<'_>], statement: &MarkedStat
 pub(crate) fn clash_else(statement: &MarkedStatement<'_>, other: &MarkedStatement<'_>) -> bool
     ensures { IsTrue result ↔ ClashElse statement.now other.now }
 {
-    clash_optional(statement.principal(), other.principal())
-        || clash_elements(&statement.resource(), &other.resource())
+    clash_optional(
+        statement.principal(),
+        statement.principal_places(),
+        other.principal(),
+        other.principal_places(),
+    ) || clash_elements(&statement.resource(), &other.resource())
 }
