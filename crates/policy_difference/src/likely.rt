@@ -1,5 +1,5 @@
-//! Where in a list that is looked at is likely to stand, told by sums. Nothing is promised of it: who takes a place from here
-//! looks at what stands there, and at all the others where that isn't it.
+//! Where in a list what covers an item is likely to stand, told by sums. Nothing is promised of it: who takes a place
+//! from here compares what stands there, and all the rest where that covers nothing.
 use cidr_bits::Address;
 use intervals::{Compare, Scaled};
 use plain_lists::NoMemory;
@@ -21,7 +21,8 @@ const SUM_FACTOR: u64 = 0x0000_0100_0000_01b3;
 /// A sum of what stands in a list, and its place there. Lists of them are in the order of the sums.
 pub(crate) type SumPlace = (u128, usize);
 
-/// What has a sum, by which equal ones are found: numbers and addresses by themselves, so that near ones stand side by side.
+/// What has a sum, by which its equals are found. Numbers and addresses are their own sums, so that near ones stand side
+/// by side.
 pub(crate) trait Summed {
     /// Its sum.
     fn sum(&self) -> u128;
@@ -115,8 +116,8 @@ fn place_of_address(address: Address) -> u128 {
     }
 }
 
-/// Where to look for a value that covers this one, under an operator that compares so: the greatest bound from above covers
-/// most, and the least from below.
+/// The sum by which to look for a value that covers this one, under an operator that compares so: of bounds from above
+/// the greatest covers most, and of those from below the least.
 pub(crate) fn sum_sought(how: Compare, operand: &Operand) -> u128 {
     match how {
         Compare::Less | Compare::LessOrEqual => u128::MAX,
