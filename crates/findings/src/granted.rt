@@ -1,5 +1,5 @@
-//! Own requests of findings of which the set plainly allows each request that lies in no finer one. They are
-//! asked for by the finding's predicates and those below alone, and the tree of the set is left out.
+//! Own requests of findings that are asked for by the finding's predicates and those below alone, while the
+//! tree of the set is left out. Mostly the set allows what comes, which is seen by evaluating the tree once.
 ghost use Rattle.std.specs.Prelude.{◌≡◌, [], IfOk, IfSome};
 ghost use Rattle.formula_tree.specs.Trees.{tree_of};
 ghost use Rattle.findings.specs.Asked.{IsAskableOver, IsAsked};
@@ -12,10 +12,10 @@ use crate::decide::{Asked, Decide};
 use crate::numbering::Numbering;
 use crate::outcome::Finding;
 use crate::own::is_own_if_valid;
-use formula_tree::{Branches, Formula, Path, Three, value3};
+use formula_tree::{Branches, Formula};
 use plain_lists::NoMemory;
 use policy_compile::{Query, tests_of_set_queries_suit};
-use policy_model::{Request, Test};
+use policy_model::Request;
 use std::alloc::Global;
 use std::rc::Rc;
 use strata::Strata;
@@ -57,64 +57,8 @@ fn lying_query(alloc: Global, strata: &Strata, finding: &Finding) -> Result<Quer
     Ok(Query { formula, tests })
 }
 
-// How many predicates of the finding are tests: those other than that of every request.
-fn test_count(finding: &Finding) -> usize {
-    let mut count = 0;
-    'numbers: for number in finding.as_slice() {
-        if *number != 0 && count < usize::MAX {
-            count += 1;
-        }
-    }
-    count
-}
-
-// The number of the test in the query, where it has one.
-fn number_of(query: &Query, test: &Test) -> Option<u32> {
-    'tests: for i in 0..query.tests.len() {
-        if query.tests.as_slice()[i] == *test {
-            return u32::try_from(i).ok();
-        }
-    }
-    None
-}
-
-// The answers to the base's tests that the other query wants: yes to the first of its own, no to the others.
-fn wanted_answers(
-    alloc: Global,
-    base: &Query,
-    query: &Query,
-    first: usize,
-) -> Result<Path, NoMemory> {
-    let mut path = Path::new(alloc);
-    'tests: for i in 0..query.tests.len() {
-        let Some(test) = number_of(base, &query.tests.as_slice()[i]) else {
-            continue;
-        };
-        match path.answer(test) {
-            None => path.push(test, i < first)?,
-            Some(_) => {}
-        }
-    }
-    Ok(path)
-}
-
-// Whether the set plainly allows each request that makes the finding's query of predicates yes. Nothing rests
-// on it but whether that query is asked.
-fn is_granted(
-    alloc: Global,
-    base: &Query,
-    finding: &Finding,
-    query: &Query,
-) -> Result<bool, NoMemory> {
-    if query.tests.len() > MOST_TESTS {
-        return Ok(false);
-    }
-    let path = wanted_answers(alloc, base, query, test_count(finding))?;
-    Ok(matches!(value3(&base.formula, &path), Three::Yes))
-}
-
-/// A request of the finding's own, where the set plainly allows each one that lies in the finding and in no
-/// finer one. It is the one that the search for the finding's whole query comes to.
+/// A request of the finding's own, where the set allows one that is found in the finding and in no finer one
+/// without a look at the set. Where there is none nothing follows.
 pub(crate) fn granted_request<D: Decide>(
     alloc: Global,
     strata: &Strata,
@@ -131,7 +75,7 @@ pub(crate) fn granted_request<D: Decide>(
     ensures states { D.states asks.new ≡ D.states asks.old }
 {
     let query = lying_query(alloc, strata, finding)?;
-    if !is_granted(alloc, base, finding, &query)? {
+    if query.tests.len() > MOST_TESTS {
         return Ok(None);
     }
     let asked = asks.ask(alloc, &query)?;

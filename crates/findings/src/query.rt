@@ -105,12 +105,12 @@ pub(crate) fn answer_on<D: Decide>(
     ensures splits { D.splits asks.new ≡ D.splits asks.old }
     ensures states { D.states asks.new ≡ D.states asks.old }
 {
-    if let Some(request) = granted_request(alloc, strata, base, asks, finding)? {
-        return Ok(Asked::Met(request));
-    }
     let path = known.own_answers(alloc, strata, finding)?;
     if is_plainly_no(base, &path) {
         return Ok(Asked::Nobody);
+    }
+    if let Some(request) = granted_request(alloc, strata, base, asks, finding)? {
+        return Ok(Asked::Met(request));
     }
     let query = finding_query(alloc, strata, base, finding)?;
     asks.ask(alloc, &query)
