@@ -4,12 +4,16 @@ ghost use Rattle.std.specs.Prelude.{◌≡◌, All, IfOk, IfSome};
 ghost use Rattle.findings.specs.Findings.{IsFinding};
 ghost use Rattle.findings.specs.Nobody.{IsPartedBy, KeepInhabited};
 ghost use Rattle.findings.specs.Queries.{AreMadeUnder};
+ghost use Rattle.findings.specs.Screening.{DropsPlainlyEmpty};
 
 use crate::decide::{Asked, Decide};
+use crate::known::KnownAnswers;
 use crate::nobody::ask_inside;
 use crate::outcome::{Finding, FindingList};
 use crate::own::lies_in;
+use crate::screening::without_nobody;
 use crate::steps::copy_of;
+use formula_tree::{Branches, Formula};
 use plain_lists::{List, NoMemory};
 use policy_compile::Query;
 use policy_model::Request;
@@ -22,8 +26,16 @@ const FEWEST_TOGETHER: usize = 8;
 /// The most requests that are kept.
 const MOST_SAMPLES: usize = 4_096;
 
-/// How many questions may be asked in vain, besides one for each finding that was left out.
+/// How many questions may be asked in vain, besides one for each finding that was left out. Of a large formula each
+/// counts as several.
 const MOST_IN_VAIN: usize = 64;
+
+/// A question counts as one more for each so many parts of the formula.
+const PARTS_FOR_ONE: usize = 16_384;
+
+/// How many parts of the formula may be looked at in vain to see that nobody plainly is allowed anything, besides those
+/// that were looked at for findings that were left out.
+const MOST_PARTS: usize = 500_000_000;
 
 /// What is known of where somebody is allowed something.
 #[derive(Drop)]
@@ -33,6 +45,8 @@ pub(crate) struct Samples {
     requests: Vec<Request>,
     /// How many more questions may be asked that leave nothing out.
     left: usize,
+    /// How many more parts of the formula may be looked at in vain.
+    parts: usize,
 }
 
 // The findings that aren't marked, and those that are.
@@ -66,6 +80,31 @@ fn is_first(finding: &Finding) -> bool {
     true
 }
 
+// How many parts the formula has.
+#[cycle(parts)]
+fn parts_of(formula: &Formula) -> usize {
+    match formula {
+        Formula::Yes | Formula::No | Formula::Test(_) => 1,
+        Formula::Not(inner) => parts_of(inner).saturating_add(1),
+        Formula::All(branches) | Formula::OneOf(branches) => {
+            parts_of_each(branches).saturating_add(1)
+        }
+    }
+}
+
+// How many the branches have.
+#[cycle(parts)]
+fn parts_of_each(branches: &Branches) -> usize {
+    let mut parts: usize = 0;
+    'branches: for i in 0..branches.len() {
+        let Some(branch) = branches.get(i) else {
+            break;
+        };
+        parts = parts.saturating_add(parts_of(branch));
+    }
+    parts
+}
+
 // Whether there is a mark at the index.
 fn is_marked(marks: &[bool], i: usize) -> bool {
     i < marks.len() && marks[i]
@@ -97,6 +136,7 @@ impl Samples {
             alloc,
             requests: Vec::new(alloc),
             left: MOST_IN_VAIN,
+            parts: MOST_PARTS,
         }
     }
 
@@ -120,9 +160,11 @@ impl Samples {
         Ok(marks)
     }
 
-    // Somebody is allowed something: the request is kept, while there is room.
-    fn keep(&mut self, request: Request) -> Result<(), NoMemory> {
-        self.left = self.left.saturating_sub(1);
+    // Somebody is allowed something in the formula of so many parts: the request is kept, while there is room.
+    fn keep(&mut self, request: Request, parts: usize) -> Result<(), NoMemory> {
+        self.left = self
+            .left
+            .saturating_sub((parts / PARTS_FOR_ONE).saturating_add(1));
         if self.requests.len() < MOST_SAMPLES {
             self.requests.push(request)?;
         }
@@ -155,7 +197,7 @@ impl Samples {
             }
             Asked::Met(request) => {
                 *marks = marked_by(self.alloc, strata, under, marks.as_slice(), &request)?;
-                self.keep(request)?;
+                self.keep(request, parts_of(&base.formula))?;
                 Ok(None)
             }
             Asked::OutOfSplits | Asked::OutOfStates(_) => {
@@ -163,6 +205,29 @@ impl Samples {
                 Ok(None)
             }
         }
+    }
+
+    /// Those of the findings right under the first of which it isn't plain that nobody is allowed anything in them, or
+    /// all of them where too many were looked at in vain.
+    pub(crate) fn likely(
+        &mut self,
+        known: &KnownAnswers,
+        base: &Query,
+        finding: &Finding,
+        under: FindingList,
+    ) -> Result<FindingList, NoMemory>
+        ensures { IfOk result (DropsPlainlyEmpty base.now known.now under) }
+    {
+        if self.parts == 0 {
+            return Ok(under);
+        }
+        let parts = parts_of(&base.formula);
+        let count = under.len();
+        let kept = without_nobody(self.alloc, known, base, finding, under)?;
+        let spared = count.saturating_sub(kept.len()).saturating_mul(parts);
+        let spent = kept.len().saturating_mul(parts);
+        self.parts = self.parts.saturating_add(spared).saturating_sub(spent);
+        Ok(kept)
     }
 
     /// Those of the findings right under the first in which somebody may be allowed something.

@@ -14,7 +14,6 @@ use crate::known::KnownAnswers;
 use crate::outcome::{Finding, FindingList, SummaryFault};
 use crate::query::answer_on;
 use crate::reading::is_among;
-use crate::screening::without_nobody;
 use crate::steps::{add_copies, add_under, are_above_in, copy_of};
 use indexmap::IndexSet;
 use plain_lists::{List, NoMemory};
@@ -171,7 +170,7 @@ impl Walk {
         let mut under = Vec::new(self.alloc);
         add_under(self.alloc, &mut under, strata, &finding)?;
         let under = List::from_vec(under);
-        let likely = without_nobody(self.alloc, known, base, &finding, under)?;
+        let likely = self.samples.likely(known, base, &finding, under)?;
         let inhabited = self
             .samples
             .inhabited(strata, base, asks, &finding, likely)?;
