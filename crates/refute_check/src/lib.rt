@@ -3,6 +3,7 @@
 
 mod accepted;
 mod closing;
+mod following;
 mod labels;
 mod no_value;
 mod refutation;
