@@ -13,7 +13,7 @@ use std::marker::Model;
 pub(crate) struct Element<'a, T> {
     pub(crate) not: bool,
     pub(crate) items: &'a [T],
-    // Where it has many. Nothing is promised of them.
+    // The places of the items by their sums, where they are many. Nothing is promised of them.
     pub(crate) places: &'a [SumPlace],
 }
 

@@ -10,10 +10,10 @@ use wildcard_lang::{MarkedPattern, Piece, Text};
 /// Of fewer items each is looked at.
 pub(crate) const MANY_ITEMS: usize = 16;
 
-// How many places are looked at first.
+// How many places are looked at first: the one before the sum, where what covers more may stand, and eight from there.
 const MOST_LIKELY: usize = 9;
 
-// The sum of nothing, and by what it grows with each character or byte (the FNV-1a hash of 64 bits).
+// The sum of nothing, and by what it grows with each character or byte (as the FNV-1a hash of 64 bits does with bytes).
 const FIRST_SUM: u64 = 0xcbf2_9ce4_8422_2325;
 
 const SUM_FACTOR: u64 = 0x0000_0100_0000_01b3;
@@ -38,8 +38,8 @@ impl Summed for Operand {
     fn sum(&self) -> u128 {
         match self {
             Operand::Pattern(pattern) => sum_of_pieces(pattern.as_slice()),
-            Operand::Number(number) => place_of_number(*number),
-            Operand::Block(block) => place_of_address(block.first),
+            Operand::Number(number) => sum_of_number(*number),
+            Operand::Block(block) => sum_of_address(block.first),
             Operand::Truth(truth) => u128::from(*truth),
             Operand::Bytes(bytes) => sum_of_bytes(bytes.as_slice()),
         }
@@ -82,10 +82,10 @@ fn sum_of_bytes(bytes: &[u8]) -> u128 {
     u128::from(sum)
 }
 
-// Letters in both cases are taken alike, since what takes both covers what takes one.
 fn number_of_piece(piece: Piece) -> u32 {
     match piece {
-        Piece::Lit(c) | Piece::LitFold(c) => c.to_ascii_lowercase() as u32,
+        Piece::Lit(c) => c as u32,
+        Piece::LitFold(c) => c.to_ascii_lowercase() as u32,
         Piece::One | Piece::OneNoColon => 1,
         Piece::Many | Piece::ManyNoColon => 2,
     }
@@ -99,7 +99,7 @@ fn sum_of_pieces(pieces: &[Piece]) -> u128 {
     u128::from(sum)
 }
 
-fn place_of_number(number: Scaled) -> u128 {
+fn sum_of_number(number: Scaled) -> u128 {
     let units = number.units();
     let zero = u128::MAX / 2;
     if units < 0 {
@@ -109,16 +109,16 @@ fn place_of_number(number: Scaled) -> u128 {
     }
 }
 
-fn place_of_address(address: Address) -> u128 {
+fn sum_of_address(address: Address) -> u128 {
     match address {
         Address::V4(number) => u128::from(number),
         Address::V6(number) => number,
     }
 }
 
-/// The sum by which to look for a value that covers this one, under an operator that compares so: of bounds from above
-/// the greatest covers most, and of those from below the least.
-pub(crate) fn sum_sought(how: Compare, operand: &Operand) -> u128 {
+// The sum by which to look for a value that covers this one, under an operator that compares so: of bounds from above
+// the greatest covers most, and of those from below the least.
+fn sum_sought(how: Compare, operand: &Operand) -> u128 {
     match how {
         Compare::Less | Compare::LessOrEqual => u128::MAX,
         Compare::Greater | Compare::GreaterOrEqual => 0,
@@ -152,4 +152,17 @@ pub(crate) fn likely(places: &[SumPlace], sum: u128) -> &[SumPlace] {
     let (_, rest) = places.split_at(first.saturating_sub(1).min(places.len()));
     let (likely, _) = rest.split_at(rest.len().min(MOST_LIKELY));
     likely
+}
+
+/// The places to look at first for a value that covers this one, under an operator that compares so.
+pub(crate) fn likely_values<'a>(
+    places: &'a [SumPlace],
+    how: Compare,
+    operand: &Operand,
+) -> &'a [SumPlace] {
+    // No sum is made where nothing is looked up by it: most lists are short.
+    if places.is_empty() {
+        return places;
+    }
+    likely(places, sum_sought(how, operand))
 }

@@ -1,4 +1,5 @@
-//! Sets whose patterns are marked once, since each is compared with many.
+//! Sets whose patterns are marked, and whose long lists are put in the order of sums, once, since each is compared with
+//! many.
 ghost use Rattle.std.specs.Prelude.{◌≡◌, IfOk};
 ghost use Rattle.policy_difference.specs.Elements.{element_of};
 
@@ -45,7 +46,8 @@ struct StatementPlaces {
     conditions: Vec<SumPlace>,
 }
 
-/// A statement with the items of its action and of its resource marked. Contracts see it as the statement.
+/// A statement with the items of its action and of its resource marked, its conditions with the places of their values,
+/// and the places of its own lists. Contracts see it as the statement.
 #[derive(Drop)]
 pub(crate) struct MarkedStatement<'a> {
     statement: &'a Statement,
@@ -275,7 +277,11 @@ impl<'a> MarkedStatement<'a> {
 
     /// The places of conditions that are likely on the key, where it has many.
     pub(crate) fn likely(&self, key: &Text) -> &[SumPlace] {
-        likely(self.places.conditions.as_slice(), sum_of_text(key))
+        let places = self.places.conditions.as_slice();
+        if places.is_empty() {
+            return places;
+        }
+        likely(places, sum_of_text(key))
     }
 }
 

@@ -4,7 +4,7 @@ ghost use Rattle.policy_difference.specs.Elements.{CoverEach};
 ghost use Rattle.policy_difference.specs.Implications.{AsksAbove, AsksBelow, CoversBlock, CoversNumber, CoversOperand, CoversValues, HasTruth};
 ghost use Rattle.policy_model.specs.declared.operator.Operand.TheVariants.{Truth};
 
-use crate::likely::{SumPlace, likely, sum_sought};
+use crate::likely::{SumPlace, likely_values};
 use cidr_bits::{Block, contains};
 use intervals::{Compare, Scaled, satisfies};
 use policy_model::{Condition, Operand};
@@ -115,13 +115,8 @@ fn has_covering(
 ) -> bool
     ensures { IsTrue result ↔ Any (λ o. CoversOperand how its o other.now) values.now }
 {
-    likely_covers(
-        how,
-        its,
-        values,
-        likely(places, sum_sought(how, other)),
-        other,
-    ) || some_covers(how, its, values, other)
+    likely_covers(how, its, values, likely_values(places, how, other), other)
+        || some_covers(how, its, values, other)
 }
 
 // Whether each of the others is covered by one of the values.

@@ -55,7 +55,8 @@ fn has_implying(statement: &MarkedStatement<'_>, other: &MarkedCondition<'_>) ->
 
 // Whether each of the others is implied by one of the statement's conditions.
 fn imply_each(statement: &MarkedStatement<'_>, others: &[MarkedCondition<'_>]) -> bool
-    ensures { IsTrue result ↔ All (λ d. Any (λ c. Implies c d) statement.now.conditions) others.now }
+    ensures { IsTrue result ↔
+        All (λ d. Any (λ c. Implies c d) statement.now.conditions) others.now }
 {
     others.iter().all(|other| has_implying(statement, other))
 }
