@@ -34,8 +34,12 @@ const FEW_BLOCKS: usize = 2;
 /// A core with fewer tests of words mostly comes to its end soon.
 const FEW_WORDS: usize = 8;
 
-/// And one with fewer tests of a key with several texts: each may take a member of its own.
+/// A core with fewer tests of a key with several texts mostly comes to its end soon, too.
 const FEW_MEMBERS: usize = 8;
+
+/// Of more pairs of a test that is answered yes and one that is answered no, members aren't looked for all at once: each
+/// yes takes a product with all of those, in vain where a later one has no member.
+const MOST_MEMBER_PAIRS: usize = 20_000;
 
 /// Whether a core of so many tests has taken as long to grow as all tests at once would take.
 fn is_long(question: &Question<'_>, count: usize) -> bool {
@@ -234,6 +238,17 @@ fn among_words(alloc: Global, question: &Question<'_>) -> Result<Option<Possible
     }
 }
 
+/// Whether members for the core are dear to look for all at once.
+fn is_dear(question: &Question<'_>, core: &[u32]) -> bool {
+    let mut yes: usize = 0;
+    for n in core {
+        if question.path.answer(*n) == Some(true) {
+            yes = yes.saturating_add(1);
+        }
+    }
+    yes.saturating_mul(core.len().saturating_sub(yes)) > MOST_MEMBER_PAIRS
+}
+
 /// What values for the core tell, where the slot is a key with several texts and they are found soon that answer all
 /// answered tests of the slot.
 fn by_members(
@@ -251,6 +266,9 @@ fn by_members(
         return Ok(None);
     };
     if !rule.many || rule.kind != Kind::Text {
+        return Ok(None);
+    }
+    if is_dear(question, core) {
         return Ok(None);
     }
     match attempt_key_soon(alloc, question, rule, core)? {
