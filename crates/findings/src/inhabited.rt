@@ -218,7 +218,7 @@ impl Samples {
     ) -> Result<FindingList, NoMemory>
         ensures { IfOk result (DropsPlainlyEmpty base.now known.now under) }
     {
-        if self.parts == 0 {
+        if self.parts == 0 || under.is_empty() {
             return Ok(under);
         }
         let parts = parts_of(&base.formula);
