@@ -122,7 +122,7 @@ pub record RuleTakes (rule : KeyRule) (o : Operator) : Type 0 where
 abbrev pub IsKeyWith : Schema → (KeyRule → Type 0) → List ℕ → Type 0
 IsKeyWith schema P key = MatchOption (item_at key schema.keys) ⊥ P
 
--- the slot is no key that a request may have several values of
+-- the slot is no key, or one of the schema's that has one value at most
 abbrev pub IsSingleSlot : Schema → Slot → Type 0
 IsSingleSlot schema (Key key) = IsKeyWith schema (λ rule. rule.many ≡ false) key
 IsSingleSlot schema s = ⊤

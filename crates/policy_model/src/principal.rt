@@ -116,7 +116,7 @@ pub fn entry_holds(entry: &Entry, request: &Request) -> bool
     entry_names(entry, request.kind, &request.id)
 }
 
-// Whether the accounts have one length, as all accounts of a policy do, and no id is one of both.
+// Whether the accounts have one length, as all accounts of a policy do, and no id is an ARN of both.
 fn are_accounts_apart(one: &Text, other: &Text) -> bool
     ensures { IsTrue result ↔ (length one.now ≡ length other.now) × SharesNoId one.now other.now }
 {

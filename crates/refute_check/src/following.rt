@@ -14,7 +14,8 @@ use std::alloc::Global;
 use std::rc::Rc;
 use tree_values::TreeValues;
 
-/// One of how many tests may change for each value that is found anew, so that changes cost no more than these values.
+/// For each value that is found anew one more of so many tests may change: changes of all tests are paid by as many
+/// evaluations.
 const SHARE: usize = 8;
 
 /// A formula's value under answers that were followed.
@@ -22,10 +23,11 @@ const SHARE: usize = 8;
 pub(crate) struct FollowedFormula {
     alloc: Global,
     tree: TreeValues,
-    /// Answers of a path, so many that the value under them is no, or all.
+    /// Answers of the path that was followed last: all, or so many that the value under them is no.
     answers: Path,
-    /// How many answers may change for each value that is found anew, and how many may now.
+    /// How many more answers may change for each value that is found anew.
     step: usize,
+    /// How many may change now.
     allowed: usize,
 }
 
@@ -45,7 +47,7 @@ fn is_no_anew(formula: &Formula, path: &Path) -> bool
     is_no(value3(formula, path))
 }
 
-// Takes the answers back that the path hasn't. Those that are left are given.
+// Takes back the answers that the path hasn't, and returns the others.
 fn take_others_back(
     alloc: Global,
     tree: &mut TreeValues,

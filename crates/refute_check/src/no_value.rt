@@ -1,6 +1,6 @@
 //! Whether a formula is no under a path. Where it denies a list, it is mostly no by one branch of that list
 //! that is yes: by the one of the node before, by the one behind it, or by one that the path's yes answers name.
-//! Where none of these is, its value has followed the paths.
+//! Where none of these is yes, the value is told by a formula that follows the paths.
 ghost use Rattle.std.specs.Prelude.{◌≡◌, ◌<◌, ◌^◌, ◌↔◌, IfOk, IfSome, IsTrue, OnOk, length};
 ghost use Rattle.formula_tree.specs.Trees.{children_of, not, one_of, tree_of};
 ghost use Rattle.formula_tree.specs.Values.{value, value_of_all, value_of_some};

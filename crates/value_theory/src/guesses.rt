@@ -8,7 +8,7 @@ use intervals::{Compare, Scaled};
 use plain_lists::NoMemory;
 use std::alloc::Global;
 
-/// The place of the number 0. Places are in the order of the values.
+/// The place of the number 0. Places of numbers and of addresses are in the order of the values; those of bytes are sums.
 const PLACE_OF_ZERO: u128 = 1 << 127;
 
 /// The place of the least IPv6 address, behind all IPv4 addresses.
