@@ -7,7 +7,6 @@ mod Equals
 mod Existing
 mod Extending
 mod Failing
-mod Followed
 mod Labelling
 pub mod Laws
 mod Meeting

@@ -1,5 +1,5 @@
 -- A walk through a refutation: what the nodes below say of the node above.
-use Rattle.std.proofs.Common.{◌≡◌, ◌<◌, ◌≤◌, ◌+◌, ◌^◌, ℕ, List, [], ◌++◌, true, false, All, refl, sym, ap, ◌∙◌, subst, arith, rules, append_assoc, Global, IfOk, Ok, Err, Result}
+use Rattle.std.proofs.Common.{◌≡◌, ◌<◌, ◌≤◌, ◌+◌, ◌^◌, ℕ, List, [], ◌++◌, true, false, All, refl, sym, ap, ◌∙◌, subst, arith, rules, append_assoc, Global}
 use Rattle.std.proofs.lemmas.List.Elements.{All-append, All-nil, All-push, All-weaker}
 use Rattle.std.specs.declared.rc.Rc.{Rc}
 use Rattle.formula_tree.specs.Answers.{Answers}
@@ -119,10 +119,6 @@ module _ (schema : Schema) (q : Query) where
   label-fails before middle after n answers p node (k, fails, is) path own = (k + 1, in_label own fails refl, omega (arith, is))
 
   -- ---- whole refutations
-
-  pub walked-whole : {E : Type 0} (p : Proof) (path : Answers) (before after : Before) (r : Result Walked E) → before ≡ at_first → IfOk r (Walks before p path after) → IfOk r (IsWholeWalk schema q p path)
-  walked-whole p path before after (Ok walked) start walks = (after, subst (λ (b : Before). Walks b p path after walked) start walks)
-  walked-whole p path before after (Err e) start walks = tt
 
   pub whole-fails : (p : Proof) (path : Answers) (walked : Walked) (node : ℕ) → size p < 2 ^ 32 → path ≡ [] → walked ≡ Failed node → IsWholeWalk schema q p path walked → FailsAt schema q.tests tree at_first p [] node
   whole-fails p path walked node small empty is (after, walks) =

@@ -5,7 +5,6 @@ pub mod Laws
 pub mod Verdicts
 pub mod Labels
 pub mod Accepted
-pub mod Followed
 pub mod Walks
 pub mod Propagated
 pub mod RunLaws

@@ -7,13 +7,11 @@ use Rattle.policy_compile.specs.declared.outcome.Query.{Query}
 use Rattle.policy_model.specs.declared.schema.Schema.{Schema}
 use Rattle.policy_model.specs.Soundness.{SchemaIsSound, TestSuits}
 use Rattle.refute_check.specs.declared.verdict.Checking.{Checking}
-use Rattle.refute_check.specs.declared.no_value.Evaluation.{Evaluation}
 use Rattle.refute_check.specs.declared.verdict.Walked.{Walked}
 use Rattle.refute_check.specs.declared.verdict.Walked.TheVariants.{Closed, Failed}
 use Rattle.refute_check.specs.declared.accepted.AcceptedCores.{AcceptedCores}
 use Rattle.refute_check.specs.Accepted.{AreAcceptedCores}
 use Rattle.refute_check.specs.Closing.{Before, Closes, FailsAt, IsLabel, after_part, at_first}
-use Rattle.refute_check.specs.Followed.{FollowsQuery}
 use Rattle.refute_check.specs.Proofs.{Proof, label, size}
 
 -- the schema is sound, the tests suit it and are numbered by 32 bits, the tree is over them, and the clauses are the tree's
@@ -26,10 +24,6 @@ pub record IsCheckable (c : Checking) : Type 0 where
 -- the cores are accepted by what is checked
 abbrev pub HasAccepted : Checking → AcceptedCores → Type 0
 HasAccepted c cores = AreAcceptedCores c.schema.now c.query.now.tests cores
-
--- the cores are accepted, and it is the query's formula whose value has followed the paths
-abbrev pub IsInStep : Checking → AcceptedCores → Evaluation → Type 0
-IsInStep c cores e = HasAccepted c cores × FollowsQuery c.query.now e.followed
 
 -- a number as 32 bits count it, up to the greatest
 abbrev pub capped_count : ℕ → ℕ

@@ -113,8 +113,8 @@ fn rise(answers: &[(u32, bool)]) -> bool
     true
 }
 
-/// Whether the path has the answer.
-pub(crate) fn is_answered(pair: (u32, bool), path: &Path) -> bool
+// Whether the path has the answer.
+fn is_answered(pair: (u32, bool), path: &Path) -> bool
     ensures { IsTrue result ↔ IsAnswered path.now pair }
 {
     path.answer(pair.0) == Some(pair.1)

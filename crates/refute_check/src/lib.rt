@@ -3,7 +3,6 @@
 
 mod accepted;
 mod closing;
-mod following;
 mod labels;
 mod no_value;
 mod refutation;

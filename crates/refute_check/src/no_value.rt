@@ -1,23 +1,18 @@
 //! Whether a formula is no under a path. Where it denies a list, it is mostly no by one branch of that list
 //! that is yes: by the one of the node before, by the one behind it, or by one that the path's yes answers name.
-//! Where none of these is yes, the value is told by a formula that follows the paths.
-ghost use Rattle.std.specs.Prelude.{◌≡◌, ◌<◌, ◌^◌, ◌↔◌, IfOk, IfSome, IsTrue, OnOk, length};
+ghost use Rattle.std.specs.Prelude.{◌≡◌, ◌↔◌, IfSome, IsTrue};
 ghost use Rattle.formula_tree.specs.Trees.{children_of, not, one_of, tree_of};
 ghost use Rattle.formula_tree.specs.Values.{value, value_of_all, value_of_some};
 ghost use Rattle.formula_tree.specs.declared.value.Three.TheVariants.{No, Yes};
-ghost use Rattle.slot_theory.specs.Possible.{PathInRange};
-ghost use Rattle.refute_check.specs.Followed.{FollowsQuery};
 
-use crate::following::FollowedFormula;
 use crate::yes_parts::YesParts;
 use formula_tree::{Branches, Formula, Path, Three, value3};
 use plain_lists::NoMemory;
-use policy_compile::Query;
 use std::alloc::Global;
 
 /// Which branch was yes last, and which may be. Nothing rests on it but which branches are looked at first.
 #[derive(Drop)]
-struct LastYes {
+pub(crate) struct LastYes {
     /// Which branch of the formula denies the list.
     list: usize,
     /// The place in the list of the branch that was yes last.
@@ -35,12 +30,31 @@ fn is_value_yes(formula: &Formula, path: &Path) -> bool
     }
 }
 
+fn is_value_no(formula: &Formula, path: &Path) -> bool
+    ensures { IsTrue result ↔ (value path.now (tree_of formula.now) ≡ No) }
+{
+    match value3(formula, path) {
+        Three::No => true,
+        Three::Yes | Three::Unknown => false,
+    }
+}
+
 // Whether the branch at the place is there and yes.
 fn is_yes_at(branches: &Branches, place: usize, path: &Path) -> bool
     ensures { IsTrue result → value_of_some path.now (children_of branches.now) ≡ Yes }
 {
     match branches.get(place) {
         Some(branch) => is_value_yes(branch, path),
+        None => false,
+    }
+}
+
+// Whether the branch at the place is there and no.
+fn is_no_at(branches: &Branches, place: usize, path: &Path) -> bool
+    ensures { IsTrue result → value_of_all path.now (children_of branches.now) ≡ No }
+{
+    match branches.get(place) {
+        Some(branch) => is_value_no(branch, path),
         None => false,
     }
 }
@@ -85,6 +99,18 @@ fn is_denied_at(branches: &Branches, number: usize, place: usize, path: &Path) -
     }
 }
 
+// Whether a branch is no, but for the one of a number.
+fn is_other_no(branches: &Branches, number: usize, path: &Path) -> bool
+    ensures { IsTrue result → value_of_all path.now (children_of branches.now) ≡ No }
+{
+    'branches: for other in 0..branches.len() {
+        if other != number && is_no_at(branches, other, path) {
+            return true;
+        }
+    }
+    false
+}
+
 // The list that the branch of a number denies.
 fn list_at(branches: &Branches, number: usize) -> Option<&Branches> {
     list_of(branches.get(number)?)
@@ -122,8 +148,8 @@ fn parts_of(
 }
 
 impl LastYes {
-    // The first place of the longest list that the formula, over so many tests, denies.
-    fn new(alloc: Global, formula: &Formula, tests: usize) -> Result<LastYes, NoMemory> {
+    /// The first place of the longest list that the formula, over so many tests, denies.
+    pub(crate) fn new(alloc: Global, formula: &Formula, tests: usize) -> Result<LastYes, NoMemory> {
         let (list, parts) = match formula {
             Formula::All(branches) => {
                 let list = longest(branches);
@@ -185,51 +211,22 @@ impl LastYes {
         if self.is_soon_denied(branches, path) {
             return true;
         }
+        if is_other_no(branches, self.list, path) {
+            return true;
+        }
         let earlier = self.earlier();
         self.is_denied(branches, earlier, path)
     }
 
-    // Whether the formula is no, as far as is told soon.
-    fn is_soon_no(&mut self, formula: &Formula, path: &Path) -> bool
-        ensures { IsTrue result → value path.now (tree_of formula.now) ≡ No }
-    {
-        match formula {
-            Formula::All(branches) => self.is_some_no(branches, path),
-            _ => false,
-        }
-    }
-}
-
-/// The value of a query's formula under one path after another, as far as it is no.
-#[derive(Drop)]
-pub(crate) struct Evaluation {
-    last_yes: LastYes,
-    followed: FollowedFormula,
-}
-
-impl Evaluation {
-    /// The query's formula under the empty path.
-    pub(crate) fn of(alloc: Global, query: &Query) -> Result<Evaluation, NoMemory>
-        requires { length query.now.tests < 2 ^ 32 }
-        ensures { IfOk result (λ e. FollowsQuery query.now e.followed) }
-    {
-        let tests = query.tests.len();
-        let last_yes = LastYes::new(alloc, &query.formula, tests)?;
-        let followed = FollowedFormula::of(alloc, &query.formula, tests as u32)?;
-        Ok(Evaluation { last_yes, followed })
-    }
-
     /// Whether the formula's value under the path is no.
-    pub(crate) fn is_no(&mut self, query: &Query, path: &Path) -> Result<bool, NoMemory>
-        requires follows { FollowsQuery query.now self.old.followed }
-        requires range { PathInRange query.now.tests path.now }
-        ensures no { IfOk result (λ no.
-            IsTrue no ↔ (value path.now (tree_of query.now.formula.value) ≡ No)) }
-        ensures follows { OnOk result (FollowsQuery query.now self.new.followed) }
+    pub(crate) fn is_no(&mut self, formula: &Formula, path: &Path) -> bool
+        ensures { IsTrue result ↔ (value path.now (tree_of formula.now) ≡ No) }
     {
-        if self.last_yes.is_soon_no(&query.formula, path) {
-            return Ok(true);
+        if let Formula::All(branches) = formula {
+            if self.is_some_no(branches, path) {
+                return true;
+            }
         }
-        self.followed.is_no(&query.formula, path)
+        is_value_no(formula, path)
     }
 }

@@ -10,11 +10,11 @@ ghost use Rattle.refute_check.specs.Laws.{TreeInRange};
 ghost use Rattle.refute_check.specs.Proofs.{proof_of, size, split};
 ghost use Rattle.refute_check.specs.Queries.{ClosesQuery, HoldsHere};
 ghost use Rattle.refute_check.specs.Verdicts.{IsVerdict};
-ghost use Rattle.refute_check.specs.Walks.{HasAccepted, IsCheckable, IsInStep, IsLabelWalked, IsOpenTest, IsWalked, IsWholeWalk, raised_walk};
+ghost use Rattle.refute_check.specs.Walks.{HasAccepted, IsCheckable, IsLabelWalked, IsOpenTest, IsWalked, IsWholeWalk, raised_walk};
 
 use crate::accepted::AcceptedCores;
 use crate::labels::{Labels, empty_path, path_of, set_aside};
-use crate::no_value::Evaluation;
+use crate::no_value::LastYes;
 use crate::refutation::{AnswerList, Refutation};
 use cnf_clauses::{Clauses, clauses_of, replay};
 use formula_tree::Path;
@@ -49,8 +49,8 @@ enum Walked {
 struct Passed {
     labels: Labels,
     cores: AcceptedCores,
-    /// The value of the query's formula, which has followed the paths.
-    evaluation: Evaluation,
+    /// By which branch the value was no last.
+    last_yes: LastYes,
     /// Paths that are free for the labels that follow.
     spare: Vec<Path>,
 }
@@ -73,18 +73,18 @@ impl<'a> Checking<'a> {
         path: &Path,
         labels: &Labels,
         cores: &mut AcceptedCores,
-        evaluation: &mut Evaluation,
+        last_yes: &mut LastYes,
     ) -> Result<bool, NoMemory>
         requires ready { IsCheckable self.now }
         requires range { PathInRange self.now.query.now.tests path.now }
-        requires known { IsInStep self.now cores.old evaluation.old }
+        requires known { HasAccepted self.now cores.old }
         ensures holds { IfOk result (λ yes. IsTrue yes ↔
             HoldsHere self.now.schema.now self.now.query.now labels.now node.now path.now) }
-        ensures known { OnOk result (IsInStep self.now cores.new evaluation.new) }
+        ensures known { OnOk result (HasAccepted self.now cores.new) }
     {
         let tests = &self.query.tests;
         match node {
-            Refutation::ByValue => evaluation.is_no(self.query, path),
+            Refutation::ByValue => Ok(last_yes.is_no(&self.query.formula, path)),
             Refutation::BySlot { core, proof } => self.accepts_core(path, core, proof, cores),
             Refutation::ByClauses { hints } => replay(self.alloc, &self.clauses, path, hints),
             Refutation::Split { test, .. } => {
@@ -136,14 +136,14 @@ impl<'a> Checking<'a> {
     ) -> Result<Walked, NoMemory>
         requires ready { IsCheckable self.now }
         requires range { PathInRange self.now.query.now.tests path.old }
-        requires known { IsInStep self.now passed.old.cores passed.old.evaluation }
+        requires known { HasAccepted self.now passed.old.cores }
         ensures walked { IfOk result (IsWalked self.now.schema.now self.now.query.now
             passed.old.labels (proof_of part.now) path.old passed.new.labels) }
         ensures path { OnOk result (path.new ≡ path.old) }
-        ensures known { OnOk result (IsInStep self.now passed.new.cores passed.new.evaluation) }
+        ensures known { OnOk result (HasAccepted self.now passed.new.cores) }
     {
-        let (cores, evaluation) = (&mut passed.cores, &mut passed.evaluation);
-        if !self.holds_here(part, path, &passed.labels, cores, evaluation)? {
+        let cores = &mut passed.cores;
+        if !self.holds_here(part, path, &passed.labels, cores, &mut passed.last_yes)? {
             return Ok(Walked::Failed(0));
         }
         match part {
@@ -172,13 +172,13 @@ impl<'a> Checking<'a> {
     ) -> Result<Walked, NoMemory>
         requires ready { IsCheckable self.now }
         requires range { PathInRange self.now.query.now.tests path.old }
-        requires known { IsInStep self.now passed.old.cores passed.old.evaluation }
+        requires known { HasAccepted self.now passed.old.cores }
         requires open { IsOpenTest self.now.query.now test path.old }
         ensures walked { IfOk result (IsWalked self.now.schema.now self.now.query.now
             passed.old.labels (split test (proof_of yes.now) (proof_of no.now))
             path.old passed.new.labels) }
         ensures path { OnOk result (path.new ≡ path.old) }
-        ensures known { OnOk result (IsInStep self.now passed.new.cores passed.new.evaluation) }
+        ensures known { OnOk result (HasAccepted self.now passed.new.cores) }
     {
         let first = self.walk_side(test, true, yes, path, passed)?;
         match first {
@@ -202,13 +202,13 @@ impl<'a> Checking<'a> {
     ) -> Result<Walked, NoMemory>
         requires ready { IsCheckable self.now }
         requires range { PathInRange self.now.query.now.tests path.old }
-        requires known { IsInStep self.now passed.old.cores passed.old.evaluation }
+        requires known { HasAccepted self.now passed.old.cores }
         requires open { IsOpenTest self.now.query.now test path.old }
         ensures walked { IfOk result (IsWalked self.now.schema.now self.now.query.now
             passed.old.labels (proof_of side.now)
             (path_with path.old test answer) passed.new.labels) }
         ensures path { OnOk result (path.new ≡ path.old) }
-        ensures known { OnOk result (IsInStep self.now passed.new.cores passed.new.evaluation) }
+        ensures known { OnOk result (HasAccepted self.now passed.new.cores) }
     {
         path.push(test, answer)?;
         let walked = self.walk(side, path, passed)?;
@@ -227,12 +227,12 @@ impl<'a> Checking<'a> {
     ) -> Result<Walked, NoMemory>
         requires ready { IsCheckable self.now }
         requires range { PathInRange self.now.query.now.tests answers.now }
-        requires known { IsInStep self.now passed.old.cores passed.old.evaluation }
+        requires known { HasAccepted self.now passed.old.cores }
         requires next { number ≡ passed.old.labels.begun }
         requires rise { Rise answers.now }
         ensures walked { IfOk result (IsLabelWalked self.now.schema.now self.now.query.now
             passed.old.labels number answers.now (proof_of inner.now) passed.new.labels) }
-        ensures known { OnOk result (IsInStep self.now passed.new.cores passed.new.evaluation) }
+        ensures known { OnOk result (HasAccepted self.now passed.new.cores) }
     {
         passed.labels.begin()?;
         let empty = empty_path(self.alloc, &mut passed.spare);
@@ -289,7 +289,7 @@ fn walk_whole(
     let mut passed = Passed {
         labels: Labels::new(alloc),
         cores: AcceptedCores::new(alloc),
-        evaluation: Evaluation::of(alloc, query)?,
+        last_yes: LastYes::new(alloc, &query.formula, query.tests.len())?,
         spare: Vec::new(alloc),
     };
     checking.walk(refutation, path, &mut passed)

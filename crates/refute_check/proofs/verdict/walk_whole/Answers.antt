@@ -1,13 +1,7 @@
 -- The search finds this unasked; asked for here, a wrong body is refused without a longer search.
 use Rattle.std.proofs.Common.{rules}
-use Rattle.refute_check.specs.Proofs.{proof_of}
-use Rattle.refute_check.proofs.Walking.{walked-whole}
 use Rattle.refute_check.proofs.verdict.walk_whole.Goals as goal
 
 pub walk-requires-clause-ready : goal.walk-requires-clause-ready
 walk-requires-clause-ready c =
     record { sound = c.requires.sound; suit = c.requires.suit; count = c.requires.count; clauses = search rules }
-
-pub returns : goal.returns
-returns c =
-    walked-whole c.args.schema.now c.args.query.now (proof_of c.args.refutation.now) c.args.path.now _ c.walk.new.passed.labels c.walk.result c.new.ensures c.walk.ensures.walked
