@@ -5,7 +5,6 @@ use Rattle.std.specs.Prelude.{OnOk}
 use Rattle.std.proofs.lemmas.List.{take_more, get_or_append_left, get_or_default}
 use Rattle.std.proofs.lemmas.Option.{get_or_from_slice_get, slice_get-get_or}
 use Rattle.std.proofs.Math.Seq.{get_or-append_seam}
-use Rattle.std.proofs.lemmas.List.Elements.{Contains-append_left}
 use Rattle.formula_tree.proofs.Laws.{cases_eq}
 use Rattle.cnf_clauses.specs.declared.index.Index.{Index}
 use Rattle.cnf_clauses.specs.Literals.{Clause, Literal}
@@ -13,17 +12,17 @@ use Rattle.cnf_clauses.specs.Found.{IsOpen}
 use Rattle.cnf_clauses.specs.Indexes.{lists_at, held_at, HasTwoLiterals, IsIndexedWith, StandInIndex}
 use Rattle.cnf_clauses.proofs.Scanning.{in_more}
 
--- a list with one more number, put back among its lists
-pub number-kept : (old lists : List (List ℕ)) (v : ℕ) (ns : List ℕ) (n : ℕ) → v < length lists → ((w : ℕ) → get_or lists w [] ≡ get_or old w []) → ns ≡ get_or lists v ns →
-    (w i : ℕ) → Contains (get_or old w []) i → Contains (get_or (set lists v (ns ++ n ∷ [])) w []) i
-number-kept old lists v ns n room same read w i stands =
+-- a list with more numbers, put back among its lists
+pub number-kept : (old lists : List (List ℕ)) (v : ℕ) (ns more : List ℕ) → v < length lists → ((w : ℕ) → get_or lists w [] ≡ get_or old w []) → ns ≡ get_or lists v ns →
+    ((i : ℕ) → Contains ns i → Contains more i) → (w i : ℕ) → Contains (get_or old w []) i → Contains (get_or (set lists v more) w []) i
+number-kept old lists v ns more room same read kept w i stands =
     elim (cases_eq w v) [
       | inl here_now ↦
           let held : get_or old w [] ≡ ns = sym (same w) ∙ ap (λ (x : ℕ). get_or lists x []) here_now ∙ get_or_default lists v [] ns room ∙ sym read in
           let here : Contains ns i = subst (λ (x : List ℕ). Contains x i) held stands in
-          rw (here_now, get_or-set_same lists v (ns ++ n ∷ []) [] room) (Contains-append_left ns (n ∷ []) i here)
+          rw (here_now, get_or-set_same lists v more [] room) (kept i here)
       | inr ne ↦
-          let held : get_or old w [] ≡ get_or (set lists v (ns ++ n ∷ [])) w [] = sym (same w) ∙ sym (get_or-set_other lists v w (ns ++ n ∷ []) [] ne) in
+          let held : get_or old w [] ≡ get_or (set lists v more) w [] = sym (same w) ∙ sym (get_or-set_other lists v w more [] ne) in
           subst (λ (x : List ℕ). Contains x i) held stands
     ]
 

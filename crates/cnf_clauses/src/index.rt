@@ -18,6 +18,18 @@ pub(crate) struct Index {
     pub(crate) short: List<u32>,
 }
 
+// Adds the number behind the others, unless it is the last of them: a clause may hold a literal several times,
+// and is looked at once for it.
+fn add_last(list: &mut List<u32>, number: u32) -> Result<(), NoMemory>
+    ensures named { OnOk result (Contains list.new number) }
+    ensures kept { OnOk result ((i : ℕ) → Contains list.old i → Contains list.new i) }
+{
+    if list.as_slice().last() == Some(&number) {
+        return Ok(());
+    }
+    list.push(number)
+}
+
 fn add_number(
     alloc: Global,
     lists: &mut Vec<List<u32>>,
@@ -28,9 +40,7 @@ fn add_number(
     ensures kept { OnOk result (KeepsNumbers lists.old.items lists.new.items) }
 {
     fill_to(lists, variable as usize, List::new(alloc))?;
-    let list = &mut lists[variable as usize];
-    list.push(number)?;
-    Ok(())
+    add_last(&mut lists[variable as usize], number)
 }
 
 fn add_literal(
