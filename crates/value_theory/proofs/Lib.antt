@@ -8,3 +8,4 @@ mod Points
 mod Pushing
 mod SameTests
 mod Screening
+mod BlockNaming

@@ -17,7 +17,7 @@ use Rattle.value_theory.specs.Solutions.{answers}
 abbrev pub Has : List ℤ → List ℤ → ℤ → Type 0
 Has old new k = (q : ℤ) → has_number new q ≡ cond (scaled.eq-value.it k q) true (has_number old q)
 
-or-parts : (a b : Bool) → (a || b) ≡ true → (a ≡ true) ⊎ (b ≡ true)
+pub or-parts : (a b : Bool) → (a || b) ≡ true → (a ≡ true) ⊎ (b ≡ true)
 or-parts true b h = inl refl
 or-parts false b h = inr h
 
@@ -27,11 +27,11 @@ names-none conds clause ns n met = absurd (true≢false (sym met))
 abbrev holds_at : List PlainCond → ℤ → Literal → Bool
 holds_at conds n l = literal_holds (get_or (answers conds (Value.Number n)) l.pattern false) l
 
-holds-so : (a h : Bool) → h ≡ true → (if h then a else not a) ≡ true → a ≡ true
+pub holds-so : (a h : Bool) → h ≡ true → (if h then a else not a) ≡ true → a ≡ true
 holds-so a true e met = met
 holds-so a false e met = absurd (true≢false (sym e))
 
-no_literal : Literal
+pub no_literal : Literal
 no_literal = record { pattern = 0; holds = false }
 
 pub names-more : (conds : List PlainCond) (clause : List Literal) (i : ℕ) (old new : List ℤ) (k : ℤ) → i < length clause → IsNamedAt conds clause i k → Has old new k →

@@ -3,3 +3,4 @@ pub mod Meaning
 pub mod Solutions
 pub mod Samples
 pub mod Screens
+pub mod BlockLists

@@ -1,6 +1,7 @@
 //! Whether some truth value, number, address or byte string meets clauses over conditions on it.
 #![tactic(auto)]
 
+mod blocks;
 mod clause;
 mod guesses;
 mod kinds;

@@ -1,10 +1,12 @@
 //! A value that meets clauses, or none.
 ghost use Rattle.std.specs.Prelude.{◌≡◌, ◌<◌, ◌↔◌, false, length, All, IfOk, IsTrue};
+ghost use Rattle.value_theory.specs.BlockLists.{IsBlockScreen};
 ghost use Rattle.value_theory.specs.Clauses.{OnConditions};
 ghost use Rattle.value_theory.specs.Meaning.{plain_kind};
 ghost use Rattle.value_theory.specs.Screens.{IsScreen};
 ghost use Rattle.value_theory.specs.Solutions.{IsProper, IsSolution, PrefersZero, IsFirstMeeting, meets_clause, meets_clauses};
 
+use crate::blocks::{Blocks, block_lists, is_out_of};
 use crate::clause::{ClauseList, Literal, LiteralList, are_in_range, literal_holds};
 use crate::guesses::guesses_of;
 use crate::kinds::{PlainCond, PlainCondList, PlainKind, PlainValue};
@@ -73,6 +75,8 @@ pub fn solve(alloc: Global, wants: &PlainWants) -> Result<Solved, NoMemory>
 #[derive(Drop)]
 struct Known {
     screen: Screen,
+    /// For each clause the blocks of addresses that it names, where they are known.
+    blocks: Vec<Option<Blocks>>,
     /// For each point the index of a clause that it may not meet.
     guesses: Vec<Option<usize>>,
 }
@@ -108,8 +112,13 @@ fn first_of(
     ensures { IfOk result (IsFirstMeeting points.now conds.now clauses.now) }
 {
     let screen = screen_of(alloc, conds, clauses)?;
+    let blocks = block_lists(alloc, conds, clauses)?;
     let guesses = guesses_of(alloc, points, conds, clauses)?;
-    let known = Known { screen, guesses };
+    let known = Known {
+        screen,
+        blocks,
+        guesses,
+    };
     Ok(first_meeting(points, &known, conds, clauses))
 }
 
@@ -122,6 +131,7 @@ fn first_meeting(
 ) -> Option<usize>
     requires range { OnConditions (length conds.now) clauses.now }
     requires screen { IsScreen conds.now clauses.now known.now.screen }
+    requires blocks { All (IsBlockScreen conds.now clauses.now) known.now.blocks.items }
     ensures { IsFirstMeeting points.now conds.now clauses.now result }
 {
     for (index, point) in points.iter().enumerate() {
@@ -142,34 +152,38 @@ fn meets_clauses(
 ) -> bool
     requires range { OnConditions (length conds.now) clauses.now }
     requires screen { IsScreen conds.now clauses.now known.now.screen }
+    requires blocks { All (IsBlockScreen conds.now clauses.now) known.now.blocks.items }
     ensures { result ≡ meets_clauses conds.now clauses.now point.now }
 {
     if is_out(&known.screen, point) {
         return false;
     }
     let guess = known.guesses.get(index).copied().flatten();
-    if is_refused(point, guess, conds, clauses) {
+    if is_refused(point, guess, known.blocks.as_slice(), conds, clauses) {
         return false;
     }
     point_meets(point, conds, clauses)
 }
 
-// Whether the point doesn't meet the clause at the index, where one is given.
+// Whether the point doesn't meet the clause at the index, where one is given. The blocks are those of the clauses.
 fn is_refused(
     point: &PlainValue,
     guess: Option<usize>,
+    blocks: &[Option<Blocks>],
     conds: &[PlainCond],
     clauses: &[LiteralList],
 ) -> bool
     requires range { OnConditions (length conds.now) clauses.now }
+    requires blocks { All (IsBlockScreen conds.now clauses.now) blocks.now }
     ensures { IsTrue result → meets_clauses conds.now clauses.now point.now ≡ false }
 {
-    match guess {
-        Some(index) if index < clauses.len() => {
-            !meets_clause(point, conds, clauses[index].as_slice())
-        }
-        _ => false,
+    let Some(index) = guess else {
+        return false;
+    };
+    if index < blocks.len() && is_out_of(&blocks[index], point) {
+        return true;
     }
+    index < clauses.len() && !meets_clause(point, conds, clauses[index].as_slice())
 }
 
 fn point_meets(point: &PlainValue, conds: &[PlainCond], clauses: &[LiteralList]) -> bool
