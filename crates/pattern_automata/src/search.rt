@@ -95,10 +95,16 @@ fn leads_as_first(wants: &Wants, machine: &Machine, k: usize, step: &Move, state
 fn is_same(patch: Patch, other: Patch) -> bool
     ensures { IsTrue result → patch ≡ other }
 {
-    patch.index == other.index
-        && patch.one == other.one
-        && patch.stay == other.stay
-        && patch.differs == other.differs
+    if patch.index != other.index {
+        return false;
+    }
+    if patch.one != other.one {
+        return false;
+    }
+    if patch.stay != other.stay {
+        return false;
+    }
+    patch.differs == other.differs
 }
 
 /// Whether all patches are the same.
