@@ -2,11 +2,14 @@
 #![tactic(auto)]
 
 mod accepted;
+mod beside;
 mod closing;
 mod labels;
 mod no_value;
+mod noes;
 mod refutation;
 mod runs;
+mod shapes;
 mod sharing;
 mod verdict;
 mod yes_parts;

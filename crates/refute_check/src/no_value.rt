@@ -30,7 +30,8 @@ fn is_value_yes(formula: &Formula, path: &Path) -> bool
     }
 }
 
-fn is_value_no(formula: &Formula, path: &Path) -> bool
+/// Whether the formula's value under the path is no, which is evaluated.
+pub(crate) fn is_value_no(formula: &Formula, path: &Path) -> bool
     ensures { IsTrue result ↔ (value path.now (tree_of formula.now) ≡ No) }
 {
     match value3(formula, path) {
@@ -201,15 +202,12 @@ impl LastYes {
         self.is_denied(branches, newest, path)
     }
 
-    // Whether a branch is no, as far as is told soon.
+    // Whether a branch is no, which the last guess tells or an evaluation of the other branches.
     fn is_some_no(&mut self, branches: &Branches, path: &Path) -> bool
         ensures { IsTrue result → value_of_all path.now (children_of branches.now) ≡ No }
     {
         if self.parts.is_none() {
             return false;
-        }
-        if self.is_soon_denied(branches, path) {
-            return true;
         }
         if is_other_no(branches, self.list, path) {
             return true;
@@ -218,7 +216,20 @@ impl LastYes {
         self.is_denied(branches, earlier, path)
     }
 
-    /// Whether the formula's value under the path is no.
+    /// Whether the formula's value under the path is no, as far as is told without an evaluation of what is long.
+    pub(crate) fn is_soon_no(&mut self, formula: &Formula, path: &Path) -> bool
+        ensures { IsTrue result → value path.now (tree_of formula.now) ≡ No }
+    {
+        if self.parts.is_none() {
+            return false;
+        }
+        match formula {
+            Formula::All(branches) => self.is_soon_denied(branches, path),
+            _ => false,
+        }
+    }
+
+    /// Whether the formula's value under the path is no, where `is_soon_no` has been asked.
     pub(crate) fn is_no(&mut self, formula: &Formula, path: &Path) -> bool
         ensures { IsTrue result ↔ (value path.now (tree_of formula.now) ≡ No) }
     {

@@ -2,6 +2,8 @@
 ghost use Rattle.std.specs.Prelude.{◌≡◌, ◌<◌, ◌^◌, ◌↔◌, All, IfOk, IsTrue, OnOk, length};
 ghost use Rattle.formula_tree.specs.Runs.{path_with};
 ghost use Rattle.formula_tree.specs.Trees.{tree_of};
+ghost use Rattle.formula_tree.specs.Values.{value};
+ghost use Rattle.formula_tree.specs.declared.value.Three.TheVariants.{No};
 ghost use Rattle.policy_model.specs.Soundness.{SchemaIsSound, TestSuits};
 ghost use Rattle.slot_theory.specs.Possible.{PathInRange};
 ghost use Rattle.slot_theory.specs.Cores.{Accepts};
@@ -10,18 +12,20 @@ ghost use Rattle.refute_check.specs.Laws.{TreeInRange};
 ghost use Rattle.refute_check.specs.Proofs.{proof_of, size, split};
 ghost use Rattle.refute_check.specs.Queries.{ClosesQuery, HoldsHere};
 ghost use Rattle.refute_check.specs.Verdicts.{IsVerdict};
-ghost use Rattle.refute_check.specs.Walks.{HasAccepted, IsCheckable, IsLabelWalked, IsOpenTest, IsWalked, IsWholeWalk, raised_walk};
+ghost use Rattle.refute_check.specs.Walks.{IsCheckable, IsLabelWalked, IsOpenTest, IsWalked, IsWholeWalk, KnowsRight, raised_walk};
 
 use crate::accepted::AcceptedCores;
+use crate::beside::{CoreCheck, accepts_core};
 use crate::labels::{Labels, empty_path, path_of, set_aside};
 use crate::no_value::LastYes;
+use crate::noes::KnownNoes;
 use crate::refutation::{AnswerList, Refutation};
 use cnf_clauses::{Clauses, clauses_of, replay};
 use formula_tree::Path;
 use plain_lists::{List, NoMemory};
 use policy_compile::Query;
 use policy_model::Schema;
-use slot_theory::{Core, SlotProof, accepts};
+use slot_theory::{Core, SlotProof};
 use std::alloc::Global;
 use std::rc::Rc;
 
@@ -44,13 +48,22 @@ enum Walked {
     Failed(u32),
 }
 
-/// What a walk has passed: labels, and cores that were accepted.
+/// What a walk came to know of the schema and the query.
+#[derive(Drop)]
+struct Known {
+    /// Cores that were accepted.
+    cores: AcceptedCores,
+    /// Answers under which the query's formula is no.
+    noes: KnownNoes,
+    /// By which branch the value was no last.
+    last_yes: LastYes,
+}
+
+/// What a walk has passed: labels, and what it came to know.
 #[derive(Drop)]
 struct Passed {
     labels: Labels,
-    cores: AcceptedCores,
-    /// By which branch the value was no last.
-    last_yes: LastYes,
+    known: Known,
     /// Paths that are free for the labels that follow.
     spare: Vec<Path>,
 }
@@ -72,20 +85,19 @@ impl<'a> Checking<'a> {
         node: &Refutation,
         path: &Path,
         labels: &Labels,
-        cores: &mut AcceptedCores,
-        last_yes: &mut LastYes,
+        known: &mut Known,
     ) -> Result<bool, NoMemory>
         requires ready { IsCheckable self.now }
         requires range { PathInRange self.now.query.now.tests path.now }
-        requires known { HasAccepted self.now cores.old }
+        requires known { KnowsRight self.now known.old }
         ensures holds { IfOk result (λ yes. IsTrue yes ↔
             HoldsHere self.now.schema.now self.now.query.now labels.now node.now path.now) }
-        ensures known { OnOk result (HasAccepted self.now cores.new) }
+        ensures known { OnOk result (KnowsRight self.now known.new) }
     {
         let tests = &self.query.tests;
         match node {
-            Refutation::ByValue => Ok(last_yes.is_no(&self.query.formula, path)),
-            Refutation::BySlot { core, proof } => self.accepts_core(path, core, proof, cores),
+            Refutation::ByValue => self.is_no(path, known),
+            Refutation::BySlot { core, proof } => self.accepts_core(path, core, proof, known),
             Refutation::ByClauses { hints } => replay(self.alloc, &self.clauses, path, hints),
             Refutation::Split { test, .. } => {
                 Ok((*test as usize) < tests.len() && path.answer(*test).is_none())
@@ -99,30 +111,48 @@ impl<'a> Checking<'a> {
         }
     }
 
-    /// Whether the core and its proof are accepted under the path. One that was isn't looked at again.
+    /// Whether the core and its proof are accepted under the path.
     fn accepts_core(
         &self,
         path: &Path,
         core: &Core,
         proof: &Rc<SlotProof>,
-        cores: &mut AcceptedCores,
+        known: &mut Known,
     ) -> Result<bool, NoMemory>
         requires ready { IsCheckable self.now }
         requires range { PathInRange self.now.query.now.tests path.now }
-        requires known { HasAccepted self.now cores.old }
+        requires known { KnowsRight self.now known.old }
         ensures accepted { IfOk result (λ yes. IsTrue yes ↔ Accepts
             self.now.schema.now self.now.query.now.tests path.now core.now proof.now.value) }
-        ensures known { OnOk result (HasAccepted self.now cores.new) }
+        ensures known { OnOk result (KnowsRight self.now known.new) }
     {
-        if cores.has(path, core, proof) {
+        let check = CoreCheck {
+            alloc: self.alloc,
+            schema: self.schema,
+            tests: &self.query.tests,
+        };
+        accepts_core(&check, &mut known.cores, path, core, proof)
+    }
+
+    /// Whether the query's formula is no under the path.
+    fn is_no(&self, path: &Path, known: &mut Known) -> Result<bool, NoMemory>
+        requires known { KnowsRight self.now known.old }
+        ensures no { IfOk result (λ yes. IsTrue yes ↔
+            (value path.now (tree_of self.now.query.now.formula.value) ≡ No)) }
+        ensures known { OnOk result (KnowsRight self.now known.new) }
+    {
+        let formula = &self.query.formula;
+        if known.last_yes.is_soon_no(formula, path) {
             return Ok(true);
         }
-        let tests = &self.query.tests;
-        let accepted = accepts(self.alloc, self.schema, tests, path, core, proof)?;
-        if accepted {
-            cores.keep(self.alloc, path, core, proof)?;
+        if known.noes.is_known_no(self.alloc, formula, path)? {
+            return Ok(true);
         }
-        Ok(accepted)
+        if !known.last_yes.is_no(formula, path) {
+            return Ok(false);
+        }
+        known.noes.note(self.alloc, path)?;
+        Ok(true)
     }
 
     /// The part under the path, which is as before. Where the part closes, its labels stand before
@@ -136,14 +166,13 @@ impl<'a> Checking<'a> {
     ) -> Result<Walked, NoMemory>
         requires ready { IsCheckable self.now }
         requires range { PathInRange self.now.query.now.tests path.old }
-        requires known { HasAccepted self.now passed.old.cores }
+        requires known { KnowsRight self.now passed.old.known }
         ensures walked { IfOk result (IsWalked self.now.schema.now self.now.query.now
             passed.old.labels (proof_of part.now) path.old passed.new.labels) }
         ensures path { OnOk result (path.new ≡ path.old) }
-        ensures known { OnOk result (HasAccepted self.now passed.new.cores) }
+        ensures known { OnOk result (KnowsRight self.now passed.new.known) }
     {
-        let cores = &mut passed.cores;
-        if !self.holds_here(part, path, &passed.labels, cores, &mut passed.last_yes)? {
+        if !self.holds_here(part, path, &passed.labels, &mut passed.known)? {
             return Ok(Walked::Failed(0));
         }
         match part {
@@ -172,13 +201,13 @@ impl<'a> Checking<'a> {
     ) -> Result<Walked, NoMemory>
         requires ready { IsCheckable self.now }
         requires range { PathInRange self.now.query.now.tests path.old }
-        requires known { HasAccepted self.now passed.old.cores }
+        requires known { KnowsRight self.now passed.old.known }
         requires open { IsOpenTest self.now.query.now test path.old }
         ensures walked { IfOk result (IsWalked self.now.schema.now self.now.query.now
             passed.old.labels (split test (proof_of yes.now) (proof_of no.now))
             path.old passed.new.labels) }
         ensures path { OnOk result (path.new ≡ path.old) }
-        ensures known { OnOk result (HasAccepted self.now passed.new.cores) }
+        ensures known { OnOk result (KnowsRight self.now passed.new.known) }
     {
         let first = self.walk_side(test, true, yes, path, passed)?;
         match first {
@@ -202,13 +231,13 @@ impl<'a> Checking<'a> {
     ) -> Result<Walked, NoMemory>
         requires ready { IsCheckable self.now }
         requires range { PathInRange self.now.query.now.tests path.old }
-        requires known { HasAccepted self.now passed.old.cores }
+        requires known { KnowsRight self.now passed.old.known }
         requires open { IsOpenTest self.now.query.now test path.old }
         ensures walked { IfOk result (IsWalked self.now.schema.now self.now.query.now
             passed.old.labels (proof_of side.now)
             (path_with path.old test answer) passed.new.labels) }
         ensures path { OnOk result (path.new ≡ path.old) }
-        ensures known { OnOk result (HasAccepted self.now passed.new.cores) }
+        ensures known { OnOk result (KnowsRight self.now passed.new.known) }
     {
         path.push(test, answer)?;
         let walked = self.walk(side, path, passed)?;
@@ -227,12 +256,12 @@ impl<'a> Checking<'a> {
     ) -> Result<Walked, NoMemory>
         requires ready { IsCheckable self.now }
         requires range { PathInRange self.now.query.now.tests answers.now }
-        requires known { HasAccepted self.now passed.old.cores }
+        requires known { KnowsRight self.now passed.old.known }
         requires next { number ≡ passed.old.labels.begun }
         requires rise { Rise answers.now }
         ensures walked { IfOk result (IsLabelWalked self.now.schema.now self.now.query.now
             passed.old.labels number answers.now (proof_of inner.now) passed.new.labels) }
-        ensures known { OnOk result (HasAccepted self.now passed.new.cores) }
+        ensures known { OnOk result (KnowsRight self.now passed.new.known) }
     {
         passed.labels.begin()?;
         let empty = empty_path(self.alloc, &mut passed.spare);
@@ -288,8 +317,11 @@ fn walk_whole(
     };
     let mut passed = Passed {
         labels: Labels::new(alloc),
-        cores: AcceptedCores::new(alloc),
-        last_yes: LastYes::new(alloc, &query.formula, query.tests.len())?,
+        known: Known {
+            cores: AcceptedCores::new(alloc),
+            noes: KnownNoes::new(alloc),
+            last_yes: LastYes::new(alloc, &query.formula, query.tests.len())?,
+        },
         spare: Vec::new(alloc),
     };
     checking.walk(refutation, path, &mut passed)

@@ -6,6 +6,7 @@ mod Contradicted
 mod Impossible
 mod Keyed
 pub mod Laws
+mod Monotone
 mod Naming
 mod Products
 mod Rising
