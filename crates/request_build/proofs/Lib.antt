@@ -1,4 +1,5 @@
 mod Existing
 mod Filling
+mod First
 mod Joining
 pub mod Laws

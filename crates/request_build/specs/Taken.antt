@@ -1,8 +1,9 @@
 -- What a request takes from slot values, and what it has where there is none.
-use Rattle.std.specs.Prelude.{ℕ, List, [], ◌∷◌, Option, Some, None, unwrap_or, if◌then◌else◌}
+use Rattle.std.specs.Prelude.{◌≡◌, ℕ, List, [], ◌∷◌, Option, Some, None, unwrap_or, if◌then◌else◌}
 use Rattle.std.specs.List.{flat_map}
+use Rattle.std.specs.Option.{option_or}
 use Rattle.std.specs.Str.{bytes_eq}
-use Rattle.text_table.specs.Table.{Entries, with_item}
+use Rattle.text_table.specs.Table.{Entries, item_at, with_item}
 use Rattle.policy_model.specs.declared.principal.PrincipalKind.{PrincipalKind}
 use Rattle.policy_model.specs.declared.principal.PrincipalKind.TheVariants.{Aws}
 use Rattle.policy_model.specs.declared.request.Request.{Request}
@@ -31,9 +32,13 @@ abbrev pub resource_or : Slot → SlotValue → List ℕ → List ℕ
 resource_or slot.Resource (value.Word t) rest = t
 resource_or s v rest = rest
 
+-- the values, where they are those of a key of this name
+abbrev pub values_under : List ℕ → List ℕ → List Value → Option (List Value)
+values_under name key vs = (if bytes_eq key name then Some vs else None)
+
 -- the values of a key of this name
 abbrev pub values_at_key : List ℕ → Slot → SlotValue → Option (List Value)
-values_at_key name (slot.Key key) (value.Values vs) = (if bytes_eq key name then Some vs else None)
+values_at_key name (slot.Key key) (value.Values vs) = values_under name key vs
 values_at_key name s v = None
 
 -- the first principal among the values, or the stated one
@@ -55,6 +60,19 @@ resource_in shapes (p ∷ ps) = resource_or p.0 p.1 (resource_in shapes ps)
 abbrev pub key_values : List (Slot × SlotValue) → List ℕ → KeyRule → List Value
 key_values [] name rule = stated_values rule
 key_values (p ∷ ps) name rule = unwrap_or (values_at_key name p.0 p.1) (key_values ps name rule)
+
+-- the first values of the key among these, where there are some
+abbrev pub first_values : List (Slot × SlotValue) → List ℕ → Option (List Value)
+first_values [] name = None
+first_values (p ∷ ps) name = option_or (values_at_key name p.0 p.1) (first_values ps name)
+
+-- each key has its first values there, and no other key is there
+abbrev pub HasFirstValues : List (Slot × SlotValue) → Entries (List Value) → Type 0
+HasFirstValues values found = (name : List ℕ) → item_at name found ≡ first_values values name
+
+-- each key has what it had, or else these values of it
+abbrev pub IsWithFirst : Entries (List Value) → (List ℕ → Option (List Value)) → Entries (List Value) → Type 0
+IsWithFirst old values new = (name : List ℕ) → item_at name new ≡ option_or (item_at name old) (values name)
 
 -- the key with its values, where it has some
 abbrev pub filled_entry : List ℕ → List Value → Entries (List Value)
