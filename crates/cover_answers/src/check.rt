@@ -26,6 +26,7 @@ use policy_compile::Query;
 use policy_model::Schema;
 use proof_text::{ProofAnswer, ReadProof, read_proof_from};
 use refute_check::{Verdict, check};
+use request_json::RequestReader;
 use run_files::{EarlyEnd, Printed, Status};
 use run_sets::{OneSet, accepted_line, not_closing_line, proof_fault_text};
 use std::alloc::Global;
@@ -37,7 +38,8 @@ fn head_of(alloc: Global, one: &OneSet, strata: &Strata, bytes: &[u8]) -> Result
     ensures { OrAnswered result (IsHead one.now.schema strata.now.dimensions bytes.now)
         (IsBadHeadPrinted one.now strata.now.dimensions bytes.now) }
 {
-    match read_head(alloc, &one.schema, strata, bytes) {
+    let reader = RequestReader::new(alloc, &one.schema)?;
+    match read_head(alloc, &reader, strata, bytes) {
         Ok(pairs) => Ok(pairs),
         Err(HeadAnswer::Refused(fault)) => {
             Err(ended(head_fault_text(alloc, fault), Status::BadProof))

@@ -10,9 +10,9 @@ use crate::wording::{TextTable, finding_of, texts_of};
 use command_words::MOST_FINDINGS;
 use findings::{Finding, Summary};
 use plain_lists::NoMemory;
-use policy_model::{Request, Schema};
+use policy_model::Request;
 use proof_text::{content_of, decimal_in, first_line};
-use request_json::{RequestAnswer, read_request};
+use request_json::{RequestAnswer, RequestReader};
 use std::alloc::{AllocError, Global};
 use strata::Strata;
 
@@ -72,10 +72,14 @@ fn read_finding<'a>(
 }
 
 // The request that the text is read as, or none where it is read as none.
-fn request_of(alloc: Global, schema: &Schema, text: &[u8]) -> Result<Option<Request>, NoMemory>
-    ensures { IfOk result (IsRequestOf schema.now text.now) }
+fn request_of(
+    alloc: Global,
+    reader: &RequestReader<'_>,
+    text: &[u8],
+) -> Result<Option<Request>, NoMemory>
+    ensures { IfOk result (IsRequestOf reader.now text.now) }
 {
-    match read_request(alloc, schema, text) {
+    match reader.read(alloc, text) {
         Ok(request) => Ok(Some(request)),
         Err(RequestAnswer::Refused(_)) => Ok(None),
         Err(RequestAnswer::NoMemory) => Err(AllocError),
@@ -85,11 +89,11 @@ fn request_of(alloc: Global, schema: &Schema, text: &[u8]) -> Result<Option<Requ
 // The request whose line stands first, of this number, and what stands behind it.
 fn read_request_line<'a>(
     alloc: Global,
-    schema: &Schema,
+    reader: &RequestReader<'_>,
     number: u32,
     bytes: &'a [u8],
 ) -> Result<(Request, &'a [u8]), HeadAnswer>
-    ensures { IsRequestRead schema.now number bytes.now result }
+    ensures { IsRequestRead reader.now number bytes.now result }
 {
     let Some((line, behind)) = first_line(bytes) else {
         return Err(fault_at(number, HeadCode::C5Count));
@@ -97,7 +101,7 @@ fn read_request_line<'a>(
     let Some(content) = content_of(line) else {
         return Err(fault_at(number, HeadCode::C7Request));
     };
-    match request_of(alloc, schema, content)? {
+    match request_of(alloc, reader, content)? {
         Some(request) => Ok((request, behind)),
         None => Err(fault_at(number, HeadCode::C7Request)),
     }
@@ -107,7 +111,7 @@ fn read_request_line<'a>(
 // behind them.
 fn read_pair<'a>(
     alloc: Global,
-    schema: &Schema,
+    reader: &RequestReader<'_>,
     strata: &Strata,
     table: &TextTable,
     number: u32,
@@ -115,10 +119,10 @@ fn read_pair<'a>(
 ) -> Result<((Finding, Request), &'a [u8]), HeadAnswer>
     requires table { AreTextsOf strata.now.dimensions table.now }
     requires number { number ≤ 2 * MOST_FINDINGS }
-    ensures { IsPairRead schema.now strata.now.dimensions number bytes.now result }
+    ensures { IsPairRead reader.now strata.now.dimensions number bytes.now result }
 {
     let (finding, behind) = read_finding(alloc, strata, table, number, bytes)?;
-    let (request, behind) = read_request_line(alloc, schema, number + 1, behind)?;
+    let (request, behind) = read_request_line(alloc, reader, number + 1, behind)?;
     Ok(((finding, request), behind))
 }
 
@@ -126,12 +130,12 @@ fn read_pair<'a>(
 /// line that isn't as it must be, exactly where there is one. `NoMemory` only where there is no memory.
 pub(crate) fn read_head(
     alloc: Global,
-    schema: &Schema,
+    reader: &RequestReader<'_>,
     strata: &Strata,
     bytes: &[u8],
 ) -> Result<Summary, HeadAnswer>
     requires { All (λ d. IsNumberable d.predicates) strata.now.dimensions }
-    ensures { IsHeadRead schema.now strata.now.dimensions bytes.now result }
+    ensures { IsHeadRead reader.now strata.now.dimensions bytes.now result }
 {
     let Some((count, behind)) = read_count(bytes) else {
         return Err(fault_at(1, HeadCode::C5Count));
@@ -140,7 +144,7 @@ pub(crate) fn read_head(
     let mut pairs = Summary::new(alloc);
     let mut rest = behind;
     'pairs: for place in 0..count {
-        let (pair, behind) = read_pair(alloc, schema, strata, &table, 2 * place + 2, rest)?;
+        let (pair, behind) = read_pair(alloc, reader, strata, &table, 2 * place + 2, rest)?;
         pairs.push(pair)?;
         rest = behind;
     }

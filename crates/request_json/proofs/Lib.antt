@@ -5,6 +5,7 @@ mod Flat
 mod KeysRead
 mod Listed
 mod Permitting
+mod Requiring
 mod Shaped
 mod Swapping
 mod WrittenBytes

@@ -1,17 +1,16 @@
 //! The keys of a request file under a schema.
-ghost use Rattle.std.specs.Prelude.{◌≡◌, ◌∷◌, ◌||◌, [], All, IfOk, IsTrue, OnOk, is_some, not};
+ghost use Rattle.std.specs.Prelude.{◌≡◌, ◌∷◌, [], All, IfOk, IsTrue};
 ghost use Rattle.serde_json.specs.View.{members_view, view};
 ghost use Rattle.json_shapes.specs.Json.{pairs_of};
-ghost use Rattle.text_table.specs.Table.{item_at};
-ghost use Rattle.policy_model.specs.Requests.{EntryIsValid, IsOfKind, IsThere, PermitsValues};
+ghost use Rattle.policy_model.specs.Requests.{EntryIsValid, IsOfKind, PermitsValues};
 ghost use Rattle.request_schema.specs.SchemaRules.{are_of_kind, string_in, strings_of, values_of_kind};
 ghost use Rattle.request_json.specs.RequestChecks.{request_check};
-ghost use Rattle.request_json.specs.RequestKeys.{are_permitted, checks_by_rule, context_checks, context_from, request_key_checks, required_check, required_checks, rule_at, values_read, with_key};
+ghost use Rattle.request_json.specs.RequestKeys.{are_permitted, checks_by_rule, context_checks, context_from, request_key_checks, rule_at, values_read, with_key};
 ghost use Rattle.request_json.specs.RequestShapes.{keys_of_request};
 ghost use Rattle.request_json.specs.declared.fault.RequestCode.TheVariants.{Q3BadValue};
 ghost use Rattle.json_shapes.specs.Checks.{IsReadOf};
 
-use crate::fault::{RequestAnswer, RequestCode, RequestFault, refusal, require};
+use crate::fault::{RequestAnswer, RequestCode, refusal, require};
 use json_shapes::members;
 use policy_model::{Context, KeyRule, KeyRules, Kind, List, ValueList, permits_values};
 use request_schema::value_written;
@@ -131,36 +130,4 @@ pub(crate) fn read_keys(
         Some(given) => read_context(alloc, keys, given),
         None => Ok(Context::new(alloc)),
     }
-}
-
-// Whether the key has a value, where its rule asks for one.
-fn is_there(context: &Context, key: &Text, rule: &KeyRule) -> bool
-    ensures value { result ≡ (not rule.now.required || is_some (item_at key.now context.now)) }
-    ensures there { IsTrue result → IsThere context.now (key.now, rule.now) }
-{
-    !rule.required || context.get(key).is_some()
-}
-
-// Passes where the key has a value, if its rule asks for one.
-fn require_key(context: &Context, key: &Text, rule: &KeyRule) -> Result<(), RequestAnswer>
-    ensures read { IsReadOf (required_check context.now (key.now, rule.now) ∷ []) tt result }
-    ensures there { OnOk result (IsThere context.now (key.now, rule.now)) }
-{
-    if is_there(context, key, rule) {
-        return Ok(());
-    }
-    let element = key.copy()?;
-    let code = RequestCode::Q4NotValid;
-    Err(RequestAnswer::Refused(RequestFault { code, element }))
-}
-
-/// Passes where each key has a value whose rule asks for one.
-pub(crate) fn require_keys(keys: &KeyRules, context: &Context) -> Result<(), RequestAnswer>
-    ensures read { IsReadOf (required_checks keys.now context.now) tt result }
-    ensures there { OnOk result (All (IsThere context.now) keys.now) }
-{
-    for (key, rule) in keys.iter() {
-        require_key(context, key, rule)?;
-    }
-    Ok(())
 }

@@ -4,6 +4,7 @@
 mod fault;
 mod keys;
 mod read;
+mod required;
 mod round_trip;
 mod shape;
 mod words;
@@ -11,6 +12,6 @@ mod write;
 
 pub use fault::{RequestAnswer, RequestCode, RequestFault};
 pub use plain_lists::NoMemory;
-pub use read::read_request;
+pub use read::{RequestReader, read_request};
 pub use round_trip::written_requests_are_read_again;
 pub use write::write_request;

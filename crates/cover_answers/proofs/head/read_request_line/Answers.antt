@@ -6,13 +6,13 @@ use Rattle.cover_answers.proofs.head.read_request_line.Goals as goal
 
 pub returns-in_default-content_of : goal.returns-in_default-content_of
 returns-in_default-content_of c =
-    let schema = c.args.schema.now in
+    let schema = c.args.reader.now in
     request-answer schema c.args.number c.args.bytes.now c.fault_at-in_default-content_of.result _ c.fault_at-in_default-content_of.ensures
     (request-fails c.args.bytes.now c.in-Some.line.now c.in-Some.behind.now c.in-Some.ensures schema c.args.number (request-open schema c.in-Some.line.now (sym c.in_default-content_of.ensures)))
 
 pub returns-in-Some-2 : goal.returns-in-Some-2
 returns-in-Some-2 c =
-    let schema = c.args.schema.now in
+    let schema = c.args.reader.now in
     let read = subst (λ (o : Option Request). IsRequestOf schema c.in-Some-content_of.content.now o) c.in-Some-2.is c.in_ok-request.ensures in
     record {
       line = c.in-Some.line.now;
@@ -22,7 +22,7 @@ returns-in-Some-2 c =
 
 pub returns-in-None : goal.returns-in-None
 returns-in-None c =
-    let schema = c.args.schema.now in
+    let schema = c.args.reader.now in
     let read = subst (λ (o : Option Request). IsRequestOf schema c.in-Some-content_of.content.now o) c.in-None.is c.in_ok-request.ensures in
     request-answer schema c.args.number c.args.bytes.now c.fault_at-in-None.result _ c.fault_at-in-None.ensures
     (request-fails c.args.bytes.now c.in-Some.line.now c.in-Some.behind.now c.in-Some.ensures schema c.args.number

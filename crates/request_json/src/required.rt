@@ -1,0 +1,48 @@
+//! The keys that requests under a schema must have.
+ghost use Rattle.std.specs.Prelude.{◌≡◌, ◌∷◌, [], All, IfOk, OnOk};
+ghost use Rattle.policy_model.specs.Requests.{HasValue};
+ghost use Rattle.request_json.specs.RequestKeys.{required_keys, presence_check, presence_checks};
+ghost use Rattle.json_shapes.specs.Checks.{IsReadOf};
+
+use crate::fault::{RequestAnswer, RequestCode, RequestFault};
+use plain_lists::{EqualClone, List, NoMemory};
+use policy_model::{Context, Schema};
+use std::alloc::Global;
+use wildcard_lang::Text;
+
+/// The names of the keys that the schema requires, in the order of its keys.
+pub(crate) fn required_keys(alloc: Global, schema: &Schema) -> Result<List<Text>, NoMemory>
+    ensures { IfOk result (λ names. names ≡ required_keys schema.now.keys) }
+{
+    let mut names = List::new(alloc);
+    for (key, rule) in schema.iter() {
+        if rule.required {
+            names.push(key.copy()?)?;
+        }
+    }
+    Ok(names)
+}
+
+// Passes where the key has a value.
+fn require_value(context: &Context, key: &Text) -> Result<(), RequestAnswer>
+    ensures read { IsReadOf (presence_check context.now key.now ∷ []) tt result }
+    ensures there { OnOk result (HasValue context.now key.now) }
+{
+    if context.get(key).is_some() {
+        return Ok(());
+    }
+    let element = key.copy()?;
+    let code = RequestCode::Q4NotValid;
+    Err(RequestAnswer::Refused(RequestFault { code, element }))
+}
+
+/// Passes where each of the keys has a value.
+pub(crate) fn require_values(context: &Context, keys: &[Text]) -> Result<(), RequestAnswer>
+    ensures read { IsReadOf (presence_checks context.now keys.now) tt result }
+    ensures there { OnOk result (All (HasValue context.now) keys.now) }
+{
+    for key in keys {
+        require_value(context, key)?;
+    }
+    Ok(())
+}
