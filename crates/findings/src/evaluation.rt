@@ -1,7 +1,8 @@
 //! Whether a set allows a request, by the query of the set.
-ghost use Rattle.std.specs.Prelude.{◌≡◌, IfOk, length};
+ghost use Rattle.std.specs.Prelude.{◌≡◌, ◌↔◌, IfOk, IsTrue, length};
 ghost use Rattle.formula_tree.specs.Trees.{children_of, tree_of};
 ghost use Rattle.formula_tree.specs.Values.{AreBelow, EachBelow, each_holds, holds, some_holds};
+ghost use Rattle.policy_model.specs.Tests.{TestHolds};
 ghost use Rattle.findings.specs.Judging.{AreAnswersOf, DecidesAllowed, nth_answer};
 
 use formula_tree::{Branches, Formula};
@@ -9,6 +10,20 @@ use plain_lists::NoMemory;
 use policy_compile::Query;
 use policy_model::{Request, Test, test_holds};
 use std::alloc::Global;
+use value_lookups::some_matches;
+
+// What a test answers on the request. Whether each of many values meets one of much that is asked is looked
+// up: compared each with each, millions of values of a key would take an hour.
+fn test_answer(alloc: Global, test: &Test, request: &Request) -> bool
+    ensures { IsTrue result ↔ TestHolds request.now test.now }
+{
+    match test {
+        Test::SomeMeetsNone(key, conds) => {
+            some_matches(alloc, request.values_at(key), conds, true)
+        }
+        _ => test_holds(test, request),
+    }
+}
 
 // What the tests answer on the request, in the order of their numbers.
 fn answers_of(alloc: Global, tests: &[Test], request: &Request) -> Result<Vec<bool>, NoMemory>
@@ -16,7 +31,7 @@ fn answers_of(alloc: Global, tests: &[Test], request: &Request) -> Result<Vec<bo
 {
     let mut answers = Vec::new(alloc);
     'tests: for test in tests {
-        answers.push(test_holds(test, request))?;
+        answers.push(test_answer(alloc, test, request))?;
     }
     Ok(answers)
 }

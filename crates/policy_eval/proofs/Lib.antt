@@ -1,3 +1,4 @@
+mod Asked
 mod Firsts
 mod Unique
 mod Telling

@@ -7,4 +7,4 @@ tests-init c = answers-none c.args.request.now c.args.tests.now c.new-answers.re
 
 pub tests-preserved : goal.tests-preserved
 tests-preserved c =
-    answers-next c.args.request.now c.args.tests.now c.tests.test-index c.test-item.result c.tests.answers.items c.push.new.self.items c.test_holds.result (omega arith) c.test-item.is c.tests.invariant c.test_holds.ensures c.in_ok-push.ensures.items
+    answers-next c.args.request.now c.args.tests.now c.tests.test-index c.test-item.result c.tests.answers.items c.push.new.self.items c.test_answer.result (omega arith) c.test-item.is c.tests.invariant c.test_answer.ensures c.in_ok-push.ensures.items

@@ -1,0 +1,5 @@
+mod Equal
+mod Finding
+mod Literals
+mod Resting
+mod Tested

@@ -1,0 +1,12 @@
+//! Whether some of many values meets some, or none, of much that is asked, without comparing each with
+//! each.
+#![tactic(auto)]
+
+mod blocks;
+mod found;
+mod literal;
+mod rest;
+mod table;
+mod values;
+
+pub use values::{FEW, some_matches};
