@@ -1,5 +1,6 @@
 //! Clauses that are learned from conflicts and from slots, each with its line.
 use crate::analysis::Learned;
+use crate::known::{Conflict, KnownConflicts};
 use crate::solver::Solver;
 use crate::store::Literal;
 use clause_proofs::Line;
@@ -8,6 +9,9 @@ use plain_lists::{List, NoMemory};
 use refute_check::SharedProof;
 use slot_theory::SlotProof;
 use std::rc::Rc;
+
+// What a known conflict takes, in units of work.
+const KNOWN_WORK: usize = 40;
 
 impl Solver {
     /// Learns from the conflict of a clause all of whose literals are false, some at the last level, and goes back to the
@@ -184,6 +188,7 @@ impl Solver {
         path: &Path,
         core: &[u32],
         proof: SlotProof,
+        known: &mut KnownConflicts,
     ) -> Result<bool, NoMemory> {
         let SharedProof { proof, kept } = self.proofs.share(self.alloc, proof)?;
         if !kept {
@@ -195,7 +200,22 @@ impl Solver {
                 answers.push((*test, answer))?;
             }
         }
+        known.keep(answers.as_slice(), &proof)?;
         self.exclude(answers, proof)
+    }
+
+    /// Learns the known conflicts of the search's tests. No decision stands. Whether the lines end.
+    pub(crate) fn take_known(&mut self, known: &mut KnownConflicts) -> Result<bool, NoMemory> {
+        for index in 0..known.len() {
+            let Some(Conflict { answers, proof }) = known.get(index)? else {
+                continue;
+            };
+            self.limits.spend(KNOWN_WORK);
+            if self.exclude(answers, proof)? {
+                return Ok(true);
+            }
+        }
+        Ok(false)
     }
 
     // Learns that not all of the answers are given, since no value of their slot gives them.

@@ -17,6 +17,7 @@ mod flipping;
 mod forgetting;
 mod gain;
 mod guessing;
+mod known;
 mod learning;
 mod limits;
 mod meeting;
@@ -33,5 +34,6 @@ mod store;
 mod trimming;
 mod watches;
 
+pub use known::KnownConflicts;
 pub use outcome::Outcome;
 pub use searching::search;

@@ -17,7 +17,9 @@ use formula_tree::Path;
 use plain_lists::NoMemory;
 use policy_model::{EqualClone, Kind, Slot};
 use request_build::SlotValues;
+use slot_theory::slot_of;
 use std::mem::replace;
+use text_table::Table;
 
 // After so many clauses that a slot doesn't confirm it is left alone.
 const MOST_IN_VAIN: u32 = 3;
@@ -73,8 +75,13 @@ pub(crate) fn relate(
 ) -> Result<bool, NoMemory>
     requires ready { IsSearchAsked asked.now }
 {
+    if failing.known.are_related() {
+        return Ok(false);
+    }
     let few = with_states(asked, FEW_STATES);
-    relate_all(&few, solver, failing)
+    let ends = relate_all(&few, solver, failing)?;
+    failing.known.relate();
+    Ok(ends)
 }
 
 /// Learns those pairs of tests of one slot that it confirms to exclude one another. Whether the lines end.
@@ -103,15 +110,36 @@ fn relate_all(
     if relate_slot(asked, solver, failing, &Slot::Resource)? {
         return Ok(true);
     }
-    for index in 0..asked.schema.len() {
-        if let Some((key, _)) = asked.schema.at(index) {
-            let slot = Slot::Key(key.copy()?);
-            if relate_slot(asked, solver, failing, &slot)? {
-                return Ok(true);
-            }
+    relate_keys(asked, solver, failing)
+}
+
+// Learns clauses of the tests of each key, in the order of the keys.
+fn relate_keys(
+    asked: &Asked<'_>,
+    solver: &mut Solver,
+    failing: &mut Failing,
+) -> Result<bool, NoMemory>
+    requires ready { IsSearchAsked asked.now }
+{
+    let keys = asked_keys(asked)?;
+    for (key, _) in keys.iter() {
+        let slot = Slot::Key(key.copy()?);
+        if relate_slot(asked, solver, failing, &slot)? {
+            return Ok(true);
         }
     }
     Ok(false)
+}
+
+// The keys of the tests: a schema may have many more.
+fn asked_keys(asked: &Asked<'_>) -> Result<Table<()>, NoMemory> {
+    let mut keys = Table::new(asked.alloc);
+    for test in asked.query.tests.as_slice() {
+        if let Slot::Key(key) = slot_of(asked.alloc, test)? {
+            keys.insert(key, ())?;
+        }
+    }
+    Ok(keys)
 }
 
 // Learns clauses of the slot's tests. Whether the lines end.
@@ -186,11 +214,14 @@ fn learn_clause(
     if !is_in_range(asked, path) {
         return Ok(Reply::InVain);
     }
+    if !failing.known.is_new(path.as_slice())? {
+        return Ok(Reply::Learned);
+    }
     ask_anew(asked, path, failing)?;
     let cores = replace(&mut failing.cores, Vec::new(asked.alloc));
     let mut reply = Reply::InVain;
     for (core, proof) in cores {
-        if solver.exclude_core(path, core.as_slice(), proof)? {
+        if solver.exclude_core(path, core.as_slice(), proof, &mut failing.known)? {
             return Ok(Reply::Ends);
         }
         reply = Reply::Learned;

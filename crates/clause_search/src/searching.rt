@@ -11,6 +11,7 @@ use crate::asked::Asked;
 use crate::choosing::choose;
 use crate::exclusions::Exclusions;
 use crate::guessing::Guesses;
+use crate::known::KnownConflicts;
 use crate::limits::MOST_WORK;
 use crate::meeting::meet;
 use crate::outcome::Outcome;
@@ -56,6 +57,7 @@ pub fn search(
     schema: &Schema,
     query: &Query,
     states: u32,
+    known: &mut KnownConflicts,
 ) -> Result<Outcome, NoMemory>
     requires sound { SchemaIsSound schema.now }
     requires suit { All (TestSuits schema.now) query.now.tests }
@@ -73,7 +75,7 @@ pub fn search(
         states,
     };
     let clauses = clauses_of(alloc, &query.formula, query.tests.len() as u32)?;
-    search_clauses(&asked, &clauses)
+    search_clauses(&asked, &clauses, known)
 }
 
 // What is known of the slots, beside the clauses that they led to.
@@ -87,11 +89,16 @@ struct Theory {
 }
 
 // Nothing is known yet.
-fn theory_of(asked: &Asked<'_>, size: usize) -> Result<Theory, NoMemory> {
+fn theory_of(
+    asked: &Asked<'_>,
+    size: usize,
+    known: &mut KnownConflicts,
+) -> Result<Theory, NoMemory> {
     let guesses = Guesses::new(asked.alloc, asked.query.tests.as_slice())?;
     let exclusions = Exclusions::new(asked.alloc, asked.query.tests.len())?;
+    let known = replace(known, KnownConflicts::none(asked.alloc));
     Ok(Theory {
-        failing: Failing::new(asked.alloc),
+        failing: Failing::new(asked.alloc, known),
         guesses,
         exclusions,
         size,
@@ -99,7 +106,11 @@ fn theory_of(asked: &Asked<'_>, size: usize) -> Result<Theory, NoMemory> {
 }
 
 // The search over the clauses of the query's formula.
-fn search_clauses(asked: &Asked<'_>, clauses: &Clauses) -> Result<Outcome, NoMemory>
+fn search_clauses(
+    asked: &Asked<'_>,
+    clauses: &Clauses,
+    known: &mut KnownConflicts,
+) -> Result<Outcome, NoMemory>
     requires ready { IsSearchAsked asked.now }
     ensures { IfOk result (IsSearchOutcome asked.now.schema.now asked.now.query.now) }
 {
@@ -108,8 +119,11 @@ fn search_clauses(asked: &Asked<'_>, clauses: &Clauses) -> Result<Outcome, NoMem
         return Ok(Outcome::Open);
     }
     let mut solver = Solver::new(asked.alloc, size.variables)?;
-    let mut theory = theory_of(asked, size.literals)?;
-    search_with(asked, clauses, &mut solver, &mut theory)
+    known.begin(asked.query.tests.as_slice())?;
+    let mut theory = theory_of(asked, size.literals, known)?;
+    let outcome = search_with(asked, clauses, &mut solver, &mut theory)?;
+    *known = replace(&mut theory.failing.known, KnownConflicts::none(asked.alloc));
+    Ok(outcome)
 }
 
 fn search_with(
@@ -125,6 +139,9 @@ fn search_with(
         solver.learn(number)?;
         return checked(asked, solver);
     }
+    if let Some(outcome) = begin(asked, solver, &mut theory.failing.known)? {
+        return Ok(outcome);
+    }
     'rounds: for number in 0..MOST_WORK {
         if relate_at(asked, solver, &mut theory.failing, number)? {
             return checked(asked, solver);
@@ -134,6 +151,30 @@ fn search_with(
         }
     }
     Ok(Outcome::Open)
+}
+
+// Learns what slots are known to exclude, unless the formula is refuted without that. None where the search goes on.
+fn begin(
+    asked: &Asked<'_>,
+    solver: &mut Solver,
+    known: &mut KnownConflicts,
+) -> Result<Option<Outcome>, NoMemory>
+    requires ready { IsSearchAsked asked.now }
+    ensures { IfOk result (λ o.
+        IfSome o (IsSearchOutcome asked.now.schema.now asked.now.query.now)) }
+{
+    if known.len() == 0 {
+        return Ok(None);
+    }
+    if let Some(outcome) = assign(asked, solver)? {
+        return Ok(Some(outcome));
+    }
+    solver.back_to(0)?;
+    if solver.take_known(known)? {
+        let outcome = checked(asked, solver)?;
+        return Ok(Some(outcome));
+    }
+    Ok(None)
 }
 
 // Learns what is due before the round. Whether the lines end.
@@ -152,6 +193,19 @@ fn relate_at(
     relate(asked, solver, failing)
 }
 
+// Goes on to the next assignment. None where there is one.
+fn assign(asked: &Asked<'_>, solver: &mut Solver) -> Result<Option<Outcome>, NoMemory>
+    requires ready { IsSearchAsked asked.now }
+    ensures { IfOk result (λ o.
+        IfSome o (IsSearchOutcome asked.now.schema.now asked.now.query.now)) }
+{
+    match solver.assign_all()? {
+        Ending::Refuted => Ok(Some(checked(asked, solver)?)),
+        Ending::Spent => Ok(Some(Outcome::Open)),
+        Ending::Satisfied => Ok(None),
+    }
+}
+
 // One assignment more, and what the slots say of it. None where the search goes on.
 fn round(
     asked: &Asked<'_>,
@@ -162,10 +216,8 @@ fn round(
     ensures { IfOk result (λ o.
         IfSome o (IsSearchOutcome asked.now.schema.now asked.now.query.now)) }
 {
-    match solver.assign_all()? {
-        Ending::Refuted => return Ok(Some(checked(asked, solver)?)),
-        Ending::Spent => return Ok(Some(Outcome::Open)),
-        Ending::Satisfied => {}
+    if let Some(outcome) = assign(asked, solver)? {
+        return Ok(Some(outcome));
     }
     solver.limits.spend(theory.size.saturating_mul(CHOICE_WORK));
     let mut path = Path::new(asked.alloc);
@@ -278,7 +330,8 @@ fn learn_cores(
         turn(asked, solver, path, &theory.failing)?;
     }
     'cores: for (core, proof) in cores {
-        if solver.exclude_core(path, core.as_slice(), proof)? {
+        let known = &mut theory.failing.known;
+        if solver.exclude_core(path, core.as_slice(), proof, known)? {
             return Ok(true);
         }
     }

@@ -7,6 +7,7 @@ ghost use Rattle.clause_search.specs.Asked.{IsSearchAsked};
 ghost use Rattle.clause_search.specs.Values.{AreFoundValues, HaveAllSlots};
 
 use crate::asked::Asked;
+use crate::known::KnownConflicts;
 use formula_tree::Path;
 use pattern_automata::LastClosed;
 use plain_lists::{List, NoMemory};
@@ -52,16 +53,19 @@ pub(crate) struct Failing {
     work: usize,
     // How many product states the last closed set had.
     last_states: usize,
+    /// What slots are known to exclude.
+    pub(crate) known: KnownConflicts,
 }
 
 impl Failing {
-    pub(crate) fn new(alloc: Global) -> Failing {
+    pub(crate) fn new(alloc: Global, known: KnownConflicts) -> Failing {
         Failing {
             slots: List::new(alloc),
             cores: Vec::new(alloc),
             last_closed: LastClosed::new(alloc),
             work: 0,
             last_states: 0,
+            known,
         }
     }
 
@@ -144,8 +148,8 @@ impl Failing {
     }
 }
 
-// How many product states a proof has.
-fn states_of(proof: &SlotProof) -> usize {
+/// How many product states a proof has.
+pub(crate) fn states_of(proof: &SlotProof) -> usize {
     match proof {
         SlotProof::Word(closed) => closed.len(),
         SlotProof::Member(_, closed) => closed.len(),

@@ -7,7 +7,7 @@ use findings::{Asked, Decide, Wide};
 use plain_lists::NoMemory;
 use policy_compile::Query;
 use policy_model::{Schema, Slot};
-use staged_search::{Verdict, decide_in_stages};
+use staged_search::{Earlier, Verdict, decide_after};
 use std::alloc::Global;
 use tree_search::Budgets;
 use wildcard_lang::Text;
@@ -18,13 +18,15 @@ pub struct BySearch<'a> {
     schema: &'a Schema,
     splits: u32,
     states: u32,
+    // What the queries before have told.
+    earlier: Earlier,
     ghost some_splits: { 1 ≤ splits },
     ghost some_states: { 1 ≤ states },
 }
 
 impl<'a> BySearch<'a> {
     /// Answers for the schema within so many splits and states.
-    pub fn new(schema: &'a Schema, splits: u32, states: u32) -> BySearch<'a>
+    pub fn new(alloc: Global, schema: &'a Schema, splits: u32, states: u32) -> BySearch<'a>
         requires splits { 1 ≤ splits }
         requires states { 1 ≤ states }
         ensures schema { result.schema.now ≡ schema.now }
@@ -35,6 +37,7 @@ impl<'a> BySearch<'a> {
             schema,
             splits,
             states,
+            earlier: Earlier::new(alloc),
         }
     }
 }
@@ -84,7 +87,7 @@ impl<'a> Decide for BySearch<'a> {
             splits: self.splits,
             states: self.states,
         };
-        let verdict = decide_in_stages(alloc, self.schema, query, budgets)?;
+        let verdict = decide_after(alloc, self.schema, query, budgets, &mut self.earlier)?;
         Ok(answer_to(verdict))
     }
 }

@@ -31,7 +31,7 @@ fn summary_of(
     ensures { IfOk result (IsOutcomeFor schema.now query.now slots.now limits) }
 {
     sound_schemas_have_requests();
-    let mut asks = BySearch::new(schema, limits.splits, limits.states);
+    let mut asks = BySearch::new(alloc, schema, limits.splits, limits.states);
     match summarise(alloc, &made, query, &mut asks, limits.findings) {
         Ok(summary) => Ok(Outcome::Found(made, summary)),
         Err(SummaryFault::OutOfFindings) => Ok(Outcome::OutOfFindings),

@@ -1,5 +1,5 @@
 use Rattle.staged_search.proofs.Staging.{staged_if_few}
-use Rattle.staged_search.proofs.stages.decide_in_stages.Goals as goal
+use Rattle.staged_search.proofs.stages.decide_after.Goals as goal
 
 pub returns : goal.returns
 returns c =
