@@ -20,3 +20,5 @@ mod Itself
 mod Standing
 mod Going
 mod Covered
+mod Repeating
+mod Told

@@ -12,7 +12,7 @@ use Rattle.policy_difference.specs.declared.bounds.Bounds.{Bounds}
 use Rattle.policy_difference.specs.declared.rivals.Rivals.{Rivals}
 use Rattle.policy_difference.specs.declared.left.LeftStatement.{LeftStatement}
 use Rattle.policy_difference.specs.Differences.{AreLeft, HasCut, IsCutTo, IsCutByActions, IsCutWhole, IsShared, Leaves, StatementsAreLeft, before_rest, some_with, with_actions}
-use Rattle.policy_difference.specs.Rivals.{AreBounds, AreRivals, IsAskedOf, IsBound, IsCutRecord, StaysWhole, IsLeftRecord, IsLeftAtOnce, IsLeftByActions, IsLetThrough, item_alone, with_action}
+use Rattle.policy_difference.specs.Rivals.{AreBounds, AreRivals, IsAskedOf, IsBound, IsCutRecord, IsLeftRecord, IsLeftAtOnce, IsLeftByActions, IsLetThrough, item_alone, with_action}
 use Rattle.policy_difference.proofs.Itself.{among-itself}
 use Rattle.policy_difference.proofs.Leaving.{apart, cases_some, here, none_of_none, there}
 

@@ -6,3 +6,4 @@ pub mod Apartness
 pub mod Rivals
 pub mod Places
 pub mod Capped
+pub mod Repeats

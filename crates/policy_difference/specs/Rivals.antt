@@ -1,6 +1,6 @@
 -- How statements are compared when one of them is asked about item by item of its action: what doesn't depend on the action is told
 -- apart from what does.
-use Rattle.std.specs.Prelude.{◌≡◌, ◌⊎◌, ◌↔◌, List, [], ◌∷◌, ◌++◌, All, Any, IsTrue, MatchBool, true, false, Some, None}
+use Rattle.std.specs.Prelude.{◌≡◌, ◌⊎◌, ◌↔◌, List, [], ◌∷◌, ◌++◌, All, Any, IsTrue, Bool, MatchBool, true, false, Some, None}
 use Rattle.std.specs.Borrow.{Bor}
 use Rattle.wildcard_lang.specs.declared.piece.Piece.{Piece}
 use Rattle.wildcard_lang.specs.declared.piece.Piece.TheVariants.{Many}
@@ -17,6 +17,7 @@ use Rattle.policy_difference.specs.Differences.{AreLeft, ClashStatement, HasCut,
 use Rattle.policy_difference.specs.Apartness.{IsApartFromAllows}
 use Rattle.policy_difference.specs.declared.bounds.Bounds.{Bounds}
 use Rattle.policy_difference.specs.declared.rivals.Rivals.{Rivals}
+use Rattle.policy_difference.specs.declared.left.ToldAction.{ToldAction}
 use Rattle.policy_difference.specs.declared.left.LeftStatement.{LeftStatement}
 use Rattle.policy_difference.specs.declared.left.LeftStatements.{LeftStatements}
 use Rattle.policy_difference.specs.declared.left.LeftDocuments.{LeftDocuments}
@@ -89,6 +90,14 @@ IsAskedOf s a = MatchBool s.action.not (a ≡ s.action) (Any (λ x. a ≡ item_a
 abbrev pub AreRivals : Bounds → Statement → Rivals → Type 0
 AreRivals bounds s rivals =
     (a : Matcher (List Piece)) → IsAskedOf s a → IsLetThrough rivals a ↔ IsBound bounds (with_action s a)
+
+-- of each of these actions it is told rightly whether P holds of it
+abbrev pub AreToldRightly : (List Piece → Type 0) → List ToldAction → Type 0
+AreToldRightly P told = All (λ t. IsTrue t.passes ↔ P t.action.now) told
+
+-- one of them tells this of the action
+abbrev pub IsTold : List ToldAction → List Piece → Bool → Type 0
+IsTold told x passes = Any (λ t. (t.action.now ≡ x) × (t.passes ≡ passes)) told
 
 -- nothing is added where P holds, and else the item
 abbrev pub IsAddedUnless : Type 0 → List Piece → List (List Piece) → List (List Piece) → Type 0

@@ -1,19 +1,11 @@
 //! Conditions that hold wherever another holds.
-ghost use Rattle.std.specs.Prelude.{◌≡◌, ◌↔◌, IsTrue, MatchBool};
+ghost use Rattle.std.specs.Prelude.{◌≡◌, ◌⊎◌, ◌↔◌, IsTrue, MatchBool};
 ghost use Rattle.policy_model.specs.Operators.{is_negated};
 ghost use Rattle.policy_difference.specs.Implications.{CoversValues, GivesAbsence, GivesByValues, GivesPresence, HoldsOfNone, HoldsUnasked, Implies, QuantifierGives};
 
-use crate::likely::SumPlace;
 use crate::marked::MarkedCondition;
 use crate::operands::{covers_values, has_truth};
 use policy_model::{Condition, Quantifier};
-
-// The places of the values of a condition, and of another's.
-#[derive(Drop)]
-struct PairPlaces<'a> {
-    own: &'a [SumPlace],
-    its: &'a [SumPlace],
-}
 
 // Whether an operator with this prefix, negated or not, holds of an absent key.
 fn holds_unasked(quantifier: Quantifier, negated: bool) -> bool
@@ -56,23 +48,23 @@ fn quantifier_gives(quantifier: Quantifier, other: Quantifier) -> bool
 
 // Whether the condition's values give those of the other. Where both are negated it is the other's values that
 // each have to be covered.
-fn values_give(condition: &Condition, other: &Condition, places: &PairPlaces<'_>) -> bool
+fn values_give(condition: &MarkedCondition<'_>, other: &MarkedCondition<'_>) -> bool
     ensures { IsTrue result ↔ MatchBool (is_negated condition.now.operator.base)
         (CoversValues condition.now other.now) (CoversValues other.now condition.now) }
 {
-    if condition.operator.base.is_negated() {
-        covers_values(condition, other, places.own)
+    if condition.condition().operator.base.is_negated() {
+        covers_values(condition, other)
     } else {
-        covers_values(other, condition, places.its)
+        covers_values(other, condition)
     }
 }
 
 // Whether the condition gives the other by their values.
-fn gives_by_values(condition: &Condition, other: &Condition, places: &PairPlaces<'_>) -> bool
+fn gives_by_values(condition: &MarkedCondition<'_>, other: &MarkedCondition<'_>) -> bool
     ensures { IsTrue result ↔ GivesByValues condition.now other.now }
 {
-    let own = condition.operator;
-    let its = other.operator;
+    let own = condition.condition().operator;
+    let its = other.condition().operator;
     if own.base.is_null() != its.base.is_null() {
         return false;
     }
@@ -82,10 +74,10 @@ fn gives_by_values(condition: &Condition, other: &Condition, places: &PairPlaces
     if !quantifier_gives(own.quantifier, its.quantifier) {
         return false;
     }
-    if holds_of_none(condition) && !holds_of_none(other) {
+    if holds_of_none(condition.condition()) && !holds_of_none(other.condition()) {
         return false;
     }
-    values_give(condition, other, places)
+    values_give(condition, other)
 }
 
 // Whether the other is a `Null` that holds of each present key, and the condition never holds of an absent one.
@@ -106,25 +98,32 @@ fn gives_absence(condition: &Condition, other: &Condition) -> bool
         && holds_of_none(other)
 }
 
-// Whether the other condition holds wherever this one does.
-fn gives(condition: &Condition, other: &Condition, places: &PairPlaces<'_>) -> bool
-    ensures { IsTrue result ↔ Implies condition.now other.now }
+// Whether the condition gives the other by whether the key is there.
+fn gives_by_key(condition: &Condition, other: &Condition) -> bool
+    ensures { IsTrue result ↔
+        (GivesPresence condition.now other.now ⊎ GivesAbsence condition.now other.now) }
 {
-    if condition.key != other.key {
-        return false;
-    }
-    gives_by_values(condition, other, places)
-        || gives_presence(condition, other)
-        || gives_absence(condition, other)
+    gives_presence(condition, other) || gives_absence(condition, other)
+}
+
+// Whether the conditions are on one key.
+fn have_one_key(condition: &Condition, other: &Condition) -> bool
+    ensures { IsTrue result ↔ (condition.now.key ≡ other.now.key) }
+{
+    condition.key == other.key
 }
 
 /// Whether the other condition holds wherever this one does.
 pub(crate) fn implies(condition: &MarkedCondition<'_>, other: &MarkedCondition<'_>) -> bool
     ensures { IsTrue result ↔ Implies condition.now other.now }
 {
-    let places = PairPlaces {
-        own: condition.places(),
-        its: other.places(),
-    };
-    gives(condition.condition(), other.condition(), &places)
+    let own = condition.condition();
+    let its = other.condition();
+    if !have_one_key(own, its) {
+        return false;
+    }
+    if gives_by_values(condition, other) {
+        return true;
+    }
+    gives_by_key(own, its)
 }

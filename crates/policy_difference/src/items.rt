@@ -5,12 +5,13 @@ ghost use Rattle.wildcard_lang.specs.declared.piece.Piece.TheVariants.{Many};
 ghost use Rattle.policy_model.specs.declared.principal.Entry.TheVariants as an;
 ghost use Rattle.policy_difference.specs.Entries.{ClashEntry, CoversEntry, HaveOtherKinds, IsUnnamed, entry_kind};
 
-use crate::likely::Summed;
+use crate::listed::Listed;
+use crate::marks::MarkedEntry;
 use policy_model::{Entry, PrincipalKind, entry_names};
 use wildcard_lang::{MarkedPattern, Piece, Text};
 
 /// An item of an element of a statement.
-pub(crate) trait Item: Summed {
+pub(crate) trait Item: Listed {
     // The first takes all that the second takes.
     ghost covering: { Self → Self → Type 0 };
 
@@ -63,29 +64,43 @@ fn is_star(pieces: &[Piece]) -> bool
     }
 }
 
-impl Item for Entry {
+impl Item for MarkedEntry<'_> {
     ghost covering = { CoversEntry };
 
     ghost clashing = { ClashEntry };
 
     ghost whole = { an.All };
 
-    fn covers(&self, other: &Entry) -> bool {
-        match other {
-            Entry::All => is_all(self),
-            Entry::Kind(kind) => has_kind(self, *kind),
-            Entry::Account(account) => has_account(self, account),
-            Entry::Exact(kind, id) => entry_names(self, *kind, id),
-        }
+    fn covers(&self, other: &Self) -> bool {
+        covers_entry(self.entry(), other.entry())
     }
 
-    fn clashes(&self, other: &Entry) -> bool {
-        have_other_kinds(self, other) || is_unnamed(self, other) || is_unnamed(other, self)
+    fn clashes(&self, other: &Self) -> bool {
+        clash_entries(self.entry(), other.entry())
     }
 
     fn is_whole(&self) -> bool {
-        is_all(self)
+        is_all(self.entry())
     }
+}
+
+// Whether each principal of the other entry is one of the first.
+fn covers_entry(entry: &Entry, other: &Entry) -> bool
+    ensures { IsTrue result ↔ CoversEntry entry.now other.now }
+{
+    match other {
+        Entry::All => is_all(entry),
+        Entry::Kind(kind) => has_kind(entry, *kind),
+        Entry::Account(account) => has_account(entry, account),
+        Entry::Exact(kind, id) => entry_names(entry, *kind, id),
+    }
+}
+
+// Whether no principal is one of both.
+fn clash_entries(entry: &Entry, other: &Entry) -> bool
+    ensures { IsTrue result ↔ ClashEntry entry.now other.now }
+{
+    have_other_kinds(entry, other) || is_unnamed(entry, other) || is_unnamed(other, entry)
 }
 
 fn is_all(entry: &Entry) -> bool

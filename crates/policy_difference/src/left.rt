@@ -1,14 +1,17 @@
 //! What is left of statements without what a second set allows too.
-ghost use Rattle.std.specs.Prelude.{◌≡◌, ◌<◌, ◌⊎◌, ◌↔◌, ◌++◌, [], IfOk, IsTrue, OnOk, length};
+ghost use Rattle.std.specs.Prelude.{◌≡◌, ◌<◌, ◌⊎◌, ◌↔◌, ◌++◌, [], IfOk, IfSome, IsTrue, OnOk, length};
 ghost use Rattle.policy_model.specs.declared.set.PolicySet.{PolicySet};
 ghost use Rattle.policy_difference.specs.Differences.{Leaves, before_rest, some_with};
 ghost use Rattle.policy_difference.specs.Places.{AreWider, GoesWhole};
-ghost use Rattle.policy_difference.specs.Rivals.{AreBounds, AreLeftDocuments, AreLeftStatements, IsAddedUnless, IsBound, IsCutRecord, StaysWhole, IsLeftRecord, IsLeftAtOnce, IsLeftByActions, IsLetThrough, item_alone};
+ghost use Rattle.policy_difference.specs.Rivals.{AreBounds, AreLeftDocuments, AreLeftStatements, AreToldRightly, IsAddedUnless, IsBound, IsCutRecord, StaysWhole, IsLeftRecord, IsLeftAtOnce, IsLeftByActions, IsLetThrough, IsTold, item_alone};
 
 use crate::bounds::Bounds;
+use crate::likely::SumIndex;
+use crate::listed::Listed;
 use crate::marked::{MarkedDocument, MarkedStatement};
 use crate::places::{next_place, others_at, place_of};
 use crate::rivals::{Rivals, item_alone, passes, rivals_of};
+use crate::sums::Summed;
 use plain_lists::{EqualClone, List, NoMemory};
 use policy_model::{Document, DocumentList, Matcher, Statement, StatementList};
 use std::alloc::Global;
@@ -42,16 +45,71 @@ fn passes_alone(rivals: &Rivals<'_>, action: &MarkedPattern<'_>) -> bool
     passes(rivals, &item_alone(action))
 }
 
-// Adds the action, where the statement with it alone doesn't meet what bounds it.
-fn add_action(
-    left: &mut PatternList,
+// An action, and whether the statement with it alone meets what bounds it.
+#[derive(Drop)]
+pub(crate) struct ToldAction<'a> {
+    pub(crate) action: &'a MarkedPattern<'a>,
+    pub(crate) passes: bool,
+}
+
+// What the told action of this number tells, where the action is equal to it.
+fn told_at(told: &[ToldAction<'_>], place: usize, action: &MarkedPattern<'_>) -> Option<bool>
+    ensures { IfSome result (IsTold told.now action.now) }
+{
+    if place >= told.len() {
+        return None;
+    }
+    let own = &told[place];
+    if !own.action.is_same(action) {
+        return None;
+    }
+    Some(own.passes)
+}
+
+// What one of those that the index proposes tells.
+fn told_of(told: &[ToldAction<'_>], index: &SumIndex, action: &MarkedPattern<'_>) -> Option<bool>
+    ensures { IfSome result (IsTold told.now action.now) }
+{
+    for proposed in index.likely(action.sum()) {
+        let passes = told_at(told, proposed.place(), action);
+        if passes.is_some() {
+            return passes;
+        }
+    }
+    None
+}
+
+// Whether the statement with this action alone meets what bounds it. Of an action that is equal to an earlier one that
+// is told: a statement may name one thousands of times.
+fn passes_as_told<'a>(
+    told: &mut Vec<ToldAction<'a>>,
+    index: &SumIndex,
     rivals: &Rivals<'_>,
+    action: &'a MarkedPattern<'a>,
+) -> Result<bool, NoMemory>
+    requires { AreToldRightly (λ x. IsLetThrough rivals.now (item_alone x)) told.old.items }
+    ensures told { OnOk result
+        (AreToldRightly (λ x. IsLetThrough rivals.now (item_alone x)) told.new.items) }
+    ensures passes { IfOk result (λ passes.
+        IsTrue passes ↔ IsLetThrough rivals.now (item_alone action.now)) }
+{
+    if let Some(passes) = told_of(told.as_slice(), index, action) {
+        return Ok(passes);
+    }
+    let passes = passes_alone(rivals, action);
+    told.push(ToldAction { action, passes })?;
+    Ok(passes)
+}
+
+// Adds the action, where it doesn't pass.
+fn add_unless(
+    left: &mut PatternList,
+    passes: bool,
     action: &MarkedPattern<'_>,
 ) -> Result<(), NoMemory>
-    ensures { OnOk result
-        (IsAddedUnless (IsLetThrough rivals.now (item_alone action.now)) action.now left.old left.new) }
+    ensures { OnOk result (IsAddedUnless (IsTrue passes) action.now left.old left.new) }
 {
-    if passes_alone(rivals, action) {
+    if passes {
         return Ok(());
     }
     left.push(action.pattern().copy()?)?;
@@ -68,9 +126,43 @@ fn left_actions(
 {
     let mut left = List::new(alloc);
     'actions: for action in actions {
-        add_action(&mut left, rivals, action)?;
+        let passes = passes_alone(rivals, action);
+        add_unless(&mut left, passes, action)?;
     }
     Ok(left)
+}
+
+// The same, where some are equal and the index is of the different ones.
+fn left_repeated<'a>(
+    alloc: Global,
+    rivals: &Rivals<'_>,
+    actions: &'a [MarkedPattern<'a>],
+    index: &SumIndex,
+) -> Result<PatternList, NoMemory>
+    ensures { IfOk result (Leaves (λ x. IsLetThrough rivals.now (item_alone x)) actions.now) }
+{
+    let mut left = List::new(alloc);
+    let mut told = Vec::new(alloc);
+    'actions: for action in actions {
+        let passes = passes_as_told(&mut told, index, rivals, action)?;
+        add_unless(&mut left, passes, action)?;
+    }
+    Ok(left)
+}
+
+// The same of a statement.
+fn left_of_actions(
+    alloc: Global,
+    rivals: &Rivals<'_>,
+    statement: &MarkedStatement<'_>,
+) -> Result<PatternList, NoMemory>
+    ensures { IfOk result
+        (Leaves (λ x. IsLetThrough rivals.now (item_alone x)) statement.now.action.items) }
+{
+    match statement.index_of_equal_actions() {
+        None => left_actions(alloc, rivals, statement.actions()),
+        Some(index) => left_repeated(alloc, rivals, statement.actions(), index),
+    }
 }
 
 // The statement whole, nothing of which is shared.
@@ -133,9 +225,8 @@ fn left_by_actions(
     ensures { IfOk result
         (IsLeftByActions (λ x. IsLetThrough rivals.now (item_alone x)) statement.now) }
 {
-    let actions = statement.actions();
-    let left = left_actions(alloc, rivals, actions)?;
-    let shared = are_fewer(left.as_slice(), actions);
+    let left = left_of_actions(alloc, rivals, statement)?;
+    let shared = are_fewer(left.as_slice(), statement.actions());
     let statement = some_with(statement.statement(), left)?;
     Ok(LeftStatement { statement, shared })
 }

@@ -3,19 +3,23 @@
 
 mod apartness;
 mod bounds;
+mod covering;
 mod difference;
 mod elements;
 mod implications;
 mod items;
 mod left;
 mod likely;
+mod listed;
 mod marked;
+mod marks;
 mod meaning;
 mod operands;
 mod pairs;
 mod places;
 mod rivals;
 mod statements;
+mod sums;
 
 pub use apartness::without_apart;
 pub use difference::{MOST_PAIRS, difference_limits, without_shared};

@@ -1,168 +1,63 @@
-//! Where in a list what covers an item is likely to stand, told by sums. Nothing is promised of it: who takes a place
-//! from here compares what stands there, and all the rest where that covers nothing.
-use cidr_bits::Address;
-use intervals::{Compare, Scaled};
+//! Where in a list what is sought is likely to stand.
+use crate::sums::Summed;
 use plain_lists::NoMemory;
-use policy_model::{Condition, Entry, Operand};
 use std::alloc::Global;
-use wildcard_lang::{MarkedPattern, Piece, Text};
 
-/// Of fewer items each is looked at.
-pub(crate) const MANY_ITEMS: usize = 16;
-
-// How many places are looked at first: the one before the sum, where what covers more may stand, and eight from there.
+// How many places are proposed: the one before the sum, where what covers more may stand, and eight from there.
 const MOST_LIKELY: usize = 9;
 
-// The sum of nothing, and by what it grows with each character or byte (as the FNV-1a hash of 64 bits does with bytes).
-const FIRST_SUM: u64 = 0xcbf2_9ce4_8422_2325;
-
-const SUM_FACTOR: u64 = 0x0000_0100_0000_01b3;
-
-/// A sum of what stands in a list, and its place there. Lists of them are in the order of the sums.
-pub(crate) type SumPlace = (u128, usize);
-
-/// What has a sum, by which its equals are found. Numbers and addresses are their own sums, so that near ones stand side
-/// by side.
-pub(crate) trait Summed {
-    /// Its sum.
-    fn sum(&self) -> u128;
+/// A sum of what stands in a list, and its place there.
+#[derive(Clone, Copy)]
+pub(crate) struct SumPlace {
+    sum: u128,
+    place: usize,
 }
 
-impl Summed for Condition {
-    fn sum(&self) -> u128 {
-        sum_of_text(&self.key)
+impl SumPlace {
+    /// The place.
+    pub(crate) fn place(&self) -> usize {
+        self.place
     }
 }
 
-impl Summed for Operand {
-    fn sum(&self) -> u128 {
-        match self {
-            Operand::Pattern(pattern) => sum_of_pieces(pattern.as_slice()),
-            Operand::Number(number) => sum_of_number(*number),
-            Operand::Block(block) => sum_of_address(block.first),
-            Operand::Truth(truth) => u128::from(*truth),
-            Operand::Bytes(bytes) => sum_of_bytes(bytes.as_slice()),
+/// The places of a list's items in the order of their sums. It promises nothing: it proposes places, and who takes one
+/// compares what stands there, and all the rest where that doesn't fit.
+#[derive(Drop)]
+pub(crate) struct SumIndex {
+    places: Vec<SumPlace>,
+}
+
+impl SumIndex {
+    /// The index of the list, where its items are as many as said. Of fewer each is looked at.
+    pub(crate) fn of<T: Summed>(
+        alloc: Global,
+        many: usize,
+        items: &[T],
+    ) -> Result<Option<SumIndex>, NoMemory> {
+        if items.len() < many {
+            return Ok(None);
         }
-    }
-}
-
-impl Summed for MarkedPattern<'_> {
-    fn sum(&self) -> u128 {
-        sum_of_pieces(self.pattern().as_slice())
-    }
-}
-
-impl Summed for Entry {
-    fn sum(&self) -> u128 {
-        match self {
-            Entry::All | Entry::Kind(_) => 0,
-            Entry::Account(text) | Entry::Exact(_, text) => sum_of_text(text),
+        let mut places = Vec::new(alloc);
+        for (place, item) in items.iter().enumerate() {
+            let sum = item.sum();
+            places.push(SumPlace { sum, place })?;
         }
+        places.sort_by_key(|place| place.sum)?;
+        Ok(Some(SumIndex { places }))
     }
-}
 
-fn grown(sum: u64, by: u32) -> u64 {
-    (sum ^ u64::from(by)).wrapping_mul(SUM_FACTOR)
-}
+    /// Whether two items have one sum, as equal ones do.
+    pub(crate) fn has_equal_sums(&self) -> bool {
+        let places = self.places.as_slice();
+        places.windows(2).any(|pair| pair[0].sum == pair[1].sum)
+    }
 
-/// The sum of a text.
-pub(crate) fn sum_of_text(text: &Text) -> u128 {
-    let mut sum = FIRST_SUM;
-    for c in text.as_slice() {
-        sum = grown(sum, *c as u32);
+    /// The places to look at first for the sum: the last before it, and the first that have it or a greater one.
+    pub(crate) fn likely(&self, sum: u128) -> &[SumPlace] {
+        let places = self.places.as_slice();
+        let first = places.partition_point(|place| place.sum < sum);
+        let (_, rest) = places.split_at(first.saturating_sub(1).min(places.len()));
+        let (likely, _) = rest.split_at(rest.len().min(MOST_LIKELY));
+        likely
     }
-    u128::from(sum)
-}
-
-fn sum_of_bytes(bytes: &[u8]) -> u128 {
-    let mut sum = FIRST_SUM;
-    for byte in bytes {
-        sum = grown(sum, u32::from(*byte));
-    }
-    u128::from(sum)
-}
-
-fn number_of_piece(piece: Piece) -> u32 {
-    match piece {
-        Piece::Lit(c) => c as u32,
-        Piece::LitFold(c) => c.to_ascii_lowercase() as u32,
-        Piece::One | Piece::OneNoColon => 1,
-        Piece::Many | Piece::ManyNoColon => 2,
-    }
-}
-
-fn sum_of_pieces(pieces: &[Piece]) -> u128 {
-    let mut sum = FIRST_SUM;
-    for piece in pieces {
-        sum = grown(sum, number_of_piece(*piece));
-    }
-    u128::from(sum)
-}
-
-fn sum_of_number(number: Scaled) -> u128 {
-    let units = number.units();
-    let zero = u128::MAX / 2;
-    if units < 0 {
-        zero.wrapping_sub(units.unsigned_abs())
-    } else {
-        zero.wrapping_add(units.unsigned_abs())
-    }
-}
-
-fn sum_of_address(address: Address) -> u128 {
-    match address {
-        Address::V4(number) => u128::from(number),
-        Address::V6(number) => number,
-    }
-}
-
-// The sum by which to look for a value that covers this one, under an operator that compares so: of bounds from above
-// the greatest covers most, and of those from below the least.
-fn sum_sought(how: Compare, operand: &Operand) -> u128 {
-    match how {
-        Compare::Less | Compare::LessOrEqual => u128::MAX,
-        Compare::Greater | Compare::GreaterOrEqual => 0,
-        Compare::Equal => operand.sum(),
-    }
-}
-
-/// The places of the items by their sums, where they are as many as said.
-pub(crate) fn sum_places<T: Summed>(
-    alloc: Global,
-    many: usize,
-    items: &[T],
-) -> Result<Vec<SumPlace>, NoMemory> {
-    let mut places = Vec::new(alloc);
-    if items.len() < many {
-        return Ok(places);
-    }
-    for (place, item) in items.iter().enumerate() {
-        places.push((item.sum(), place))?;
-    }
-    places.sort_by_key(|place| place.0)?;
-    Ok(places)
-}
-
-/// The places to look at first for the sum: the last before it, and the first that have it or a greater one.
-pub(crate) fn likely(places: &[SumPlace], sum: u128) -> &[SumPlace] {
-    if places.is_empty() {
-        return places;
-    }
-    let first = places.partition_point(|place| place.0 < sum);
-    let (_, rest) = places.split_at(first.saturating_sub(1).min(places.len()));
-    let (likely, _) = rest.split_at(rest.len().min(MOST_LIKELY));
-    likely
-}
-
-/// The places to look at first for a value that covers this one, under an operator that compares so.
-pub(crate) fn likely_values<'a>(
-    places: &'a [SumPlace],
-    how: Compare,
-    operand: &Operand,
-) -> &'a [SumPlace] {
-    // No sum is made where nothing is looked up by it: most lists are short.
-    if places.is_empty() {
-        return places;
-    }
-    likely(places, sum_sought(how, operand))
 }

@@ -1,60 +1,51 @@
-//! Sets whose patterns are marked, and whose long lists are put in the order of sums, once, since each is compared with
-//! many.
+//! Sets whose lists are marked once, since each is compared with many.
 ghost use Rattle.std.specs.Prelude.{◌≡◌, IfOk};
 ghost use Rattle.policy_difference.specs.Elements.{element_of};
 
-use crate::elements::{Element, element_of};
-use crate::likely::{MANY_ITEMS, SumPlace, likely, sum_of_text, sum_places};
+use crate::elements::Element;
+use crate::likely::SumIndex;
+use crate::listed::ComparedList;
+use crate::marks::{MarkedEntry, MarkedValue, marked_entries, marked_patterns, marked_values};
 use plain_lists::{List, NoMemory};
 use policy_model::{Condition, Document, DocumentList, Entry, Matcher, PolicySet, Statement};
 use std::alloc::Global;
 use std::marker::Model;
-use wildcard_lang::{MarkedPattern, Pattern, Text};
+use wildcard_lang::{MarkedPattern, Pattern};
 
-/// A list of marked patterns.
-type MarkedPatternList<'a> = List<MarkedPattern<'a>>;
-
-/// A list of conditions with the places of their values.
+/// A list of marked conditions.
 type MarkedConditionList<'a> = List<MarkedCondition<'a>>;
 
 // Of fewer conditions each is looked at.
 const MANY_CONDITIONS: usize = 8;
 
-/// A condition with the places of its values. Contracts see it as the condition.
+/// A condition with its values marked. Contracts see it as the condition.
 #[derive(Drop)]
 pub(crate) struct MarkedCondition<'a> {
     condition: &'a Condition,
-    // Nothing is promised of them.
-    places: Vec<SumPlace>,
+    values: ComparedList<MarkedValue<'a>>,
 }
 
 impl<'a> Model for MarkedCondition<'a> {
+    ghost use Rattle.std.specs.Prelude.{◌≡◌};
     ghost use Rattle.policy_model.specs.declared.operator.Condition.{Condition};
 
     ghost Value = { Condition };
 
     ghost view = { λ c. c.condition.now };
+
+    ghost invariant = { λ c. c.values ≡ c.condition.now.values };
 }
 
-/// Places in the lists of a statement. Nothing is promised of them.
-#[derive(Drop)]
-struct StatementPlaces {
-    principals: Vec<SumPlace>,
-    actions: Vec<SumPlace>,
-    resources: Vec<SumPlace>,
-    // Of the conditions, by their keys.
-    conditions: Vec<SumPlace>,
-}
-
-/// A statement with the items of its action and of its resource marked, its conditions with the places of their values,
-/// and the places of its own lists. Contracts see it as the statement.
+/// A statement with its lists marked. Contracts see it as the statement.
 #[derive(Drop)]
 pub(crate) struct MarkedStatement<'a> {
     statement: &'a Statement,
-    actions: MarkedPatternList<'a>,
-    resources: MarkedPatternList<'a>,
+    principals: ComparedList<MarkedEntry<'a>>,
+    actions: ComparedList<MarkedPattern<'a>>,
+    resources: ComparedList<MarkedPattern<'a>>,
     conditions: MarkedConditionList<'a>,
-    places: StatementPlaces,
+    // Of the conditions by their keys, where they are many.
+    index: Option<SumIndex>,
 }
 
 impl<'a> Model for MarkedStatement<'a> {
@@ -66,7 +57,8 @@ impl<'a> Model for MarkedStatement<'a> {
 
     ghost view = { λ s. s.statement.now };
 
-    ghost invariant = { λ s. (s.actions ≡ s.statement.now.action.items) ×
+    ghost invariant = { λ s. (s.principals ≡ (element_of s.statement.now.principal).items) ×
+        (s.actions ≡ s.statement.now.action.items) ×
         (s.resources ≡ (element_of s.statement.now.resource).items) ×
         (s.conditions ≡ s.statement.now.conditions) };
 }
@@ -104,7 +96,7 @@ impl<'a> Model for MarkedSet<'a> {
 }
 
 // Whether it is a Not element. An absent one counts as one without items.
-fn is_not(matcher: &Option<Matcher<Pattern>>) -> bool
+fn is_not<T>(matcher: &Option<Matcher<T>>) -> bool
     ensures { result ≡ (element_of matcher.now).not }
 {
     match matcher {
@@ -114,7 +106,7 @@ fn is_not(matcher: &Option<Matcher<Pattern>>) -> bool
 }
 
 // The items of an element.
-fn items_of(matcher: &Option<Matcher<Pattern>>) -> &[Pattern]
+fn items_of<T>(matcher: &Option<Matcher<T>>) -> &[T]
     ensures { result.now ≡ (element_of matcher.now).items }
 {
     match matcher {
@@ -123,26 +115,14 @@ fn items_of(matcher: &Option<Matcher<Pattern>>) -> &[Pattern]
     }
 }
 
-fn marked_patterns<'a>(
-    alloc: Global,
-    items: &'a [Pattern],
-) -> Result<MarkedPatternList<'a>, NoMemory>
-    ensures { IfOk result (λ marked. marked ≡ items.now) }
-{
-    let mut marked = List::new(alloc);
-    'items: for item in items {
-        marked.push(MarkedPattern::of(item))?;
-    }
-    Ok(marked)
-}
-
 impl<'a> MarkedCondition<'a> {
     // The condition, marked.
     fn of(alloc: Global, condition: &'a Condition) -> Result<MarkedCondition<'a>, NoMemory>
         ensures { IfOk result (λ marked. marked ≡ condition.now) }
     {
-        let places = sum_places(alloc, MANY_ITEMS, condition.values.as_slice())?;
-        Ok(MarkedCondition { condition, places })
+        let values = marked_values(alloc, condition.values.as_slice())?;
+        let values = ComparedList::of(alloc, values)?;
+        Ok(MarkedCondition { condition, values })
     }
 
     /// The condition itself.
@@ -152,9 +132,11 @@ impl<'a> MarkedCondition<'a> {
         self.condition
     }
 
-    /// The places of its values, where they are many.
-    pub(crate) fn places(&self) -> &[SumPlace] {
-        self.places.as_slice()
+    /// Its values.
+    pub(crate) fn values(&self) -> &ComparedList<MarkedValue<'a>>
+        ensures { result.now ≡ self.now.values }
+    {
+        &self.values
     }
 }
 
@@ -172,20 +154,26 @@ fn marked_conditions<'a>(
     Ok(marked)
 }
 
-// The places in the lists of a statement with these marked items.
-fn statement_places(
+// The entries, marked to be compared.
+fn compared_entries<'a>(
     alloc: Global,
-    statement: &Statement,
-    actions: &[MarkedPattern<'_>],
-    resources: &[MarkedPattern<'_>],
-) -> Result<StatementPlaces, NoMemory> {
-    let principal = element_of(&statement.principal, &[]);
-    Ok(StatementPlaces {
-        principals: sum_places(alloc, MANY_ITEMS, principal.items)?,
-        actions: sum_places(alloc, MANY_ITEMS, actions)?,
-        resources: sum_places(alloc, MANY_ITEMS, resources)?,
-        conditions: sum_places(alloc, MANY_CONDITIONS, statement.conditions.as_slice())?,
-    })
+    items: &'a [Entry],
+) -> Result<ComparedList<MarkedEntry<'a>>, NoMemory>
+    ensures { IfOk result (λ marked. marked ≡ items.now) }
+{
+    let marked = marked_entries(alloc, items)?;
+    ComparedList::of(alloc, marked)
+}
+
+// The patterns, marked to be compared.
+fn compared_patterns<'a>(
+    alloc: Global,
+    items: &'a [Pattern],
+) -> Result<ComparedList<MarkedPattern<'a>>, NoMemory>
+    ensures { IfOk result (λ marked. marked ≡ items.now) }
+{
+    let marked = marked_patterns(alloc, items)?;
+    ComparedList::of(alloc, marked)
 }
 
 impl<'a> MarkedStatement<'a> {
@@ -193,16 +181,18 @@ impl<'a> MarkedStatement<'a> {
     fn of(alloc: Global, statement: &'a Statement) -> Result<MarkedStatement<'a>, NoMemory>
         ensures { IfOk result (λ marked. marked ≡ statement.now) }
     {
-        let actions = marked_patterns(alloc, statement.action.items.as_slice())?;
-        let resources = marked_patterns(alloc, items_of(&statement.resource))?;
+        let principals = compared_entries(alloc, items_of(&statement.principal))?;
+        let actions = compared_patterns(alloc, statement.action.items.as_slice())?;
+        let resources = compared_patterns(alloc, items_of(&statement.resource))?;
         let conditions = marked_conditions(alloc, statement.conditions.as_slice())?;
-        let places = statement_places(alloc, statement, actions.as_slice(), resources.as_slice())?;
+        let index = SumIndex::of(alloc, MANY_CONDITIONS, statement.conditions.as_slice())?;
         Ok(MarkedStatement {
             statement,
+            principals,
             actions,
             resources,
             conditions,
-            places,
+            index,
         })
     }
 
@@ -221,26 +211,17 @@ impl<'a> MarkedStatement<'a> {
     }
 
     /// Its principal.
-    pub(crate) fn principal(&self) -> &Option<Matcher<Entry>>
-        ensures { result.now ≡ self.now.principal }
+    pub(crate) fn principal(&self) -> Element<'_, MarkedEntry<'a>>
+        ensures { result ≡ element_of self.now.principal }
     {
-        &self.statement.principal
-    }
-
-    /// The places of the items of its principal, where they are many.
-    pub(crate) fn principal_places(&self) -> &[SumPlace] {
-        self.places.principals.as_slice()
+        self.principals.element(is_not(&self.statement.principal))
     }
 
     /// Its action.
     pub(crate) fn action(&self) -> Element<'_, MarkedPattern<'a>>
         ensures { result ≡ self.now.action }
     {
-        Element {
-            not: self.statement.action.not,
-            items: self.actions.as_slice(),
-            places: self.places.actions.as_slice(),
-        }
+        self.actions.element(self.statement.action.not)
     }
 
     /// Whether it has a `NotAction`.
@@ -257,15 +238,16 @@ impl<'a> MarkedStatement<'a> {
         self.actions.as_slice()
     }
 
+    /// The index of the different items of its action, where some are equal.
+    pub(crate) fn index_of_equal_actions(&self) -> Option<&SumIndex> {
+        self.actions.index_of_equal()
+    }
+
     /// Its resource.
     pub(crate) fn resource(&self) -> Element<'_, MarkedPattern<'a>>
         ensures { result ≡ element_of self.now.resource }
     {
-        Element {
-            not: is_not(&self.statement.resource),
-            items: self.resources.as_slice(),
-            places: self.places.resources.as_slice(),
-        }
+        self.resources.element(is_not(&self.statement.resource))
     }
 
     /// Its conditions.
@@ -275,13 +257,9 @@ impl<'a> MarkedStatement<'a> {
         self.conditions.as_slice()
     }
 
-    /// The places of conditions that are likely on the key, where it has many.
-    pub(crate) fn likely(&self, key: &Text) -> &[SumPlace] {
-        let places = self.places.conditions.as_slice();
-        if places.is_empty() {
-            return places;
-        }
-        likely(places, sum_of_text(key))
+    /// The index of its conditions by their keys, where they are many.
+    pub(crate) fn condition_index(&self) -> Option<&SumIndex> {
+        self.index.as_ref()
     }
 }
 

@@ -1,13 +1,15 @@
 //! Values that policies give to condition operators, compared by what they ask.
-ghost use Rattle.std.specs.Prelude.{◌≡◌, ◌↔◌, Any, IsTrue};
-ghost use Rattle.policy_difference.specs.Elements.{CoverEach};
+ghost use Rattle.std.specs.Prelude.{◌≡◌, ◌↔◌, IsTrue};
 ghost use Rattle.policy_difference.specs.Implications.{AsksAbove, AsksBelow, CoversBlock, CoversNumber, CoversOperand, CoversValues, HasTruth};
 ghost use Rattle.policy_model.specs.declared.operator.Operand.TheVariants.{Truth};
 
-use crate::likely::{SumPlace, likely_values};
+use crate::covering::{Covering, cover_each};
+use crate::marked::MarkedCondition;
+use crate::marks::MarkedValue;
+use crate::sums::Summed;
 use cidr_bits::{Block, contains};
 use intervals::{Compare, Scaled, satisfies};
-use policy_model::{Condition, Operand};
+use policy_model::Operand;
 use wildcard_lang::covers;
 
 // Whether it is asked that a number be below a bound, the bound itself taken or not.
@@ -67,85 +69,44 @@ fn covers_operand(how: Compare, its: Compare, operand: &Operand, other: &Operand
     }
 }
 
-// Whether one of the values covers the other.
-fn some_covers(how: Compare, its: Compare, values: &[Operand], other: &Operand) -> bool
-    ensures { IsTrue result ↔ Any (λ o. CoversOperand how its o other.now) values.now }
-{
-    values
-        .iter()
-        .any(|value| covers_operand(how, its, value, other))
-}
-
-// Whether the value at the place covers the other.
-fn covers_at(how: Compare, its: Compare, values: &[Operand], place: usize, other: &Operand) -> bool
-    ensures { IsTrue result → Any (λ o. CoversOperand how its o other.now) values.now }
-{
-    match values.get(place) {
-        None => false,
-        Some(value) => covers_operand(how, its, value, other),
-    }
-}
-
-// Whether one of those at these places does.
-fn likely_covers(
+// The operators of two conditions, by which values of the one cover values of the other.
+#[derive(Clone, Copy)]
+struct ByOperators {
     how: Compare,
     its: Compare,
-    values: &[Operand],
-    places: &[SumPlace],
-    other: &Operand,
-) -> bool
-    ensures { IsTrue result → Any (λ o. CoversOperand how its o other.now) values.now }
-{
-    for place in places {
-        if covers_at(how, its, values, place.1, other) {
-            return true;
+}
+
+impl<'a> Covering<MarkedValue<'a>> for ByOperators {
+    ghost covering = { λ c o w. CoversOperand c.how c.its o w };
+
+    fn covers(&self, value: &MarkedValue<'a>, other: &MarkedValue<'a>) -> bool {
+        covers_operand(self.how, self.its, value.value(), other.value())
+    }
+
+    // Of bounds from above the greatest covers most, and of those from below the least.
+    fn sum_sought(&self, other: &MarkedValue<'a>) -> u128 {
+        match self.how {
+            Compare::Less | Compare::LessOrEqual => u128::MAX,
+            Compare::Greater | Compare::GreaterOrEqual => 0,
+            Compare::Equal => other.sum(),
         }
     }
-    false
 }
 
-// Whether one of the values covers the other. Where they are many, those are looked at first that are likely to: to look
-// at all of them for each of as many takes as many times as long.
-fn has_covering(
-    how: Compare,
-    its: Compare,
-    values: &[Operand],
-    places: &[SumPlace],
-    other: &Operand,
-) -> bool
-    ensures { IsTrue result ↔ Any (λ o. CoversOperand how its o other.now) values.now }
-{
-    likely_covers(how, its, values, likely_values(places, how, other), other)
-        || some_covers(how, its, values, other)
-}
-
-// Whether each of the others is covered by one of the values.
-fn cover_each(
-    how: Compare,
-    its: Compare,
-    values: &[Operand],
-    places: &[SumPlace],
-    others: &[Operand],
-) -> bool
-    ensures { IsTrue result ↔ CoverEach (CoversOperand how its) values.now others.now }
-{
-    others
-        .iter()
-        .all(|other| has_covering(how, its, values, places, other))
-}
-
-/// Whether each value of the other condition is covered by one of this condition's, whose places these are.
-pub(crate) fn covers_values(condition: &Condition, other: &Condition, places: &[SumPlace]) -> bool
+/// Whether each value of the other condition is covered by one of this condition's.
+pub(crate) fn covers_values(condition: &MarkedCondition<'_>, other: &MarkedCondition<'_>) -> bool
     ensures { IsTrue result ↔ CoversValues condition.now other.now }
 {
-    let how = condition.operator.base.compare();
-    let its = other.operator.base.compare();
+    let operators = ByOperators {
+        how: condition.condition().operator.base.compare(),
+        its: other.condition().operator.base.compare(),
+    };
+    let values = condition.values();
     cover_each(
-        how,
-        its,
-        condition.values.as_slice(),
-        places,
-        other.values.as_slice(),
+        &operators,
+        values.different(),
+        values.index(),
+        other.values().different(),
     )
 }
 

@@ -6,7 +6,7 @@ ghost use Rattle.policy_difference.specs.Differences.{AsksNoMore, ClashStatement
 ghost use Rattle.policy_difference.specs.Rivals.{AllowedByEach, ApartFromEach, AreRivals, CoversAction, EachClashesWithAction, IsAskedOf, IsLetThrough, SomeCoversAction, item_alone, with_action};
 
 use crate::bounds::Bounds;
-use crate::elements::{Element, element_of};
+use crate::elements::Element;
 use crate::marked::{MarkedCondition, MarkedDocument, MarkedStatement};
 use crate::statements::{asks_no_more_else, clash_else, clashes_with_action, covers_action};
 use plain_lists::NoMemory;
@@ -36,7 +36,8 @@ pub(crate) fn item_alone<'a>(item: &'a MarkedPattern<'a>) -> Element<'a, MarkedP
     Element {
         not: false,
         items: from_ref(item),
-        places: &[],
+        different: from_ref(item),
+        index: None,
     }
 }
 
@@ -60,7 +61,7 @@ fn is_long(condition: &MarkedCondition<'_>) -> bool {
 
 // Whether a list of the statement besides its actions is long.
 fn has_long_list(statement: &MarkedStatement<'_>) -> bool {
-    element_of(statement.principal(), &[]).items.len() >= LONG_LIST
+    statement.principal().items.len() >= LONG_LIST
         || statement.resource().items.len() >= LONG_LIST
         || statement
             .conditions()

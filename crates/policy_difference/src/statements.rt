@@ -4,53 +4,27 @@ ghost use Rattle.policy_difference.specs.Differences.{AsksNoMore, ClashStatement
 ghost use Rattle.policy_difference.specs.Implications.{Implies};
 ghost use Rattle.policy_difference.specs.Rivals.{AsksNoMoreElse, ClashElse, ClashesWithAction, CoversAction};
 
-use crate::elements::{Element, clash_elements, clash_optional, covers_element, covers_optional};
+use crate::covering::{Covering, cover_each};
+use crate::elements::{Element, clash_elements, covers_element};
 use crate::implications::implies;
-use crate::likely::SumPlace;
 use crate::marked::{MarkedCondition, MarkedDocument, MarkedStatement};
+use crate::sums::Summed;
 use wildcard_lang::MarkedPattern;
 
-// Whether one of the conditions implies the other.
-fn some_implies(conditions: &[MarkedCondition<'_>], other: &MarkedCondition<'_>) -> bool
-    ensures { IsTrue result ↔ Any (λ c. Implies c other.now) conditions.now }
-{
-    conditions.iter().any(|condition| implies(condition, other))
-}
+// Conditions cover those that they imply.
+#[derive(Clone, Copy)]
+struct ByImplying;
 
-// Whether the condition at the place implies the other.
-fn implies_at(conditions: &[MarkedCondition<'_>], place: usize, other: &MarkedCondition<'_>) -> bool
-    ensures { IsTrue result → Any (λ c. Implies c other.now) conditions.now }
-{
-    if place < conditions.len() {
-        return implies(&conditions[place], other);
+impl<'a> Covering<MarkedCondition<'a>> for ByImplying {
+    ghost covering = { λ _ c d. Implies c d };
+
+    fn covers(&self, condition: &MarkedCondition<'a>, other: &MarkedCondition<'a>) -> bool {
+        implies(condition, other)
     }
-    false
-}
 
-// Whether one of those at these places does.
-fn likely_implies(
-    conditions: &[MarkedCondition<'_>],
-    places: &[SumPlace],
-    other: &MarkedCondition<'_>,
-) -> bool
-    ensures { IsTrue result → Any (λ c. Implies c other.now) conditions.now }
-{
-    for place in places {
-        if implies_at(conditions, place.1, other) {
-            return true;
-        }
+    fn sum_sought(&self, other: &MarkedCondition<'a>) -> u128 {
+        other.condition().sum()
     }
-    false
-}
-
-// Whether one of the statement's conditions implies the other. Where it has many, those are looked at first that are
-// likely on the key: to look at all of them for each of as many takes as many times as long.
-fn has_implying(statement: &MarkedStatement<'_>, other: &MarkedCondition<'_>) -> bool
-    ensures { IsTrue result ↔ Any (λ c. Implies c other.now) statement.now.conditions }
-{
-    let conditions = statement.conditions();
-    likely_implies(conditions, statement.likely(&other.condition().key), other)
-        || some_implies(conditions, other)
 }
 
 // Whether each of the others is implied by one of the statement's conditions.
@@ -58,7 +32,12 @@ fn imply_each(statement: &MarkedStatement<'_>, others: &[MarkedCondition<'_>]) -
     ensures { IsTrue result ↔
         All (λ d. Any (λ c. Implies c d) statement.now.conditions) others.now }
 {
-    others.iter().all(|other| has_implying(statement, other))
+    cover_each(
+        &ByImplying,
+        statement.conditions(),
+        statement.condition_index(),
+        others,
+    )
 }
 
 /// Whether the statement asks no more than the other, whatever their actions are.
@@ -71,12 +50,7 @@ pub(crate) fn asks_no_more_else(
     if statement.allows() != other.allows() {
         return false;
     }
-    if !covers_optional(
-        statement.principal(),
-        statement.principal_places(),
-        other.principal(),
-        other.principal_places(),
-    ) {
+    if !covers_element(&statement.principal(), &other.principal()) {
         return false;
     }
     if !covers_element(&statement.resource(), &other.resource()) {
@@ -135,10 +109,6 @@ pub(crate) fn has_wider(documents: &[MarkedDocument<'_>], statement: &MarkedStat
 pub(crate) fn clash_else(statement: &MarkedStatement<'_>, other: &MarkedStatement<'_>) -> bool
     ensures { IsTrue result ↔ ClashElse statement.now other.now }
 {
-    clash_optional(
-        statement.principal(),
-        statement.principal_places(),
-        other.principal(),
-        other.principal_places(),
-    ) || clash_elements(&statement.resource(), &other.resource())
+    clash_elements(&statement.principal(), &other.principal())
+        || clash_elements(&statement.resource(), &other.resource())
 }

@@ -1,16 +1,16 @@
-use Rattle.std.proofs.Common.{◌↔◌, IsTrue, sym}
+use Rattle.std.proofs.Common.{◌↔◌, IsTrue}
 use Rattle.policy_difference.specs.Elements.{CoversMatcher}
-use Rattle.policy_difference.proofs.Seen.{seen}
+use Rattle.policy_difference.proofs.Seen.{kinds}
 use Rattle.policy_difference.proofs.elements.covers_element.Goals as goal
 
 pub returns-in-true-true : goal.returns-in-true-true
 returns-in-true-true g c =
-    seen (λ m n. IsTrue c.cover_each.result ↔ CoversMatcher g.T.Item.covering g.T.Item.clashing g.T.Item.whole m n) _ _ _ _ _ _ _ _ (sym c.element.view_is) (sym c.other.view_is) c.in-true-true.is-0 c.in-true-true.is-1 c.cover_each.ensures
+    kinds (λ m n. IsTrue c.cover_items.result ↔ CoversMatcher g.T.Item.covering g.T.Item.clashing g.T.Item.whole m n) _ _ _ _ _ _ _ _ c.element.view_is c.other.view_is c.in-true-true.is-0 c.in-true-true.is-1 c.cover_items.ensures
 
 pub returns-in-true-false : goal.returns-in-true-false
 returns-in-true-false g c =
-    seen (λ m n. IsTrue c.clash_all.result ↔ CoversMatcher g.T.Item.covering g.T.Item.clashing g.T.Item.whole m n) _ _ _ _ _ _ _ _ (sym c.element.view_is) (sym c.other.view_is) c.in-true-false.is-0 c.in-true-false.is-1 c.clash_all.ensures
+    kinds (λ m n. IsTrue c.clash_items.result ↔ CoversMatcher g.T.Item.covering g.T.Item.clashing g.T.Item.whole m n) _ _ _ _ _ _ _ _ c.element.view_is c.other.view_is c.in-true-false.is-0 c.in-true-false.is-1 c.clash_items.ensures
 
 pub returns-in-false-false : goal.returns-in-false-false
 returns-in-false-false g c =
-    seen (λ m n. IsTrue c.cover_each-in-false-false.result ↔ CoversMatcher g.T.Item.covering g.T.Item.clashing g.T.Item.whole m n) _ _ _ _ _ _ _ _ (sym c.element.view_is) (sym c.other.view_is) c.in-false-false.is-0 c.in-false-false.is-1 c.cover_each-in-false-false.ensures
+    kinds (λ m n. IsTrue c.cover_items-in-false-false.result ↔ CoversMatcher g.T.Item.covering g.T.Item.clashing g.T.Item.whole m n) _ _ _ _ _ _ _ _ c.element.view_is c.other.view_is c.in-false-false.is-0 c.in-false-false.is-1 c.cover_items-in-false-false.ensures

@@ -1,22 +1,22 @@
 use Rattle.std.proofs.Common.{inl, inr, sym, ◌∙◌}
 use Rattle.wildcard_lang.specs.Covering.{CoversPattern, Clash}
-use Rattle.policy_difference.specs.Elements.{ClashElement, ClashMatcher}
+use Rattle.policy_difference.specs.Elements.{ClashMatcher}
 use Rattle.policy_difference.specs.Entries.{CoversEntry, ClashEntry}
 use Rattle.policy_difference.proofs.Leaving.{apart}
 use Rattle.policy_difference.proofs.Seen.{moved}
 use Rattle.policy_difference.proofs.statements.clash_else.Goals as goal
 
-pub returns-then-clash_optional : goal.returns-then-clash_optional
-returns-then-clash_optional c = (
-  λ e. inl (moved (ClashElement CoversEntry ClashEntry) _ _ _ _ c.principal.ensures c.principal-2.ensures (c.clash_optional.ensures.0 e)),
-  λ clash. c.if-clash_optional.true,
+pub returns-then-clash_elements : goal.returns-then-clash_elements
+returns-then-clash_elements c = (
+  λ e. inl (moved (ClashMatcher CoversEntry ClashEntry) _ _ _ _ c.principal.ensures c.principal-2.ensures (c.clash_elements.ensures.0 e)),
+  λ clash. c.if-clash_elements.true,
 )
 
-pub returns-else-clash_optional : goal.returns-else-clash_optional
-returns-else-clash_optional c = (
-  λ e. inr (moved (ClashMatcher CoversPattern Clash) _ _ _ _ c.resource.ensures c.resource-else-clash_optional.ensures (c.clash_elements.ensures.0 e)),
+pub returns-else-clash_elements : goal.returns-else-clash_elements
+returns-else-clash_elements c = (
+  λ e. inr (moved (ClashMatcher CoversPattern Clash) _ _ _ _ c.resource.ensures c.resource-else-clash_elements.ensures (c.clash_elements-else-clash_elements.ensures.0 e)),
   λ clash. elim clash [
-    | inl principal ↦ absurd (apart (sym (c.clash_optional.ensures.1 (moved (ClashElement CoversEntry ClashEntry) _ _ _ _ (sym c.principal.ensures) (sym c.principal-2.ensures) principal)) ∙ c.if-clash_optional.false))
-    | inr resource ↦ c.clash_elements.ensures.1 (moved (ClashMatcher CoversPattern Clash) _ _ _ _ (sym c.resource.ensures) (sym c.resource-else-clash_optional.ensures) resource)
+    | inl principal ↦ absurd (apart (sym (c.clash_elements.ensures.1 (moved (ClashMatcher CoversEntry ClashEntry) _ _ _ _ (sym c.principal.ensures) (sym c.principal-2.ensures) principal)) ∙ c.if-clash_elements.false))
+    | inr resource ↦ c.clash_elements-else-clash_elements.ensures.1 (moved (ClashMatcher CoversPattern Clash) _ _ _ _ (sym c.resource.ensures) (sym c.resource-else-clash_elements.ensures) resource)
   ],
 )
