@@ -12,7 +12,7 @@ ghost use Rattle.idle_answers.specs.UseAnswers.{IsUseAnswerAt};
 
 use crate::answer::{UseAnswer, is_undecided};
 use crate::settling::ByRefutation;
-use crate::sizes::has_few_items;
+use crate::sizes::are_quick_to_compare;
 use plain_lists::NoMemory;
 use policy_compile::{Query, QueryFault, query};
 use policy_difference::{
@@ -130,12 +130,13 @@ fn pair_query(
 // The set without what is apart from the first, unless that is much to compare.
 fn cut_apart(
     alloc: Global,
+    quick: bool,
     first: &PolicySet,
     set: &PolicySet,
 ) -> Result<Option<PolicySet>, NoMemory>
     ensures { IfOk result (λ less. IfSome less (IsWithoutApart first.now set.now)) }
 {
-    if !has_few_items(set) {
+    if !quick {
         return Ok(None);
     }
     without_apart(alloc, first, set)
@@ -145,13 +146,14 @@ fn cut_apart(
 // where that isn't too much to compare.
 fn pair_without_apart(
     alloc: Global,
+    quick: bool,
     left: PolicySet,
     second: PolicySet,
 ) -> Result<AskedPair, NoMemory>
     ensures { IfOk result (IsPairWithoutApart left second) }
 {
-    let less = cut_apart(alloc, &left, &left)?;
-    let rest = cut_apart(alloc, &left, &second)?;
+    let less = cut_apart(alloc, quick, &left, &left)?;
+    let rest = cut_apart(alloc, quick, &left, &second)?;
     Ok(AskedPair {
         less: less.unwrap_or(left),
         rest: rest.unwrap_or(second),
@@ -174,7 +176,8 @@ fn difference_query(
     let Some(left) = without_shared(alloc, &one.set, &part)? else {
         return Ok(None);
     };
-    let asked = pair_without_apart(alloc, left, part)?;
+    let quick = are_quick_to_compare(&one.set, named_statement(&one.set, name));
+    let asked = pair_without_apart(alloc, quick, left, part)?;
     shared_statements_add_nothing();
     apart_statements_say_nothing();
     without_stays_sound();
@@ -211,7 +214,7 @@ fn narrowed_query(
     requires named { IsNameIn one.now.set name }
     ensures { IfOk result (λ query. IfSome query (IsSmallerFor one.now name)) }
 {
-    if !has_few_items(&one.set) {
+    if !are_quick_to_compare(&one.set, named_statement(&one.set, name)) {
         return Ok(None);
     }
     let Some(asked) = narrowed_change(alloc, &one.set, name)? else {

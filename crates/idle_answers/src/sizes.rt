@@ -1,9 +1,13 @@
-//! How many items a set has. Nothing rests on it but whether a statement is compared with all of the set before
-//! the search: over all statements that makes as many pairs of items as the square of the number.
+//! How many items a set and its statements have. Nothing rests on it but whether a statement is compared with all of the
+//! set before the search: over all statements that makes as many pairs of items as the square of the number.
 use policy_model::{Condition, Document, DocumentList, Matcher, PolicySet, Statement};
 
-/// The most items of a set that is compared with each of its statements.
+// The most items of a set that is compared with each of its statements.
 const MOST_ITEMS: usize = 10_000;
+
+// Of a larger set the statements with at most so many items are compared with it all the same: to compare them costs
+// hardly more than a query of the whole set.
+const FEW_ITEMS: usize = 64;
 
 fn element_size<T>(element: &Option<Matcher<T>>) -> usize {
     match element {
@@ -50,8 +54,12 @@ fn guards_size(guards: &[DocumentList]) -> usize {
     size
 }
 
-/// Whether the set has few items.
-pub(crate) fn has_few_items(set: &PolicySet) -> bool {
+fn has_few_items(set: &PolicySet) -> bool {
     let grants = documents_size(set.grants.as_slice());
     grants.saturating_add(guards_size(set.guards.as_slice())) <= MOST_ITEMS
+}
+
+/// Whether to compare the statement with all of the set costs little.
+pub(crate) fn are_quick_to_compare(set: &PolicySet, statement: &Statement) -> bool {
+    statement_size(statement) <= FEW_ITEMS || has_few_items(set)
 }
