@@ -3,13 +3,13 @@ use Rattle.std.proofs.Common.{◌≡◌, ℕ, ◌<◌, ◌+◌, List, [], ◌∷
 use Rattle.std.specs.List.{Contains}
 use Rattle.std.specs.Prelude.{OnOk}
 use Rattle.std.proofs.lemmas.List.{take_more, get_or_append_left, get_or_default}
-use Rattle.std.proofs.lemmas.Option.{get_or_from_slice_get, slice_get-get_or}
+use Rattle.std.proofs.lemmas.Option.{get_or_from_slice_get, slice_get-get_or, slice_get_within}
 use Rattle.std.proofs.Math.Seq.{get_or-append_seam}
 use Rattle.formula_tree.proofs.Laws.{cases_eq}
 use Rattle.cnf_clauses.specs.declared.index.Index.{Index}
 use Rattle.cnf_clauses.specs.Literals.{Clause, Literal}
 use Rattle.cnf_clauses.specs.Found.{IsOpen}
-use Rattle.cnf_clauses.specs.Indexes.{lists_at, held_at, HasTwoLiterals, IsIndexedWith, StandInIndex}
+use Rattle.cnf_clauses.specs.Indexes.{lists_at, held_at, HasEqual, HasTwoLiterals, IsIndexedWith, StandInIndex, StandsAgain}
 use Rattle.cnf_clauses.proofs.Scanning.{in_more}
 
 -- a list with more numbers, put back among its lists
@@ -51,8 +51,11 @@ pub indexed-more : (clauses : List Clause) (before after : Index) (k : ℕ) (c :
 indexed-more clauses before after k c read old named kept short kept_short = record {
   held = λ i d l h found stands.
       elim (cases_eq i k) [
-        | inl e ↦ let same : d ≡ c = clause-same clauses i k c d e found read in rw e (named l (rw same at stands))
-        | inr ne ↦ kept l i (old.held i d l (omega arith) found stands)
+        | inl e ↦
+            let same : d ≡ c = clause-same clauses i k c d e found read in
+            let here : Contains (held_at after l) i = rw e (named l (rw same at stands)) in
+            (i, here, found)
+        | inr ne ↦ let w = old.held i d l (omega arith) found stands in (w.0, kept l w.0 w.1, w.2)
       ];
   short = λ i d h found.
       elim (cases_eq i k) [
@@ -97,14 +100,43 @@ indexed-none clauses index = record { held = λ i c l h found stands. absurd (om
 pub indexed-step : (clauses : List Clause) (before after : Index) (k : ℕ) (c : Clause) → c ≡ get_or clauses k c → StandInIndex clauses before k → IsIndexedWith before c k after → StandInIndex clauses after (k + 1)
 indexed-step clauses before after k c read old more = indexed-more clauses before after k c read old more.held more.kept more.short more.kept_short
 
+-- a clause that stands again isn't noted at its literals
+pub indexed-again : (clauses : List Clause) (before after : Index) (k : ℕ) (c : Clause) → k < length clauses → c ≡ get_or clauses k c → StandInIndex clauses before k → StandsAgain clauses k →
+    HasTwoLiterals c ⊎ Contains after.short k → ((i : ℕ) → Contains before.short i → Contains after.short i) → ((l : Literal) → held_at after l ≡ held_at before l) → StandInIndex clauses after (k + 1)
+indexed-again clauses before after k c within read old again short kept_short same = record {
+  held = λ i d l h found stands.
+      let w : HasEqual clauses (held_at before l) d =
+      elim (cases_eq i k) [
+        | inl e ↦ old.held again.0 d l again.1 (again.2 ∙ subst (λ (x : ℕ). slice_get clauses x ≡ Some d) e found) stands
+        | inr ne ↦ old.held i d l (omega arith) found stands
+      ] in
+      (w.0, subst (λ (x : List ℕ). Contains x w.0) (sym (same l)) w.1, w.2);
+  short = λ i d h found.
+      elim (cases_eq i k) [
+        | inl e ↦ let is : d ≡ c = clause-same clauses i k c d e found read in rw (e, is) short
+        | inr ne ↦ elim (old.short i d (omega arith) found) [ inl two ↦ inl two | inr a ↦ inr (kept_short i a) ]
+      ];
+}
+
+pub again-ok : {X E : Type 0} (r : Result X E) (clauses : List Clause) (before after : Index) (k : ℕ) (c : Clause) → k < length clauses → c ≡ get_or clauses k c → StandInIndex clauses before k → StandsAgain clauses k →
+    OnOk r (HasTwoLiterals c ⊎ Contains after.short k) → OnOk r ((i : ℕ) → Contains before.short i → Contains after.short i) → ((l : Literal) → held_at after l ≡ held_at before l) → OnOk r (StandInIndex clauses after (k + 1))
+again-ok (Ok x) clauses before after k c within read old again short kept same = indexed-again clauses before after k c within read old again short kept same
+again-ok (Err e) clauses before after k c within read old again short kept same = tt
+
 found-before : (xs ys : List Clause) (i : ℕ) (d : Clause) → i < length xs → slice_get (xs ++ ys) i ≡ Some d → slice_get xs i ≡ Some d
 found-before xs ys i d h found =
     let same : get_or xs i d ≡ d = sym (get_or_append_left xs ys d i h) ∙ get_or_from_slice_get (xs ++ ys) i d d found in
     slice_get-get_or xs i d h ∙ ap Some same
 
+found-behind : (xs ys : List Clause) (i : ℕ) (d : Clause) → slice_get xs i ≡ Some d → slice_get (xs ++ ys) i ≡ Some d
+found-behind xs ys i d found =
+    let h : i < length xs = slice_get_within xs i d found in
+    let same : get_or (xs ++ ys) i d ≡ d = get_or_append_left xs ys d i h ∙ get_or_from_slice_get xs i d d found in
+    slice_get-get_or (xs ++ ys) i d (omega (arith, h, length-append xs ys)) ∙ ap Some same
+
 longer : (xs ys : List Clause) (index : Index) → StandInIndex xs index (length xs) → StandInIndex (xs ++ ys) index (length xs)
 longer xs ys index old = record {
-  held = λ i d l h found stands. old.held i d l h (found-before xs ys i d h found) stands;
+  held = λ i d l h found stands. let w = old.held i d l h (found-before xs ys i d h found) stands in (w.0, w.1, found-behind xs ys w.0 d w.2);
   short = λ i d h found. old.short i d h (found-before xs ys i d h found);
 }
 

@@ -11,7 +11,7 @@ use Rattle.formula_tree.proofs.Laws.{answer_of-more, answer_of-rest, answer_of-l
 use Rattle.cnf_clauses.specs.declared.clause.Found.TheVariants.{Refuted, Unit}
 use Rattle.cnf_clauses.specs.Literals.{Clause, Literal, IsTrueUnder, IsFalseUnder, IsUndecided, IsRefuted, IsUnit}
 use Rattle.cnf_clauses.specs.Found.{IsOpen, FindsAt}
-use Rattle.cnf_clauses.specs.Indexes.{HasTwoLiterals}
+use Rattle.cnf_clauses.specs.Indexes.{HasTwoLiterals, NameHolding}
 use Rattle.cnf_clauses.specs.Replays.{Replays, refuted, derives}
 use Rattle.cnf_clauses.specs.Propagates.{HintsLead, GoesOn, Steps, IsQuiet, AreQuiet}
 use Rattle.cnf_clauses.proofs.Hinting.{true-false, undecided-false, found-refuted, found-unit, same_clause}
@@ -240,12 +240,12 @@ short-all cs d numbers k past listed old i c there =
       | inr stands ↦ old i (subst (λ (x : List ℕ). Contains x i) (sym (take_all k numbers past)) stands) c there
     ]
 
-pub held-all : (cs : List Clause) (d0 d : Answers) (numbers : List ℕ) (k : ℕ) (l : Literal) → length numbers ≤ k →
-    ((i : ℕ) (c : Clause) → slice_get cs i ≡ Some c → Contains c l → Contains numbers i) →
+pub held-all : (cs : List Clause) (d0 d : Answers) (numbers : List ℕ) (k : ℕ) (l : Literal) → length numbers ≤ k → NameHolding cs l numbers →
     ((i : ℕ) → Contains (take k numbers) i → (c : Clause) → slice_get cs i ≡ Some c → IsQuiet d0 d c) →
     (i : ℕ) (c : Clause) → slice_get cs i ≡ Some c → Contains c l → IsQuiet d0 d c
 held-all cs d0 d numbers k l past listed old i c there stands =
-    old i (subst (λ (x : List ℕ). Contains x i) (sym (take_all k numbers past)) (listed i c there stands)) c there
+    let w = listed i c there stands in
+    old w.0 (subst (λ (x : List ℕ). Contains x w.0) (sym (take_all k numbers past)) w.1) c w.2
 
 -- one more decided variable has been followed
 take_next : (d more newd : Answers) (k v : ℕ) (b : Bool) → slice_get d k ≡ Some (v, b) → newd ≡ d ++ more → take (k + 1) newd ≡ take k d ++ (v, b) ∷ []

@@ -15,10 +15,18 @@ held_at index l = slice_index_or (lists_at index.yes.items index.no.items l.1) l
 abbrev pub HasTwoLiterals : Clause → Type 0
 HasTwoLiterals c = (m : Literal) × (n : Literal) × Contains c m × Contains c n × (m ≡ n → ⊥)
 
--- the clauses from 0 up to a number stand in the index
+-- one of the numbers is that of an equal clause
+abbrev pub HasEqual : List Clause → List ℕ → Clause → Type 0
+HasEqual clauses numbers c = (j : ℕ) × Contains numbers j × (slice_get clauses j ≡ Some c)
+
+-- the clause of the number is equal to one before it
+abbrev pub StandsAgain : List Clause → ℕ → Type 0
+StandsAgain clauses i = (j : ℕ) × (j < i) × (slice_get clauses j ≡ slice_get clauses i)
+
+-- the clauses from 0 up to a number stand in the index, at each of their literals they or equal ones
 pub record StandInIndex (clauses : List Clause) (index : Index) (upto : ℕ) : Type 0 where
   pub held : (i : ℕ) (c : Clause) (l : Literal) → i < upto → slice_get clauses i ≡ Some c → Contains c l →
-      Contains (held_at index l) i
+      HasEqual clauses (held_at index l) c
   pub short : (i : ℕ) (c : Clause) → i < upto → slice_get clauses i ≡ Some c → HasTwoLiterals c ⊎ Contains index.short i
 
 -- no number is lost, at any variable
@@ -40,9 +48,9 @@ pub record IsIndexedWith (old : Index) (c : Clause) (n : ℕ) (new : Index) : Ty
   pub short : HasTwoLiterals c ⊎ Contains new.short n
   pub kept_short : (i : ℕ) → Contains old.short i → Contains new.short i
 
--- the numbers of all clauses that hold the literal
+-- of each clause that holds the literal the number, or that of an equal one
 abbrev pub NameHolding : List Clause → Literal → List ℕ → Type 0
-NameHolding clauses l numbers = (i : ℕ) (c : Clause) → slice_get clauses i ≡ Some c → Contains c l → Contains numbers i
+NameHolding clauses l numbers = (i : ℕ) (c : Clause) → slice_get clauses i ≡ Some c → Contains c l → HasEqual clauses numbers c
 
 -- the numbers of all clauses without two literals that differ
 abbrev pub NameShort : List Clause → List ℕ → Type 0

@@ -1,7 +1,7 @@
 //! The index of a list of clauses: in which of them each literal stands, and which have no two literals
 //! that differ.
-ghost use Rattle.std.specs.Prelude.{◌≡◌, ◌<◌, ℕ, Bool, [], length, slice_index_or, Contains, ◌⊎◌, OnOk, IfOk};
-ghost use Rattle.cnf_clauses.specs.Indexes.{StandInIndex, HasTwoLiterals, HoldsAll, IsIndexedWith, KeepsHeld, KeepsNumbers, held_at};
+ghost use Rattle.std.specs.Prelude.{◌≡◌, ◌+◌, ◌<◌, ℕ, Bool, [], length, slice_index_or, Contains, ◌⊎◌, OnOk, IfOk, IsTrue};
+ghost use Rattle.cnf_clauses.specs.Indexes.{StandInIndex, StandsAgain, HasTwoLiterals, HoldsAll, IsIndexedWith, KeepsHeld, KeepsNumbers, held_at};
 ghost use Rattle.cnf_clauses.specs.Numbering.{HaveNumbers};
 
 use crate::clause::{Clause, Found, Literal, look};
@@ -110,6 +110,65 @@ pub(crate) fn add_clause(
     Ok(())
 }
 
+// Whether the literals are the same.
+fn is_same(one: Literal, other: Literal) -> bool
+    ensures { IsTrue result → one ≡ other }
+{
+    one.0 == other.0 && one.1 == other.1
+}
+
+// Whether the lists of literals are equal. Long ones are taken for different.
+fn are_equal(one: &[Literal], other: &[Literal]) -> bool
+    ensures { IsTrue result → one.now ≡ other.now }
+{
+    if one.len() > 2 {
+        return false;
+    }
+    if one.len() != other.len() {
+        return false;
+    }
+    for i in 0..one.len() {
+        if !is_same(one[i], other[i]) {
+            return false;
+        }
+    }
+    true
+}
+
+// Whether the clause is equal to the one before it, as clauses of two literals of a node with equal children are.
+fn stands_again(clauses: &[Clause], i: usize) -> bool
+    requires { i < length clauses.now }
+    ensures { IsTrue result → StandsAgain clauses.now i }
+{
+    if i == 0 {
+        return false;
+    }
+    are_equal(clauses[i - 1].as_slice(), clauses[i].as_slice())
+}
+
+// Notes the next clause. What is derived from one of equal clauses is derived from each, so that one of them is
+// looked at.
+fn add_next(
+    alloc: Global,
+    index: &mut Index,
+    nothing: &Decided,
+    clauses: &[Clause],
+    i: usize,
+) -> Result<(), NoMemory>
+    requires nothing { nothing.now ≡ [] }
+    requires within { i < length clauses.now }
+    requires numbers { HaveNumbers clauses.now }
+    requires before { StandInIndex clauses.now index.old i }
+    ensures { OnOk result (StandInIndex clauses.now index.new (i + 1)) }
+{
+    let number = i as u32;
+    let literals = clauses[i].as_slice();
+    if stands_again(clauses, i) {
+        return add_short(index, nothing, literals, number);
+    }
+    add_clause(alloc, index, nothing, literals, number)
+}
+
 // The index of the clauses.
 pub(crate) fn index_of(alloc: Global, clauses: &[Clause]) -> Result<Index, NoMemory>
     requires { HaveNumbers clauses.now }
@@ -121,9 +180,8 @@ pub(crate) fn index_of(alloc: Global, clauses: &[Clause]) -> Result<Index, NoMem
         no: Vec::new(alloc),
         short: List::new(alloc),
     };
-    'clauses: for (i, clause) in clauses.iter().enumerate() {
-        let number = i as u32;
-        add_clause(alloc, &mut index, &nothing, clause.as_slice(), number)?;
+    'clauses: for i in 0..clauses.len() {
+        add_next(alloc, &mut index, &nothing, clauses, i)?;
     }
     Ok(index)
 }
