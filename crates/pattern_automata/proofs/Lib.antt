@@ -24,3 +24,4 @@ mod Patching
 mod Standing
 mod Cutting
 mod Lasting
+mod Proposing

@@ -12,3 +12,4 @@ pub mod Machine
 pub mod Search
 pub mod Cuts
 pub mod Last
+pub mod Proposals

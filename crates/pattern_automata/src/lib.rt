@@ -18,6 +18,7 @@ mod names;
 mod outcome;
 mod places;
 mod proposal;
+mod quick_moves;
 mod search;
 mod states;
 mod theorems;

@@ -7,9 +7,13 @@ ghost use Rattle.pattern_automata.specs.Named.{HaveNames, HasNamesAt, IsLikeOthe
 
 use crate::fronts::{Kind, word_at, words_by};
 use crate::named::{Named, bits_of, named_by};
+use crate::quick_moves::quick_moves;
 use plain_lists::NoMemory;
 use std::alloc::Global;
 use wildcard_lang::{Pattern, Piece};
+
+/// Of fewer characters each is looked for in each word.
+const MANY: usize = 256;
 
 /// The words of a character that no piece names: `one` passes a mark on, `many` keeps it and leads on.
 #[derive(Drop)]
@@ -64,7 +68,7 @@ fn patch_of(fronts: &[Option<Piece>], masks: &Masks, index: usize, c: char) -> P
 
 /// The patch of the character at an index, if it needs one. What a piece names it takes, and of other
 /// characters the colon alone is told from the rest.
-fn patch_at(
+pub(crate) fn patch_at(
     fronts: &[Option<Piece>],
     masks: &Masks,
     named: &[Named],
@@ -92,7 +96,7 @@ fn patch_at(
 }
 
 /// Adds the patch, if there is one.
-fn push_patch(patch: Option<Patch>, patches: &mut Vec<Patch>) -> Result<(), NoMemory>
+pub(crate) fn push_patch(patch: Option<Patch>, patches: &mut Vec<Patch>) -> Result<(), NoMemory>
     ensures { OnOk result (patches.new.items ≡ patches.old.items ++ option_to_list patch) }
 {
     if let Some(patch) = patch {
@@ -157,5 +161,11 @@ pub fn moves_of(
     ensures characters { IfOk result (λ v. characters_of v.items ≡ characters.now) }
 {
     let named = named_by(alloc, fronts)?;
-    moves_by(alloc, fronts, masks, named.as_slice(), characters)
+    if characters.len() < MANY {
+        return moves_by(alloc, fronts, masks, named.as_slice(), characters);
+    }
+    match quick_moves(alloc, fronts, masks, named.as_slice(), characters)? {
+        Some(moves) => Ok(moves),
+        None => moves_by(alloc, fronts, masks, named.as_slice(), characters),
+    }
 }
