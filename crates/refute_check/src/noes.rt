@@ -107,6 +107,27 @@ impl KnownNoes {
         }
     }
 
+    // Whether there are answers at the index, and they end as some of the path's do.
+    fn ends_alike_at(&self, index: usize, path: &Path) -> bool {
+        match self.kept.as_slice().get(index) {
+            Some(answers) => ends_alike(answers.as_slice(), path),
+            None => false,
+        }
+    }
+
+    // The index of answers by which the formula may be no too: some that end as the path's do, or those that are next
+    // in turn. Lines that stand beside each other may be no by different answers.
+    fn likely(&self, path: &Path) -> usize {
+        let turn = self.evaluated % MOST_NOES;
+        'kept: for round in 0..MOST_NOES {
+            let index = (turn + round) % MOST_NOES;
+            if self.ends_alike_at(index, path) {
+                return index;
+            }
+        }
+        turn
+    }
+
     // Whether the path has kept answers.
     fn has(&self, path: &Path) -> bool
         ensures { IsTrue result → IsNoBeside self.now path.now }
@@ -192,8 +213,7 @@ impl KnownNoes {
         if self.has(path) {
             return Ok(true);
         }
-        // Lines that stand beside each other may be no by different answers.
-        let index = self.evaluated % MOST_NOES;
+        let index = self.likely(path);
         self.is_no_by(alloc, formula, path, index)
     }
 

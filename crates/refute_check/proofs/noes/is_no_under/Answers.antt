@@ -1,4 +1,4 @@
-use Rattle.std.proofs.Common.{List, ℕ, Bool, All, subst}
+use Rattle.std.proofs.Common.{All, subst}
 use Rattle.formula_tree.specs.Answers.{Answers}
 use Rattle.formula_tree.specs.Trees.{tree_of}
 use Rattle.formula_tree.proofs.Laws.{keeps-no}
