@@ -23,9 +23,11 @@ mod Passing
 mod Plainly
 mod Plans
 mod Whole
+mod Required
 mod Saying
 mod Sets
 mod Standings
+mod Answered
 mod Stepping
 mod Summing
 mod Texts

@@ -20,3 +20,5 @@ pub mod KnownAnswers
 pub mod Screening
 pub mod Stretches
 pub mod Words
+pub mod Together
+pub mod Validity

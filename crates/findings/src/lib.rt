@@ -24,6 +24,8 @@ mod steps;
 mod stretches;
 mod summary;
 mod text;
+mod together;
+mod validity;
 mod walk;
 mod words;
 

@@ -11,9 +11,10 @@ ghost use Rattle.findings.specs.Steps.{AreNumberedBelow, IsNumberedBelow, MeetsF
 use crate::evaluation::is_allowed;
 use crate::outcome::Finding;
 use crate::reading::{dimension_at, predicate_number_at};
+use crate::validity::Validity;
 use plain_lists::NoMemory;
 use policy_compile::Query;
-use policy_model::{Cond, Request, Schema, Slot, Value, cond_meets, entry_holds, valid};
+use policy_model::{Cond, Request, Slot, Value, cond_meets, entry_holds};
 use std::alloc::Global;
 use strata::{Predicate, Strata, Stratum};
 use wildcard_lang::matches;
@@ -123,18 +124,18 @@ pub(crate) fn is_own_if_valid(
 /// allows it, and it lies in the finding and in no strictly finer one.
 pub(crate) fn is_own(
     alloc: Global,
-    schema: &Schema,
+    validity: &Validity<'_>,
     strata: &Strata,
     base: &Query,
     finding: &Finding,
     request: &Request,
 ) -> Result<bool, NoMemory>
-    requires made { AreMadeUnder schema.now base.now strata.now }
+    requires made { AreMadeUnder validity.now base.now strata.now }
     requires finding { IsFinding strata.now.dimensions finding.now }
     ensures { IfOk result
-        (DecidesOwn schema.now base.now strata.now finding.now request.now) }
+        (DecidesOwn validity.now base.now strata.now finding.now request.now) }
 {
-    if !valid(schema, request) {
+    if !validity.holds(request) {
         return Ok(false);
     }
     let own = is_own_if_valid(alloc, strata, base, finding, request)?;

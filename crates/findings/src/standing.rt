@@ -10,6 +10,7 @@ use crate::blocks::first_compared;
 use crate::order::is_before;
 use crate::outcome::{Finding, Summary};
 use crate::own::is_own;
+use crate::validity::Validity;
 use plain_lists::NoMemory;
 use policy_compile::Query;
 use policy_model::{Request, Schema};
@@ -40,26 +41,46 @@ fn rises(pairs: &[(Finding, Request)], i: usize) -> bool
 // Whether the pair of an index has an own request and rises.
 fn stands_alone(
     alloc: Global,
-    schema: &Schema,
+    validity: &Validity<'_>,
     strata: &Strata,
     base: &Query,
     pairs: &[(Finding, Request)],
     i: usize,
 ) -> Result<bool, NoMemory>
-    requires made { AreMadeUnder schema.now base.now strata.now }
+    requires made { AreMadeUnder validity.now base.now strata.now }
     requires findings { All (IsFinding strata.now.dimensions) (findings_of pairs.now) }
     requires within { i < length pairs.now }
-    ensures { IfOk result (DecidesAlone schema.now base.now strata.now pairs.now i) }
+    ensures { IfOk result (DecidesAlone validity.now base.now strata.now pairs.now i) }
 {
     if !rises(pairs, i) {
         return Ok(false);
     }
-    let own = is_own(alloc, schema, strata, base, &pairs[i].0, &pairs[i].1)?;
+    let own = is_own(alloc, validity, strata, base, &pairs[i].0, &pairs[i].1)?;
     Ok(own)
 }
 
 // The first pair that doesn't, or the number of the pairs.
 fn first_alone(
+    alloc: Global,
+    validity: &Validity<'_>,
+    strata: &Strata,
+    base: &Query,
+    pairs: &[(Finding, Request)],
+) -> Result<usize, NoMemory>
+    requires made { AreMadeUnder validity.now base.now strata.now }
+    requires findings { All (IsFinding strata.now.dimensions) (findings_of pairs.now) }
+    ensures { IfOk result (IsFirstAlone validity.now base.now strata.now pairs.now) }
+{
+    'pairs: for i in 0..pairs.len() {
+        if !stands_alone(alloc, validity, strata, base, pairs, i)? {
+            return Ok(i);
+        }
+    }
+    Ok(pairs.len())
+}
+
+// The same, under a schema.
+fn first_failing(
     alloc: Global,
     schema: &Schema,
     strata: &Strata,
@@ -70,12 +91,9 @@ fn first_alone(
     requires findings { All (IsFinding strata.now.dimensions) (findings_of pairs.now) }
     ensures { IfOk result (IsFirstAlone schema.now base.now strata.now pairs.now) }
 {
-    'pairs: for i in 0..pairs.len() {
-        if !stands_alone(alloc, schema, strata, base, pairs, i)? {
-            return Ok(i);
-        }
-    }
-    Ok(pairs.len())
+    let validity = Validity::of(alloc, schema)?;
+    let first = first_alone(alloc, &validity, strata, base, pairs)?;
+    Ok(first)
 }
 
 // The verdict where this is the first failing pair, or the number of the pairs.
@@ -110,7 +128,7 @@ pub fn check_summary(
     ensures { IfOk result (JudgesSummary schema.now base.now strata.now summary.now) }
 {
     let pairs = summary.as_slice();
-    let alone = first_alone(alloc, schema, strata, base, pairs)?;
+    let alone = first_failing(alloc, schema, strata, base, pairs)?;
     // Those before it rise strictly, so they differ: a pair of them that is finer or above isn't equal.
     let first = first_compared(alloc, strata, pairs, alone)?;
     Ok(verdict_at(first, pairs.len()))

@@ -1,5 +1,5 @@
 //! Summaries.
-ghost use Rattle.std.specs.Prelude.{◌≡◌, ◌≤◌, IfErr, IfOk, OnOk, length};
+ghost use Rattle.std.specs.Prelude.{◌≡◌, ◌≤◌, IfErr, IfOk, OnOk, length, map};
 ghost use Rattle.std.specs.Cmp.Lexicographic.{slice_cmp};
 ghost use Rattle.std.specs.List.Sorted.{IsStrictlySortedBy};
 ghost use Rattle.std.specs.Ordering.{nat_cmp};
@@ -17,20 +17,31 @@ use crate::outcome::{Summary, SummaryFault};
 use crate::walk::Walk;
 use plain_lists::{List, NoMemory};
 use policy_compile::Query;
+use policy_model::Request;
 use std::alloc::Global;
+use std::collections::BTreeMap;
 use strata::Strata;
 
-// What was found, in the order of the findings' numbers.
+// The pairs of a map, in the order of the findings' numbers.
+fn pairs_of(alloc: Global, found: BTreeMap<Vec<u32>, Request>) -> Result<Summary, NoMemory>
+    ensures found { IfOk result (λ summary. summary ≡ map (λ e. (e.0.items, e.1)) found.entries) }
+    ensures order { IfOk result (λ summary.
+        IsStrictlySortedBy (slice_cmp nat_cmp) (findings_of summary)) }
+{
+    let mut summary = List::new(alloc);
+    'found: for (numbers, request) in found {
+        summary.push((List::from_vec(numbers), request))?;
+    }
+    Ok(summary)
+}
+
+// What the walk found.
 fn found_in(alloc: Global, walk: Walk) -> Result<Summary, NoMemory>
     ensures found { IfOk result (λ summary. summary ≡ found_by walk) }
     ensures order { IfOk result (λ summary.
         IsStrictlySortedBy (slice_cmp nat_cmp) (findings_of summary)) }
 {
-    let mut summary = List::new(alloc);
-    'found: for (numbers, request) in walk.found {
-        summary.push((List::from_vec(numbers), request))?;
-    }
-    Ok(summary)
+    pairs_of(alloc, walk.found)
 }
 
 // Looks at one finding after another, from the first on, until none is to come.

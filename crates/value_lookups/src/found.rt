@@ -24,7 +24,7 @@ fn is_equality(compare: Compare) -> bool
 }
 
 /// Whether what is asked can be found by a value that meets it.
-pub(crate) fn is_looked_up(cond: &Cond) -> bool
+pub fn is_looked_up(cond: &Cond) -> bool
     ensures { result ≡ is_looked_up cond.now }
 {
     match cond {

@@ -5,8 +5,11 @@
 mod blocks;
 mod found;
 mod literal;
+mod places;
 mod rest;
 mod table;
 mod values;
 
+pub use found::is_looked_up;
+pub use places::{NOWHERE, places_met};
 pub use values::{FEW, some_matches};

@@ -2,11 +2,11 @@ use Rattle.findings.proofs.Lying.{own-invalid}
 use Rattle.findings.proofs.own.is_own.Goals as goal
 
 pub is_own_if_valid-requires-clause-made : goal.is_own_if_valid-requires-clause-made
-is_own_if_valid-requires-clause-made c = (c.args.schema.now, c.requires.made)
+is_own_if_valid-requires-clause-made c = (c.args.validity.now, c.requires.made)
 
-pub returns-then-not-valid : goal.returns-then-not-valid
-returns-then-not-valid c =
-    own-invalid c.args.schema.now c.args.base.now c.args.strata.now c.args.finding.now c.requires.finding c.args.request.now (λ h. let yes_ = c.valid.ensures.1 h in absurd (cc))
+pub returns-then-not-holds : goal.returns-then-not-holds
+returns-then-not-holds c =
+    own-invalid c.args.validity.now c.args.base.now c.args.strata.now c.args.finding.now c.requires.finding c.args.request.now (λ h. let yes_ = c.holds.ensures.1 h in absurd (cc))
 
 pub returns : goal.returns
-returns c = c.in_ok-own.ensures c.args.schema.now (c.valid.ensures.0 (cc))
+returns c = c.in_ok-own.ensures c.args.validity.now (c.holds.ensures.0 (cc))

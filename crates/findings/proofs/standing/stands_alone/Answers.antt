@@ -6,7 +6,7 @@ use Rattle.findings.proofs.Standings.{alone-falls, alone-own}
 use Rattle.findings.proofs.standing.stands_alone.Goals as goal
 
 pub returns-then-not-rises : goal.returns-then-not-rises
-returns-then-not-rises c = alone-falls c.args.schema.now c.args.base.now c.args.strata.now c.args.pairs.now c.args.i c.rises.result (cc) c.rises.ensures
+returns-then-not-rises c = alone-falls c.args.validity.now c.args.base.now c.args.strata.now c.args.pairs.now c.args.i c.rises.result (cc) c.rises.ensures
 
 pub is_own-requires-clause-finding : goal.is_own-requires-clause-finding
 is_own-requires-clause-finding c =
@@ -17,4 +17,4 @@ pub returns : goal.returns
 returns c =
     let at = slice_get-get_or c.args.pairs.now c.args.i c.index-pairs-i.result c.requires.within in
     let again = slice_get-get_or c.args.pairs.now c.args.i c.index-pairs-i-2.result c.requires.within in
-    alone-own c.args.schema.now c.args.base.now c.args.strata.now c.args.pairs.now c.args.i c.rises.result c.in_ok-own.own (get_or c.args.pairs.now c.args.i c.index-pairs-i.result) (get_or c.args.pairs.now c.args.i c.index-pairs-i-2.result) (cc) c.rises.ensures at again c.in_ok-own.ensures
+    alone-own c.args.validity.now c.args.base.now c.args.strata.now c.args.pairs.now c.args.i c.rises.result c.in_ok-own.own (get_or c.args.pairs.now c.args.i c.index-pairs-i.result) (get_or c.args.pairs.now c.args.i c.index-pairs-i-2.result) (cc) c.rises.ensures at again c.in_ok-own.ensures

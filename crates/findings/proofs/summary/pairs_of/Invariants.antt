@@ -1,5 +1,5 @@
 use Rattle.std.proofs.Common.{◌≡◌, map}
-use Rattle.findings.proofs.summary.found_in.Given as goal
+use Rattle.findings.proofs.summary.pairs_of.Given as goal
 
 -- those so far
 abbrev pub invariant-found : goal.invariant-found

@@ -1,9 +1,0 @@
-use Rattle.std.proofs.lemmas.Map.Iter.{iter_end}
-use Rattle.findings.proofs.Passing.{found-all, found-sorted}
-use Rattle.findings.proofs.summary.found_in.Goals as goal
-
-pub returns-clause-order : goal.returns-clause-order
-returns-clause-order c =
-    let gives = c.into_iter-numbers-iterator.ensures.into_iter_gives in
-    let end = iter_end _ c.args.walk.found.entries c.found.yielded _ _ _ _ gives.0 c.found.yielded_by c.in-None.is c.next.ensures.steps in
-    found-sorted c.args.walk.found.entries c.found.summary (found-all c.found.yielded c.args.walk.found.entries c.found.summary c.found.invariant end.0) gives.5
