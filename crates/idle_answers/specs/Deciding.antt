@@ -7,13 +7,14 @@ use Rattle.policy_model.specs.declared.set.StatementName.{StatementName}
 use Rattle.policy_model.specs.Requests.{IsWellKept}
 use Rattle.policy_model.specs.StatementNames.{named_set}
 use Rattle.policy_difference.specs.Apartness.{MayBeWithoutApart}
+use Rattle.policy_difference.specs.Differences.{IsDifference}
 use Rattle.proof_text.specs.Laws.{HoldsSmallNumbers}
 use Rattle.proof_text.specs.Spelling.{certificate_text}
 use Rattle.proof_text.specs.declared.limits.TheConstants.{MOST_NUMBER}
 use Rattle.refute_check.specs.Proofs.{Proof, proof_of}
 use Rattle.run_sets.specs.declared.one_set.OneSet.{OneSet}
 use Rattle.run_sets.specs.declared.shortage.Shortage.TheVariants.{Splits, States}
-use Rattle.set_questions.specs.Idle.{IsIdle, IsUsedBy}
+use Rattle.set_questions.specs.Idle.{IsIdle, IsUsedBy, without_statement}
 use Rattle.set_questions.specs.Laws.{AsksTheChange, IsSmallerQuestion}
 use Rattle.set_questions.specs.Settling.{BothRunsFail}
 use Rattle.set_questions.specs.declared.narrowing.AskedPair.{AskedPair}
@@ -54,6 +55,12 @@ IsAnswerToUse certified version budgets (use_of.OutOfStates w) answer = answer �
 -- what is left of a first set and the second, both maybe without what is apart from the Allow statements that are left
 abbrev pub IsPairWithoutApart : PolicySet → PolicySet → AskedPair → Type 0
 IsPairWithoutApart left second asked = MayBeWithoutApart left left asked.less × MayBeWithoutApart left second asked.rest
+
+-- so of what is left of the set beside the set without the statement of this name, and of that
+abbrev pub IsPairBeside : PolicySet → StatementName → AskedPair → Type 0
+IsPairBeside set name asked =
+    (left : PolicySet) × IsDifference set (without_statement set name) left ×
+    IsPairWithoutApart left (without_statement set name) asked
 
 -- the same is asked of the two sets as of the set and the set without the statement of this name
 abbrev pub IsAskedWithout : OneSet → StatementName → AskedPair → Type 0

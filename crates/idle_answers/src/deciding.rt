@@ -2,29 +2,28 @@
 ghost use Rattle.std.specs.Prelude.{◌≡◌, ◌≤◌, true, false, IfOk, IfSome, IsTrue};
 ghost use Rattle.policy_compile.specs.Limits.{IsWithinLimits};
 ghost use Rattle.policy_compile.specs.Sets.{set_plan};
-ghost use Rattle.policy_difference.specs.Apartness.{IsWithoutApart};
 ghost use Rattle.refute_check.specs.Proofs.{proof_of};
 ghost use Rattle.run_sets.specs.OneSets.{FitsItsSchema};
 ghost use Rattle.set_questions.specs.Idle.{IsNameIn, OfNamed};
 ghost use Rattle.set_questions.specs.Narrowing.{IsNarrowedChange};
-ghost use Rattle.idle_answers.specs.Deciding.{IsAnswerByVerdict, IsAskedWithout, IsIdleAnswer, IsPairWithoutApart, IsSmallerFor, IsAnswerToUse, IsStagedUseAnswer};
+ghost use Rattle.idle_answers.specs.Deciding.{IsAnswerByVerdict, IsAskedWithout, IsIdleAnswer, IsSmallerFor, IsAnswerToUse, IsStagedUseAnswer};
 ghost use Rattle.idle_answers.specs.UseAnswers.{IsUseAnswerAt};
 
+use crate::allows::has_several_allows;
 use crate::answer::{UseAnswer, is_undecided};
+use crate::beside::asked_beside;
 use crate::settling::ByRefutation;
 use crate::sizes::are_quick_to_compare;
 use plain_lists::NoMemory;
 use policy_compile::{Query, QueryFault, query};
-use policy_difference::{
-    apart_statements_say_nothing, shared_statements_add_nothing, without_apart, without_shared,
-};
+use policy_difference::{MarkedSet, apart_statements_say_nothing, shared_statements_add_nothing};
 use policy_model::{PolicySet, StatementName};
 use proof_text::{closing_proofs_are_small, closing_proofs_have_no_fault, write_proof};
 use refute_check::Refutation;
 use run_sets::{OneSet, Shortage};
 use set_questions::{
     AskedPair, Use, change_query, is_allow, named_statement, narrowed, narrowed_pairs_ask_the_same,
-    smaller_questions_tell, use_of, without, without_stays_sound,
+    smaller_questions_tell, use_of, without_stays_sound,
 };
 use staged_search::{Verdict, decide_in_stages};
 use std::alloc::{AllocError, Global};
@@ -127,57 +126,26 @@ fn pair_query(
     }
 }
 
-// The set without what is apart from the first, unless that is much to compare.
-fn cut_apart(
-    alloc: Global,
-    quick: bool,
-    first: &PolicySet,
-    set: &PolicySet,
-) -> Result<Option<PolicySet>, NoMemory>
-    ensures { IfOk result (λ less. IfSome less (IsWithoutApart first.now set.now)) }
-{
-    if !quick {
-        return Ok(None);
-    }
-    without_apart(alloc, first, set)
-}
-
-// What is left of a first set and the second set, without what is apart from the Allow statements that are left,
-// where that isn't too much to compare.
-fn pair_without_apart(
-    alloc: Global,
-    quick: bool,
-    left: PolicySet,
-    second: PolicySet,
-) -> Result<AskedPair, NoMemory>
-    ensures { IfOk result (IsPairWithoutApart left second) }
-{
-    let less = cut_apart(alloc, quick, &left, &left)?;
-    let rest = cut_apart(alloc, quick, &left, &second)?;
-    Ok(AskedPair {
-        less: less.unwrap_or(left),
-        rest: rest.unwrap_or(second),
-    })
-}
-
 // The query for an Allow statement of the grants of the set without what it allows without the statement too, where
 // that is enough to tell: most often hardly more than the statement is left, and what else can apply with it.
 fn difference_query(
     alloc: Global,
     one: &OneSet,
+    marked: &MarkedSet<'_>,
     name: StatementName,
 ) -> Result<Option<Query>, NoMemory>
     requires fitting { FitsItsSchema one.now }
+    requires marked { marked.now ≡ one.now.set }
     requires named { IsNameIn one.now.set name }
     requires allow { OfNamed one.now.set name (λ s. s.allow ≡ true) }
     ensures { IfOk result (λ query. IfSome query (IsSmallerFor one.now name)) }
 {
-    let part = without(alloc, &one.set, name)?;
-    let Some(left) = without_shared(alloc, &one.set, &part)? else {
+    if !has_several_allows(&one.set) {
+        return Ok(None);
+    }
+    let Some(asked) = asked_beside(alloc, &one.set, marked, name)? else {
         return Ok(None);
     };
-    let quick = are_quick_to_compare(&one.set, named_statement(&one.set, name));
-    let asked = pair_without_apart(alloc, quick, left, part)?;
     shared_statements_add_nothing();
     apart_statements_say_nothing();
     without_stays_sound();
@@ -189,18 +157,20 @@ fn difference_query(
 fn narrowed_change(
     alloc: Global,
     set: &PolicySet,
+    marked: &MarkedSet<'_>,
     name: StatementName,
 ) -> Result<Option<AskedPair>, NoMemory>
-    requires { IsNameIn set.now name }
+    requires marked { marked.now ≡ set.now }
+    requires named { IsNameIn set.now name }
     ensures { IfOk result (λ asked. IfSome asked (λ asked.
         OfNamed set.now name (λ s. IsNarrowedChange set.now name s asked))) }
 {
-    let part = without(alloc, set, name)?;
+    let part = marked.without(alloc, name)?;
     let statement = named_statement(set, name);
     if statement.allow {
-        narrowed(alloc, statement, set, &part)
+        narrowed(alloc, statement, marked, &part)
     } else {
-        narrowed(alloc, statement, &part, set)
+        narrowed(alloc, statement, &part, marked)
     }
 }
 
@@ -208,16 +178,18 @@ fn narrowed_change(
 fn narrowed_query(
     alloc: Global,
     one: &OneSet,
+    marked: &MarkedSet<'_>,
     name: StatementName,
 ) -> Result<Option<Query>, NoMemory>
     requires fitting { FitsItsSchema one.now }
+    requires marked { marked.now ≡ one.now.set }
     requires named { IsNameIn one.now.set name }
     ensures { IfOk result (λ query. IfSome query (IsSmallerFor one.now name)) }
 {
     if !are_quick_to_compare(&one.set, named_statement(&one.set, name)) {
         return Ok(None);
     }
-    let Some(asked) = narrowed_change(alloc, &one.set, name)? else {
+    let Some(asked) = narrowed_change(alloc, &one.set, marked, name)? else {
         return Ok(None);
     };
     narrowed_pairs_ask_the_same();
@@ -261,16 +233,18 @@ fn is_grant(set: &PolicySet, name: StatementName) -> bool
 fn smaller_query(
     alloc: Global,
     one: &OneSet,
+    marked: &MarkedSet<'_>,
     name: StatementName,
 ) -> Result<Option<Query>, NoMemory>
     requires fitting { FitsItsSchema one.now }
+    requires marked { marked.now ≡ one.now.set }
     requires named { IsNameIn one.now.set name }
     ensures { IfOk result (λ query. IfSome query (IsSmallerFor one.now name)) }
 {
     if is_grant(&one.set, name) {
-        difference_query(alloc, one, name)
+        difference_query(alloc, one, marked, name)
     } else {
-        narrowed_query(alloc, one, name)
+        narrowed_query(alloc, one, marked, name)
     }
 }
 
@@ -297,17 +271,19 @@ fn change_answer(
 fn plain_answer(
     alloc: Global,
     one: &OneSet,
+    marked: &MarkedSet<'_>,
     name: StatementName,
     budgets: Budgets,
 ) -> Result<UseAnswer, NoMemory>
     requires fitting { FitsItsSchema one.now }
+    requires marked { marked.now ≡ one.now.set }
     requires named { IsNameIn one.now.set name }
     requires within { IsWithinLimits (set_plan one.now.schema one.now.set) }
     requires splits { 1 ≤ budgets.splits }
     requires states { 1 ≤ budgets.states }
     ensures { IfOk result (IsUseAnswerAt false budgets one.now name) }
 {
-    let Some(query) = smaller_query(alloc, one, name)? else {
+    let Some(query) = smaller_query(alloc, one, marked, name)? else {
         return change_answer(alloc, one, name, budgets);
     };
     let answer = staged_answer(alloc, one, name, &query, budgets)?;
@@ -318,15 +294,18 @@ fn plain_answer(
 }
 
 /// Whether the set needs the statement, within the budgets; with a certificate that it doesn't, where one is
-/// asked for. What isn't decided is what the change query leaves open, whatever was asked before it.
+/// asked for. What isn't decided is what the change query leaves open, whatever was asked before it. The marks are those
+/// of the set.
 pub(crate) fn use_answer(
     alloc: Global,
     one: &OneSet,
+    marked: &MarkedSet<'_>,
     name: StatementName,
     budgets: Budgets,
     certified: bool,
 ) -> Result<UseAnswer, NoMemory>
     requires fitting { FitsItsSchema one.now }
+    requires marked { marked.now ≡ one.now.set }
     requires named { IsNameIn one.now.set name }
     requires within { IsWithinLimits (set_plan one.now.schema one.now.set) }
     requires splits { 1 ≤ budgets.splits }
@@ -334,7 +313,7 @@ pub(crate) fn use_answer(
     ensures { IfOk result (IsUseAnswerAt certified budgets one.now name) }
 {
     if !certified {
-        return plain_answer(alloc, one, name, budgets);
+        return plain_answer(alloc, one, marked, name, budgets);
     }
     whole_answer(alloc, one, name, budgets, certified)
 }

@@ -2,7 +2,9 @@
 //! that shows it.
 #![tactic(auto)]
 
+mod allows;
 mod answer;
+mod beside;
 mod certificates;
 mod deciding;
 mod printing;

@@ -7,8 +7,7 @@ ghost use Rattle.policy_model.specs.StatementNames.{named_set};
 ghost use Rattle.run_files.specs.Printing.{IfPrinted, OrAnswered};
 ghost use Rattle.run_sets.specs.OneSets.{FitsItsSchema, set_contents};
 ghost use Rattle.run_sets.specs.Refusals.{IsRefusedBy};
-ghost use Rattle.set_questions.specs.Idle.{IsNameIn};
-ghost use Rattle.idle_answers.specs.Telling.{AddsUse, AreUsesWritten, IsStarted, AddsNextUse, told_status};
+ghost use Rattle.idle_answers.specs.Telling.{AddsUse, AreUsesWritten, IsStarted, told_status};
 ghost use Rattle.run_sets.specs.PastLimits.{IsSetPastLimit};
 ghost use Rattle.idle_answers.specs.UsesPrinted.{AreUsesPrinted, IsIdlePrinted};
 
@@ -16,6 +15,7 @@ use crate::answer::{UseAnswer, is_idle, is_undecided};
 use crate::deciding::use_answer;
 use crate::text::{statement_start, statements_line, use_text};
 use command_words::IdleArguments;
+use policy_difference::{MarkedSet, SetMarks};
 use policy_model::StatementName;
 use request_build::sound_schemas_have_requests;
 use run_files::{EarlyEnd, Printed, Status};
@@ -74,28 +74,55 @@ fn told_status(told: &Told) -> Status
     }
 }
 
-// Adds what is said of the statement of this name.
-fn tell_next(
+// What is said of each statement in turn. Only the text is kept, since certificates are large.
+fn uses_told(
     alloc: Global,
-    told: &mut Told,
     one: &OneSet,
-    name: StatementName,
+    marked: &MarkedSet<'_>,
+    names: &[StatementName],
     budgets: Budgets,
     certified: bool,
-) -> Result<(), AllocError>
+) -> Result<Told, AllocError>
     requires fitting { FitsItsSchema one.now }
-    requires named { IsNameIn one.now.set name }
+    requires marked { marked.now ≡ one.now.set }
+    requires names { names.now ≡ map (λ n. n.0) (named_set one.now.set) }
     requires within { IsWithinLimits (set_plan one.now.schema one.now.set) }
     requires splits { 1 ≤ budgets.splits }
     requires states { 1 ≤ budgets.states }
-    ensures { OnOk result (AddsNextUse certified budgets one.now name told.old told.new) }
+    ensures { IfOk result (AreUsesWritten certified budgets one.now (named_set one.now.set)) }
 {
-    let answer = use_answer(alloc, one, name, budgets, certified)?;
-    add_use(alloc, told, name, &answer)
+    let mut told = started(alloc, names.len())?;
+    'names: for name in names {
+        let answer = use_answer(alloc, one, marked, *name, budgets, certified)?;
+        add_use(alloc, &mut told, *name, &answer)?;
+    }
+    Ok(told)
 }
 
-// What is said of each statement in turn. Only the text is kept, since certificates are large.
-fn uses_told(
+// The same over the set's marks.
+fn told_by_marks(
+    alloc: Global,
+    one: &OneSet,
+    marks: &SetMarks<'_>,
+    names: &[StatementName],
+    budgets: Budgets,
+    certified: bool,
+) -> Result<Told, AllocError>
+    requires fitting { FitsItsSchema one.now }
+    requires marks { marks.now ≡ one.now.set }
+    requires names { names.now ≡ map (λ n. n.0) (named_set one.now.set) }
+    requires within { IsWithinLimits (set_plan one.now.schema one.now.set) }
+    requires splits { 1 ≤ budgets.splits }
+    requires states { 1 ≤ budgets.states }
+    ensures { IfOk result (AreUsesWritten certified budgets one.now (named_set one.now.set)) }
+{
+    let marked = MarkedSet::of(alloc, marks)?;
+    let told = uses_told(alloc, one, &marked, names, budgets, certified)?;
+    Ok(told)
+}
+
+// The same of the set, which is marked once for all of its statements.
+fn told_of_set(
     alloc: Global,
     one: &OneSet,
     names: &[StatementName],
@@ -109,10 +136,8 @@ fn uses_told(
     requires states { 1 ≤ budgets.states }
     ensures { IfOk result (AreUsesWritten certified budgets one.now (named_set one.now.set)) }
 {
-    let mut told = started(alloc, names.len())?;
-    'names: for name in names {
-        tell_next(alloc, &mut told, one, *name, budgets, certified)?;
-    }
+    let marks = SetMarks::numbered(alloc, &one.set)?;
+    let told = told_by_marks(alloc, one, &marks, names, budgets, certified)?;
     Ok(told)
 }
 
@@ -144,7 +169,7 @@ fn print_uses(
     meets_limits(alloc, one)?;
     sound_schemas_have_requests();
     let names = names_of(alloc, &one.set)?;
-    let told = uses_told(alloc, one, names.as_slice(), budgets, certified)?;
+    let told = told_of_set(alloc, one, names.as_slice(), budgets, certified)?;
     let status = told_status(&told);
     Ok(Printed {
         text: told.text,

@@ -1,5 +1,6 @@
 //! How many items a set and its statements have. Nothing rests on it but whether a statement is compared with all of the
 //! set before the search: over all statements that makes as many pairs of items as the square of the number.
+use policy_difference::MOST_PAIRS;
 use policy_model::{Condition, Document, DocumentList, Matcher, PolicySet, Statement};
 
 // The most items of a set that is compared with each of its statements.
@@ -54,12 +55,17 @@ fn guards_size(guards: &[DocumentList]) -> usize {
     size
 }
 
-fn has_few_items(set: &PolicySet) -> bool {
+fn set_size(set: &PolicySet) -> usize {
     let grants = documents_size(set.grants.as_slice());
-    grants.saturating_add(guards_size(set.guards.as_slice())) <= MOST_ITEMS
+    grants.saturating_add(guards_size(set.guards.as_slice()))
+}
+
+/// Whether the statement and the set have so few pairs of items that they are compared at all.
+pub(crate) fn are_comparable(set: &PolicySet, statement: &Statement) -> bool {
+    statement_size(statement).saturating_mul(set_size(set)) <= MOST_PAIRS
 }
 
 /// Whether to compare the statement with all of the set costs little.
 pub(crate) fn are_quick_to_compare(set: &PolicySet, statement: &Statement) -> bool {
-    statement_size(statement) <= FEW_ITEMS || has_few_items(set)
+    statement_size(statement) <= FEW_ITEMS || set_size(set) <= MOST_ITEMS
 }

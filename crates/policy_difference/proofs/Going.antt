@@ -1,5 +1,5 @@
 -- A statement of which one statement of the second set asks no more goes whole.
-use Rattle.std.proofs.Common.{◌≡◌, List, [], ◌∷◌, Any, All, Bool, true, false, None, inl, inr, refl, sym, subst}
+use Rattle.std.proofs.Common.{◌≡◌, List, [], ◌∷◌, Any, All, Bool, true, false, None, inl, inr, refl, subst}
 use Rattle.std.proofs.lemmas.List.Elements.{All-nil, All-cons, All-head, All-tail, All-weaker}
 use Rattle.wildcard_lang.specs.Covering.{CoversPattern, Clash}
 use Rattle.wildcard_lang.specs.declared.piece.Piece.{Piece}
@@ -10,9 +10,9 @@ use Rattle.policy_model.specs.declared.set.Statement.{Statement}
 use Rattle.policy_difference.specs.declared.bounds.Bounds.{Bounds}
 use Rattle.policy_difference.specs.declared.left.LeftStatement.{LeftStatement}
 use Rattle.policy_difference.specs.Differences.{AsksNoMore, ClashStatement, HasWider, IsShared, Leaves, with_actions}
-use Rattle.policy_difference.specs.Elements.{CoversMatcher}
-use Rattle.policy_difference.specs.Places.{AreWider, GoesWhole, HasPlace, IsUndenied}
-use Rattle.policy_difference.specs.Rivals.{ApartFromEach, AreBounds, IsLeftRecord}
+use Rattle.policy_difference.specs.Elements.{ClashMatcher, CoversMatcher}
+use Rattle.policy_difference.specs.Places.{GoesWhole}
+use Rattle.policy_difference.specs.Rivals.{AreBounds, IsBound, IsLeftRecord}
 use Rattle.policy_difference.proofs.Itself.{among-itself}
 use Rattle.policy_difference.proofs.Leaving.{any-any, cases_some, here, none_of_none}
 use Rattle.policy_difference.proofs.Remains.{of-false, of-true}
@@ -47,6 +47,12 @@ module _ {T : Type 0} (covers clash : T → T → Type 0) (whole : T) where
   covers-item true false ys xs x plain some holds = one-of-each (λ z. All (λ y. clash y z) ys) x xs holds some
   covers-item false false ys xs x plain some holds = one-of-each (λ z. Any (λ y. covers y z) ys) x xs holds some
 
+  clash-item : (b n : Bool) (ys xs : List T) (x : T) → n ≡ false → Any (λ y. y ≡ x) xs → ClashMatcher covers clash (record { not = b; items = ys }) (record { not = n; items = xs }) → ClashMatcher covers clash (record { not = b; items = ys }) (record { not = n; items = x ∷ [] })
+  clash-item true true ys xs x plain some holds = absurd (cc)
+  clash-item false true ys xs x plain some holds = absurd (cc)
+  clash-item true false ys xs x plain some holds = one-of-each (λ z. Any (λ y. covers y z) ys) x xs holds some
+  clash-item false false ys xs x plain some holds = one-of-each (λ z. All (λ y. clash y z) ys) x xs holds some
+
 asks-item : (t s : Statement) (x : List Piece) → s.action.not ≡ false → Any (λ y. y ≡ x) s.action.items → AsksNoMore t s → AsksNoMore t (with_actions s (x ∷ []))
 asks-item t s x plain some more = record {
   allow = more.allow;
@@ -61,23 +67,27 @@ wider-item g s x plain some wider =
     let own = with_actions s (x ∷ []) in
     any-any (λ (d : Document). Any (λ t. AsksNoMore t s) d.statements) (λ (d : Document). Any (λ t. AsksNoMore t own) d.statements) (λ d found. any-any (λ t. AsksNoMore t s) (λ t. AsksNoMore t own) (λ t more. asks-item t s x plain some more) d.statements found) g wider
 
-undenied-item : (bounds : Bounds) (s : Statement) (x : List Piece) → s.action.not ≡ false → Any (λ y. y ≡ x) s.action.items → IsUndenied bounds s → IsUndenied bounds (with_actions s (x ∷ []))
-undenied-item bounds s x plain some free =
-    (All-weaker (λ g. HasWider g.now s) (λ g. HasWider g.now (with_actions s (x ∷ []))) (λ g wider. wider-item g.now s x plain some wider) bounds.allowing.items free.0, free.1)
+apart-item : (d s : Statement) (x : List Piece) → s.action.not ≡ false → Any (λ y. y ≡ x) s.action.items → ClashStatement d s → ClashStatement d (with_actions s (x ∷ []))
+apart-item d s x plain some (inl principal) = inl principal
+apart-item d s x plain some (inr (inl action)) = inr (inl (clash-item CoversPattern Clash (Many ∷ []) d.action.not s.action.not d.action.items s.action.items x plain some action))
+apart-item d s x plain some (inr (inr resource)) = inr (inr resource)
+
+bound-item : (bounds : Bounds) (s : Statement) (x : List Piece) → s.action.not ≡ false → Any (λ y. y ≡ x) s.action.items → IsBound bounds s → IsBound bounds (with_actions s (x ∷ []))
+bound-item bounds s x plain some bound = (
+  All-weaker (λ g. HasWider g.now s) (λ g. HasWider g.now (with_actions s (x ∷ []))) (λ g wider. wider-item g.now s x plain some wider) bounds.allowing.items bound.0,
+  All-weaker (λ d. ClashStatement d.now s) (λ d. ClashStatement d.now (with_actions s (x ∷ []))) (λ d clash. apart-item d.now s x plain some clash) bounds.denying.items bound.1,
+)
 
 -- ---- what is left
 
 module _ (first second : PolicySet) (bounds : Bounds) (are : AreBounds first second bounds) where
-  undenied-shared : (s : Statement) → IsUndenied bounds s → IsShared first second s
-  undenied-shared s free = (are s).0 (free.0, subst (λ ds. ApartFromEach ds s) (sym free.1) (All-nil (λ d. ClashStatement d.now s)))
-
-  each-shared : (s : Statement) → s.action.not ≡ false → IsUndenied bounds s → All (λ x. IsShared first second (with_actions s (x ∷ []))) s.action.items
-  each-shared s plain free =
-      All-weaker (λ x. Any (λ y. y ≡ x) s.action.items) (λ x. IsShared first second (with_actions s (x ∷ []))) (λ x some. undenied-shared (with_actions s (x ∷ [])) (undenied-item bounds s x plain some free)) s.action.items (among-itself s.action.items)
+  each-shared : (s : Statement) → s.action.not ≡ false → IsBound bounds s → All (λ x. IsShared first second (with_actions s (x ∷ []))) s.action.items
+  each-shared s plain bound =
+      All-weaker (λ x. Any (λ y. y ≡ x) s.action.items) (λ x. IsShared first second (with_actions s (x ∷ []))) (λ x some. (are (with_actions s (x ∷ []))).0 (bound-item bounds s x plain some bound)) s.action.items (among-itself s.action.items)
 
   goes-by : (s : Statement) (b : Bool) → s.action.not ≡ b → (l : LeftStatement) → GoesWhole bounds s → l.statement ≡ None → l.shared ≡ true → IsLeftRecord first second s l
   goes-by s true not l goes none shared =
-      let own = undenied-shared s goes.1 in record {
+      let own = (are s).0 goes.1 in record {
         statement = of-true s.allow _ _ goes.0.0 (of-true s.action.not _ _ not (inl (own, none)));
         shared = (λ e. record { allow = goes.0.0; shared = of-true s.action.not _ _ not own }, λ has. shared);
       }
@@ -90,6 +100,3 @@ module _ (first second : PolicySet) (bounds : Bounds) (are : AreBounds first sec
 
   pub goes-whole : (s : Statement) (l : LeftStatement) → GoesWhole bounds s → l.statement ≡ None → l.shared ≡ true → IsLeftRecord first second s l
   goes-whole s l goes none shared = goes-by s s.action.not refl l goes none shared
-
-pub goes-beside : (bounds : Bounds) (others : List Statement) (s : Statement) → AreWider bounds others → HasPlace others s → GoesWhole bounds s
-goes-beside bounds others s wider place = (place.0, wider s place.1)

@@ -1,3 +1,4 @@
+pub mod Removing
 mod Leaving
 mod Naming
 mod Holding
@@ -18,7 +19,10 @@ mod Remains
 mod Capping
 mod Itself
 mod Standing
+mod Alone
 mod Going
 mod Covered
 mod Repeating
 mod Told
+mod Lessening
+mod Clashed

@@ -6,7 +6,7 @@ use Rattle.policy_model.specs.declared.request.Request.{Request}
 use Rattle.policy_model.specs.declared.schema.Schema.{Schema}
 use Rattle.policy_model.specs.declared.set.PolicySet.{PolicySet}
 use Rattle.policy_model.specs.declared.set.Statement.{Statement}
-use Rattle.policy_difference.specs.Differences.{AreLeft, AskTheSame, ClashStatement, EachWith, FitsToo, IsCutTo}
+use Rattle.policy_difference.specs.Differences.{AreLeft, AskTheSame, ClashStatement, EachWith, FitsToo, IsCutTo, IsDifference}
 
 -- the statement clashes with each Allow statement of the first set's grants
 abbrev pub IsApartFromAllows : PolicySet → Statement → Type 0
@@ -53,6 +53,17 @@ pub record IsSmallerPair (first second less rest : PolicySet) : Type 0 where
   pub asks : AskTheSamePair first second less rest
   pub first_fits : FitsToo first less
   pub second_fits : FitsToo second rest
+
+-- of the first set, and of the second, what isn't apart from the first's Allow statements
+pub record IsNearPair (first second less rest : PolicySet) : Type 0 where
+  pub less_is : IsWithoutApart first first less
+  pub rest_is : IsWithoutApart first second rest
+
+-- such a pair of what is left of the first set without what the second allows too, and of the second
+pub record IsDifferingPair (first second less rest : PolicySet) : Type 0 where
+  pub left : PolicySet
+  pub left_is : IsDifference first second left
+  pub near : IsNearPair left second less rest
 
 -- what is left of a first set beside a second, and the second set, may both be without what is apart from the Allow statements that
 -- are left

@@ -182,10 +182,14 @@ DifferenceLimits = MOST_PAIRS ≡ 2000000000
 
 -- ---- sets
 
--- something of the first set's grants can be left out, since the second set allows it too
+-- something of the first set's grants is left out, since the second set allows it too
+abbrev pub SomeIsShared : PolicySet → PolicySet → Type 0
+SomeIsShared first second = Any (λ d. Any (HasShared first second) d.statements) first.grants
+
+-- there is something, and it is found, since what there is is few enough to be compared
 pub record CanLeaveOut (first second : PolicySet) : Type 0 where
   pub few : HasFewPairs first second
-  pub shared : Any (λ d. Any (HasShared first second) d.statements) first.grants
+  pub shared : SomeIsShared first second
 
 -- the first set without what the second allows too of its grants, item by item of the Allow statements' actions
 pub record IsDifference (first second less : PolicySet) : Type 0 where

@@ -3,7 +3,7 @@ use Rattle.std.specs.Prelude.{◌≡◌, List, [], Any, true}
 use Rattle.policy_model.specs.declared.set.Document.{Document}
 use Rattle.policy_model.specs.declared.set.Statement.{Statement}
 use Rattle.policy_difference.specs.Differences.{AsksNoMore}
-use Rattle.policy_difference.specs.Rivals.{AllowedByEach}
+use Rattle.policy_difference.specs.Rivals.{AllowedByEach, IsBound}
 use Rattle.policy_difference.specs.declared.bounds.Bounds.{Bounds}
 
 -- one of the statements asks no more than s
@@ -18,13 +18,13 @@ AreOfDocuments documents others = (s : Statement) → SomeAsksNoMore others s �
 abbrev pub MayGo : Statement → Type 0
 MayGo s = (s.allow ≡ true) × (¬ (s.action.items ≡ []))
 
--- nothing denies, and of each list of documents that a statement has to be allowed by a statement asks no more
-abbrev pub IsUndenied : Bounds → Statement → Type 0
-IsUndenied bounds s = AllowedByEach bounds.allowing.items s × (bounds.denying.items ≡ [])
+-- of each list of documents that a statement has to be allowed by a statement asks no more
+abbrev pub IsAllowed : Bounds → Statement → Type 0
+IsAllowed bounds s = AllowedByEach bounds.allowing.items s
 
 -- it is so of each statement of which one of the others asks no more
 abbrev pub AreWider : Bounds → List Statement → Type 0
-AreWider bounds others = (s : Statement) → SomeAsksNoMore others s → IsUndenied bounds s
+AreWider bounds others = (s : Statement) → SomeAsksNoMore others s → IsAllowed bounds s
 
 -- the statement may go, and one of the others asks no more
 abbrev pub HasPlace : List Statement → Statement → Type 0
@@ -32,4 +32,4 @@ HasPlace others s = MayGo s × SomeAsksNoMore others s
 
 -- of the statement, with each item of its action, nothing is left
 abbrev pub GoesWhole : Bounds → Statement → Type 0
-GoesWhole bounds s = MayGo s × IsUndenied bounds s
+GoesWhole bounds s = MayGo s × IsBound bounds s

@@ -7,8 +7,9 @@ ghost use Rattle.policy_difference.specs.Differences.{AreLeft, ClashStatement, E
 ghost use Rattle.policy_difference.specs.Rivals.{ApartFromEach, BoundTheApart, IsBound};
 
 use crate::bounds::Bounds;
-use crate::left::{add_some, cut};
-use crate::marked::{MarkedDocument, MarkedDocumentList, MarkedSet, MarkedStatement};
+use crate::clashing::{ToldBounds, cut_as_told};
+use crate::left::add_some;
+use crate::marked::{MarkedDocument, MarkedDocumentList, MarkedSet, MarkedStatement, SetMarks};
 use crate::pairs::have_few_pairs;
 use plain_lists::{List, NoMemory};
 use policy_model::{Document, DocumentList, GuardList, PolicySet, StatementList};
@@ -74,15 +75,15 @@ fn apart_bounds<'a>(alloc: Global, first: &'a MarkedSet<'a>) -> Result<Bounds<'a
 // What is left of the statements without that which is as the bounds ask.
 fn cut_statements(
     alloc: Global,
-    bounds: &Bounds<'_>,
+    bounds: &ToldBounds<'_, '_>,
     statements: &[MarkedStatement<'_>],
 ) -> Result<StatementList, NoMemory>
     ensures { IfOk result (StatementsAreLeft (IsCutTo (IsBound bounds.now)) statements.now) }
 {
     let mut left = List::new(alloc);
     'statements: for statement in statements {
-        let own = cut(alloc, bounds, statement)?;
-        add_some(&mut left, own.statement)?;
+        let own = cut_as_told(alloc, bounds, statement)?;
+        add_some(&mut left, own)?;
     }
     Ok(left)
 }
@@ -90,7 +91,7 @@ fn cut_statements(
 // The same of documents.
 fn cut_documents(
     alloc: Global,
-    bounds: &Bounds<'_>,
+    bounds: &ToldBounds<'_, '_>,
     documents: &[MarkedDocument<'_>],
 ) -> Result<DocumentList, NoMemory>
     ensures { IfOk result (AreLeft (IsCutTo (IsBound bounds.now)) documents.now) }
@@ -106,7 +107,7 @@ fn cut_documents(
 // The same of guards.
 fn cut_guards(
     alloc: Global,
-    bounds: &Bounds<'_>,
+    bounds: &ToldBounds<'_, '_>,
     guards: &[MarkedDocumentList<'_>],
 ) -> Result<GuardList, NoMemory>
     ensures { IfOk result (AllZip (AreLeft (IsCutTo (IsBound bounds.now))) guards.now) }
@@ -118,14 +119,55 @@ fn cut_guards(
     Ok(left)
 }
 
-// What is left of the set without what is apart from each Allow statement of the first set's grants.
-fn cut_set(alloc: Global, first: &MarkedSet<'_>, set: &MarkedSet<'_>) -> Result<PolicySet, NoMemory>
+/// What is left of the set without what is apart from each Allow statement of the first set's grants.
+pub(crate) fn cut_set(
+    alloc: Global,
+    first: &MarkedSet<'_>,
+    set: &MarkedSet<'_>,
+) -> Result<PolicySet, NoMemory>
     ensures { IfOk result (IsWithoutApart first.now set.now) }
 {
     let bounds = apart_bounds(alloc, first)?;
-    let grants = cut_documents(alloc, &bounds, set.grants())?;
-    let guards = cut_guards(alloc, &bounds, set.guards())?;
+    let told = ToldBounds::of(alloc, bounds, set.numbers())?;
+    let grants = cut_documents(alloc, &told, set.grants())?;
+    let guards = cut_guards(alloc, &told, set.guards())?;
     Ok(PolicySet { grants, guards })
+}
+
+// The same of a first set with these marks.
+fn cut_beside(
+    alloc: Global,
+    first: &SetMarks<'_>,
+    set: &MarkedSet<'_>,
+) -> Result<PolicySet, NoMemory>
+    ensures { IfOk result (IsWithoutApart first.now set.now) }
+{
+    let first = MarkedSet::of(alloc, first)?;
+    let less = cut_set(alloc, &first, set)?;
+    Ok(less)
+}
+
+/// A set that has its marks without what never applies where the first set allows, as by `without_apart`, however much
+/// there is to compare. The only error is want of memory.
+pub fn marked_without_apart(
+    alloc: Global,
+    first: &PolicySet,
+    set: &MarkedSet<'_>,
+) -> Result<PolicySet, NoMemory>
+    ensures { IfOk result (IsWithoutApart first.now set.now) }
+{
+    let first = SetMarks::of(alloc, first)?;
+    let less = cut_beside(alloc, &first, set)?;
+    Ok(less)
+}
+
+// The same of a set with these marks.
+fn cut_marks(alloc: Global, first: &PolicySet, set: &SetMarks<'_>) -> Result<PolicySet, NoMemory>
+    ensures { IfOk result (IsWithoutApart first.now set.now) }
+{
+    let set = MarkedSet::of(alloc, set)?;
+    let less = marked_without_apart(alloc, first, &set)?;
+    Ok(less)
 }
 
 /// The set without what never applies where the first set allows: of its statements, of grants and of guards,
@@ -145,8 +187,7 @@ pub fn without_apart(
     if !have_few_pairs(first, set) {
         return Ok(None);
     }
-    let first = MarkedSet::of(alloc, first)?;
-    let set = MarkedSet::of(alloc, set)?;
-    let less = cut_set(alloc, &first, &set)?;
+    let set = SetMarks::of(alloc, set)?;
+    let less = cut_marks(alloc, first, &set)?;
     Ok(Some(less))
 }

@@ -9,8 +9,9 @@ use crate::bounds::Bounds;
 use crate::likely::SumIndex;
 use crate::listed::Listed;
 use crate::marked::{MarkedDocument, MarkedStatement};
-use crate::places::{next_place, others_at, place_of};
+use crate::places::{goes_whole, next_place, others_at, place_of};
 use crate::rivals::{Rivals, item_alone, passes, rivals_of};
+use crate::statement_index::StatementIndex;
 use crate::sums::Summed;
 use plain_lists::{EqualClone, List, NoMemory};
 use policy_model::{Document, DocumentList, Matcher, Statement, StatementList};
@@ -310,10 +311,11 @@ fn either(shared: bool, own: bool) -> bool
     shared || own
 }
 
-// What is left of the statements, each of which is looked for among the others first.
+// What is left of the statements, each of which is looked for first among the others, and where the index proposes it.
 fn left_statements(
     alloc: Global,
     bounds: &Bounds<'_>,
+    index: &StatementIndex,
     others: &[MarkedStatement<'_>],
     statements: &[MarkedStatement<'_>],
 ) -> Result<LeftStatements, NoMemory>
@@ -327,7 +329,8 @@ fn left_statements(
     'statements: for statement in statements {
         let place = place_of(others, near, statement);
         near = next_place(near, place);
-        let own = left_beside(alloc, bounds, place.is_some(), statement)?;
+        let goes = goes_whole(bounds, index, place.is_some(), statement);
+        let own = left_beside(alloc, bounds, goes, statement)?;
         shared = either(shared, own.shared);
         add_some(&mut left, own.statement)?;
     }
@@ -337,10 +340,11 @@ fn left_statements(
     })
 }
 
-/// What is left of the documents.
+/// What is left of the documents. The index is of the second set's grants.
 pub(crate) fn left_documents(
     alloc: Global,
     bounds: &Bounds<'_>,
+    index: &StatementIndex,
     documents: &[MarkedDocument<'_>],
 ) -> Result<LeftDocuments, NoMemory>
     ensures { IfOk result (λ left. (first second : PolicySet) →
@@ -352,7 +356,7 @@ pub(crate) fn left_documents(
     'documents: for document in documents {
         let others = others_at(bounds, near);
         near = near.wrapping_add(1);
-        let own = left_statements(alloc, bounds, others, document.as_slice())?;
+        let own = left_statements(alloc, bounds, index, others, document.as_slice())?;
         shared = either(shared, own.shared);
         left.push(Document {
             statements: own.statements,

@@ -71,8 +71,8 @@ impl Summed for MarkedValue<'_> {
     }
 }
 
-// Whether two patterns have the same pieces.
-fn are_equal(one: &Pattern, other: &Pattern) -> bool
+/// Whether two patterns have the same pieces.
+pub(crate) fn are_equal(one: &Pattern, other: &Pattern) -> bool
     ensures { IsTrue result → one.now ≡ other.now }
 {
     *one == *other

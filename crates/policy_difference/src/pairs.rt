@@ -43,7 +43,8 @@ fn conditions_size(conditions: &[Condition]) -> usize
     size
 }
 
-fn part_size(part: Part, statement: &Statement) -> usize
+/// How many items the part of the statement has, as far as they are counted.
+pub(crate) fn part_size(part: Part, statement: &Statement) -> usize
     ensures { result ≡ capped_size (part_size part statement.now) }
 {
     match part {

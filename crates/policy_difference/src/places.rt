@@ -1,13 +1,14 @@
 //! Where a second set, which may be nearly the same as a first, is likely to have a statement that asks no more.
-ghost use Rattle.std.specs.Prelude.{◌≡◌, ◌↔◌, [], IsTrue, is_some, true};
+ghost use Rattle.std.specs.Prelude.{◌≡◌, ◌↔◌, IsTrue, is_some, true};
 ghost use Rattle.policy_model.specs.declared.set.Statement.{Statement as StatementValue};
-ghost use Rattle.policy_difference.specs.Differences.{HasWider};
-ghost use Rattle.policy_difference.specs.Rivals.{AllowedByEach};
-ghost use Rattle.policy_difference.specs.Places.{AreOfDocuments, AreWider, HasPlace, MayGo, SomeAsksNoMore};
+ghost use Rattle.policy_difference.specs.Differences.{ClashStatement, HasWider};
+ghost use Rattle.policy_difference.specs.Rivals.{AllowedByEach, ApartFromEach};
+ghost use Rattle.policy_difference.specs.Places.{AreOfDocuments, AreWider, GoesWhole, HasPlace, IsAllowed, MayGo, SomeAsksNoMore};
 
 use crate::bounds::Bounds;
 use crate::marked::{MarkedDocument, MarkedStatement};
-use crate::statements::asks_no_more;
+use crate::statement_index::{StatementIndex, finds_wider};
+use crate::statements::{asks_no_more, clash_else, clashes_with_action};
 
 // The statements of the document of this number.
 fn statements_at<'a>(
@@ -22,16 +23,6 @@ fn statements_at<'a>(
     }
 }
 
-// Whether nothing denies.
-fn are_none(denying: &[&MarkedStatement<'_>]) -> bool
-    ensures { IsTrue result ↔ (denying.now ≡ []) }
-{
-    match denying {
-        [] => true,
-        _ => false,
-    }
-}
-
 // The documents, where there is one list of them.
 fn only_list<'a>(lists: &[&'a [MarkedDocument<'a>]]) -> &'a [MarkedDocument<'a>]
     ensures { (s : StatementValue) → HasWider result.now s → AllowedByEach lists.now s }
@@ -42,14 +33,11 @@ fn only_list<'a>(lists: &[&'a [MarkedDocument<'a>]]) -> &'a [MarkedDocument<'a>]
     }
 }
 
-/// Statements beside which a statement goes whole where one of them asks no more: those of the document of this
-/// number, where nothing bounds a statement but that list of documents, and else none.
+/// Statements beside which a statement is allowed where one of them asks no more: those of the document of this number,
+/// where one list of documents alone has to allow it, and else none.
 pub(crate) fn others_at<'a>(bounds: &Bounds<'a>, document: usize) -> &'a [MarkedStatement<'a>]
     ensures { AreWider bounds.now result.now }
 {
-    if !are_none(bounds.denying.as_slice()) {
-        return &[];
-    }
     statements_at(only_list(bounds.allowing.as_slice()), document)
 }
 
@@ -117,4 +105,67 @@ pub(crate) fn next_place(near: usize, place: Option<usize>) -> usize {
         None => near.wrapping_add(1),
         Some(found) => found.wrapping_add(1),
     }
+}
+
+// Whether a statement that the index proposes asks no more, where one list of documents alone has to allow this one.
+fn is_allowed_by_index(
+    bounds: &Bounds<'_>,
+    index: &StatementIndex,
+    statement: &MarkedStatement<'_>,
+) -> bool
+    ensures { IsTrue result → IsAllowed bounds.now statement.now }
+{
+    finds_wider(only_list(bounds.allowing.as_slice()), index, statement)
+}
+
+// Whether it is known that the statement is allowed, or the index tells it.
+fn is_allowed(
+    bounds: &Bounds<'_>,
+    index: &StatementIndex,
+    known: bool,
+    statement: &MarkedStatement<'_>,
+) -> bool
+    ensures { (IsTrue known → IsAllowed bounds.now statement.now) →
+        IsTrue result → IsAllowed bounds.now statement.now }
+{
+    if known {
+        return true;
+    }
+    is_allowed_by_index(bounds, index, statement)
+}
+
+// Whether the statements never apply both.
+fn clash(statement: &MarkedStatement<'_>, other: &MarkedStatement<'_>) -> bool
+    ensures { IsTrue result ↔ ClashStatement statement.now other.now }
+{
+    if clash_else(statement, other) {
+        return true;
+    }
+    clashes_with_action(statement, &other.action())
+}
+
+// Whether each of the statements clashes with this one.
+fn are_apart(statements: &[&MarkedStatement<'_>], statement: &MarkedStatement<'_>) -> bool
+    ensures { IsTrue result ↔ ApartFromEach statements.now statement.now }
+{
+    statements.iter().all(|other| clash(*other, statement))
+}
+
+/// Whether the statement goes whole: an Allow that is allowed, as is known or the index tells, and that no Deny meets.
+pub(crate) fn goes_whole(
+    bounds: &Bounds<'_>,
+    index: &StatementIndex,
+    known: bool,
+    statement: &MarkedStatement<'_>,
+) -> bool
+    ensures { (IsTrue known → IsAllowed bounds.now statement.now) →
+        IsTrue result → GoesWhole bounds.now statement.now }
+{
+    if !may_go(statement) {
+        return false;
+    }
+    if !is_allowed(bounds, index, known, statement) {
+        return false;
+    }
+    are_apart(bounds.denying.as_slice(), statement)
 }

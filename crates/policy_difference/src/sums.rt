@@ -2,7 +2,7 @@
 use cidr_bits::Address;
 use intervals::Scaled;
 use policy_model::{Condition, Entry, Operand};
-use wildcard_lang::{MarkedPattern, Piece, Text};
+use wildcard_lang::{MarkedPattern, Pattern, Piece, Text};
 
 // The sum of nothing, and by what it grows with each character or byte (as the FNV-1a hash of 64 bits does with bytes).
 const FIRST_SUM: u64 = 0xcbf2_9ce4_8422_2325;
@@ -34,9 +34,15 @@ impl Summed for Operand {
     }
 }
 
+impl Summed for Pattern {
+    fn sum(&self) -> u128 {
+        sum_of_pieces(self.as_slice())
+    }
+}
+
 impl Summed for MarkedPattern<'_> {
     fn sum(&self) -> u128 {
-        sum_of_pieces(self.pattern().as_slice())
+        self.pattern().sum()
     }
 }
 

@@ -1,4 +1,3 @@
-mod Removing
 mod Counting
 mod Placing
 mod Losing

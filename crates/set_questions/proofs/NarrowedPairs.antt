@@ -1,10 +1,10 @@
 -- Two sets that are narrowed to a statement are asked the same as the set and the set without it.
-use Rattle.std.proofs.Common.{◌≡◌, ◌⊎◌, ◌↔◌, ◌+◌, ◌<◌, ◌≤◌, ℕ, suc, zero, List, [], ◌∷◌, ◌++◌, length, map, All, Bool, true, false, MatchBool, slice_get, Some, inl, inr, refl, ap, sym, ◌∙◌, subst, arith}
+use Rattle.std.proofs.Common.{◌≡◌, ◌⊎◌, ◌↔◌, ◌+◌, ℕ, suc, zero, List, [], ◌∷◌, ◌++◌, length, All, Bool, true, false, MatchBool, slice_get, Some, inl, inr, refl, ap, sym, ◌∙◌, subst, arith}
 use Rattle.std.specs.Prelude.{Any, Contains, sum_by}
-use Rattle.std.specs.List.{AllZip, sum}
+use Rattle.std.specs.List.{sum}
 use Rattle.std.proofs.lemmas.List.{length-append, length-map}
 use Rattle.std.proofs.lemmas.List.Elements.{All-append, All-cons, All-head, All-nil, All-tail}
-use Rattle.std.proofs.lemmas.List.Sums.{sum_by-append, sum_by-cons, sum-map}
+use Rattle.std.proofs.lemmas.List.Sums.{sum_by-append, sum-map}
 use Rattle.std.proofs.lemmas.Option.{none-some, same_Some}
 use Rattle.policy_model.proofs.Laws.{Any-here, Any-later, Any-nil, Any-split}
 use Rattle.policy_model.specs.declared.request.Request.{Request}
@@ -16,14 +16,14 @@ use Rattle.policy_model.specs.declared.set.StatementName.{StatementName}
 use Rattle.policy_model.specs.Sets.{Allows, Applies, Decides, SomeDecides}
 use Rattle.policy_model.specs.Soundness.{ConditionFits, DocumentFits, DocumentIsSound, SchemaFits, StatementIsSound}
 use Rattle.policy_model.specs.StatementNames.{named_set}
-use Rattle.policy_difference.specs.Apartness.{AskTheSamePair, WithoutApartSaysNoLess}
+use Rattle.policy_difference.specs.Apartness.{AskTheSamePair, HasSameShape, WithoutApartSaysNoLess}
 use Rattle.set_questions.specs.declared.narrowing.AskedPair.{AskedPair}
 use Rattle.set_questions.specs.Idle.{without_statement}
 use Rattle.set_questions.specs.Laws.{AsksTheChange}
 use Rattle.set_questions.specs.Narrowing.{HasDocumentRoom, IsNarrowed, IsNarrowedChange, NarrowedPairsAskTheSame, documents_alone, guarded_by, set_alone}
 use Rattle.set_questions.specs.SetDocuments.{guard_documents, set_documents}
 use Rattle.set_questions.proofs.Changing.{stays-fit}
-use Rattle.set_questions.proofs.Losing.{Cut, EachLoses, Loses, SetLoses, set-loses, some-less, some-more, zip-all, zip-all-back, zip-any, zip-any-back}
+use Rattle.set_questions.proofs.Losing.{EachLoses, Loses, SetLoses, set-loses, some-less, some-more, zip-all, zip-all-back, zip-any, zip-any-back}
 use Rattle.set_questions.proofs.Placing.{place-of}
 
 -- ---- lists
@@ -243,6 +243,16 @@ module _ (schema : Schema) (r : Request) (s : Statement) where
 
 -- ---- pairs
 
+-- what isn't apart has as many documents and guards
+pub room-alike : (first near : PolicySet) → HasSameShape first near → (HasDocumentRoom near ↔ HasDocumentRoom first)
+room-alike first near shape =
+    let size = λ (g : List Document). length g in
+    let same : sum_by size near.guards ≡ sum_by size first.guards = sym (sum-map size near.guards) ∙ ap (λ (ns : List ℕ). sum ns) shape.guards ∙ sum-map size first.guards in
+    let count : length near.guards ≡ length first.guards = sym (length-map near.guards size) ∙ ap (λ (ns : List ℕ). length ns) shape.guards ∙ length-map first.guards size in (
+      λ room. record { documents = omega (arith, room.documents, shape.grants, same); guards = omega (arith, room.guards, count) },
+      λ room. record { documents = omega (arith, room.documents, shape.grants, same); guards = omega (arith, room.guards, count) },
+    )
+
 module _ (law : WithoutApartSaysNoLess) (s : Statement) (first second : PolicySet) (asked : AskedPair) (is : IsNarrowed s first second asked) where
   alike-first : (schema : Schema) (r : Request) → Applies schema s r → (Allows schema first r ↔ Allows schema is.near r)
   alike-first schema r applies = (law (set_alone s) first is.near is.near_is).alike schema r (alone-allows schema r s applies)
@@ -262,12 +272,7 @@ module _ (law : WithoutApartSaysNoLess) (s : Statement) (first second : PolicySe
   }
 
   near-room : HasDocumentRoom is.near
-  near-room =
-      let shape = (law (set_alone s) first is.near is.near_is).shape in
-      let size = λ (g : List Document). length g in
-      let same : sum_by size is.near.guards ≡ sum_by size first.guards = sym (sum-map size is.near.guards) ∙ ap (λ (ns : List ℕ). sum ns) shape.guards ∙ sum-map size first.guards in
-      let count : length is.near.guards ≡ length first.guards = sym (length-map is.near.guards size) ∙ ap (λ (ns : List ℕ). length ns) shape.guards ∙ length-map first.guards size in
-      record { documents = omega (arith, is.room.documents, shape.grants, same); guards = omega (arith, is.room.guards, count) }
+  near-room = (room-alike first is.near (law (set_alone s) first is.near is.near_is).shape).1 is.room
 
   near-fits : (schema : Schema) → SchemaFits schema first → SchemaFits schema is.near
   near-fits schema fits = (law (set_alone s) first is.near is.near_is).fits schema fits

@@ -8,7 +8,6 @@ use Rattle.policy_model.specs.declared.set.StatementName.{StatementName}
 use Rattle.policy_model.specs.Soundness.{SchemaFits}
 use Rattle.policy_model.specs.StatementNames.{named_set}
 use Rattle.policy_difference.specs.Apartness.{IsWithoutApart}
-use Rattle.policy_difference.specs.Differences.{HasFewPairs}
 use Rattle.set_questions.specs.declared.narrowing.AskedPair.{AskedPair}
 use Rattle.set_questions.specs.Idle.{without_statement}
 use Rattle.set_questions.specs.Laws.{AsksTheChange}
@@ -37,12 +36,6 @@ pub record IsNarrowed (s : Statement) (first second : PolicySet) (asked : AskedP
   pub near_is : IsWithoutApart (set_alone s) first near
   pub less : asked.less ≡ guarded_by near s
   pub rest : IsWithoutApart (set_alone s) second asked.rest
-
--- neither set is too large for it
-pub record IsNarrowable (s : Statement) (first second : PolicySet) : Type 0 where
-  pub room : HasDocumentRoom first
-  pub first_few : HasFewPairs (set_alone s) first
-  pub second_few : HasFewPairs (set_alone s) second
 
 -- the sets in the order of the change query
 abbrev pub IsNarrowedChange : PolicySet → StatementName → Statement → AskedPair → Type 0

@@ -1,9 +1,9 @@
 //! Two sets that are asked of those requests alone at which a statement applies.
 ghost use Rattle.std.specs.Prelude.{◌≡◌, ◌↔◌, ◌<◌, ◌+◌, IfOk, IfSome, IsSome, IsTrue, length, min, sum_by};
-ghost use Rattle.set_questions.specs.Narrowing.{HasDocumentRoom, IsNarrowable, IsNarrowed, documents_alone, guarded_by, set_alone};
+ghost use Rattle.set_questions.specs.Narrowing.{HasDocumentRoom, IsNarrowed, documents_alone, guarded_by, set_alone};
 
 use plain_lists::{EqualClone, List, NoMemory};
-use policy_difference::without_apart;
+use policy_difference::{MarkedSet, marked_without_apart, without_apart_says_no_less};
 use policy_model::{Document, DocumentList, PolicySet, Statement};
 use std::alloc::Global;
 
@@ -81,30 +81,26 @@ fn guarded_by(alloc: Global, set: PolicySet, statement: &Statement) -> Result<Po
 }
 
 /// Of two sets what isn't apart from the statement, the first with a guard that allows just where the statement
-/// applies. None exactly where one of them has too many items to compare, or the first no room for a guard.
+/// applies. None exactly where the first has no room for a guard.
 ///
 /// The only error is want of memory.
 pub fn narrowed(
     alloc: Global,
     statement: &Statement,
-    first: &PolicySet,
-    second: &PolicySet,
+    first: &MarkedSet<'_>,
+    second: &MarkedSet<'_>,
 ) -> Result<Option<AskedPair>, NoMemory>
     ensures asked { IfOk result
         (λ asked. IfSome asked (IsNarrowed statement.now first.now second.now)) }
-    ensures exactly { IfOk result
-        (λ asked. IsSome asked ↔ IsNarrowable statement.now first.now second.now) }
+    ensures exactly { IfOk result (λ asked. IsSome asked ↔ HasDocumentRoom first.now) }
 {
-    if !has_room(first) {
+    without_apart_says_no_less();
+    let own = set_alone(alloc, statement)?;
+    let near = marked_without_apart(alloc, &own, first)?;
+    if !has_room(&near) {
         return Ok(None);
     }
-    let own = set_alone(alloc, statement)?;
-    let Some(near) = without_apart(alloc, &own, first)? else {
-        return Ok(None);
-    };
-    let Some(rest) = without_apart(alloc, &own, second)? else {
-        return Ok(None);
-    };
+    let rest = marked_without_apart(alloc, &own, second)?;
     let less = guarded_by(alloc, near, statement)?;
     Ok(Some(AskedPair { less, rest }))
 }

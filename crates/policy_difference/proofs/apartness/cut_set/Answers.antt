@@ -1,17 +1,18 @@
-use Rattle.std.proofs.Common.{List, subst}
+use Rattle.std.proofs.Common.{List, subst, sym}
 use Rattle.std.specs.List.{AllZip}
 use Rattle.policy_model.specs.declared.set.Document.{Document}
 use Rattle.policy_difference.specs.Apartness.{IsApartFromAllows}
 use Rattle.policy_difference.specs.Differences.{AreLeft, IsCutTo}
-use Rattle.policy_difference.specs.Rivals.{IsBound}
+use Rattle.policy_difference.specs.Rivals.{BoundTheApart, IsBound}
 use Rattle.policy_difference.proofs.Remains.{cut-same, documents-other, zip-other}
 use Rattle.policy_difference.proofs.apartness.cut_set.Goals as goal
 
 pub returns : goal.returns
 returns c =
-    let bounds = c.in_ok-bounds.bounds in
+    let bounds = c.in_ok-told.told in
     let first = c.args.first.now in
-    let near = cut-same (IsBound bounds) (IsApartFromAllows first) c.in_ok-bounds.ensures in
+    let are : BoundTheApart first bounds = subst (BoundTheApart first) (sym c.in_ok-told.ensures) c.in_ok-bounds.ensures in
+    let near = cut-same (IsBound bounds) (IsApartFromAllows first) are in
     let documents = documents-other (IsCutTo (IsBound bounds)) (IsCutTo (IsApartFromAllows first)) near in
     record {
       grants = documents _ _ (subst (λ (ds : List Document). AreLeft (IsCutTo (IsBound bounds)) ds c.in_ok-grants.grants) c.grants.ensures c.in_ok-grants.ensures);

@@ -12,8 +12,8 @@ pub statements-preserved : goal.statements-preserved
 statements-preserved c rest left =
     let L = IsCutTo (IsBound c.args.bounds.now) in
     let ss = c.args.statements.now in
-    let whole = c.statements.invariant (before_rest c.in_ok-own.own.statement rest) (statements-more L ss c.statements.statement-index c.statement-item.result c.in_ok-own.own.statement rest c.statements-test.true c.statement-item.is c.in_ok-own.ensures.statement left) in
-    subst (StatementsAreLeft L ss) (sym (add-rest c.statements.left rest c.add_some.new.statements c.in_ok-own.own.statement c.in_ok-add_some.ensures)) whole
+    let whole = c.statements.invariant (before_rest c.in_ok-own.own rest) (statements-more L ss c.statements.statement-index c.statement-item.result c.in_ok-own.own rest c.statements-test.true c.statement-item.is c.in_ok-own.ensures left) in
+    subst (StatementsAreLeft L ss) (sym (add-rest c.statements.left rest c.add_some.new.statements c.in_ok-own.own c.in_ok-add_some.ensures)) whole
 
 pub returns : goal.returns
 returns c =

@@ -1,7 +1,10 @@
-use Rattle.std.proofs.Common.{Any, inl, inr, subst, sym, ◌∙◌}
+use Rattle.std.proofs.Common.{Any, inl, inr, refl, subst, sym, ◌∙◌}
 use Rattle.policy_difference.specs.Differences.{HasWider}
 use Rattle.policy_difference.proofs.Leaving.{apart}
 use Rattle.policy_difference.proofs.bounds.is_denied_too.Goals as goal
+
+pub returns-then-finds_in_set : goal.returns-then-finds_in_set
+returns-then-finds_in_set c = (λ e denies. c.finds_in_set.ensures c.if-finds_in_set.true, λ denied. refl)
 
 pub returns-else-has_wider : goal.returns-else-has_wider
 returns-else-has_wider c =

@@ -1,7 +1,6 @@
 use Rattle.std.proofs.Common.{◌++◌, [], subst, sym, ◌∙◌}
 use Rattle.std.proofs.lemmas.List.{append-nil}
 use Rattle.policy_difference.specs.Differences.{HasShared, IsLeftOf, StatementsAreLeft, before_rest}
-use Rattle.policy_difference.proofs.Going.{goes-beside}
 use Rattle.policy_difference.proofs.Filtered.{grown-some, whole-some}
 use Rattle.policy_difference.proofs.Leaving.{apart, none_of_none}
 use Rattle.policy_difference.proofs.Remains.{add-rest, or-next, statements-more, statements-none}
@@ -16,7 +15,7 @@ statements-init c first second are wider = (
 pub statements-preserved : goal.statements-preserved
 statements-preserved c first second are wider =
     let before = c.statements.invariant first second are wider in
-    let own = c.in_ok-own.ensures first second are (λ goes. goes-beside c.args.bounds.now c.args.others.now c.statement-item.result wider (c.place_of-place.ensures (sym c.is_some.ensures ∙ goes))) in
+    let own = c.in_ok-own.ensures first second are (c.goes_whole-goes.ensures (λ found. (wider c.statement-item.result (c.place_of-place.ensures (sym c.is_some.ensures ∙ found)).1))) in
     let ss = c.args.statements.now in
     let i = c.statements.statement-index in
     let s = c.statement-item.result in (

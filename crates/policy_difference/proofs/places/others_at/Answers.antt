@@ -1,9 +1,6 @@
-use Rattle.std.proofs.Common.{subst, sym, ◌∙◌}
+use Rattle.std.proofs.Common.{subst}
 use Rattle.policy_difference.specs.Rivals.{AllowedByEach}
 use Rattle.policy_difference.proofs.places.others_at.Goals as goal
 
 pub returns : goal.returns
-returns c s some = (
-  subst (λ lists. AllowedByEach lists s) c.as_slice-2.ensures.value (c.only_list.ensures s (c.statements_at.ensures s some)),
-  sym c.as_slice.ensures.value ∙ c.are_none.ensures.0 c.if-not-are_none.false,
-)
+returns c s some = subst (λ lists. AllowedByEach lists s) c.as_slice.ensures.value (c.only_list.ensures s (c.statements_at.ensures s some))

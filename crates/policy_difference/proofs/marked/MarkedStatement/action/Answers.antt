@@ -6,5 +6,5 @@ use Rattle.policy_difference.proofs.marked.MarkedStatement.action.Goals as goal
 pub returns : goal.returns
 returns c =
     of-parts c.element.result c.args.self.now.action _ _ c.element.ensures
-    (ap (λ (s : Statement). s.action.not) c.self.view_is)
-    (c.self.invariant.1 ∙ ap (λ (s : Statement). s.action.items) c.self.view_is)
+    (ap (λ (s : Statement). s.action.not) (c.marks.view_is ∙ c.self.view_is))
+    (c.marks.invariant.1 ∙ ap (λ (s : Statement). s.action.items) (c.marks.view_is ∙ c.self.view_is))

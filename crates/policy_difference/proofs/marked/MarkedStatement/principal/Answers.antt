@@ -7,5 +7,5 @@ use Rattle.policy_difference.proofs.marked.MarkedStatement.principal.Goals as go
 pub returns : goal.returns
 returns c =
     of-parts c.element.result (element_of c.args.self.now.principal) _ _ c.element.ensures
-    (c.is_not.ensures ∙ ap (λ (s : Statement). (element_of s.principal).not) c.self.view_is)
-    (c.self.invariant.0 ∙ ap (λ (s : Statement). (element_of s.principal).items) c.self.view_is)
+    (c.is_not.ensures ∙ ap (λ (s : Statement). (element_of s.principal).not) (c.marks.view_is ∙ c.self.view_is))
+    (c.marks.invariant.0 ∙ ap (λ (s : Statement). (element_of s.principal).items) (c.marks.view_is ∙ c.self.view_is))

@@ -7,5 +7,5 @@ use Rattle.policy_difference.proofs.marked.MarkedStatement.resource.Goals as goa
 pub returns : goal.returns
 returns c =
     of-parts c.element.result (element_of c.args.self.now.resource) _ _ c.element.ensures
-    (c.is_not.ensures ∙ ap (λ (s : Statement). (element_of s.resource).not) c.self.view_is)
-    (c.self.invariant.2 ∙ ap (λ (s : Statement). (element_of s.resource).items) c.self.view_is)
+    (c.is_not.ensures ∙ ap (λ (s : Statement). (element_of s.resource).not) (c.marks.view_is ∙ c.self.view_is))
+    (c.marks.invariant.2 ∙ ap (λ (s : Statement). (element_of s.resource).items) (c.marks.view_is ∙ c.self.view_is))
