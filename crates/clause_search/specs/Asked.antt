@@ -6,7 +6,7 @@ use Rattle.policy_model.specs.declared.schema.Schema.{Schema}
 use Rattle.policy_model.specs.Soundness.{SchemaIsSound, TestSuits}
 use Rattle.policy_compile.specs.declared.outcome.Query.{Query}
 use Rattle.policy_compile.specs.Queries.{asked_tree}
-use Rattle.clause_search.specs.declared.asked.Asked.{Asked}
+use Rattle.clause_learning.specs.declared.asked.Asked.{Asked}
 
 -- the schema is sound with its keys in order, every test suits it, the formula's test numbers are below the number of tests, and a
 -- product may have a state

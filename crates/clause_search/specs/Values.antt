@@ -5,7 +5,7 @@ use Rattle.policy_model.specs.declared.test.Slot.{Slot}
 use Rattle.slot_theory.specs.declared.outcome.SlotValue.{SlotValue}
 use Rattle.slot_theory.specs.Cores.{HasTest}
 use Rattle.slot_theory.specs.Slots.{IsSlotValue}
-use Rattle.clause_search.specs.declared.asked.Asked.{Asked}
+use Rattle.clause_learning.specs.declared.asked.Asked.{Asked}
 
 abbrev pub SlotPairs : Type 0
 SlotPairs = List (Slot × SlotValue)

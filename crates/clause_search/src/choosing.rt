@@ -1,5 +1,5 @@
 //! Few answers of an assignment that already make a formula yes, so that slots are asked about no more than these.
-use crate::assignment::Assignment;
+use clause_learning::Assignment;
 use formula_tree::{Branches, Formula, Path};
 use plain_lists::NoMemory;
 

@@ -5,8 +5,8 @@ ghost use Rattle.clause_search.specs.Asked.{IsSearchAsked};
 ghost use Rattle.clause_search.specs.Outcomes.{IsMetRequest};
 ghost use Rattle.clause_search.specs.Values.{AreFoundValues};
 
-use crate::asked::Asked;
 use crate::slots::have_all_slots;
+use clause_learning::Asked;
 use formula_tree::{Path, Three, value3};
 use plain_lists::NoMemory;
 use policy_model::Request;

@@ -4,15 +4,12 @@ ghost use Rattle.std.specs.Prelude.{◌≤◌};
 ghost use Rattle.slot_theory.specs.Possible.{PathInRange};
 ghost use Rattle.clause_search.specs.Asked.{IsSearchAsked};
 
-use crate::asked::Asked;
-use crate::blocks::add_block_clauses;
-use crate::bounds::add_bound_clauses;
-use crate::clashing::told_conflict;
-use crate::patterns::add_pattern_clauses;
 use crate::searching::is_in_range;
 use crate::slots::{Failing, ask_levels};
-use crate::solver::Solver;
-use crate::store::{Literal, Store};
+use clause_learning::{
+    Asked, Literal, Solver, Store, add_block_clauses, add_bound_clauses, add_pattern_clauses,
+    told_conflict,
+};
 use formula_tree::Path;
 use plain_lists::NoMemory;
 use policy_model::{EqualClone, Kind, Slot};

@@ -7,19 +7,14 @@ ghost use Rattle.slot_theory.specs.Possible.{PathInRange};
 ghost use Rattle.clause_search.specs.Asked.{IsSearchAsked};
 ghost use Rattle.clause_search.specs.Outcomes.{IsSearchOutcome};
 
-use crate::asked::Asked;
 use crate::choosing::choose;
-use crate::exclusions::Exclusions;
-use crate::guessing::Guesses;
-use crate::known::KnownConflicts;
-use crate::limits::MOST_WORK;
 use crate::meeting::meet;
 use crate::outcome::Outcome;
 use crate::relations::{learn_pairs, relate};
-use crate::running::Ending;
-use crate::size::size_of;
 use crate::slots::{Failing, ask_levels};
-use crate::solver::Solver;
+use clause_learning::{
+    Asked, Ending, Exclusions, Guesses, KnownConflicts, MOST_WORK, Solver, size_of,
+};
 use clause_proofs::refutes;
 use cnf_clauses::{Clauses, clauses_of};
 use formula_tree::Path;

@@ -6,14 +6,13 @@ ghost use Rattle.slot_theory.specs.Slots.{slot_of, test_at};
 ghost use Rattle.clause_search.specs.Asked.{IsSearchAsked};
 ghost use Rattle.clause_search.specs.Values.{AreFoundValues, HaveAllSlots};
 
-use crate::asked::Asked;
-use crate::known::KnownConflicts;
+use clause_learning::{Asked, KnownConflicts, states_of};
 use formula_tree::Path;
 use pattern_automata::LastClosed;
 use plain_lists::{List, NoMemory};
 use policy_model::{Slot, Test};
 use request_build::SlotValues;
-use slot_theory::{Core, KindProof, Possible, SlotProof, is_on, possible, slot_of};
+use slot_theory::{Core, Possible, SlotProof, is_on, possible, slot_of};
 use std::alloc::Global;
 use std::mem::replace;
 
@@ -145,27 +144,6 @@ impl Failing {
             }
         }
         false
-    }
-}
-
-/// How many product states a proof has.
-pub(crate) fn states_of(proof: &SlotProof) -> usize {
-    match proof {
-        SlotProof::Word(closed) => closed.len(),
-        SlotProof::Member(_, closed) => closed.len(),
-        SlotProof::SomeMember(closed) => closed.len(),
-        SlotProof::Kinds(aws, service, federated, canonical_user) => states_of_kind(aws)
-            .saturating_add(states_of_kind(service))
-            .saturating_add(states_of_kind(federated))
-            .saturating_add(states_of_kind(canonical_user)),
-        _ => 1,
-    }
-}
-
-fn states_of_kind(proof: &KindProof) -> usize {
-    match proof {
-        KindProof::Never => 1,
-        KindProof::Closed(closed) => closed.len(),
     }
 }
 

@@ -26,7 +26,7 @@ struct Entry {
 /// The values of variables, and the trail: the literals that are true, in the order in which they became so.
 /// A level is a decision with all that follows from it; level 0 stands before any decision.
 #[derive(Drop)]
-pub(crate) struct Assignment {
+pub struct Assignment {
     entries: Vec<Entry>,
     trail: Vec<Literal>,
     // Where each level but the first begins in the trail.
@@ -60,7 +60,7 @@ impl Assignment {
         self.entries.len()
     }
 
-    pub(crate) fn value(&self, variable: u32) -> Option<bool> {
+    pub fn value(&self, variable: u32) -> Option<bool> {
         self.entries.as_slice().get(variable as usize)?.value
     }
 
@@ -106,7 +106,7 @@ impl Assignment {
     }
 
     /// The literal is to be true where its variable is decided next.
-    pub(crate) fn prefer(&mut self, literal: Literal) {
+    pub fn prefer(&mut self, literal: Literal) {
         if let Some(entry) = self.entries.get_mut(literal.0 as usize) {
             entry.phase = literal.1;
             entry.wanted = literal.1;

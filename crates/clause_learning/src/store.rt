@@ -4,7 +4,7 @@ use plain_lists::NoMemory;
 use std::alloc::{AllocError, Global};
 
 /// A variable, and the value at which the literal is true.
-pub(crate) type Literal = (u32, bool);
+pub type Literal = (u32, bool);
 
 // Where the literals of a clause stand.
 #[derive(Clone, Copy)]
@@ -16,13 +16,13 @@ struct Span {
 /// Clauses by number. Their literals stand in one list, so that a walk over clauses stays near. The first
 /// two literals of a clause are those that are watched: literals change places, clauses don't.
 #[derive(Drop)]
-pub(crate) struct Store {
+pub struct Store {
     literals: Vec<Literal>,
     spans: Vec<Span>,
 }
 
 impl Store {
-    pub(crate) fn new(alloc: Global) -> Store {
+    pub fn new(alloc: Global) -> Store {
         Store {
             literals: Vec::new(alloc),
             spans: Vec::new(alloc),
@@ -61,7 +61,7 @@ impl Store {
     }
 
     /// The literals of a clause, and none where there is no clause of the number.
-    pub(crate) fn get(&self, number: u32) -> &[Literal] {
+    pub fn get(&self, number: u32) -> &[Literal] {
         match self.spans.as_slice().get(number as usize) {
             Some(span) if span.start <= span.end && span.end <= self.literals.len() => {
                 &self.literals[span.start..span.end]

@@ -3,13 +3,13 @@ use cnf_clauses::Clauses;
 
 /// How many literals clauses have together, and how many variables up to the greatest one.
 #[derive(Clone, Copy)]
-pub(crate) struct Size {
-    pub(crate) literals: usize,
-    pub(crate) variables: usize,
+pub struct Size {
+    pub literals: usize,
+    pub variables: usize,
 }
 
 /// The size of the clauses.
-pub(crate) fn size_of(clauses: &Clauses) -> Size {
+pub fn size_of(clauses: &Clauses) -> Size {
     let mut size = Size {
         literals: 0,
         variables: 0,

@@ -16,7 +16,7 @@ const KNOWN_WORK: usize = 40;
 impl Solver {
     /// Learns from the conflict of a clause all of whose literals are false, some at the last level, and goes back to the
     /// level at which the learned clause makes its first literal true. Whether it is empty, so that the lines end.
-    pub(crate) fn learn(&mut self, number: u32) -> Result<bool, NoMemory> {
+    pub fn learn(&mut self, number: u32) -> Result<bool, NoMemory> {
         self.fix()?;
         let Learned {
             clause,
@@ -183,7 +183,7 @@ impl Solver {
     }
 
     /// Learns that not all tests of a core are answered as the path answers them. Whether the lines end.
-    pub(crate) fn exclude_core(
+    pub fn exclude_core(
         &mut self,
         path: &Path,
         core: &[u32],
@@ -205,7 +205,7 @@ impl Solver {
     }
 
     /// Learns the known conflicts of the search's tests. No decision stands. Whether the lines end.
-    pub(crate) fn take_known(&mut self, known: &mut KnownConflicts) -> Result<bool, NoMemory> {
+    pub fn take_known(&mut self, known: &mut KnownConflicts) -> Result<bool, NoMemory> {
         for index in 0..known.len() {
             let Some(Conflict { answers, proof }) = known.get(index)? else {
                 continue;

@@ -311,7 +311,7 @@ fn add_clauses_of(bounds: &Bounds, required: bool, clauses: &mut Store) -> Resul
 }
 
 /// Adds clauses that the bounds of the key's tests propose, where they are several.
-pub(crate) fn add_bound_clauses(
+pub fn add_bound_clauses(
     asked: &Asked<'_>,
     slot: &Slot,
     required: bool,

@@ -5,10 +5,10 @@ use std::alloc::Global;
 
 /// What a search is asked.
 #[derive(Drop)]
-pub(crate) struct Asked<'a> {
-    pub(crate) alloc: Global,
-    pub(crate) schema: &'a Schema,
-    pub(crate) query: &'a Query,
+pub struct Asked<'a> {
+    pub alloc: Global,
+    pub schema: &'a Schema,
+    pub query: &'a Query,
     /// The most product states of a slot's patterns.
-    pub(crate) states: u32,
+    pub states: u32,
 }

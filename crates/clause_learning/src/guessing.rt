@@ -12,7 +12,7 @@ use text_table::Table;
 const FIRST_KEY: usize = 3;
 
 #[derive(Drop)]
-pub(crate) struct Guesses {
+pub struct Guesses {
     // The number of each key that is a slot.
     keys: Table<usize>,
     // By test the number of its slot.
@@ -23,7 +23,7 @@ pub(crate) struct Guesses {
 
 impl Guesses {
     /// No value yet, of any slot of the tests.
-    pub(crate) fn new(alloc: Global, tests: &[Test]) -> Result<Guesses, NoMemory> {
+    pub fn new(alloc: Global, tests: &[Test]) -> Result<Guesses, NoMemory> {
         let mut guesses = Guesses {
             keys: Table::new(alloc),
             numbers: Vec::new(alloc),
@@ -82,7 +82,7 @@ impl Guesses {
 
     /// The answers of those slots whose last value doesn't give all of the path's. Those that are yes come last: a slot's
     /// question begins with the last, and what is to be has fewer values than what isn't.
-    pub(crate) fn unsettled(&self, asked: &Asked<'_>, path: &Path) -> Result<Path, NoMemory> {
+    pub fn unsettled(&self, asked: &Asked<'_>, path: &Path) -> Result<Path, NoMemory> {
         let tests = asked.query.tests.as_slice();
         let mut settled = vec![in asked.alloc; true; self.values.len()]?;
         for (test, answer) in path.as_slice() {
@@ -116,7 +116,7 @@ impl Guesses {
     }
 
     /// Keeps the values as the last ones of their slots.
-    pub(crate) fn keep(&mut self, values: &SlotValues) -> Result<(), NoMemory> {
+    pub fn keep(&mut self, values: &SlotValues) -> Result<(), NoMemory> {
         for (slot, value) in values.as_slice() {
             let number = self.number_of(slot.clone()?)?;
             let value = value.copy()?;

@@ -116,7 +116,7 @@ fn are_few(asking: &[Asking<'_>]) -> bool {
 }
 
 /// Adds that what matches a pattern of the slot's tests matches the next wider ones.
-pub(crate) fn add_pattern_clauses(
+pub fn add_pattern_clauses(
     asked: &Asked<'_>,
     slot: &Slot,
     clauses: &mut Store,

@@ -132,7 +132,7 @@ fn two_of(path: &Path) -> Option<(u32, u32)> {
 }
 
 /// That no value answers the path's tests so, where they are two texts of a key that are answered yes.
-pub(crate) fn told_conflict(
+pub fn told_conflict(
     asked: &Asked<'_>,
     path: &Path,
 ) -> Result<Option<(Core, SlotProof)>, NoMemory> {

@@ -159,7 +159,7 @@ fn add_clauses_of(
 }
 
 /// Adds clauses that the blocks of the key's tests propose, where they are several.
-pub(crate) fn add_block_clauses(
+pub fn add_block_clauses(
     asked: &Asked<'_>,
     slot: &Slot,
     clauses: &mut Store,

@@ -20,8 +20,8 @@ const LOOKED_GROWTH: usize = 4;
 
 /// Pairs of tests that are said to exclude one another, each as a clause.
 #[derive(Drop)]
-pub(crate) struct Exclusions {
-    pub(crate) pairs: Store,
+pub struct Exclusions {
+    pub pairs: Store,
     // By test the number below which it was looked at with each other test of its slot.
     looked: Vec<u32>,
     // How many pairs are looked at, and how many of these are left.
@@ -61,7 +61,7 @@ fn pair_of(path: &Path, core: &[u32]) -> Option<(u32, u32)> {
 
 impl Exclusions {
     /// No pair yet, of so many tests.
-    pub(crate) fn new(alloc: Global, tests: usize) -> Result<Exclusions, NoMemory> {
+    pub fn new(alloc: Global, tests: usize) -> Result<Exclusions, NoMemory> {
         let looked = vec![in alloc; 0u32; tests]?;
         Ok(Exclusions {
             pairs: Store::new(alloc),
@@ -139,7 +139,7 @@ impl Exclusions {
     }
 
     /// Proposes pairs of tests of each slot that excludes two of them by one of the cores, whose answers are the path's.
-    pub(crate) fn propose(
+    pub fn propose(
         &mut self,
         asked: &Asked<'_>,
         guesses: &Guesses,

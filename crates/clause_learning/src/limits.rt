@@ -3,7 +3,7 @@
 /// The most units of work: literals that are looked at, and product states of slots at a price in units. A unit takes some
 /// nanoseconds, so that a search takes a second or two: it stands before one whose budgets the user gave. The check of
 /// the lines isn't counted, which is made where the search ends with the empty clause.
-pub(crate) const MOST_WORK: usize = 160_000_000;
+pub const MOST_WORK: usize = 160_000_000;
 
 // The most literals of learned clauses and hints together, so that their lines take some tens of megabytes.
 const MOST_LEARNED: usize = 2_000_000;
@@ -17,7 +17,7 @@ const FIRST_RESTART: u32 = 100;
 const RESTART_GROWTH: u32 = 8;
 
 #[derive(Clone, Copy)]
-pub(crate) struct Limits {
+pub struct Limits {
     // How many units of work are left.
     work: usize,
     // How many literals and hints may still be learned.
@@ -41,7 +41,7 @@ impl Limits {
     }
 
     /// So many units of work more.
-    pub(crate) fn spend(&mut self, units: usize) {
+    pub fn spend(&mut self, units: usize) {
         self.work = self.work.saturating_sub(units);
     }
 
@@ -57,7 +57,7 @@ impl Limits {
     }
 
     /// One more round in which slots ran out of states and none excluded anything.
-    pub(crate) fn count_wide_round(&mut self) {
+    pub fn count_wide_round(&mut self) {
         self.wide_rounds = self.wide_rounds.saturating_sub(1);
     }
 
@@ -66,7 +66,7 @@ impl Limits {
         self.work = 0;
     }
 
-    pub(crate) fn are_spent(&self) -> bool {
+    pub fn are_spent(&self) -> bool {
         self.work == 0 || self.learned == 0 || self.wide_rounds == 0
     }
 

@@ -16,7 +16,7 @@ const WALK_RESTART: u32 = 6;
 
 /// How the search for an assignment ends.
 #[derive(Clone, Copy)]
-pub(crate) enum Ending {
+pub enum Ending {
     /// The lines end with the empty clause.
     Refuted,
     /// Each variable is decided, and no clause is refuted.
@@ -27,7 +27,7 @@ pub(crate) enum Ending {
 
 impl Solver {
     /// Goes on until each variable is decided, or there is no assignment.
-    pub(crate) fn assign_all(&mut self) -> Result<Ending, NoMemory> {
+    pub fn assign_all(&mut self) -> Result<Ending, NoMemory> {
         for _ in 0..MOST_WORK {
             self.limits.spend(STEP_WORK);
             if self.limits.are_spent() {

@@ -17,16 +17,16 @@ const VISIT_WORK: usize = 4;
 /// Clauses, a partial assignment, and the lines that have led to the clauses beyond the formula's. Each clause behind
 /// those of the formula is that of a line, in the same order.
 #[derive(Drop)]
-pub(crate) struct Solver {
+pub struct Solver {
     pub(crate) alloc: Global,
     pub(crate) store: Store,
-    pub(crate) assignment: Assignment,
+    pub assignment: Assignment,
     pub(crate) watches: Watches,
     pub(crate) activity: Activity,
-    pub(crate) lines: Vec<Line>,
+    pub lines: Vec<Line>,
     /// The slots' proofs in the lines, equal ones once.
     pub(crate) proofs: SharedProofs,
-    pub(crate) limits: Limits,
+    pub limits: Limits,
     /// How many restarts there were.
     pub(crate) restarts: u32,
     /// The clauses that slots exclude, and once they were made simpler those of the formula. All others follow from them.
@@ -41,7 +41,7 @@ pub(crate) struct Solver {
 
 impl Solver {
     /// No clause yet, over so many variables.
-    pub(crate) fn new(alloc: Global, variables: usize) -> Result<Solver, NoMemory> {
+    pub fn new(alloc: Global, variables: usize) -> Result<Solver, NoMemory> {
         Ok(Solver {
             alloc,
             store: Store::new(alloc),
@@ -60,7 +60,7 @@ impl Solver {
     }
 
     /// Takes in the clauses of a formula. A clause that is refuted at once is given.
-    pub(crate) fn take_all(&mut self, clauses: &Clauses) -> Result<Option<u32>, NoMemory> {
+    pub fn take_all(&mut self, clauses: &Clauses) -> Result<Option<u32>, NoMemory> {
         for number in 0..clauses.len() {
             if let Some(literals) = clauses.get(number) {
                 self.store.push_distinct(self.alloc, literals)?;
@@ -114,7 +114,7 @@ impl Solver {
     }
 
     /// Takes back all levels behind this one.
-    pub(crate) fn back_to(&mut self, level: u32) -> Result<(), NoMemory> {
+    pub fn back_to(&mut self, level: u32) -> Result<(), NoMemory> {
         for place in self.assignment.end_of(level)..self.assignment.len() {
             if let Some((variable, _)) = self.assignment.at(place) {
                 self.activity.put(variable)?;

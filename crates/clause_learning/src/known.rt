@@ -1,10 +1,9 @@
 //! What slots are known to exclude, from search to search under one schema.
-use crate::slots::states_of;
 use indexmap::IndexSet;
 use pattern_automata::{Closed, PlaceLists, State};
 use plain_lists::{EqualClone, NoMemory};
 use policy_model::{Cond, Test};
-use slot_theory::SlotProof;
+use slot_theory::{KindProof, SlotProof};
 use std::alloc::Global;
 use std::rc::Rc;
 
@@ -53,6 +52,27 @@ pub struct KnownConflicts {
     asked: IndexSet<u64>,
     // How many lists of places there may still be.
     room: usize,
+}
+
+/// How many product states a proof has.
+pub fn states_of(proof: &SlotProof) -> usize {
+    match proof {
+        SlotProof::Word(closed) => closed.len(),
+        SlotProof::Member(_, closed) => closed.len(),
+        SlotProof::SomeMember(closed) => closed.len(),
+        SlotProof::Kinds(aws, service, federated, canonical_user) => states_of_kind(aws)
+            .saturating_add(states_of_kind(service))
+            .saturating_add(states_of_kind(federated))
+            .saturating_add(states_of_kind(canonical_user)),
+        _ => 1,
+    }
+}
+
+fn states_of_kind(proof: &KindProof) -> usize {
+    match proof {
+        KindProof::Never => 1,
+        KindProof::Closed(closed) => closed.len(),
+    }
 }
 
 // A guess at how many lists of places the proof of so many tests has.
@@ -191,7 +211,7 @@ impl KnownConflicts {
     }
 
     /// A search begins whose tests are these.
-    pub(crate) fn begin(&mut self, tests: &[Test]) -> Result<(), NoMemory> {
+    pub fn begin(&mut self, tests: &[Test]) -> Result<(), NoMemory> {
         if !self.is_kept {
             return Ok(());
         }
@@ -228,7 +248,7 @@ impl KnownConflicts {
     }
 
     /// How many conflicts are known.
-    pub(crate) fn len(&self) -> usize {
+    pub fn len(&self) -> usize {
         self.conflicts.len()
     }
 
@@ -293,7 +313,7 @@ impl KnownConflicts {
     }
 
     /// Whether the answers are a pair that a slot wasn't asked about by an earlier search, as it is now.
-    pub(crate) fn is_new(&mut self, answers: &[(u32, bool)]) -> Result<bool, NoMemory> {
+    pub fn is_new(&mut self, answers: &[(u32, bool)]) -> Result<bool, NoMemory> {
         if !self.is_kept || self.is_full() {
             return Ok(true);
         }
@@ -308,7 +328,7 @@ impl KnownConflicts {
     }
 
     /// Whether an earlier search had all tests of this one and learned their relations.
-    pub(crate) fn are_related(&self) -> bool {
+    pub fn are_related(&self) -> bool {
         if !self.is_kept {
             return false;
         }
@@ -324,7 +344,7 @@ impl KnownConflicts {
     }
 
     /// The search has learned the relations of its tests.
-    pub(crate) fn relate(&mut self) {
+    pub fn relate(&mut self) {
         self.group = self.group.saturating_add(1);
         for number in self.numbers.as_slice() {
             if let Some(group) = self.groups.get_mut(*number as usize) {

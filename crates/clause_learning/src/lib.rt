@@ -1,0 +1,44 @@
+//! Learns clauses from conflicts, and proposes what the order of tests tells of slots. Nothing rests on any of it: what is said
+//! of a query the check of clausal proofs or a request shows.
+#![tactic(auto)]
+
+mod activity;
+mod analysis;
+mod arranging;
+mod asked;
+mod assignment;
+mod blocks;
+mod bounds;
+mod clashing;
+mod elimination;
+mod exclusions;
+mod flipping;
+mod forgetting;
+mod gain;
+mod guessing;
+mod known;
+mod learning;
+mod limits;
+mod patterns;
+mod propagation;
+mod running;
+mod size;
+mod solver;
+mod store;
+mod trimming;
+mod watches;
+
+pub use asked::Asked;
+pub use assignment::Assignment;
+pub use blocks::add_block_clauses;
+pub use bounds::add_bound_clauses;
+pub use clashing::told_conflict;
+pub use exclusions::Exclusions;
+pub use guessing::Guesses;
+pub use known::{KnownConflicts, states_of};
+pub use limits::{Limits, MOST_WORK};
+pub use patterns::add_pattern_clauses;
+pub use running::Ending;
+pub use size::{Size, size_of};
+pub use solver::Solver;
+pub use store::{Literal, Store};
