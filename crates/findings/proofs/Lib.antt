@@ -23,7 +23,6 @@ mod Passing
 mod Plainly
 mod Plans
 mod Whole
-mod Required
 mod Saying
 mod Sets
 mod Standings

@@ -12,7 +12,7 @@ use Rattle.strata.specs.declared.stratum.Strata.{Strata}
 use Rattle.strata.specs.declared.stratum.Stratum.{Stratum}
 use Rattle.strata.specs.Strata.{IsStratum}
 use Rattle.findings.specs.Findings.{IsFinding, IsStrictlyFiner}
-use Rattle.findings.specs.Judging.{ArePassedOver, HaveEnds, HaveWords, IsComparedAt, IsFirstCompared, IsFirstFiner, IsLesser, IsLowered, IsReach}
+use Rattle.findings.specs.Judging.{ArePassedOver, HaveEnds, HaveFindingWords, IsComparedAt, IsFirstCompared, IsFirstFiner, IsLesser, IsLowered, IsReach}
 use Rattle.findings.specs.Stretches.{AreEndsOfDepths, IsStretchEnd}
 use Rattle.findings.specs.Summaries.{findings_of}
 use Rattle.findings.specs.Words.{AreWordsOf, IsBarredBy, IsBitSet}
@@ -250,7 +250,7 @@ module _ (strata : Strata) (pairs : Pairs) where
   -- ---- words and a block
 
   module _ (all : All (IsFinding strata.dimensions) (findings_of pairs)) (start : ℕ) (words : List (List ℕ)) (are : AreWordsOf strata (take 64 (drop start pairs)) words) where
-    pub have-words : HaveWords words pairs
+    pub have-words : HaveFindingWords words pairs
     have-words i p at = has-words strata p.0 (finding-of (IsFinding strata.dimensions) pairs i p all at) (take 64 (drop start pairs)) words are
 
     pub lowered-passed : (from end first : ℕ) → ArePassedOver words pairs from end → IsLowered strata pairs from end start (start + 64) first first

@@ -86,12 +86,6 @@ strictly-finer schema ds steps f g h is_f is_g a b = (
   λ e. a.1 (finer-equal schema ds steps f g is_f is_g a.0 (subst (λ (x : List ℕ). IsFiner schema ds g x) (sym e) b)),
 )
 
-pub finer-strictly : (schema : Schema) (ds : List Stratum) → AllHaveSteps schema ds → (f g h : List ℕ) → IsFinding ds f → IsFinding ds g → IsFinding ds h → IsFiner schema ds f g → IsStrictlyFiner schema ds g h → IsStrictlyFiner schema ds f h
-finer-strictly schema ds steps f g h is_f is_g is_h a b = (
-  finer-trans schema ds f g h is_g a b.0,
-  λ e. b.1 (finer-equal schema ds steps g h is_g is_h b.0 (subst (λ (x : List ℕ). IsFiner schema ds x g) e a)),
-)
-
 -- a valid request lies in each finding that isn't finer
 pub lies-above : (schema : Schema) (r : Request) → IsValid schema r → (ds : List Stratum) (f g : List ℕ) → IsFinding ds f → IsFiner schema ds f g → LiesInFinding r ds f → LiesInFinding r ds g
 lies-above schema r valid [] f g is a lies = tt

@@ -34,16 +34,6 @@ passed-same ds old now f same passed = elim passed [
   | inr missing ↦ inr (subst (λ (xs : List (List ℕ)). ¬ AreAboveIn ds xs f) same.reducible missing)
 ]
 
-pub due-same : (ds : List Stratum) (old now : Walk) (f : List ℕ) → SameBesides old now → IsDue ds now f → IsDue ds old f
-due-same ds old now f same due = record {
-  new = subst (λ (xs : List (List ℕ)). ¬ Contains xs f) same.looked due.new;
-  above = subst (λ (xs : List (List ℕ)). AreAboveIn ds xs f) same.reducible due.above;
-}
-
--- the next one is taken
-pub passes-next : (ds : List Stratum) (old now : Walk) (n : ℕ) (rest : List (List ℕ)) (f : List ℕ) → IsPassing ds old now n → now.coming.items ≡ rest ++ f ∷ [] → PassesTo ds old (rest ++ f ∷ [])
-passes-next ds old now n rest f passing is = subst (PassesTo ds old) is passing.passes
-
 -- or passed
 pub passing-more : (ds : List Stratum) (old now next : Walk) (n : ℕ) (f : List ℕ) → IsPassing ds old now n → now.coming.items ≡ next.coming.items ++ f ∷ [] → SameBesides now next → IsPassedFinding ds next f → IsPassing ds old next (n + 1)
 passing-more ds old now next n f passing is same passed =

@@ -143,20 +143,8 @@ adds-last old new test answer fresh is n b h =
 pub joins-none : (old more : Answers) → JoinsAnswers old more old
 joins-none old more n b h = inl h
 
-pub joins-next : (start more old new : Answers) (test : ℕ) (b : Bool) → JoinsAnswers start more old → answer_of more test ≡ Some b → AddsTestAnswer old test b new → JoinsAnswers start more new
-joins-next start more old new test b before has adds n c h = elim (adds n c h) [
-  | inl was ↦ before n c was
-  | inr this ↦ inr (subst (λ (k : ℕ). answer_of more k ≡ Some c) (sym this.0) (subst (λ (x : Bool). answer_of more test ≡ Some x) (sym this.1) has))
-]
-
 pub met-none : (known : KnownAnswers) (f : List ℕ) (path : Answers) → path ≡ [] → AreInsideAnswers known f path
 met-none known f path empty = subst (AreInsideAnswers known f) (sym empty) (λ n b h. absurd (cc))
-
-pub met-next : (known : KnownAnswers) (f : List ℕ) (old new : Answers) (i n : ℕ) → AreInsideAnswers known f old → i < length f → n ≡ predicate_number_at f i → JoinsAnswers old (answers_in known.met i n) new → AreInsideAnswers known f new
-met-next known f old new i n before within number joins k b h = elim (joins k b h) [
-  | inl was ↦ before k b was
-  | inr more ↦ record { dimension = i; inside = within; has = subst (λ (m : ℕ). answer_of (answers_in known.met i m) k ≡ Some b) number more }
-]
 
 pub finer-none : (known : KnownAnswers) (d : Stratum) (f : List ℕ) (i : ℕ) (old : Answers) → AddsFinerAt known d f i old old
 finer-none known d f i old n b h = inl h

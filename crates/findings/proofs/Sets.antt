@@ -37,9 +37,6 @@ turned b x y d = (λ e. sym (d.0 e), λ e. d.1 (sym e))
 pub finding-among : (xs : List (List ℕ)) (f : List ℕ) (b : Bool) → b ≡ list_any (pointwise nat_eq f) xs → (IsTrue b ↔ Contains xs f)
 finding-among xs f = any-among (pointwise nat_eq f) f (λ g. turned (pointwise nat_eq f g) f g (pointwise_decides Decides-eqb f g)) xs
 
-pub number-among : (xs : List ℕ) (n : ℕ) (b : Bool) → b ≡ list_any (λ m. nat_eq m n) xs → (IsTrue b ↔ Contains xs n)
-number-among xs n = any-among (λ m. nat_eq m n) n (λ m. Decides-eqb m n) xs
-
 -- ---- what an insert leaves
 
 pub inserted : (xs ys : List (List ℕ)) (f : List ℕ) → ys ≡ insert_key (pointwise nat_eq) xs f → ¬ Contains xs f → ys ≡ xs ++ f ∷ []
@@ -54,16 +51,6 @@ inserted-copy xs ys f copy same is new =
     inserted xs ys copy is (subst (λ (g : List ℕ). ¬ Contains xs g) (sym same) new) ∙ ap (λ (g : List ℕ). xs ++ g ∷ []) same
 
 -- ---- tests
-
-last-at : (xs : List Test) (t : Test) → slice_get (xs ++ t ∷ []) (length xs) ≡ Some t
-last-at [] t = refl
-last-at (u ∷ xs) t = last-at xs t
-
-before-or-last : (xs : List Test) (t : Test) (i : ℕ) (u : Test) → slice_get (xs ++ t ∷ []) i ≡ Some u → (slice_get xs i ≡ Some u) ⊎ ((i ≡ length xs) × (t ≡ u))
-before-or-last [] t zero u e = inr (refl, cc)
-before-or-last [] t (suc i) u e = absurd (cc)
-before-or-last (x ∷ xs) t zero u e = inl e
-before-or-last (x ∷ xs) t (suc i) u e = elim (before-or-last xs t i u e) [ inl at ↦ inl at | inr last ↦ inr (ap suc last.0, last.1) ]
 
 among-at : (xs : List Test) (n : ℕ) (t : Test) → slice_get xs n ≡ Some t → Contains xs t
 among-at xs n t e = (n, slice_get_within xs n t e, get_or_from_slice_get xs n t t e)

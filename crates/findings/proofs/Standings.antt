@@ -149,23 +149,6 @@ module _ (schema : Schema) (base : Query) (strata : Strata) (pairs : Pairs) (set
 pub rises-first : (pairs : Pairs) (i : ℕ) → i ≡ 0 → Rises pairs i true
 rises-first pairs i zero_ p at j q next there = absurd (omega (arith, zero_, next))
 
-pub rises-told : (pairs : Pairs) (i k : ℕ) (before here : List ℕ × Request) (b : Bool) → i ≡ k + 1 → slice_get pairs k ≡ Some before → slice_get pairs i ≡ Some here → (IsTrue b ↔ (slice_cmp nat_cmp before.0 here.0 ≡ Less)) → Rises pairs i b
-rises-told pairs i k before here true next at own told = λ p there j q follows is.
-    let same : j ≡ k = omega (arith, next, follows) in
-    let lower = same-pair pairs k before q at (subst (λ (n : ℕ). slice_get pairs n ≡ Some q) same is) in
-    let upper = same-pair pairs i here p own there in
-    subst (λ (x : List ℕ × Request). slice_cmp nat_cmp x.0 p.0 ≡ Less) lower (subst (λ (x : List ℕ × Request). slice_cmp nat_cmp before.0 x.0 ≡ Less) upper (told.0 refl))
-rises-told pairs i k before here false next at own told = λ p there. record {
-  index = k;
-  next = next;
-  before = before;
-  at = at;
-  falls = λ less. (
-      let upper = same-pair pairs i p here there own in
-      let bad : false ≡ true = told.1 (subst (λ (x : List ℕ × Request). slice_cmp nat_cmp before.0 x.0 ≡ Less) upper less) in
-      absurd (cc));
-}
-
 module _ (schema : Schema) (base : Query) (strata : Strata) (pairs : Pairs) (i : ℕ) where
   pub alone-falls : (b : Bool) → b ≡ false → Rises pairs i b → DecidesAlone schema base strata pairs i false
   alone-falls true e told set p made at = absurd (cc)

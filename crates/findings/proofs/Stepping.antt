@@ -105,9 +105,6 @@ above-at ds list f all j d within at m is = all (set f j m) (under-set ds f j d 
 
 -- ---- all right under were added
 
-pub add-none : (ds : List Stratum) (f : List ℕ) (old : List (List ℕ)) → AddUpTo ds f 0 old old
-add-none ds f old = record { kept = λ g h. h; under = λ j g less h. absurd (omega (arith, less)); only = λ g h. inl h }
-
 pub add-next : (ds : List Stratum) (f : List ℕ) (i : ℕ) (d : Stratum) (old mid new : List (List ℕ)) → slice_get ds i ≡ Some d → i < length f → AddUpTo ds f i old mid → new ≡ mid ++ under_at d f i → AddUpTo ds f (i + 1) old new
 add-next ds f i d old mid new at within before is =
     subst (AddUpTo ds f (i + 1) old) (sym is) (record {

@@ -55,18 +55,6 @@ size-OneOf b f e = rw (e, tree-OneOf b) (omega arith)
 
 -- ---- tests in range
 
-pub below-Test : (k n : ℕ) (f : Formula) → f ≡ Test n → AreBelow k (tree_of f) → n < k
-below-Test k n f e below = subst (AreBelow k) (ap tree_of e ∙ tree-Test n) below
-
-pub below-Not : (k : ℕ) (r : Rc Formula Global) (f : Formula) → f ≡ Not r → AreBelow k (tree_of f) → AreBelow k (tree_of r.value)
-below-Not k r f e below = subst (AreBelow k) (ap tree_of e ∙ tree-Not r) below
-
-pub below-All : (k : ℕ) (b : Branches) (f : Formula) → f ≡ All b → AreBelow k (tree_of f) → EachBelow k (of_list (trees_of b))
-below-All k b f e below = subst (AreBelow k) (ap tree_of e ∙ tree-All b) below
-
-pub below-OneOf : (k : ℕ) (b : Branches) (f : Formula) → f ≡ OneOf b → AreBelow k (tree_of f) → EachBelow k (of_list (trees_of b))
-below-OneOf k b f e below = subst (AreBelow k) (ap tree_of e ∙ tree-OneOf b) below
-
 pub below-at : (k : ℕ) (ts : List Tree) (i : ℕ) (t : Tree) → Some t ≡ slice_get ts i → EachBelow k (of_list ts) → AreBelow k t
 below-at k [] i t e below = absurd (cc)
 below-at k (x ∷ xs) zero t e below = let same : x ≡ t = cc in subst (AreBelow k) same below.0

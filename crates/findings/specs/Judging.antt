@@ -157,8 +157,8 @@ pub record IsLowered (strata : Strata) (pairs : List (List ℕ × Request)) (a b
   pub here : new < old → IsComparedAt strata pairs new
 
 -- there are words for the findings of all pairs
-abbrev pub HaveWords : List (List ℕ) → List (List ℕ × Request) → Type 0
-HaveWords words pairs = (i : ℕ) (p : List ℕ × Request) → slice_get pairs i ≡ Some p → HasWords words p.0
+abbrev pub HaveFindingWords : List (List ℕ) → List (List ℕ × Request) → Type 0
+HaveFindingWords words pairs = (i : ℕ) (p : List ℕ × Request) → slice_get pairs i ≡ Some p → HasWords words p.0
 
 -- there are the ends of stretches for as many first numbers as each finding has
 pub record HaveEnds (ends : List (List ℕ)) (pairs : List (List ℕ × Request)) : Type 0 where

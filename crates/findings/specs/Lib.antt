@@ -21,4 +21,3 @@ pub mod Screening
 pub mod Stretches
 pub mod Words
 pub mod Together
-pub mod Validity

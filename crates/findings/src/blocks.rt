@@ -2,7 +2,7 @@
 //! both are compared, so one side tells all. Whole stretches of findings are passed over by a few words.
 ghost use Rattle.std.specs.Prelude.{◌≤◌, ◌<◌, ◌≡◌, ◌*◌, ◌+◌, ◌/◌, [], All, IfOk, drop, length, slice_index_or, take};
 ghost use Rattle.findings.specs.Findings.{IsFinding};
-ghost use Rattle.findings.specs.Judging.{ArePassedOver, HaveEnds, HaveWords, IsFirstCompared, IsLesser, IsLowered, IsReach};
+ghost use Rattle.findings.specs.Judging.{ArePassedOver, HaveEnds, HaveFindingWords, IsFirstCompared, IsLesser, IsLowered, IsReach};
 ghost use Rattle.findings.specs.Summaries.{findings_of};
 ghost use Rattle.findings.specs.Words.{AreWordsOf};
 
@@ -47,7 +47,7 @@ fn passed_over(
     pairs: &[(Finding, Request)],
     i: usize,
 ) -> usize
-    requires words { HaveWords words.now pairs.now }
+    requires words { HaveFindingWords words.now pairs.now }
     requires ends { HaveEnds ends.now pairs.now }
     requires within { i < length pairs.now }
     ensures { ArePassedOver words.now pairs.now i result }
@@ -66,7 +66,7 @@ fn next_shown(
     from: usize,
     end: usize,
 ) -> usize
-    requires words { HaveWords words.now pairs.now }
+    requires words { HaveFindingWords words.now pairs.now }
     requires ends { HaveEnds ends.now pairs.now }
     requires from { from ≤ length pairs.now }
     requires end { end ≤ length pairs.now }

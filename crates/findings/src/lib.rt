@@ -25,7 +25,6 @@ mod stretches;
 mod summary;
 mod text;
 mod together;
-mod validity;
 mod walk;
 mod words;
 

@@ -11,10 +11,9 @@ ghost use Rattle.findings.specs.Steps.{AreNumberedBelow, IsNumberedBelow, MeetsF
 use crate::evaluation::is_allowed;
 use crate::outcome::Finding;
 use crate::reading::{dimension_at, predicate_number_at};
-use crate::validity::Validity;
 use plain_lists::NoMemory;
 use policy_compile::Query;
-use policy_model::{Cond, Request, Slot, Value, cond_meets, entry_holds};
+use policy_model::{Cond, Request, Slot, Validity, Value, cond_meets, entry_holds};
 use std::alloc::Global;
 use strata::{Predicate, Strata, Stratum};
 use wildcard_lang::matches;

@@ -10,10 +10,9 @@ use crate::blocks::first_compared;
 use crate::order::is_before;
 use crate::outcome::{Finding, Summary};
 use crate::own::is_own;
-use crate::validity::Validity;
 use plain_lists::NoMemory;
 use policy_compile::Query;
-use policy_model::{Request, Schema};
+use policy_model::{Request, Schema, Validity};
 use std::alloc::Global;
 use strata::Strata;
 

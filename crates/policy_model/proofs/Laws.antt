@@ -24,3 +24,5 @@ pub use Rattle.policy_model.proofs.Valued.{has-value-some}
 pub use Rattle.policy_model.proofs.Valued.{values-permitted}
 -- a valid request gives a key at most one value where what is known of its rule keeps it from having several
 pub use Rattle.policy_model.proofs.Valued.{one-value-permitted}
+-- the names of the required keys, entry by entry, and that keys are there exactly where those that are required have values
+pub use Rattle.policy_model.proofs.Requiring.{required_keys-of, there-of}

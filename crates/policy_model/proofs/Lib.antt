@@ -4,5 +4,6 @@ mod Entries
 mod Items
 pub mod Laws
 mod Quantified
+mod Requiring
 mod Meets
 mod Valued

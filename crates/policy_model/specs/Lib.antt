@@ -1,6 +1,7 @@
 pub mod Keys
 pub mod Principals
 pub mod Requests
+pub mod RequiredKeys
 pub mod Conds
 pub mod Operators
 pub mod Conditions

@@ -10,6 +10,7 @@ mod operator;
 mod parts;
 mod principal;
 mod request;
+mod required;
 mod schema;
 mod set;
 mod test;
@@ -31,6 +32,7 @@ pub use principal::{
     are_entries_apart, entry_holds, entry_names, is_account,
 };
 pub use request::Request;
+pub use required::Validity;
 pub use schema::{KeyRule, KeyRules, Schema, Shapes};
 pub use set::{
     Document, DocumentList, GuardList, PolicySet, Statement, StatementList, StatementName,

@@ -126,7 +126,7 @@ fn entry_is_valid(keys: &KeyRules, key: &Text, values: &ValueList) -> bool
     }
 }
 
-fn entries_are_valid(keys: &KeyRules, context: &Context) -> bool
+pub(crate) fn entries_are_valid(keys: &KeyRules, context: &Context) -> bool
     ensures { IsTrue result ↔ All (EntryIsValid keys.now) context.now }
 {
     for (key, values) in context.iter() {
@@ -166,7 +166,7 @@ fn is_text(text: &Text) -> bool
     text.len() <= usize::MAX
 }
 
-fn words_are_valid(shapes: &Shapes, request: &Request) -> bool
+pub(crate) fn words_are_valid(shapes: &Shapes, request: &Request) -> bool
     ensures { IsTrue result ↔ WordsAreValid shapes.now request.now }
 {
     is_word(shape_of(shapes, request.kind), &request.id)

@@ -63,18 +63,6 @@ left-out keys key own d context named none =
 pub has-rule : (keys : Entries KeyRule) (key own : List ℕ) (rule : KeyRule) → key ≡ folded_name own → item_at key keys ≡ Some rule → rule_at keys own ≡ Some rule
 has-rule keys key own rule named has = ap (λ (k : List ℕ). item_at k keys) (sym named) ∙ has
 
-put-values : (entries : Keys) (name : List ℕ) (vs : List Value) → vs ≢ [] → with_values entries name vs ≡ with_item entries name vs
-put-values entries name [] some = absurd (some refl)
-put-values entries name (v ∷ vs) some = refl
-
--- its values are put in where there are some
-pub puts-values : (context new : Keys) (key name : List ℕ) (vs read : List Value) → key ≡ folded_name name → vs ≡ read → vs ≢ [] → new ≡ with_item context key vs → new ≡ with_values context (folded_name name) read
-puts-values context new key name vs read named same some is =
-    is ∙ ap (λ (k : List ℕ). with_item context k vs) named ∙ sym (put-values context (folded_name name) vs some) ∙ ap (with_values context (folded_name name)) same
-
-pub puts-none : (context : Keys) (name : List ℕ) (vs read : List Value) → vs ≡ read → vs ≡ [] → context ≡ with_values context name read
-puts-none context name vs read same none = sym (ap (with_values context name) (sym same ∙ none))
-
 -- the entry that is put in is valid
 pub valid-with : (keys : Entries KeyRule) (context new : Keys) (key : List ℕ) (vs : List Value) (rule : KeyRule) → item_at key keys ≡ Some rule → PermitsValues rule vs → new ≡ with_item context key vs → All (EntryIsValid keys) context → All (EntryIsValid keys) new
 valid-with keys context new key vs rule has permits is all =

@@ -4,7 +4,7 @@ use Rattle.std.specs.Prelude.{ℕ, ◌==◌, List, [], ◌∷◌, length, map, B
 use Rattle.std.specs.Prelude.{◌&&◌, ◌||◌, not, nat_le, is_some, bytes_eq, Option, Some, None}
 use Rattle.std.specs.Bool.{beq}
 use Rattle.std.specs.Ordering.{int_eq}
-use Rattle.std.specs.List.{filter, flat_map, list_all, list_any}
+use Rattle.std.specs.List.{flat_map, list_all, list_any}
 use Rattle.serde_json.specs.Data.{Data}
 use Rattle.json_shapes.specs.Json.{one_or_more}
 use Rattle.text_table.specs.Table.{Entries, item_at, with_item}
@@ -108,10 +108,6 @@ required_check context entry =
 
 abbrev pub required_checks : Entries KeyRule → Entries (List Value) → List RequestCheck
 required_checks keys context = map (required_check context) keys
-
--- the names of the keys that are required, in the order of these
-abbrev pub required_keys : Entries KeyRule → List (List ℕ)
-required_keys keys = map (λ entry. entry.0) (filter (λ entry. entry.1.required) keys)
 
 -- keys have a value each, in the order of these: of the required ones that is the same as `required_checks` of all
 abbrev pub presence_check : Entries (List Value) → List ℕ → RequestCheck

@@ -2,18 +2,18 @@
 ghost use Rattle.std.specs.Prelude.{◌≡◌, IfOk};
 ghost use Rattle.serde_json.specs.View.{view};
 ghost use Rattle.policy_model.specs.Requests.{IsValid};
+ghost use Rattle.policy_model.specs.RequiredKeys.{required_keys};
 ghost use Rattle.request_json.specs.RequestFiles.{IsRequestFrom, request_checks, request_of, whole_checks};
-ghost use Rattle.request_json.specs.RequestKeys.{required_keys};
 ghost use Rattle.json_shapes.specs.Checks.{IsReadOf};
 
 use crate::fault::{RequestAnswer, RequestCode, refusal, require};
 use crate::keys::read_keys;
-use crate::required::{require_values, required_keys};
+use crate::required::require_values;
 use crate::shape::is_request;
 use crate::words::{check_words, request_with};
 use json_shapes::read_json;
-use plain_lists::{List, NoMemory};
-use policy_model::{Request, Schema};
+use plain_lists::NoMemory;
+use policy_model::{Request, Schema, Validity};
 use serde_json::Value;
 use std::alloc::Global;
 use std::marker::Model;
@@ -51,20 +51,15 @@ fn read_file(
 /// keys that the schema doesn't require. Contracts see it as the schema.
 #[derive(Drop)]
 pub struct RequestReader<'a> {
-    schema: &'a Schema,
-    required: List<Text>,
+    validity: Validity<'a>,
 }
 
 impl<'a> Model for RequestReader<'a> {
-    ghost use Rattle.std.specs.Prelude.{◌≡◌};
     ghost use Rattle.policy_model.specs.declared.schema.Schema.{Schema as Rules};
-    ghost use Rattle.request_json.specs.RequestKeys.{required_keys};
 
     ghost Value = { Rules };
 
-    ghost view = { λ r. r.schema.now };
-
-    ghost invariant = { λ r. r.required ≡ required_keys r.schema.now.keys };
+    ghost view = { λ r. r.validity };
 }
 
 impl<'a> RequestReader<'a> {
@@ -72,8 +67,8 @@ impl<'a> RequestReader<'a> {
     pub fn new(alloc: Global, schema: &'a Schema) -> Result<RequestReader<'a>, NoMemory>
         ensures { IfOk result (λ r. r ≡ schema.now) }
     {
-        let required = required_keys(alloc, schema)?;
-        Ok(RequestReader { schema, required })
+        let validity = Validity::of(alloc, schema)?;
+        Ok(RequestReader { validity })
     }
 
     /// The request that a file stands for under the schema. A key that the schema lacks is left out, and a
@@ -89,7 +84,8 @@ impl<'a> RequestReader<'a> {
         let Some(file) = read_json(alloc, bytes)? else {
             return Err(refusal(alloc, RequestCode::Q1NotJson, ""));
         };
-        read_file(alloc, self.schema, self.required.as_slice(), &file)
+        let schema = self.validity.schema();
+        read_file(alloc, schema, self.validity.required_keys(), &file)
     }
 }
 

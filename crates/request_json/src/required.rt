@@ -1,27 +1,13 @@
 //! The keys that requests under a schema must have.
-ghost use Rattle.std.specs.Prelude.{◌≡◌, ◌∷◌, [], All, IfOk, OnOk};
+ghost use Rattle.std.specs.Prelude.{◌∷◌, [], All, OnOk};
 ghost use Rattle.policy_model.specs.Requests.{HasValue};
-ghost use Rattle.request_json.specs.RequestKeys.{required_keys, presence_check, presence_checks};
+ghost use Rattle.request_json.specs.RequestKeys.{presence_check, presence_checks};
 ghost use Rattle.json_shapes.specs.Checks.{IsReadOf};
 
 use crate::fault::{RequestAnswer, RequestCode, RequestFault};
-use plain_lists::{EqualClone, List, NoMemory};
-use policy_model::{Context, Schema};
-use std::alloc::Global;
+use plain_lists::EqualClone;
+use policy_model::Context;
 use wildcard_lang::Text;
-
-/// The names of the keys that the schema requires, in the order of its keys.
-pub(crate) fn required_keys(alloc: Global, schema: &Schema) -> Result<List<Text>, NoMemory>
-    ensures { IfOk result (λ names. names ≡ required_keys schema.now.keys) }
-{
-    let mut names = List::new(alloc);
-    for (key, rule) in schema.iter() {
-        if rule.required {
-            names.push(key.copy()?)?;
-        }
-    }
-    Ok(names)
-}
 
 // Passes where the key has a value.
 fn require_value(context: &Context, key: &Text) -> Result<(), RequestAnswer>

@@ -3,11 +3,12 @@ use Rattle.json_shapes.proofs.Laws.{first_fault-rest, passed_two, passed_three, 
 use Rattle.serde_json.specs.View.{view}
 use Rattle.policy_model.specs.declared.request.Request.{Request}
 use Rattle.policy_model.specs.Requests.{KeysAreValid}
+use Rattle.policy_model.proofs.Laws.{there-of}
 use Rattle.request_json.specs.RequestFiles.{context_of, request_checks, request_of, request_with, whole_checks, word_checks_of}
 use Rattle.request_json.specs.RequestKeys.{context_checks, required_checks}
 use Rattle.request_json.specs.RequestShapes.{keys_of_request}
 use Rattle.request_json.proofs.KeysRead.{Keys}
-use Rattle.request_json.proofs.Requiring.{faults-of, refuses-of, there-of}
+use Rattle.request_json.proofs.Requiring.{faults-of, refuses-of}
 use Rattle.request_json.proofs.read.read_file.Goals as goal
 
 pub returns-in_err-check_shape-clause-read : goal.returns-in_err-check_shape-clause-read
@@ -73,5 +74,5 @@ returns-clause-read c =
 pub returns-clause-valid : goal.returns-clause-valid
 returns-clause-valid c =
     let same = ap (λ (r : Request). r.context) c.in_ok-request.ensures in
-    let keys : KeysAreValid c.args.schema.now.keys c.in_ok-context.context = record { each = c.in_ok-context.ensures.valid; required = there-of c.args.schema.now.keys c.args.required.now c.in_ok-context.context c.requires c.in_ok-require_values.ensures.there } in
+    let keys : KeysAreValid c.args.schema.now.keys c.in_ok-context.context = record { each = c.in_ok-context.ensures.valid; required = (there-of c.in_ok-context.context c.args.schema.now.keys c.args.required.now c.requires).0 c.in_ok-require_values.ensures.there } in
     record { words = c.in_ok-check_words.ensures.valid; keys = subst (KeysAreValid c.args.schema.now.keys) (sym same) keys }

@@ -1,5 +1,5 @@
-use Rattle.request_json.proofs.Requiring.{AreListed}
-use Rattle.request_json.proofs.required.required_keys.Given as goal
+use Rattle.policy_model.proofs.Requiring.{AreListed}
+use Rattle.policy_model.proofs.required.required_keys.Given as goal
 
 -- the names so far, and those of the entries that are left
 abbrev pub invariant-loop-key : goal.invariant-loop-key

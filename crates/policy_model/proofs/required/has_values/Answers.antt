@@ -2,7 +2,7 @@ use Rattle.std.proofs.Common.{All, arith, refl, subst, sym}
 use Rattle.std.proofs.lemmas.List.{take_all}
 use Rattle.std.proofs.lemmas.List.Elements.{All-get_or, All-more, All-nil}
 use Rattle.policy_model.specs.Requests.{HasValue}
-use Rattle.findings.proofs.validity.has_values.Goals as goal
+use Rattle.policy_model.proofs.required.has_values.Goals as goal
 
 pub names-init : goal.names-init
 names-init c = All-nil (HasValue c.args.context.now)

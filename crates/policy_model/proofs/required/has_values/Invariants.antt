@@ -1,6 +1,6 @@
 use Rattle.std.proofs.Common.{All, take}
 use Rattle.policy_model.specs.Requests.{HasValue}
-use Rattle.findings.proofs.validity.has_values.Given as goal
+use Rattle.policy_model.proofs.required.has_values.Given as goal
 
 -- those before it have values
 abbrev pub invariant-names : goal.invariant-names
