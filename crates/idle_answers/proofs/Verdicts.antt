@@ -13,6 +13,7 @@ use Rattle.policy_compile.specs.Queries.{IsQuery, asked_tree}
 use Rattle.policy_compile.specs.Sets.{query_plan}
 use Rattle.policy_difference.specs.Apartness.{ApartStatementsSayNothing, AskTheSamePair, IsSmallerPair}
 use Rattle.policy_difference.specs.Differences.{IsDifference, SharedStatementsAddNothing}
+use Rattle.policy_difference.specs.Removal.{HasAllowNamed}
 use Rattle.proof_text.specs.Laws.{ClosingProofsAreSmall, ClosingProofsHaveNoFault, HoldsSmallNumbers}
 use Rattle.proof_text.specs.Spelling.{certificate_text}
 use Rattle.proof_text.specs.declared.limits.TheConstants.{MOST_NUMBER}
@@ -25,9 +26,10 @@ use Rattle.set_questions.specs.Laws.{SmallerQuestionsTell, DecidesUse, WithoutSt
 use Rattle.set_questions.specs.Narrowing.{IsNarrowed, IsNarrowedChange, NarrowedPairsAskTheSame}
 use Rattle.set_questions.specs.Settling.{RefutesQuery, SettlesQuery}
 use Rattle.set_questions.specs.Uses.{IsUseAt, IsUseOf, OfChange, change_plan}
-use Rattle.set_questions.specs.declared.narrowing.AskedPair.{AskedPair}
+use Rattle.policy_difference.specs.declared.beside.AskedPair.{AskedPair}
 use Rattle.set_questions.specs.declared.outcome.Use.{Use}
 use Rattle.set_questions.specs.declared.outcome.Use.TheVariants as use_of
+use Rattle.set_questions.proofs.Laws.{granted-there}
 use Rattle.staged_search.specs.declared.verdict.Verdict.{Verdict}
 use Rattle.staged_search.specs.declared.verdict.Verdict.TheVariants as verdict
 use Rattle.staged_search.specs.Stages.{IsStagedVerdict}
@@ -62,18 +64,17 @@ is_smaller one name asked q fitting (s, there, pair) is = (s, asked, record { fi
 
 -- what is left and the set without the statement, both maybe without what is apart
 pub difference_asks : SharedStatementsAddNothing → ApartStatementsSayNothing → WithoutStaysSound → (one : OneSet) (name : StatementName) (left : PolicySet) (asked : AskedPair)
-    → FitsItsSchema one → IsNameIn one.set name → OfNamed one.set name (λ s. s.allow ≡ true) → IsDifference one.set (without_statement one.set name) left
+    → FitsItsSchema one → HasAllowNamed one.set name → IsDifference one.set (without_statement one.set name) left
     → IsPairWithoutApart left (without_statement one.set name) asked → IsAskedWithout one name asked
-difference_asks shared apart stays one name left asked fitting named allow difference may =
-    let there = there_is one name named in
+difference_asks shared apart stays one name left asked fitting named difference may =
     let part = without_statement one.set name in
     let fits = (stays one.set name).fits in
     let adds = shared one.set part left difference in
     let smaller : IsSmallerPair one.set part asked.less asked.rest = apart one.set part left asked.less asked.rest adds.0 adds.1 may.0 may.1 in (
-      there.0,
-      there.1,
+      named.0,
+      granted-there one.set name named.0 named.1.named,
       record {
-        asks = subst (λ (b : Bool). MatchBool b (AskTheSamePair one.set part asked.less asked.rest) (AskTheSamePair part one.set asked.less asked.rest)) (sym (allow there.0 there.1)) smaller.asks;
+        asks = subst (λ (b : Bool). MatchBool b (AskTheSamePair one.set part asked.less asked.rest) (AskTheSamePair part one.set asked.less asked.rest)) (sym named.1.allow) smaller.asks;
         less_fits = smaller.first_fits one.schema fitting.fits;
         rest_fits = smaller.second_fits one.schema (fits one.schema fitting.fits);
       },

@@ -17,7 +17,7 @@ use Rattle.run_sets.specs.declared.shortage.Shortage.TheVariants.{Splits, States
 use Rattle.set_questions.specs.Idle.{IsIdle, IsUsedBy, without_statement}
 use Rattle.set_questions.specs.Laws.{AsksTheChange, IsSmallerQuestion}
 use Rattle.set_questions.specs.Settling.{BothRunsFail}
-use Rattle.set_questions.specs.declared.narrowing.AskedPair.{AskedPair}
+use Rattle.policy_difference.specs.declared.beside.AskedPair.{AskedPair}
 use Rattle.set_questions.specs.declared.outcome.Use.{Use}
 use Rattle.set_questions.specs.declared.outcome.Use.TheVariants as use_of
 use Rattle.set_questions.specs.declared.settling.Settled.{Settled}

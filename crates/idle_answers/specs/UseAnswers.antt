@@ -16,7 +16,7 @@ use Rattle.refute_check.specs.Proofs.{Proof}
 use Rattle.run_sets.specs.declared.one_set.OneSet.{OneSet}
 use Rattle.run_sets.specs.declared.shortage.Shortage.TheVariants.{Splits, States}
 use Rattle.set_questions.specs.Idle.{IsIdle, IsUsedBy, OfNamed}
-use Rattle.set_questions.specs.Settling.{BothRunsFail, IsClosedBy}
+use Rattle.set_questions.specs.Settling.{BothRunsFail, IsQueryClosedBy}
 use Rattle.set_questions.specs.Uses.{OfChange}
 use Rattle.tree_search.specs.declared.outcome.Budgets.{Budgets}
 use Rattle.idle_answers.specs.declared.answer.UseAnswer.{UseAnswer}
@@ -33,7 +33,7 @@ pub record IsCertificateReadAgain (schema : Schema) (q : Query) (proof : Proof) 
 pub record CertifiesChange (schema : Schema) (text : List ℕ) (q : Query) : Type 0 where
   pub proof : Proof
   pub spelled : text ≡ certificate_text schema.version proof
-  pub closes : IsClosedBy schema q proof
+  pub closes : IsQueryClosedBy schema q proof
   pub readable : length text ≤ MOST_PROOF_BYTES → IsCertificateReadAgain schema q proof text
 
 -- at a node of the plain run of the query the patterns of the slot have more product states

@@ -1,55 +1,50 @@
 //! Two sets that are asked in place of the set and the set without an Allow statement of its grants.
 ghost use Rattle.std.specs.Prelude.{◌≡◌, IfOk, IfSome};
-ghost use Rattle.set_questions.specs.Idle.{IsNameIn};
+ghost use Rattle.policy_difference.specs.Removal.{HasAllowNamed};
 ghost use Rattle.idle_answers.specs.Deciding.{IsPairBeside};
 
 use crate::sizes::{are_comparable, are_quick_to_compare};
 use plain_lists::NoMemory;
-use policy_difference::{MarkedSet, left_beside, pair_beside};
+use policy_difference::{AskedPair, left_beside, pair_beside};
 use policy_model::{PolicySet, StatementName};
-use set_questions::{AskedPair, named_statement, without};
+use set_questions::{named_statement, without};
+use statement_cover::MarkedSet;
 use std::alloc::Global;
 
-// Of the set without what it allows without the statement too, and of the set without the statement, what isn't apart
-// from what is left of the statement.
-fn near_pair(
-    alloc: Global,
-    set: &PolicySet,
-    marked: &MarkedSet<'_>,
-    name: StatementName,
-) -> Result<Option<AskedPair>, NoMemory>
-    requires { marked.now ≡ set.now }
-    ensures { IfOk result (λ asked. IfSome asked (IsPairBeside set.now name)) }
-{
-    let Some(pair) = pair_beside(alloc, set, marked, name)? else {
-        return Ok(None);
-    };
-    Ok(Some(AskedPair {
-        less: pair.less,
-        rest: pair.rest,
-    }))
-}
-
-// The same with all that is apart.
+// The set without what it allows without the statement too, and the set without the statement.
 fn whole_pair(
     alloc: Global,
     set: &PolicySet,
     marked: &MarkedSet<'_>,
     name: StatementName,
-) -> Result<Option<AskedPair>, NoMemory>
+) -> Result<AskedPair, NoMemory>
     requires marked { marked.now ≡ set.now }
-    requires named { IsNameIn set.now name }
-    ensures { IfOk result (λ asked. IfSome asked (IsPairBeside set.now name)) }
+    requires named { HasAllowNamed set.now name }
+    ensures { IfOk result (IsPairBeside set.now name) }
 {
-    let Some(less) = left_beside(alloc, set, marked, name)? else {
-        return Ok(None);
-    };
+    let less = left_beside(alloc, set, marked, name)?;
     let rest = without(alloc, set, name)?;
-    Ok(Some(AskedPair { less, rest }))
+    Ok(AskedPair { less, rest })
 }
 
-/// The set without what it allows without the statement too, and the set without the statement, both maybe without what
-/// is apart from what is left of the statement, where that isn't too much to compare.
+// Of these two sets what isn't apart from what is left of the statement.
+fn pair_without_apart(
+    alloc: Global,
+    set: &PolicySet,
+    marked: &MarkedSet<'_>,
+    name: StatementName,
+) -> Result<AskedPair, NoMemory>
+    requires marked { marked.now ≡ set.now }
+    requires named { HasAllowNamed set.now name }
+    ensures { IfOk result (IsPairBeside set.now name) }
+{
+    let pair = pair_beside(alloc, set, marked, name)?;
+    Ok(pair)
+}
+
+/// Two sets to ask in place of the set and the set without the Allow statement of its grants that has this name: the
+/// first without what it allows without the statement too, and both maybe without what is apart from what is left of
+/// the statement. None where that is too much to compare.
 pub(crate) fn asked_beside(
     alloc: Global,
     set: &PolicySet,
@@ -57,16 +52,15 @@ pub(crate) fn asked_beside(
     name: StatementName,
 ) -> Result<Option<AskedPair>, NoMemory>
     requires marked { marked.now ≡ set.now }
-    requires named { IsNameIn set.now name }
+    requires named { HasAllowNamed set.now name }
     ensures { IfOk result (λ asked. IfSome asked (IsPairBeside set.now name)) }
 {
     let statement = named_statement(set, name);
     if !are_comparable(set, statement) {
         return Ok(None);
     }
-    if are_quick_to_compare(set, statement) {
-        near_pair(alloc, set, marked, name)
-    } else {
-        whole_pair(alloc, set, marked, name)
+    if !are_quick_to_compare(set, statement) {
+        return Ok(Some(whole_pair(alloc, set, marked, name)?));
     }
+    Ok(Some(pair_without_apart(alloc, set, marked, name)?))
 }

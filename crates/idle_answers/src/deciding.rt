@@ -1,7 +1,8 @@
 //! Decides whether a set needs one of its statements.
-ghost use Rattle.std.specs.Prelude.{◌≡◌, ◌≤◌, true, false, IfOk, IfSome, IsTrue};
+ghost use Rattle.std.specs.Prelude.{◌≡◌, ◌≤◌, ◌↔◌, false, IfOk, IfSome, IsTrue};
 ghost use Rattle.policy_compile.specs.Limits.{IsWithinLimits};
 ghost use Rattle.policy_compile.specs.Sets.{set_plan};
+ghost use Rattle.policy_difference.specs.Removal.{HasAllowNamed};
 ghost use Rattle.refute_check.specs.Proofs.{proof_of};
 ghost use Rattle.run_sets.specs.OneSets.{FitsItsSchema};
 ghost use Rattle.set_questions.specs.Idle.{IsNameIn, OfNamed};
@@ -16,16 +17,17 @@ use crate::settling::ByRefutation;
 use crate::sizes::are_quick_to_compare;
 use plain_lists::NoMemory;
 use policy_compile::{Query, QueryFault, query};
-use policy_difference::{MarkedSet, apart_statements_say_nothing, shared_statements_add_nothing};
+use policy_difference::{AskedPair, apart_statements_say_nothing, shared_statements_add_nothing};
 use policy_model::{PolicySet, StatementName};
 use proof_text::{closing_proofs_are_small, closing_proofs_have_no_fault, write_proof};
 use refute_check::Refutation;
 use run_sets::{OneSet, Shortage};
 use set_questions::{
-    AskedPair, Use, change_query, is_allow, named_statement, narrowed, narrowed_pairs_ask_the_same,
+    Use, change_query, is_allow, named_statement, narrowed, narrowed_pairs_ask_the_same,
     smaller_questions_tell, use_of, without_stays_sound,
 };
 use staged_search::{Verdict, decide_in_stages};
+use statement_cover::MarkedSet;
 use std::alloc::{AllocError, Global};
 use tree_search::Budgets;
 
@@ -136,8 +138,7 @@ fn difference_query(
 ) -> Result<Option<Query>, NoMemory>
     requires fitting { FitsItsSchema one.now }
     requires marked { marked.now ≡ one.now.set }
-    requires named { IsNameIn one.now.set name }
-    requires allow { OfNamed one.now.set name (λ s. s.allow ≡ true) }
+    requires named { HasAllowNamed one.now.set name }
     ensures { IfOk result (λ query. IfSome query (IsSmallerFor one.now name)) }
 {
     if !has_several_allows(&one.set) {
@@ -221,7 +222,7 @@ fn whole_answer(
 // Whether it is an Allow statement of the grants, of which the set may allow the most part without it.
 fn is_grant(set: &PolicySet, name: StatementName) -> bool
     requires { IsNameIn set.now name }
-    ensures { IsTrue result → OfNamed set.now name (λ s. s.allow ≡ true) }
+    ensures { IsTrue result ↔ HasAllowNamed set.now name }
 {
     if name.document as usize > set.grants.len() {
         return false;

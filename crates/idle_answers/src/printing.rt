@@ -15,12 +15,12 @@ use crate::answer::{UseAnswer, is_idle, is_undecided};
 use crate::deciding::use_answer;
 use crate::text::{statement_start, statements_line, use_text};
 use command_words::IdleArguments;
-use policy_difference::{MarkedSet, SetMarks};
 use policy_model::StatementName;
 use request_build::sound_schemas_have_requests;
 use run_files::{EarlyEnd, Printed, Status};
 use run_sets::{OneSet, Refusal, read_one, refused};
 use set_questions::{UseFault, meet_limits, names_of};
+use statement_cover::{MarkedSet, SetMarks};
 use std::alloc::{AllocError, Global};
 use tree_search::Budgets;
 

@@ -16,7 +16,7 @@ use crate::answer::{CheckAnswer, ComparisonAnswer};
 use crate::smaller::difference_answer;
 use crate::staged::staged_answer;
 use policy_compile::{Query, QueryFault, query};
-use policy_difference::without_shared_of_many;
+use policy_difference::without_shared;
 use policy_model::Schema;
 use proof_text::{
     ProofAnswer, ReadProof, closing_proofs_are_small, closing_proofs_have_no_fault, read_proof,
@@ -84,7 +84,8 @@ fn decision_answer(
     }
 }
 
-// The answer without a certificate: by a smaller pair, where there is one, and it tells; or else by the query in stages.
+// The answer without a certificate: by a smaller pair, where there is one, and it tells; or else by the query in
+// stages.
 fn short_answer(
     alloc: Global,
     pair: &Pair,
@@ -94,7 +95,7 @@ fn short_answer(
     requires { IsComparable budgets pair.now query.now }
     ensures { IfOk result (λ answer. IfSome answer (IsComparison false budgets pair.now)) }
 {
-    let Some(left) = without_shared_of_many(alloc, &pair.first, &pair.second)? else {
+    let Some(left) = without_shared(alloc, &pair.first, &pair.second)? else {
         let verdict = decide_in_stages(alloc, &pair.schema, query, budgets)?;
         written_requests_are_read_again();
         return Ok(Some(staged_answer(verdict, budgets)));

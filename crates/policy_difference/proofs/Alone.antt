@@ -1,17 +1,20 @@
 -- A set of whose Allow statements just one is left, beside the set without it.
-use Rattle.std.proofs.Common.{◌≡◌, ℕ, zero, suc, ◌-◌, List, [], ◌∷◌, ◌++◌, length, Any, All, Bool, true, false, if◌then◌else◌, Option, Some, None, IfSome, ◌↔◌, ◌∙◌, ap, refl, sym, subst, arith}
+use Rattle.std.proofs.Common.{◌≡◌, ℕ, zero, suc, ◌-◌, List, [], ◌∷◌, ◌++◌, length, Any, All, Bool, true, false, if◌then◌else◌, Option, Some, None, ◌↔◌, ◌∙◌, ap, refl, sym, subst, arith}
 use Rattle.std.specs.Borrow.{Bor}
 use Rattle.std.proofs.lemmas.List.Elements.{All-cons, All-head, All-nil, All-tail}
 use Rattle.policy_model.specs.declared.set.Document.{Document}
 use Rattle.policy_model.specs.declared.set.PolicySet.{PolicySet}
 use Rattle.policy_model.specs.declared.set.Statement.{Statement}
 use Rattle.policy_model.specs.declared.set.StatementName.{StatementName}
-use Rattle.policy_difference.specs.Differences.{AreLeft, ClashStatement, EachWith, HasWider, IsCutTo, IsDifference, IsLeftOf, IsShared, StandsIn, StatementsAreLeft, before_rest}
-use Rattle.policy_difference.specs.Rivals.{AllowedByEach, ApartFromEach}
-use Rattle.policy_difference.specs.Removal.{AtItem, IsAtName, denies_and, denies_and_own, deny_of, document_without, documents_and, documents_without, without_item, without_statement}
-use Rattle.policy_difference.proofs.Itself.{among-itself}
+use Rattle.statement_cover.specs.Statements.{ClashStatement, EachWith, HasWider}
+use Rattle.statement_cover.specs.Sharing.{IsShared}
+use Rattle.statement_cover.specs.Bounding.{AllowedByEach, ApartFromEach}
+use Rattle.statement_cover.specs.Removal.{document_without, documents_without, without_item, without_statement}
+use Rattle.statement_cover.proofs.Laws.{among-itself, all-changed, all-without, guards-none}
+use Rattle.policy_difference.specs.Differences.{AreLeft, IsCutTo, IsDifference, IsLeftOf, StandsIn, StatementsAreLeft, before_rest}
+use Rattle.policy_difference.specs.Removal.{IsAllowNamed, denies_and, denies_and_own, deny_of, documents_and}
 use Rattle.policy_difference.proofs.Remains.{cut-same, of-false, of-true}
-use Rattle.policy_difference.proofs.Removing.{all-changed, all-without, at-bound, at-weaker, guards-none}
+use Rattle.policy_difference.proofs.Placed.{AtItem, IsAtName, at-bound, at-name, at-weaker}
 use Rattle.policy_difference.proofs.Standing.{each-stands, goes, of-either, shares-wider}
 
 before-append : (one : Option Statement) (rest : List Statement) → before_rest one [] ++ rest ≡ before_rest one rest
@@ -95,11 +98,11 @@ module _ (set : PolicySet) (name : StatementName) (s : Statement) (at : IsAtName
     guards = refl;
   }
 
-pub left-differs : (set : PolicySet) (name : StatementName) (s : Statement) (part first : PolicySet) (left : Option Statement) → IsAtName name set.grants s → s.allow ≡ true →
+pub left-differs : (set : PolicySet) (name : StatementName) (s : Statement) (part first : PolicySet) (left : Option Statement) → IsAllowNamed set name s →
     part ≡ without_statement set name → IsCutTo (HasWider part.grants) s left → first ≡ denies_and_own set name (before_rest left []) →
     IsDifference set (without_statement set name) first
-left-differs set name s part first left at allow is-part cut is-first =
-    subst (IsDifference set (without_statement set name)) (sym is-first) (differs set name s at left allow (subst (λ (p : PolicySet). IsCutTo (HasWider p.grants) s left) is-part cut))
+left-differs set name s part first left named is-part cut is-first =
+    subst (IsDifference set (without_statement set name)) (sym is-first) (differs set name s (at-name set.grants name s named.named) left named.allow (subst (λ (p : PolicySet). IsCutTo (HasWider p.grants) s left) is-part cut))
 
 -- ---- what bounds a statement by one list of documents alone
 
@@ -113,10 +116,3 @@ bound-by-one documents old lists denying none pushed empty s =
         subst (λ ds. ApartFromEach ds s) (sym empty) (All-nil (λ d. ClashStatement d.now s)),
       ),
     )
-
--- ---- the statement of a name
-
-pub at-name : (name : StatementName) (documents : List Document) (d : Document) (o : Option (Bor Statement)) → AtItem (λ e. e ≡ d) name.document documents → IfSome o (λ s. AtItem (λ t. t ≡ s.now) name.statement d.statements) → IfSome o (λ s. IsAtName name documents s.now)
-at-name name documents d None at there = tt
-at-name name documents d (Some s) at there =
-    at-weaker (λ (e : Document). e ≡ d) (λ (e : Document). AtItem (λ t. t ≡ s.now) name.statement e.statements) (λ e is. subst (λ (x : Document). AtItem (λ t. t ≡ s.now) name.statement x.statements) (sym is) there) name.document documents at

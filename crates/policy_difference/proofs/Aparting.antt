@@ -10,11 +10,11 @@ use Rattle.policy_model.specs.declared.schema.Schema.{Schema}
 use Rattle.policy_model.specs.declared.set.Document.{Document}
 use Rattle.policy_model.specs.declared.set.PolicySet.{PolicySet}
 use Rattle.policy_model.specs.declared.set.Statement.{Statement}
+use Rattle.statement_cover.specs.Statements.{ClashStatement}
+use Rattle.statement_cover.proofs.Laws.{clash-apart, each-decides, cases_some, here, none_of_none, there}
 use Rattle.policy_difference.specs.Apartness.{ApartStatementsSayNothing, HasSameShape, IsApartFromAllows, IsWithoutApart, MayBeWithoutApart, WithoutApartSaysNoLess}
-use Rattle.policy_difference.specs.Differences.{AreLeft, ClashStatement, FitsToo, IsCutTo}
+use Rattle.policy_difference.specs.Differences.{AreLeft, FitsToo, IsCutTo}
 use Rattle.policy_difference.proofs.Cutting.{Found, cut-left, cut-part, cut-whole}
-use Rattle.policy_difference.proofs.Deciding.{clash-apart, each-decides}
-use Rattle.policy_difference.proofs.Leaving.{cases_some, here, none_of_none, there}
 use Rattle.policy_difference.proofs.Remaining.{documents-fit, documents-left, documents-sound, documents-whole, same-count}
 
 -- ---- lists side by side

@@ -4,8 +4,8 @@ use Rattle.std.specs.Bool.{MatchBool}
 use Rattle.wildcard_lang.specs.declared.piece.Piece.{Piece}
 use Rattle.policy_model.specs.declared.matcher.Matcher.{Matcher}
 use Rattle.policy_model.specs.declared.set.Statement.{Statement}
-use Rattle.policy_difference.specs.Differences.{AsksNoMore, ClashStatement}
-use Rattle.policy_difference.specs.Rivals.{AsksNoMoreElse, ClashElse, ClashesWithAction, CoversAction, IsAskedOf, item_alone, with_action}
+use Rattle.statement_cover.specs.Statements.{AsksNoMore, ClashStatement, AsksNoMoreElse, ClashElse, ClashesWithAction, CoversAction}
+use Rattle.policy_difference.specs.Rivals.{IsAskedOf, item_alone, with_action}
 
 pub asks-else : (t s : Statement) (a : Matcher (List Piece)) → AsksNoMore t (with_action s a) → AsksNoMoreElse t s
 asks-else t s a more = record { allow = more.allow; principal = more.principal; resource = more.resource; conditions = more.conditions }

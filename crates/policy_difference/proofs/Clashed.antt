@@ -5,14 +5,14 @@ use Rattle.wildcard_lang.specs.declared.piece.Piece.{Piece}
 use Rattle.wildcard_lang.specs.Covering.{CoversPattern, Clash}
 use Rattle.policy_model.specs.declared.matcher.Matcher.{Matcher}
 use Rattle.policy_model.specs.declared.set.Statement.{Statement}
-use Rattle.policy_difference.specs.declared.bounds.Bounds.{Bounds}
+use Rattle.statement_cover.specs.declared.bounds.Bounds.{Bounds}
+use Rattle.statement_cover.specs.Elements.{ClashAll, ClashMatcher, CoverEach, element_of}
+use Rattle.statement_cover.specs.Bounding.{IsBound}
+use Rattle.statement_cover.proofs.Laws.{apart, some-of}
 use Rattle.policy_difference.specs.declared.clashing.ToldClashes.{ToldClashes}
 use Rattle.policy_difference.specs.declared.clashing.ToldPattern.{ToldPattern}
 use Rattle.policy_difference.specs.Clashing.{AreClashesTold, AreToldOf, ClashesAlone, IsToldApart, IsToldClash, IsToldElement}
 use Rattle.policy_difference.specs.Differences.{IsCutTo, IsCutByActions, IsCutWhole, Leaves, with_actions}
-use Rattle.policy_difference.specs.Elements.{ClashAll, ClashMatcher, CoverEach, element_of}
-use Rattle.policy_difference.specs.Rivals.{IsBound}
-use Rattle.policy_difference.proofs.Leaving.{apart, some-of}
 
 -- ---- elements
 

@@ -6,8 +6,9 @@ use Rattle.policy_model.specs.Sets.{Decides, MatcherHolds}
 use Rattle.policy_model.specs.declared.request.Request.{Request}
 use Rattle.policy_model.specs.declared.schema.Schema.{Schema}
 use Rattle.policy_model.specs.declared.set.Statement.{Statement}
+use Rattle.statement_cover.proofs.Laws.{here, none_of_none}
 use Rattle.policy_difference.specs.Differences.{IsCutTo, IsCutByActions, IsCutWhole, Leaves, some_with, with_actions}
-use Rattle.policy_difference.proofs.Leaving.{here, none_of_none, some-left, some-whole}
+use Rattle.policy_difference.proofs.Leaving.{some-left, some-whole}
 
 -- it is the statement with the same or fewer actions
 pub data IsPartOf (s left : Statement) : Type 0 where

@@ -7,8 +7,9 @@ use Rattle.policy_model.specs.declared.schema.Schema.{Schema}
 use Rattle.policy_model.specs.declared.set.Document.{Document}
 use Rattle.policy_model.specs.declared.set.PolicySet.{PolicySet}
 use Rattle.policy_model.specs.declared.set.Statement.{Statement}
-use Rattle.policy_difference.specs.Differences.{FitsToo, IsCutTo, IsDifference, IsLeftOf, IsShared, SharedStatementsAddNothing}
-use Rattle.policy_difference.proofs.Allowing.{shared-allows}
+use Rattle.statement_cover.specs.Sharing.{IsShared}
+use Rattle.statement_cover.proofs.Laws.{shared-allows}
+use Rattle.policy_difference.specs.Differences.{FitsToo, IsCutTo, IsDifference, IsLeftOf, SharedStatementsAddNothing}
 use Rattle.policy_difference.proofs.Cutting.{Found, IsPartOf, cut-left, cut-part, cut-whole, whole-part, whole-whole}
 use Rattle.policy_difference.proofs.Remaining.{documents-fit, documents-left, documents-sound, documents-whole, same-count}
 

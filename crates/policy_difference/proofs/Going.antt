@@ -7,14 +7,16 @@ use Rattle.wildcard_lang.specs.declared.piece.Piece.TheVariants.{Many}
 use Rattle.policy_model.specs.declared.set.Document.{Document}
 use Rattle.policy_model.specs.declared.set.PolicySet.{PolicySet}
 use Rattle.policy_model.specs.declared.set.Statement.{Statement}
-use Rattle.policy_difference.specs.declared.bounds.Bounds.{Bounds}
+use Rattle.statement_cover.specs.declared.bounds.Bounds.{Bounds}
+use Rattle.statement_cover.specs.Statements.{AsksNoMore, ClashStatement, HasWider}
+use Rattle.statement_cover.specs.Sharing.{IsShared}
+use Rattle.statement_cover.specs.Elements.{ClashMatcher, CoversMatcher}
+use Rattle.statement_cover.specs.Places.{GoesWhole}
+use Rattle.statement_cover.specs.Bounding.{AreBounds, IsBound}
+use Rattle.statement_cover.proofs.Laws.{among-itself, any-any, cases_some, here, none_of_none}
 use Rattle.policy_difference.specs.declared.left.LeftStatement.{LeftStatement}
-use Rattle.policy_difference.specs.Differences.{AsksNoMore, ClashStatement, HasWider, IsShared, Leaves, with_actions}
-use Rattle.policy_difference.specs.Elements.{ClashMatcher, CoversMatcher}
-use Rattle.policy_difference.specs.Places.{GoesWhole}
-use Rattle.policy_difference.specs.Rivals.{AreBounds, IsBound, IsLeftRecord}
-use Rattle.policy_difference.proofs.Itself.{among-itself}
-use Rattle.policy_difference.proofs.Leaving.{any-any, cases_some, here, none_of_none}
+use Rattle.policy_difference.specs.Differences.{Leaves, with_actions}
+use Rattle.policy_difference.specs.Rivals.{IsLeftRecord}
 use Rattle.policy_difference.proofs.Remains.{of-false, of-true}
 
 -- ---- lists

@@ -1,10 +1,10 @@
 -- A first set whose grants are what is left of it.
 use Rattle.std.proofs.Common.{◌≡◌, Option, Some, None, IfSome, IsSome, refl, sym, subst}
 use Rattle.policy_model.specs.declared.set.PolicySet.{PolicySet}
+use Rattle.statement_cover.proofs.Laws.{apart}
 use Rattle.policy_difference.specs.declared.left.LeftDocuments.{LeftDocuments}
 use Rattle.policy_difference.specs.Differences.{AreLeft, IsDifference, IsLeftOf}
 use Rattle.policy_difference.specs.Rivals.{AreLeftDocuments}
-use Rattle.policy_difference.proofs.Leaving.{apart}
 
 pub left-of-some : (first second : PolicySet) (o : Option LeftDocuments) (l : LeftDocuments) → o ≡ Some l → IfSome o (AreLeftDocuments first second first.grants) → AreLeftDocuments first second first.grants l
 left-of-some first second o l is left = subst (λ (x : Option LeftDocuments). IfSome x (AreLeftDocuments first second first.grants)) is left

@@ -1,28 +1,17 @@
-pub mod Removing
+mod Removing
 mod Leaving
-mod Naming
-mod Holding
-mod Meeting
-mod Implying
-mod Deciding
-mod Allowing
 mod Cutting
 mod Remaining
 mod Differing
 mod Aparting
 mod Sizes
-mod Seen
-mod Tested
-mod Filtered
 mod Besides
 mod Remains
 mod Capping
-mod Itself
 mod Standing
 mod Alone
+pub mod Placed
 mod Going
-mod Covered
-mod Repeating
 mod Told
 mod Lessening
 mod Clashed

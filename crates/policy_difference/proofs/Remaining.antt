@@ -7,9 +7,9 @@ use Rattle.policy_model.specs.declared.request.Request.{Request}
 use Rattle.policy_model.specs.declared.schema.Schema.{Schema}
 use Rattle.policy_model.specs.declared.set.Document.{Document}
 use Rattle.policy_model.specs.declared.set.Statement.{Statement}
+use Rattle.statement_cover.proofs.Laws.{cases_some, here, none_of_none, there}
 use Rattle.policy_difference.specs.Differences.{AreLeft, StatementsAreLeft, before_rest}
 use Rattle.policy_difference.proofs.Cutting.{IsPartOf, part-keeps}
-use Rattle.policy_difference.proofs.Leaving.{cases_some, here, none_of_none, there}
 
 -- ---- a statement before others
 

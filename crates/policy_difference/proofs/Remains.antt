@@ -8,13 +8,14 @@ use Rattle.wildcard_lang.specs.declared.piece.Piece.{Piece}
 use Rattle.policy_model.specs.declared.set.Document.{Document}
 use Rattle.policy_model.specs.declared.set.PolicySet.{PolicySet}
 use Rattle.policy_model.specs.declared.set.Statement.{Statement}
-use Rattle.policy_difference.specs.declared.bounds.Bounds.{Bounds}
+use Rattle.statement_cover.specs.declared.bounds.Bounds.{Bounds}
+use Rattle.statement_cover.specs.Sharing.{IsShared}
+use Rattle.statement_cover.specs.Bounding.{AreBounds, IsBound}
+use Rattle.statement_cover.proofs.Laws.{among-itself, apart, cases_some, here, none_of_none, there}
 use Rattle.policy_difference.specs.declared.rivals.Rivals.{Rivals}
 use Rattle.policy_difference.specs.declared.left.LeftStatement.{LeftStatement}
-use Rattle.policy_difference.specs.Differences.{AreLeft, HasCut, IsCutTo, IsCutByActions, IsCutWhole, IsShared, Leaves, StatementsAreLeft, before_rest, some_with, with_actions}
-use Rattle.policy_difference.specs.Rivals.{AreBounds, AreRivals, IsAskedOf, IsBound, IsCutRecord, IsLeftRecord, IsLeftAtOnce, IsLeftByActions, IsLetThrough, item_alone, with_action}
-use Rattle.policy_difference.proofs.Itself.{among-itself}
-use Rattle.policy_difference.proofs.Leaving.{apart, cases_some, here, none_of_none, there}
+use Rattle.policy_difference.specs.Differences.{AreLeft, HasCut, IsCutTo, IsCutByActions, IsCutWhole, Leaves, StatementsAreLeft, before_rest, some_with, with_actions}
+use Rattle.policy_difference.specs.Rivals.{AreRivals, IsAskedOf, IsCutRecord, IsLeftRecord, IsLeftAtOnce, IsLeftByActions, IsLetThrough, item_alone, with_action}
 
 -- ---- items
 

@@ -1,5 +1,5 @@
--- Counts that stop behind a limit tell as much as whole ones: the sum of their products is within the limit exactly where the sum
--- of the whole products is.
+-- Counts that stop behind a limit tell as much as whole ones: the sum of their products is within the limit exactly
+-- where the sum of the whole products is.
 use Rattle.std.proofs.Common.{◌≡◌, ℕ, zero, suc, ◌+◌, ◌*◌, ◌<◌, ◌≤◌, min, ◌↔◌, inl, inr, ap, ◌∙◌, subst, arith}
 use Rattle.std.proofs.Math.Nat.{mul-le-mul, mul_comm, min-eq_left, min-eq_right, le-mul_of_pos_right}
 use Rattle.std.proofs.lemmas.Bool.{cases_lt}

@@ -5,9 +5,10 @@ use Rattle.wildcard_lang.specs.declared.piece.Piece.{Piece}
 use Rattle.policy_model.specs.declared.set.Document.{Document}
 use Rattle.policy_model.specs.declared.set.PolicySet.{PolicySet}
 use Rattle.policy_model.specs.declared.set.Statement.{Statement}
-use Rattle.policy_difference.specs.Differences.{AsksNoMore, EachWith, HasWider, IsDifference, IsCutTo, IsCutByActions, IsCutWhole, IsHarmless, IsLeftOf, IsShared, Leaves, LetsPass, NoAllowIsLeft, OnlyWidens, StandsIn, some_with, with_actions}
-use Rattle.policy_difference.proofs.Itself.{among-itself, asks-itself, asks-of-one}
-use Rattle.policy_difference.proofs.Leaving.{any-any, apart}
+use Rattle.statement_cover.specs.Statements.{AsksNoMore, EachWith, HasWider}
+use Rattle.statement_cover.specs.Sharing.{IsHarmless, IsShared, LetsPass}
+use Rattle.statement_cover.proofs.Laws.{among-itself, asks-itself, asks-of-one, any-any, apart}
+use Rattle.policy_difference.specs.Differences.{IsDifference, IsCutTo, IsCutByActions, IsCutWhole, IsLeftOf, Leaves, NoAllowIsLeft, OnlyWidens, StandsIn, some_with, with_actions}
 use Rattle.policy_difference.proofs.Remaining.{documents-keep, statements-keep}
 
 -- a statement that stands in documents, and asks no more than another, is wider than that

@@ -1,4 +1,5 @@
--- What of a set says nothing on the requests that another allows: what never applies where an Allow statement of that one's grants does.
+-- What of a set says nothing on the requests that another allows: what never applies where an Allow statement of that
+-- one's grants does.
 use Rattle.std.specs.Prelude.{◌≡◌, ◌⊎◌, ◌↔◌, length, map, true}
 use Rattle.std.specs.List.{AllZip}
 use Rattle.policy_model.specs.Sets.{Allows}
@@ -6,13 +7,15 @@ use Rattle.policy_model.specs.declared.request.Request.{Request}
 use Rattle.policy_model.specs.declared.schema.Schema.{Schema}
 use Rattle.policy_model.specs.declared.set.PolicySet.{PolicySet}
 use Rattle.policy_model.specs.declared.set.Statement.{Statement}
-use Rattle.policy_difference.specs.Differences.{AreLeft, AskTheSame, ClashStatement, EachWith, FitsToo, IsCutTo, IsDifference}
+use Rattle.statement_cover.specs.Statements.{ClashStatement, EachWith}
+use Rattle.policy_difference.specs.Differences.{AreLeft, AskTheSame, FitsToo, IsCutTo, IsDifference}
 
 -- the statement clashes with each Allow statement of the first set's grants
 abbrev pub IsApartFromAllows : PolicySet → Statement → Type 0
 IsApartFromAllows first s = EachWith true (λ a. ClashStatement a s) first.grants
 
--- the set without what of its statements is so, Allow and Deny, item by item of an `Action`. Its documents and guards stay
+-- the set without what of its statements is so, Allow and Deny, item by item of an `Action`. Its documents and guards
+-- stay
 pub record IsWithoutApart (first set less : PolicySet) : Type 0 where
   pub grants : AreLeft (IsCutTo (IsApartFromAllows first)) set.grants less.grants
   pub guards : AllZip (AreLeft (IsCutTo (IsApartFromAllows first))) set.guards less.guards
@@ -40,8 +43,8 @@ WithoutApartSaysNoLess = (first set less : PolicySet) → IsWithoutApart first s
 abbrev pub MayBeWithoutApart : PolicySet → PolicySet → PolicySet → Type 0
 MayBeWithoutApart first set less = IsWithoutApart first set less ⊎ (less ≡ set)
 
--- Each request that the first set allows and the second doesn't is one that `less` allows and `rest` doesn't, and the other way round:
--- where `rest` allows it if `less` does, the second set allows it if the first does
+-- Each request that the first set allows and the second doesn't is one that `less` allows and `rest` doesn't, and the
+-- other way round: where `rest` allows it if `less` does, the second set allows it if the first does
 pub record AskTheSamePair (first second less rest : PolicySet) : Type 0 where
   pub covers : (schema : Schema) (r : Request) → Allows schema first r → (Allows schema less r → Allows schema rest r) →
       Allows schema second r
@@ -65,8 +68,8 @@ pub record IsDifferingPair (first second less rest : PolicySet) : Type 0 where
   pub left_is : IsDifference first second left
   pub near : IsNearPair left second less rest
 
--- what is left of a first set beside a second, and the second set, may both be without what is apart from the Allow statements that
--- are left
+-- what is left of a first set beside a second, and the second set, may both be without what is apart from the Allow
+-- statements that are left
 abbrev pub ApartStatementsSayNothing : Type 0
 ApartStatementsSayNothing =
     (first second left less rest : PolicySet) → AskTheSame first left second → FitsToo first left →

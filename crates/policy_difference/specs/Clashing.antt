@@ -4,10 +4,11 @@ use Rattle.wildcard_lang.specs.declared.piece.Piece.{Piece}
 use Rattle.wildcard_lang.specs.Covering.{CoversPattern, Clash}
 use Rattle.policy_model.specs.declared.matcher.Matcher.{Matcher}
 use Rattle.policy_model.specs.declared.set.Statement.{Statement}
-use Rattle.policy_difference.specs.Elements.{ClashMatcher, element_of}
-use Rattle.policy_difference.specs.Differences.{ClashStatement}
-use Rattle.policy_difference.specs.Rivals.{IsBound, item_alone}
-use Rattle.policy_difference.specs.declared.bounds.Bounds.{Bounds}
+use Rattle.statement_cover.specs.Elements.{ClashMatcher, element_of}
+use Rattle.statement_cover.specs.Statements.{ClashStatement}
+use Rattle.statement_cover.specs.Bounding.{IsBound}
+use Rattle.statement_cover.specs.declared.bounds.Bounds.{Bounds}
+use Rattle.policy_difference.specs.Rivals.{item_alone}
 use Rattle.policy_difference.specs.declared.clashing.ToldClashes.{ToldClashes}
 use Rattle.policy_difference.specs.declared.clashing.ToldPattern.{ToldPattern}
 

@@ -1,28 +1,24 @@
 -- The query of a comparison without what the second set allows too, as single statements of both sets tell.
-use Rattle.std.specs.Prelude.{◌≡◌, ◌⊎◌, ℕ, ◌+◌, ◌*◌, ◌≤◌, List, [], ◌∷◌, length, sum_by, Any, All, Bool, true, false, MatchBool}
+use Rattle.std.specs.Prelude.{◌≡◌, ◌⊎◌, ℕ, ◌+◌, ◌*◌, ◌≤◌, List, [], ◌∷◌, length, sum_by, Any, All, true, false, MatchBool}
 use Rattle.std.specs.Prelude.{Option, Some, None}
 use Rattle.wildcard_lang.specs.declared.piece.Piece.{Piece}
-use Rattle.wildcard_lang.specs.declared.piece.Piece.TheVariants.{Many}
-use Rattle.wildcard_lang.specs.Covering.{CoversPattern, Clash}
 use Rattle.policy_model.specs.Sets.{Allows}
 use Rattle.policy_model.specs.Soundness.{SchemaFits}
 use Rattle.policy_model.specs.declared.matcher.Matcher.{Matcher}
 use Rattle.policy_model.specs.declared.operator.Condition.{Condition}
-use Rattle.policy_model.specs.declared.principal.Entry.TheVariants.{All as AnyPrincipal}
 use Rattle.policy_model.specs.declared.request.Request.{Request}
 use Rattle.policy_model.specs.declared.schema.Schema.{Schema}
 use Rattle.policy_model.specs.declared.set.Document.{Document}
 use Rattle.policy_model.specs.declared.set.PolicySet.{PolicySet}
 use Rattle.policy_model.specs.declared.set.Statement.{Statement}
+use Rattle.statement_cover.specs.Statements.{EachWith}
+use Rattle.statement_cover.specs.Sharing.{IsShared}
 use Rattle.policy_difference.specs.declared.difference.TheConstants.{MOST_PAIRS}
-use Rattle.policy_difference.specs.Entries.{CoversEntry, ClashEntry}
-use Rattle.policy_difference.specs.Elements.{CoversElement, CoversMatcher, ClashElement, ClashMatcher}
-use Rattle.policy_difference.specs.Implications.{Implies}
 
 -- ---- what is left says the same
 
--- what the one set allows the second allows or the other, and what the other allows the one allows; so of each request the one
--- and the other differ from the second alike
+-- what the one set allows the second allows or the other, and what the other allows the one allows; so of each request
+-- the one and the other differ from the second alike
 pub record AskTheSame (one other second : PolicySet) : Type 0 where
   pub split : (schema : Schema) (r : Request) → Allows schema one r → Allows schema second r ⊎ Allows schema other r
   pub within : (schema : Schema) (r : Request) → Allows schema other r → Allows schema one r
@@ -30,57 +26,6 @@ pub record AskTheSame (one other second : PolicySet) : Type 0 where
 -- each schema that can answer for the one set can answer for the other
 abbrev pub FitsToo : PolicySet → PolicySet → Type 0
 FitsToo one other = (schema : Schema) → SchemaFits schema one → SchemaFits schema other
-
--- ---- statements
-
--- the statement t has the effect of s, and applies wherever s does: each of its elements covers that of s, and each of its
--- conditions is implied by one of s
-pub record AsksNoMore (t s : Statement) : Type 0 where
-  pub allow : t.allow ≡ s.allow
-  pub principal : CoversElement CoversEntry ClashEntry AnyPrincipal t.principal s.principal
-  pub action : CoversMatcher CoversPattern Clash (Many ∷ []) t.action s.action
-  pub resource : CoversElement CoversPattern Clash (Many ∷ []) t.resource s.resource
-  pub conditions : All (λ d. Any (λ c. Implies c d) s.conditions) t.conditions
-
--- a statement of one of the documents asks no more
-abbrev pub HasWider : List Document → Statement → Type 0
-HasWider documents s = Any (λ d. Any (λ t. AsksNoMore t s) d.statements) documents
-
--- the statements never apply both, since their principals, their actions or their resources clash
-abbrev pub ClashStatement : Statement → Statement → Type 0
-ClashStatement d s = ClashElement CoversEntry ClashEntry d.principal s.principal ⊎
-    (ClashMatcher CoversPattern Clash d.action s.action ⊎ ClashElement CoversPattern Clash d.resource s.resource)
-
--- P holds of each statement of the documents that has this effect
-abbrev pub EachWith : Bool → (Statement → Type 0) → List Document → Type 0
-EachWith allow P documents = All (λ d. All (λ s. s.allow ≡ allow → P s) d.statements) documents
-
--- ---- what the second set allows too
-
--- wherever this Deny statement applies, one of the set's grants or guards does
-abbrev pub DeniesToo : PolicySet → Statement → Type 0
-DeniesToo set d = HasWider set.grants d ⊎ Any (λ g. HasWider g d) set.guards
-
--- this Deny statement of the second set takes nothing away of what the first set allows by s: the first denies it too, or it
--- never applies where s does
-abbrev pub IsHarmless : PolicySet → Statement → Statement → Type 0
-IsHarmless first s d = DeniesToo first d ⊎ ClashStatement d s
-
--- where one of the set's guards allows, this one does: each Allow statement of that one asks for no less than one of this one
-abbrev pub IsGuardedToo : PolicySet → List Document → Type 0
-IsGuardedToo first g = Any (EachWith true (HasWider g)) first.guards
-
--- this guard of the second set allows what the first set allows by s
-abbrev pub LetsPass : PolicySet → Statement → List Document → Type 0
-LetsPass first s g = IsGuardedToo first g ⊎ HasWider g s
-
--- what the first set allows by the Allow statement s the second allows too: an Allow statement of its grants and one of each of
--- its guards applies, and no Deny statement of its grants or of a guard does
-pub record IsShared (first second : PolicySet) (s : Statement) : Type 0 where
-  pub granted : HasWider second.grants s
-  pub guarded : All (LetsPass first s) second.guards
-  pub not_denied : EachWith false (IsHarmless first s) second.grants
-  pub not_denied_by_guard : All (EachWith false (IsHarmless first s)) second.guards
 
 -- ---- what is left
 
@@ -99,7 +44,8 @@ abbrev pub some_with : Statement → List (List Piece) → Option Statement
 some_with s [] = None
 some_with s (action ∷ actions) = Some (with_actions s (action ∷ actions))
 
--- left of an `Action` are the items for which P doesn't hold of the statement with the item alone; the statement goes where none is left
+-- left of an `Action` are the items for which P doesn't hold of the statement with the item alone; the statement goes
+-- where none is left
 abbrev pub IsCutByActions : (Statement → Type 0) → Statement → Option Statement → Type 0
 IsCutByActions P s left =
     (actions : List (List Piece)) × Leaves (λ x. P (with_actions s (x ∷ []))) s.action.items actions × (left ≡ some_with s actions)
@@ -207,9 +153,9 @@ SharedStatementsAddNothing = (first second less : PolicySet) → IsDifference fi
 abbrev pub StandsIn : Statement → List Document → Type 0
 StandsIn s documents = Any (λ d. Any (λ t. t ≡ s) d.statements) documents
 
--- the second set is the first with further Allow statements, or without some of its Deny statements or guards: each Allow of the
--- first's grants stands in the second's, each Deny of the second's in the first's, and each guard of the second is one of the
--- first's
+-- the second set is the first with further Allow statements, or without some of its Deny statements or guards: each
+-- Allow of the first's grants stands in the second's, each Deny of the second's in the first's, and each guard of the
+-- second is one of the first's
 pub record OnlyWidens (first second : PolicySet) : Type 0 where
   pub allows : EachWith true (λ s. StandsIn s second.grants) first.grants
   pub denies : EachWith false (λ d. StandsIn d first.grants) second.grants

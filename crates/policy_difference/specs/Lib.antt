@@ -1,11 +1,6 @@
-pub mod Entries
-pub mod Elements
-pub mod Implications
 pub mod Removal
 pub mod Differences
 pub mod Apartness
 pub mod Rivals
 pub mod Clashing
-pub mod Places
 pub mod Capped
-pub mod Repeats

@@ -1,45 +1,22 @@
--- How statements are compared when one of them is asked about item by item of its action: what doesn't depend on the action is told
--- apart from what does.
+-- How statements are compared when one of them is asked about item by item of its action: what doesn't depend on the
+-- action is told apart from what does.
 use Rattle.std.specs.Prelude.{◌≡◌, ◌⊎◌, ◌↔◌, List, [], ◌∷◌, ◌++◌, All, Any, IsTrue, Bool, MatchBool, true, false, Some, None}
 use Rattle.std.specs.Borrow.{Bor}
 use Rattle.wildcard_lang.specs.declared.piece.Piece.{Piece}
-use Rattle.wildcard_lang.specs.declared.piece.Piece.TheVariants.{Many}
-use Rattle.wildcard_lang.specs.Covering.{CoversPattern, Clash}
 use Rattle.policy_model.specs.declared.matcher.Matcher.{Matcher}
-use Rattle.policy_model.specs.declared.principal.Entry.TheVariants.{All as AnyPrincipal}
 use Rattle.policy_model.specs.declared.set.Document.{Document}
 use Rattle.policy_model.specs.declared.set.PolicySet.{PolicySet}
 use Rattle.policy_model.specs.declared.set.Statement.{Statement}
-use Rattle.policy_difference.specs.Entries.{CoversEntry, ClashEntry}
-use Rattle.policy_difference.specs.Elements.{CoversElement, CoversMatcher, ClashElement, ClashMatcher}
-use Rattle.policy_difference.specs.Implications.{Implies}
-use Rattle.policy_difference.specs.Differences.{AreLeft, ClashStatement, HasCut, HasShared, HasWider, IsCutTo, IsLeftOf, IsShared, Leaves, StatementsAreLeft, some_with}
+use Rattle.statement_cover.specs.Statements.{ClashesWithAction, CoversAction}
+use Rattle.statement_cover.specs.Bounding.{IsBound}
+use Rattle.statement_cover.specs.declared.bounds.Bounds.{Bounds}
+use Rattle.policy_difference.specs.Differences.{AreLeft, HasCut, HasShared, IsCutTo, IsLeftOf, Leaves, StatementsAreLeft, some_with}
 use Rattle.policy_difference.specs.Apartness.{IsApartFromAllows}
-use Rattle.policy_difference.specs.declared.bounds.Bounds.{Bounds}
 use Rattle.policy_difference.specs.declared.rivals.Rivals.{Rivals}
 use Rattle.policy_difference.specs.declared.left.ToldAction.{ToldAction}
 use Rattle.policy_difference.specs.declared.left.LeftStatement.{LeftStatement}
 use Rattle.policy_difference.specs.declared.left.LeftStatements.{LeftStatements}
 use Rattle.policy_difference.specs.declared.left.LeftDocuments.{LeftDocuments}
-
--- the statement t asks no more than s, whatever their actions are
-pub record AsksNoMoreElse (t s : Statement) : Type 0 where
-  pub allow : t.allow ≡ s.allow
-  pub principal : CoversElement CoversEntry ClashEntry AnyPrincipal t.principal s.principal
-  pub resource : CoversElement CoversPattern Clash (Many ∷ []) t.resource s.resource
-  pub conditions : All (λ d. Any (λ c. Implies c d) s.conditions) t.conditions
-
--- the statements never apply both, whatever their actions are
-abbrev pub ClashElse : Statement → Statement → Type 0
-ClashElse d s =
-    ClashElement CoversEntry ClashEntry d.principal s.principal ⊎ ClashElement CoversPattern Clash d.resource s.resource
-
--- the statement's action covers, and clashes with, an element
-abbrev pub CoversAction : Matcher (List Piece) → Statement → Type 0
-CoversAction a t = CoversMatcher CoversPattern Clash (Many ∷ []) t.action a
-
-abbrev pub ClashesWithAction : Matcher (List Piece) → Statement → Type 0
-ClashesWithAction a d = ClashMatcher CoversPattern Clash d.action a
 
 -- the statement with this action
 abbrev pub with_action : Statement → Matcher (List Piece) → Statement
@@ -48,22 +25,6 @@ with_action s a = record s { action = a }
 -- the element of an item alone
 abbrev pub item_alone : List Piece → Matcher (List Piece)
 item_alone x = record { not = false; items = x ∷ [] }
-
--- of each of the lists some statement asks no more
-abbrev pub AllowedByEach : List (Bor (List Document)) → Statement → Type 0
-AllowedByEach lists s = All (λ g. HasWider g.now s) lists
-
--- each of these statements clashes with s
-abbrev pub ApartFromEach : List (Bor Statement) → Statement → Type 0
-ApartFromEach statements s = All (λ d. ClashStatement d.now s) statements
-
--- the statement is as the bounds ask
-abbrev pub IsBound : Bounds → Statement → Type 0
-IsBound bounds s = AllowedByEach bounds.allowing.items s × ApartFromEach bounds.denying.items s
-
--- the statements that are as the bounds ask are those that the second set shares
-abbrev pub AreBounds : PolicySet → PolicySet → Bounds → Type 0
-AreBounds first second bounds = (s : Statement) → IsBound bounds s ↔ IsShared first second s
 
 -- the statements that are as the bounds ask are those that are apart from the first set's Allow statements
 abbrev pub BoundTheApart : PolicySet → Bounds → Type 0

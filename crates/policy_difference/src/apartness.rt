@@ -2,17 +2,20 @@
 ghost use Rattle.std.specs.Prelude.{◌≡◌, ◌↔◌, All, IfOk, IfSome, IsSome, OnOk, true};
 ghost use Rattle.std.specs.List.{AllZip};
 ghost use Rattle.policy_model.specs.declared.set.Statement.{Statement as StatementValue};
+ghost use Rattle.statement_cover.specs.Statements.{ClashStatement, EachWith};
+ghost use Rattle.statement_cover.specs.Bounding.{ApartFromEach, IsBound};
 ghost use Rattle.policy_difference.specs.Apartness.{IsWithoutApart};
-ghost use Rattle.policy_difference.specs.Differences.{AreLeft, ClashStatement, EachWith, HasFewPairs, IsCutTo, StatementsAreLeft};
-ghost use Rattle.policy_difference.specs.Rivals.{ApartFromEach, BoundTheApart, IsBound};
+ghost use Rattle.policy_difference.specs.Differences.{AreLeft, HasFewPairs, IsCutTo, StatementsAreLeft};
+ghost use Rattle.policy_difference.specs.Rivals.{BoundTheApart};
 
-use crate::bounds::Bounds;
 use crate::clashing::{ToldBounds, cut_as_told};
 use crate::left::add_some;
-use crate::marked::{MarkedDocument, MarkedDocumentList, MarkedSet, MarkedStatement, SetMarks};
 use crate::pairs::have_few_pairs;
 use plain_lists::{List, NoMemory};
 use policy_model::{Document, DocumentList, GuardList, PolicySet, StatementList};
+use statement_cover::{
+    Bounds, MarkedDocument, MarkedDocumentList, MarkedSet, MarkedStatement, SetMarks,
+};
 use std::alloc::Global;
 
 // Adds the statement where it allows.

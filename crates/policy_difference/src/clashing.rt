@@ -1,19 +1,15 @@
-//! Statements that are told to be apart from another by what of the set's patterns clashes with that: most patterns stand in many
-//! statements.
+//! Statements that are told to be apart from another by what of the set's patterns clashes with that: most patterns
+//! stand in many statements.
 ghost use Rattle.std.specs.Prelude.{◌≡◌, ◌↔◌, All, IfOk, IfSome, IsTrue, None};
+ghost use Rattle.statement_cover.specs.Bounding.{IsBound};
 ghost use Rattle.policy_difference.specs.Clashing.{AreClashesOf, AreClashesTold, AreToldOf, ClashesAlone, IsToldApart, IsToldClash, IsToldElement};
 ghost use Rattle.policy_difference.specs.Differences.{IsCutTo};
-ghost use Rattle.policy_difference.specs.Rivals.{IsBound};
 
-use crate::bounds::Bounds;
-use crate::elements::{Element, clash_elements};
 use crate::left::cut;
-use crate::marked::MarkedStatement;
-use crate::marks::are_equal;
-use crate::numbers::SetNumbers;
 use crate::rivals::item_alone;
 use plain_lists::NoMemory;
 use policy_model::Statement;
+use statement_cover::{Bounds, Element, MarkedStatement, SetNumbers, are_equal, clash_elements};
 use std::alloc::Global;
 use std::marker::Model;
 use wildcard_lang::{MarkedPattern, Pattern};
@@ -42,7 +38,7 @@ pub(crate) struct ToldBounds<'a, 'p> {
 impl<'a, 'p> Model for ToldBounds<'a, 'p> {
     ghost use Rattle.std.specs.Prelude.{IfSome};
     ghost use Rattle.policy_difference.specs.Clashing.{AreToldOf};
-    ghost use Rattle.policy_difference.specs.declared.bounds.Bounds.{Bounds as BoundsValue};
+    ghost use Rattle.statement_cover.specs.declared.bounds.Bounds.{Bounds as BoundsValue};
 
     ghost Value = { BoundsValue };
 
@@ -91,7 +87,7 @@ fn told_clashes<'p>(
 }
 
 // The same of bounds by which just one statement has to be clashed with, where patterns are numbered.
-fn told_of<'p>(
+fn told_of_bounds<'p>(
     alloc: Global,
     bounds: &Bounds<'_>,
     numbers: &'p SetNumbers<'p>,
@@ -120,7 +116,7 @@ impl<'a, 'p> ToldBounds<'a, 'p> {
     ) -> Result<ToldBounds<'a, 'p>, NoMemory>
         ensures { IfOk result (λ told. told ≡ bounds.entry) }
     {
-        let told = told_of(alloc, &bounds, numbers)?;
+        let told = told_of_bounds(alloc, &bounds, numbers)?;
         Ok(ToldBounds { bounds, told })
     }
 }

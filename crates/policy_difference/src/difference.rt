@@ -3,14 +3,12 @@ ghost use Rattle.std.specs.Prelude.{◌≡◌, ◌↔◌, IfOk, IfSome, IsSome, 
 ghost use Rattle.policy_difference.specs.Differences.{CanLeaveOut, DifferenceLimits, IsDifference, SomeIsShared};
 ghost use Rattle.policy_difference.specs.Rivals.{AreLeftDocuments};
 
-use crate::bounds::{Bounds, bounds_of};
 use crate::estimates::{are_bounds_quick, are_left_quick};
 use crate::left::{LeftDocuments, left_documents};
-use crate::marked::{MarkedSet, SetMarks};
 use crate::pairs::have_few_pairs;
-use crate::statement_index::{SetIndices, StatementIndex};
 use plain_lists::{EqualClone, NoMemory};
 use policy_model::PolicySet;
+use statement_cover::{Bounds, MarkedSet, SetIndices, SetMarks, StatementIndex, bounds_of};
 use std::alloc::Global;
 
 /// The most pairs of items of two sets that are compared.
@@ -177,31 +175,12 @@ fn without_shared_unless_slow(
 
 /// The first set without what the second allows too of its grants: each Allow statement without the items of
 /// its `Action` by which the second allows what the first allows, as single statements of the two sets tell,
-/// and without those of `NotAction` by which it does. None exactly where there is nothing to leave out, or
-/// more than `MOST_PAIRS` pairs of items to compare.
+/// and without those of `NotAction` by which it does. None where there is nothing to leave out, and else only where
+/// there are more than `MOST_PAIRS` pairs of items to compare: of so many it is told only where many statements are
+/// found in both sets at once, and not too many pairs are left then.
 ///
 /// The only error is want of memory.
 pub fn without_shared(
-    alloc: Global,
-    first: &PolicySet,
-    second: &PolicySet,
-) -> Result<Option<PolicySet>, NoMemory>
-    ensures left { IfOk result (λ left. IfSome left (IsDifference first.now second.now)) }
-    ensures exactly { IfOk result (λ left. IsSome left ↔ CanLeaveOut first.now second.now) }
-{
-    if !have_few_pairs(first, second) {
-        return Ok(None);
-    }
-    let left = without_shared_unless_slow(alloc, true, first, second)?;
-    Ok(left)
-}
-
-/// The same, also of sets with more pairs, where many statements are found in both sets at once, and not too many
-/// pairs are left then: None where there is nothing to leave out, and else only where there are more than `MOST_PAIRS`
-/// pairs.
-///
-/// The only error is want of memory.
-pub fn without_shared_of_many(
     alloc: Global,
     first: &PolicySet,
     second: &PolicySet,

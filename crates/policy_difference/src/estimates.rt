@@ -1,14 +1,11 @@
 //! How many pairs of items are left to compare of two sets, beside the statements that the indices find. Nothing is
 //! promised of it: it tells alone whether to compare, and is right as far as the same statements are found then.
-use crate::bounds::Bounds;
 use crate::difference::MOST_PAIRS;
-use crate::marked::{MarkedDocument, MarkedDocumentList, MarkedSet, MarkedStatement};
 use crate::pairs::{Part, part_size};
-use crate::places::{goes_whole, next_place, others_at, place_of};
-use crate::statement_index::{SetIndex, SetIndices, StatementIndex, finds_in_set, finds_wider_by};
-
-// How many pairs of guards are looked at.
-const FEW_GUARD_PAIRS: usize = 2_500;
+use statement_cover::{
+    Bounds, MarkedDocument, MarkedDocumentList, MarkedSet, MarkedStatement, SetIndex, SetIndices,
+    StatementIndex, finds_in_set, finds_wider_by, goes_whole, next_place, others_at, place_of,
+};
 
 // How many items statements have, part by part.
 #[derive(Clone, Copy)]
@@ -185,12 +182,6 @@ fn pairs_of_guards(index: &SetIndex, first: &MarkedSet<'_>, second: &MarkedSet<'
     pairs
 }
 
-// Whether there are so few guards that each is looked for among the others.
-fn are_few_guards(first: &MarkedSet<'_>, second: &MarkedSet<'_>) -> bool {
-    let pairs = first.guards().len().saturating_mul(second.guards().len());
-    pairs <= FEW_GUARD_PAIRS
-}
-
 /// Whether there are few pairs of items to compare before it is known what bounds the first set's statements. Twice as
 /// many may be compared then: each Allow statement is asked twice whether a Deny that is left meets it.
 pub(crate) fn are_bounds_quick(
@@ -198,9 +189,6 @@ pub(crate) fn are_bounds_quick(
     first: &MarkedSet<'_>,
     second: &MarkedSet<'_>,
 ) -> bool {
-    if !are_few_guards(first, second) {
-        return false;
-    }
     let guards = pairs_of_guards(&indices.second, first, second);
     let denies = denies_to_compare(&indices.first, first, second);
     let pairs = denies.pairs_with(size_of_set(first)).saturating_add(guards);

@@ -1,20 +1,18 @@
 //! What is left of statements without what a second set allows too.
 ghost use Rattle.std.specs.Prelude.{◌≡◌, ◌<◌, ◌⊎◌, ◌↔◌, ◌++◌, [], IfOk, IfSome, IsTrue, OnOk, length};
 ghost use Rattle.policy_model.specs.declared.set.PolicySet.{PolicySet};
+ghost use Rattle.statement_cover.specs.Places.{AreWider, GoesWhole};
+ghost use Rattle.statement_cover.specs.Bounding.{AreBounds, IsBound};
 ghost use Rattle.policy_difference.specs.Differences.{Leaves, before_rest, some_with};
-ghost use Rattle.policy_difference.specs.Places.{AreWider, GoesWhole};
-ghost use Rattle.policy_difference.specs.Rivals.{AreBounds, AreLeftDocuments, AreLeftStatements, AreToldRightly, IsAddedUnless, IsBound, IsCutRecord, StaysWhole, IsLeftRecord, IsLeftAtOnce, IsLeftByActions, IsLetThrough, IsTold, item_alone};
+ghost use Rattle.policy_difference.specs.Rivals.{AreLeftDocuments, AreLeftStatements, AreToldRightly, IsAddedUnless, IsCutRecord, StaysWhole, IsLeftRecord, IsLeftAtOnce, IsLeftByActions, IsLetThrough, IsTold, item_alone};
 
-use crate::bounds::Bounds;
-use crate::likely::SumIndex;
-use crate::listed::Listed;
-use crate::marked::{MarkedDocument, MarkedStatement};
-use crate::places::{goes_whole, next_place, others_at, place_of};
 use crate::rivals::{Rivals, item_alone, passes, rivals_of};
-use crate::statement_index::StatementIndex;
-use crate::sums::Summed;
 use plain_lists::{EqualClone, List, NoMemory};
 use policy_model::{Document, DocumentList, Matcher, Statement, StatementList};
+use statement_cover::{
+    Bounds, Listed, MarkedDocument, MarkedStatement, StatementIndex, SumIndex, Summed, goes_whole,
+    next_place, others_at, place_of,
+};
 use std::alloc::Global;
 use wildcard_lang::{MarkedPattern, Pattern, PatternList};
 
@@ -68,7 +66,11 @@ fn told_at(told: &[ToldAction<'_>], place: usize, action: &MarkedPattern<'_>) ->
 }
 
 // What one of those that the index proposes tells.
-fn told_of(told: &[ToldAction<'_>], index: &SumIndex, action: &MarkedPattern<'_>) -> Option<bool>
+fn told_by_index(
+    told: &[ToldAction<'_>],
+    index: &SumIndex,
+    action: &MarkedPattern<'_>,
+) -> Option<bool>
     ensures { IfSome result (IsTold told.now action.now) }
 {
     for proposed in index.likely(action.sum()) {
@@ -94,7 +96,7 @@ fn passes_as_told<'a>(
     ensures passes { IfOk result (λ passes.
         IsTrue passes ↔ IsLetThrough rivals.now (item_alone action.now)) }
 {
-    if let Some(passes) = told_of(told.as_slice(), index, action) {
+    if let Some(passes) = told_by_index(told.as_slice(), index, action) {
         return Ok(passes);
     }
     let passes = passes_alone(rivals, action);
@@ -266,8 +268,8 @@ fn left_of(
     Ok(left)
 }
 
-// The same, where the statement is known to go whole or isn't.
-fn left_beside(
+// The same, where the statement may be known to go whole.
+fn left_unless_gone(
     alloc: Global,
     bounds: &Bounds<'_>,
     goes: bool,
@@ -330,7 +332,7 @@ fn left_statements(
         let place = place_of(others, near, statement);
         near = next_place(near, place);
         let goes = goes_whole(bounds, index, place.is_some(), statement);
-        let own = left_beside(alloc, bounds, goes, statement)?;
+        let own = left_unless_gone(alloc, bounds, goes, statement)?;
         shared = either(shared, own.shared);
         add_some(&mut left, own.statement)?;
     }

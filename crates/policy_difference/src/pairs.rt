@@ -1,8 +1,8 @@
 //! How many pairs of items two sets have.
-ghost use Rattle.std.specs.Prelude.{◌≡◌, ◌↔◌, ◌+◌, ◌*◌, ◌≤◌, IsTrue, length, min, sum_by};
+ghost use Rattle.std.specs.Prelude.{◌≡◌, ◌↔◌, ◌+◌, ◌*◌, ◌≤◌, IsTrue, min, sum_by};
 ghost use Rattle.policy_difference.specs.Differences.{HasFewPairs, conditions_size, documents_size, element_size, set_size};
 ghost use Rattle.policy_difference.specs.declared.difference.TheConstants.{MOST_PAIRS};
-ghost use Rattle.policy_difference.specs.Capped.{capped_size, part_size};
+ghost use Rattle.policy_difference.specs.Capped.{capped_size, part_size, set_items, statement_items};
 
 use crate::difference::MOST_PAIRS;
 use policy_model::{Condition, Document, DocumentList, Matcher, PolicySet, Statement};
@@ -91,6 +91,27 @@ fn set_size(part: Part, set: &PolicySet) -> usize
     let grants = documents_size(part, set.grants.as_slice());
     let guards = guards_size(part, set.guards.as_slice());
     capped_sum(grants, guards)
+}
+
+/// How many items the statement has, of all parts, or one more than `MOST_PAIRS` where it has more.
+pub fn statement_items(statement: &Statement) -> usize
+    ensures { result ≡ capped_size (statement_items statement.now) }
+{
+    let names = capped_sum(
+        part_size(Part::Principal, statement),
+        part_size(Part::Action, statement),
+    );
+    let items = capped_sum(names, part_size(Part::Resource, statement));
+    capped_sum(items, part_size(Part::Conditions, statement))
+}
+
+/// How many items the set's statements have, of all parts, or one more than `MOST_PAIRS` where they have more.
+pub fn set_items(set: &PolicySet) -> usize
+    ensures { result ≡ capped_size (set_items set.now) }
+{
+    let names = capped_sum(set_size(Part::Principal, set), set_size(Part::Action, set));
+    let items = capped_sum(names, set_size(Part::Resource, set));
+    capped_sum(items, set_size(Part::Conditions, set))
 }
 
 // How many pairs of items of this part there are, in which sizes count as far as they go.

@@ -2,14 +2,15 @@
 ghost use Rattle.std.specs.Prelude.{◌≡◌, ◌⊎◌, ◌↔◌, All, Any, IfOk, IsTrue, List, OnOk};
 ghost use Rattle.policy_model.specs.declared.matcher.Matcher.{Matcher as MatcherValue};
 ghost use Rattle.wildcard_lang.specs.declared.piece.Piece.{Piece};
-ghost use Rattle.policy_difference.specs.Differences.{AsksNoMore, ClashStatement, HasWider};
-ghost use Rattle.policy_difference.specs.Rivals.{AllowedByEach, ApartFromEach, AreRivals, CoversAction, EachClashesWithAction, IsAskedOf, IsLetThrough, SomeCoversAction, item_alone, with_action};
+ghost use Rattle.statement_cover.specs.Statements.{AsksNoMore, ClashStatement, HasWider, CoversAction};
+ghost use Rattle.statement_cover.specs.Bounding.{AllowedByEach, ApartFromEach};
+ghost use Rattle.policy_difference.specs.Rivals.{AreRivals, EachClashesWithAction, IsAskedOf, IsLetThrough, SomeCoversAction, item_alone, with_action};
 
-use crate::bounds::Bounds;
-use crate::elements::Element;
-use crate::marked::{MarkedCondition, MarkedDocument, MarkedStatement};
-use crate::statements::{asks_no_more_else, clash_else, clashes_with_action, covers_action};
 use plain_lists::NoMemory;
+use statement_cover::{
+    Bounds, Element, MarkedCondition, MarkedDocument, MarkedStatement, asks_no_more_else,
+    clash_else, clashes_with_action, covers_action,
+};
 use std::alloc::Global;
 use std::slice::from_ref;
 use wildcard_lang::MarkedPattern;

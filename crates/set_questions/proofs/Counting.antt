@@ -30,9 +30,6 @@ statements-next d i names whole xs h so_far =
     ∙ ap (λ k. name_of d (i + 1) ∷ names_in (named_statements d (1 + (i + 1)) (drop k xs))) e in
     append_assoc names (name_of d (i + 1) ∷ []) (names_in (named_statements d (1 + (i + 1)) (drop (i + 1) xs))) ∙ ap (λ ns. names ++ ns) (sym here) ∙ so_far
 
-pub statements-done : (d s i : ℕ) (names whole : List StatementName) (xs : List Statement) → length xs ≤ i → names ++ names_in (named_statements d s (drop i xs)) ≡ whole → names ≡ whole
-statements-done d s i names whole xs h so_far = sym (append-nil names) ∙ ap (λ ys. names ++ names_in (named_statements d s ys)) (sym (drop_all i xs h)) ∙ so_far
-
 pub documents-next : (d i : ℕ) (names whole : List StatementName) (xs : List Document) (x : Document) → i < length xs → names ++ names_in (named_documents (d + i) (drop i xs)) ≡ whole →
     (names ++ names_in (named_statements (d + i) 1 (get_or xs i x).statements)) ++ names_in (named_documents (d + (i + 1)) (drop (i + 1) xs)) ≡ whole
 documents-next d i names whole xs x h so_far =

@@ -1,8 +1,7 @@
 -- Names that are gone through in order, and what is found of each.
-use Rattle.std.proofs.Common.{◌≡◌, ◌+◌, ◌<◌, ◌≤◌, ℕ, suc, zero, List, [], ◌∷◌, ◌++◌, length, get_or, slice_get, take, Some, refl, sym, subst, arith}
+use Rattle.std.proofs.Common.{◌≡◌, ◌+◌, ◌<◌, ℕ, suc, zero, List, [], ◌∷◌, ◌++◌, length, get_or, slice_get, take, Some, refl, sym, subst, arith}
 use Rattle.std.specs.Prelude.{Contains}
 use Rattle.std.specs.List.{AllZip}
-use Rattle.std.proofs.lemmas.List.{take_all}
 use Rattle.std.proofs.lemmas.Option.{get_or_from_slice_get, same_Some, slice_get_within}
 use Rattle.policy_model.specs.declared.set.PolicySet.{PolicySet}
 use Rattle.policy_model.specs.declared.set.Statement.{Statement}
@@ -35,10 +34,6 @@ zip-next R (suc i) (z ∷ xs) [] x y at r both = absurd both
 zip-next R (suc i) (z ∷ xs) (w ∷ ys) x y at r both =
     let e : suc i + 1 ≡ suc (i + 1) = omega arith in
     rw e (both.0, zip-next R i xs ys x y at r both.1)
-
--- all
-pub zip-done : {S T : Type 0} (R : S → T → Type 0) (i : ℕ) (xs : List S) (ys : List T) → length xs ≤ i → AllZip R (take i xs) ys → AllZip R xs ys
-zip-done R i xs ys h both = subst (λ zs. AllZip R zs ys) (take_all i xs h) both
 
 -- ---- names in a list that is the names of the set
 

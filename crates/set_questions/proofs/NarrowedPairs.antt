@@ -17,7 +17,7 @@ use Rattle.policy_model.specs.Sets.{Allows, Applies, Decides, SomeDecides}
 use Rattle.policy_model.specs.Soundness.{ConditionFits, DocumentFits, DocumentIsSound, SchemaFits, StatementIsSound}
 use Rattle.policy_model.specs.StatementNames.{named_set}
 use Rattle.policy_difference.specs.Apartness.{AskTheSamePair, HasSameShape, WithoutApartSaysNoLess}
-use Rattle.set_questions.specs.declared.narrowing.AskedPair.{AskedPair}
+use Rattle.policy_difference.specs.declared.beside.AskedPair.{AskedPair}
 use Rattle.set_questions.specs.Idle.{without_statement}
 use Rattle.set_questions.specs.Laws.{AsksTheChange}
 use Rattle.set_questions.specs.Narrowing.{HasDocumentRoom, IsNarrowed, IsNarrowedChange, NarrowedPairsAskTheSame, documents_alone, guarded_by, set_alone}

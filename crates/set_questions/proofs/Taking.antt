@@ -12,7 +12,7 @@ use Rattle.set_questions.specs.Laws.{WithoutTakesOne, statements_named}
 use Rattle.set_questions.specs.SetDocuments.{guard_documents, set_documents}
 use Rattle.set_questions.proofs.Changing.{as-many, same-lengths}
 use Rattle.set_questions.proofs.Placing.{named-all}
-use Rattle.policy_difference.proofs.Removing.{change-none}
+use Rattle.statement_cover.proofs.Laws.{change-none}
 
 -- ---- the statements of documents, without their names
 

@@ -16,7 +16,7 @@ use Rattle.policy_model.specs.StatementNames.{Named, named_grants}
 use Rattle.set_questions.specs.Idle.{IsIdle, change_item, document_without, without_statement}
 use Rattle.set_questions.specs.Laws.{HasSilentGuard, LastAllowsOfGuards, TwinsAreIdle, statements_named}
 use Rattle.set_questions.proofs.Losing.{guards-none}
-use Rattle.set_questions.proofs.Placing.{in-documents, there-cases}
+use Rattle.policy_difference.proofs.Placed.{in-documents, there-cases}
 use Rattle.set_questions.proofs.Taking.{document_statements, goes-of-documents, unnamed-documents}
 
 -- ---- some of lists

@@ -30,12 +30,12 @@ use Rattle.refute_check.specs.Proofs.{Proof, proof_of}
 use Rattle.refute_check.proofs.Laws.{queries_are_no}
 use Rattle.refute_check.proofs.RunLaws.{makes-yes}
 use Rattle.findings.specs.Answers.{QueryIsAskable}
-use Rattle.set_questions.specs.declared.narrowing.AskedPair.{AskedPair}
+use Rattle.policy_difference.specs.declared.beside.AskedPair.{AskedPair}
 use Rattle.set_questions.specs.declared.settling.Settled.{Settled}
 use Rattle.set_questions.specs.declared.settling.Settled.TheVariants as settled
 use Rattle.set_questions.specs.Idle.{Differ, IsNameIn, OfNamed, without_statement}
 use Rattle.set_questions.specs.Laws.{AsksAsTheSet, IsSmallerQuestion, DecidesUse}
-use Rattle.set_questions.specs.Settling.{IsClosedBy, SettlesQuery}
+use Rattle.set_questions.specs.Settling.{IsQueryClosedBy, SettlesQuery}
 use Rattle.set_questions.specs.Uses.{AreLimitsMet, IsUseOf, change_plan, limits_told, use_told}
 use Rattle.set_questions.proofs.Changing.{allow-adds, deny-takes, part-among, stays-fit}
 use Rattle.set_questions.proofs.Losing.{SetLoses, set-loses}
@@ -74,7 +74,7 @@ module _ (schema : Schema) (first second : PolicySet) (first_fits : SchemaFits s
       ]
 
   -- as where a refutation closes it
-  pub closed-covers : (p : Proof) → IsClosedBy schema q p → (r : Request) → IsValid schema r → Allows schema first r → Allows schema second r
+  pub closed-covers : (p : Proof) → IsQueryClosedBy schema q p → (r : Request) → IsValid schema r → Allows schema first r → Allows schema second r
   closed-covers p closes = unmet-covers (λ r met. queries_are_no schema q.tests (asked_tree q) p below closes r met.valid met.meets)
 
 -- ---- change queries
@@ -100,7 +100,7 @@ module _ (schema : Schema) (s : Statement) (set part : PolicySet) (lose : SetLos
     directed-met true is r met = inl (met-only schema set part set_fits part_fits q is r met)
     directed-met false is r met = inr (met-only schema part set part_fits set_fits q is r met)
 
-    directed-closed : (allow : Bool) → s.allow ≡ allow → IsQuery (directed_plan allow schema set part) q → (p : Proof) → IsClosedBy schema q p → (r : Request) → IsValid schema r → (Allows schema set r ↔ Allows schema part r)
+    directed-closed : (allow : Bool) → s.allow ≡ allow → IsQuery (directed_plan allow schema set part) q → (p : Proof) → IsQueryClosedBy schema q p → (r : Request) → IsValid schema r → (Allows schema set r ↔ Allows schema part r)
     directed-closed true effect is p closes r valid = (
       λ h. closed-covers schema set part set_fits part_fits q is p closes r valid h,
       λ h. allow-adds schema s set part lose r effect h,

@@ -1,5 +1,5 @@
 -- Sets without one of their statements, and whether the statement matters to what the set allows.
-pub use Rattle.policy_difference.specs.Removal.{without_item, change_item, document_without, documents_without, guards_without, without_statement}
+pub use Rattle.statement_cover.specs.Removal.{without_item, change_item, document_without, documents_without, guards_without, without_statement}
 use Rattle.std.specs.Prelude.{◌≡◌, ◌⊎◌, ◌↔◌, Any, Contains}
 use Rattle.policy_model.specs.declared.request.Request.{Request}
 use Rattle.policy_model.specs.declared.schema.Schema.{Schema}

@@ -1,5 +1,5 @@
 -- What follows from the definitions: sets without a statement, change queries, and what a smaller question tells.
-use Rattle.std.specs.Prelude.{◌≡◌, ◌≢◌, ◌↔◌, List, [], ◌∷◌, ◌++◌, length, map, true, false, All, Any, Contains, MatchBool}
+use Rattle.std.specs.Prelude.{◌≡◌, ◌≢◌, ◌↔◌, List, [], ◌∷◌, ◌++◌, length, map, false, All, Any, Contains, MatchBool}
 use Rattle.policy_model.specs.declared.request.Request.{Request}
 use Rattle.policy_model.specs.declared.schema.Schema.{Schema}
 use Rattle.policy_model.specs.declared.set.PolicySet.{PolicySet}
@@ -16,7 +16,7 @@ use Rattle.policy_compile.specs.Sets.{query_plan, set_plan}
 use Rattle.policy_difference.specs.Apartness.{AskTheSamePair}
 use Rattle.refute_check.specs.Laws.{IsMetBy, NoneMeets}
 use Rattle.findings.specs.Answers.{QueryIsAskable}
-use Rattle.set_questions.specs.declared.narrowing.AskedPair.{AskedPair}
+use Rattle.policy_difference.specs.declared.beside.AskedPair.{AskedPair}
 use Rattle.set_questions.specs.Idle.{IsIdle, IsUsedBy, without_statement}
 use Rattle.set_questions.specs.Uses.{change_plan}
 

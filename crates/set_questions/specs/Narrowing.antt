@@ -8,7 +8,7 @@ use Rattle.policy_model.specs.declared.set.StatementName.{StatementName}
 use Rattle.policy_model.specs.Soundness.{SchemaFits}
 use Rattle.policy_model.specs.StatementNames.{named_set}
 use Rattle.policy_difference.specs.Apartness.{IsWithoutApart}
-use Rattle.set_questions.specs.declared.narrowing.AskedPair.{AskedPair}
+use Rattle.policy_difference.specs.declared.beside.AskedPair.{AskedPair}
 use Rattle.set_questions.specs.Idle.{without_statement}
 use Rattle.set_questions.specs.Laws.{AsksTheChange}
 

@@ -12,12 +12,12 @@ use Rattle.set_questions.specs.declared.settling.Settled.{Settled}
 use Rattle.set_questions.specs.declared.settling.Settled.TheVariants.{Met, Nobody, OutOfSplits, OutOfStates}
 
 -- a refutation closes the query, so no valid request makes it yes
-abbrev pub IsClosedBy : Schema → Query → Proof → Type 0
-IsClosedBy schema query proof = Closes schema query.tests (asked_tree query) at_first proof []
+abbrev pub IsQueryClosedBy : Schema → Query → Proof → Type 0
+IsQueryClosedBy schema query proof = Closes schema query.tests (asked_tree query) at_first proof []
 
 -- and its splits and labels nest at most twice as deep as there are tests, so that it can be written and read again
 pub record RefutesQuery (schema : Schema) (query : Query) (proof : Proof) : Type 0 where
-  pub closes : IsClosedBy schema query proof
+  pub closes : IsQueryClosedBy schema query proof
   pub nests : depth proof ≤ 2 * length query.tests
 
 -- the plain run of the query needs more splits than so many, and so does the propagated run

@@ -15,7 +15,7 @@ pub use meaning::{
     smaller_questions_tell, twins_are_idle, without_stays_sound, without_takes_one,
 };
 pub use names::{NameList, is_allow, named_statement, names_of};
-pub use narrowing::{AskedPair, narrowed};
+pub use narrowing::narrowed;
 pub use outcome::{Use, UseFault, UseList};
 pub use removal::without;
 pub use settling::{Settle, Settled};

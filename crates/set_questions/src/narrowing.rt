@@ -3,19 +3,13 @@ ghost use Rattle.std.specs.Prelude.{◌≡◌, ◌↔◌, ◌<◌, ◌+◌, IfOk
 ghost use Rattle.set_questions.specs.Narrowing.{HasDocumentRoom, IsNarrowed, documents_alone, guarded_by, set_alone};
 
 use plain_lists::{EqualClone, List, NoMemory};
-use policy_difference::{MarkedSet, marked_without_apart, without_apart_says_no_less};
+use policy_difference::{AskedPair, marked_without_apart, without_apart_says_no_less};
 use policy_model::{Document, DocumentList, PolicySet, Statement};
+use statement_cover::MarkedSet;
 use std::alloc::Global;
 
 // The most documents, and the most guards, of a set to which another can be added.
 const MOST_BUT_ONE: usize = 4_294_967_294;
-
-/// Two sets, of which it is asked whether the first allows a request that the second doesn't.
-#[derive(Drop)]
-pub struct AskedPair {
-    pub less: PolicySet,
-    pub rest: PolicySet,
-}
 
 // How many documents the guards have, as far as they can be counted.
 fn guards_size(guards: &[DocumentList]) -> usize

@@ -1,12 +1,9 @@
-use Rattle.std.proofs.Common.{Option, IfSome, inr, refl, subst}
-use Rattle.policy_model.specs.declared.set.PolicySet.{PolicySet}
-use Rattle.policy_difference.specs.Differences.{IsDifference}
-use Rattle.set_questions.specs.Idle.{without_statement}
+use Rattle.std.proofs.Common.{inr, refl}
+use Rattle.set_questions.proofs.Laws.{allow-there}
 use Rattle.idle_answers.proofs.beside.whole_pair.Goals as goal
 
+pub without-requires : goal.without-requires
+without-requires c = allow-there c.args.set.now c.args.name c.requires.named
+
 pub returns : goal.returns
-returns c =
-    let set = c.args.set.now in
-    let part = without_statement set c.args.name in
-    let is : IsDifference set part c.in-Some.less = subst (λ (o : Option PolicySet). IfSome o (IsDifference set part)) c.in-Some.is c.in_ok-less.ensures in
-    (c.in-Some.less, is, (inr refl, inr c.in_ok-rest.ensures))
+returns c = (c.in_ok-less.less, c.in_ok-less.ensures, (inr refl, inr c.in_ok-rest.ensures))

@@ -1,5 +1,5 @@
 use Rattle.std.proofs.Common.{Option, IfSome, subst}
-use Rattle.set_questions.specs.declared.narrowing.AskedPair.{AskedPair}
+use Rattle.policy_difference.specs.declared.beside.AskedPair.{AskedPair}
 use Rattle.idle_answers.specs.Deciding.{IsPairBeside}
 use Rattle.idle_answers.proofs.Verdicts.{difference_asks}
 use Rattle.idle_answers.proofs.deciding.difference_query.Goals as goal
@@ -10,4 +10,4 @@ pair_query-requires-clause-asked c =
     let pair : IsPairBeside one.set c.args.name c.in-Some.asked =
     subst (λ (o : Option AskedPair). IfSome o (IsPairBeside one.set c.args.name)) c.in-Some.is c.in_ok-asked.ensures in
     difference_asks c.shared_statements_add_nothing.ensures c.apart_statements_say_nothing.ensures c.without_stays_sound.ensures one c.args.name pair.0 c.in-Some.asked
-    c.requires.fitting c.requires.named c.requires.allow pair.1 pair.2
+    c.requires.fitting c.requires.named pair.1 pair.2

@@ -1,5 +1,5 @@
 use Rattle.std.proofs.Common.{Option, IfSome, subst}
-use Rattle.set_questions.specs.declared.narrowing.AskedPair.{AskedPair}
+use Rattle.policy_difference.specs.declared.beside.AskedPair.{AskedPair}
 use Rattle.set_questions.specs.Idle.{OfNamed}
 use Rattle.set_questions.specs.Narrowing.{IsNarrowedChange}
 use Rattle.idle_answers.proofs.Verdicts.{narrowed_asks}

@@ -1,6 +1,6 @@
 use Rattle.std.proofs.Common.{◌≡◌, true, rules}
-use Rattle.policy_difference.specs.Differences.{ClashStatement}
-use Rattle.policy_difference.proofs.Filtered.{pushed-all}
+use Rattle.statement_cover.specs.Statements.{ClashStatement}
+use Rattle.statement_cover.proofs.Laws.{pushed-all}
 use Rattle.policy_difference.proofs.apartness.add_allow.Goals as goal
 
 pub returns : goal.returns

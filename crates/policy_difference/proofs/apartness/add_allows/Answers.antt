@@ -1,8 +1,8 @@
 use Rattle.std.proofs.Common.{◌≡◌, true}
 use Rattle.std.proofs.lemmas.List.Elements.{All-nil}
 use Rattle.policy_model.specs.declared.set.Statement.{Statement}
-use Rattle.policy_difference.specs.Differences.{ClashStatement}
-use Rattle.policy_difference.proofs.Filtered.{grown-all, whole-all}
+use Rattle.statement_cover.specs.Statements.{ClashStatement}
+use Rattle.statement_cover.proofs.Laws.{grown-all, whole-all}
 use Rattle.policy_difference.proofs.apartness.add_allows.Goals as goal
 
 pub statements-init : goal.statements-init

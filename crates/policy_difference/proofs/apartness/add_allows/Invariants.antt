@@ -1,7 +1,7 @@
 use Rattle.std.proofs.Common.{◌≡◌, ◌↔◌, All, true, take}
 use Rattle.policy_model.specs.declared.set.Statement.{Statement}
-use Rattle.policy_difference.specs.Differences.{ClashStatement}
-use Rattle.policy_difference.specs.Rivals.{ApartFromEach}
+use Rattle.statement_cover.specs.Statements.{ClashStatement}
+use Rattle.statement_cover.specs.Bounding.{ApartFromEach}
 use Rattle.policy_difference.proofs.apartness.add_allows.Given as goal
 
 abbrev pub invariant-statements : goal.invariant-statements

@@ -1,9 +1,9 @@
 use Rattle.std.proofs.Common.{◌≡◌, ◌↔◌, All, true, subst}
 use Rattle.policy_model.specs.declared.set.Statement.{Statement}
 use Rattle.policy_model.specs.declared.set.Document.{Document}
-use Rattle.policy_difference.specs.Differences.{ClashStatement}
-use Rattle.policy_difference.specs.Rivals.{ApartFromEach}
-use Rattle.policy_difference.proofs.Filtered.{grown-each, whole-each}
+use Rattle.statement_cover.specs.Statements.{ClashStatement}
+use Rattle.statement_cover.specs.Bounding.{ApartFromEach}
+use Rattle.statement_cover.proofs.Laws.{grown-each, whole-each}
 use Rattle.policy_difference.proofs.apartness.allows_of.Goals as goal
 
 pub documents-preserved : goal.documents-preserved

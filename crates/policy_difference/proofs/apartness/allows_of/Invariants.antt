@@ -1,8 +1,8 @@
 use Rattle.std.proofs.Common.{◌≡◌, ◌↔◌, All, true, take}
 use Rattle.policy_model.specs.declared.set.Statement.{Statement}
 use Rattle.policy_model.specs.declared.set.Document.{Document}
-use Rattle.policy_difference.specs.Differences.{ClashStatement}
-use Rattle.policy_difference.specs.Rivals.{ApartFromEach}
+use Rattle.statement_cover.specs.Statements.{ClashStatement}
+use Rattle.statement_cover.specs.Bounding.{ApartFromEach}
 use Rattle.policy_difference.proofs.apartness.allows_of.Given as goal
 
 abbrev pub invariant-documents : goal.invariant-documents

@@ -1,7 +1,7 @@
 use Rattle.std.proofs.Common.{true, subst, sym}
 use Rattle.std.proofs.lemmas.List.Elements.{All-nil}
-use Rattle.policy_difference.specs.Differences.{ClashStatement, EachWith, HasWider}
-use Rattle.policy_difference.specs.Rivals.{AllowedByEach}
+use Rattle.statement_cover.specs.Statements.{ClashStatement, EachWith, HasWider}
+use Rattle.statement_cover.specs.Bounding.{AllowedByEach}
 use Rattle.policy_difference.proofs.apartness.apart_bounds.Goals as goal
 
 pub returns : goal.returns

@@ -2,8 +2,8 @@ use Rattle.std.proofs.Common.{◌≡◌, ◌++◌, ◌∷◌, [], List, ap, subs
 use Rattle.std.proofs.lemmas.List.{append-nil, append_assoc}
 use Rattle.policy_model.specs.declared.set.Document.{Document}
 use Rattle.policy_model.specs.declared.set.Statement.{Statement}
+use Rattle.statement_cover.specs.Bounding.{IsBound}
 use Rattle.policy_difference.specs.Differences.{AreLeft, IsCutTo, StatementsAreLeft}
-use Rattle.policy_difference.specs.Rivals.{IsBound}
 use Rattle.policy_difference.proofs.Remains.{documents-more, documents-none}
 use Rattle.policy_difference.proofs.apartness.cut_documents.Goals as goal
 

@@ -1,7 +1,7 @@
 use Rattle.std.proofs.Common.{◌++◌, List, drop}
 use Rattle.policy_model.specs.declared.set.Document.{Document}
+use Rattle.statement_cover.specs.Bounding.{IsBound}
 use Rattle.policy_difference.specs.Differences.{AreLeft, IsCutTo}
-use Rattle.policy_difference.specs.Rivals.{IsBound}
 use Rattle.policy_difference.proofs.apartness.cut_documents.Given as goal
 
 abbrev pub invariant-documents : goal.invariant-documents

@@ -3,8 +3,8 @@ use Rattle.std.specs.List.{AllZip}
 use Rattle.std.proofs.lemmas.List.{take_all}
 use Rattle.std.proofs.lemmas.List.Elements.{all_zip_more}
 use Rattle.policy_model.specs.declared.set.Document.{Document}
+use Rattle.statement_cover.specs.Bounding.{IsBound}
 use Rattle.policy_difference.specs.Differences.{AreLeft, IsCutTo}
-use Rattle.policy_difference.specs.Rivals.{IsBound}
 use Rattle.policy_difference.proofs.apartness.cut_guards.Goals as goal
 
 pub guards-preserved : goal.guards-preserved

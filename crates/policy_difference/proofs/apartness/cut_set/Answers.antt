@@ -1,9 +1,10 @@
 use Rattle.std.proofs.Common.{List, subst, sym}
 use Rattle.std.specs.List.{AllZip}
 use Rattle.policy_model.specs.declared.set.Document.{Document}
+use Rattle.statement_cover.specs.Bounding.{IsBound}
 use Rattle.policy_difference.specs.Apartness.{IsApartFromAllows}
 use Rattle.policy_difference.specs.Differences.{AreLeft, IsCutTo}
-use Rattle.policy_difference.specs.Rivals.{BoundTheApart, IsBound}
+use Rattle.policy_difference.specs.Rivals.{BoundTheApart}
 use Rattle.policy_difference.proofs.Remains.{cut-same, documents-other, zip-other}
 use Rattle.policy_difference.proofs.apartness.cut_set.Goals as goal
 

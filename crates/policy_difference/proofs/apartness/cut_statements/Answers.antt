@@ -1,7 +1,7 @@
 use Rattle.std.proofs.Common.{◌++◌, [], subst, sym}
 use Rattle.std.proofs.lemmas.List.{append-nil}
+use Rattle.statement_cover.specs.Bounding.{IsBound}
 use Rattle.policy_difference.specs.Differences.{IsCutTo, StatementsAreLeft, before_rest}
-use Rattle.policy_difference.specs.Rivals.{IsBound}
 use Rattle.policy_difference.proofs.Remains.{add-rest, statements-more, statements-none}
 use Rattle.policy_difference.proofs.apartness.cut_statements.Goals as goal
 

@@ -1,7 +1,7 @@
 use Rattle.std.proofs.Common.{◌++◌, List, drop}
 use Rattle.policy_model.specs.declared.set.Statement.{Statement}
+use Rattle.statement_cover.specs.Bounding.{IsBound}
 use Rattle.policy_difference.specs.Differences.{IsCutTo, StatementsAreLeft}
-use Rattle.policy_difference.specs.Rivals.{IsBound}
 use Rattle.policy_difference.proofs.apartness.cut_statements.Given as goal
 
 abbrev pub invariant-statements : goal.invariant-statements

@@ -1,6 +1,6 @@
-use Rattle.policy_difference.specs.Differences.{HasWider}
-use Rattle.policy_difference.specs.Rivals.{IsBound}
-use Rattle.policy_difference.specs.declared.bounds.Bounds.{Bounds}
+use Rattle.statement_cover.specs.Statements.{HasWider}
+use Rattle.statement_cover.specs.Bounding.{IsBound}
+use Rattle.statement_cover.specs.declared.bounds.Bounds.{Bounds}
 use Rattle.policy_difference.proofs.Alone.{bound-by-one}
 use Rattle.policy_difference.proofs.Remains.{cut-same}
 use Rattle.policy_difference.proofs.beside.left_alone.Goals as goal

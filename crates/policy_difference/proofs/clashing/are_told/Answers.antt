@@ -1,6 +1,6 @@
 use Rattle.std.proofs.lemmas.List.Elements.{All-nil}
+use Rattle.statement_cover.proofs.Laws.{covered-next, covered-whole}
 use Rattle.policy_difference.specs.Clashing.{IsToldClash}
-use Rattle.policy_difference.proofs.Covered.{covered-next, covered-whole}
 use Rattle.policy_difference.proofs.clashing.are_told.Goals as goal
 
 pub patterns-init : goal.patterns-init

@@ -1,6 +1,6 @@
 use Rattle.std.proofs.Common.{◌↔◌, IsTrue, subst}
 use Rattle.wildcard_lang.specs.Covering.{CoversPattern, Clash}
-use Rattle.policy_difference.specs.Elements.{ClashMatcher}
+use Rattle.statement_cover.specs.Elements.{ClashMatcher}
 use Rattle.policy_difference.proofs.clashing.clashes_alone.Goals as goal
 
 pub returns : goal.returns

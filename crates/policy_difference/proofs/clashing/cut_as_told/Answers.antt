@@ -1,7 +1,7 @@
 use Rattle.std.proofs.Common.{subst}
+use Rattle.statement_cover.specs.Bounding.{IsBound}
+use Rattle.statement_cover.specs.declared.bounds.Bounds.{Bounds}
 use Rattle.policy_difference.specs.Differences.{IsCutTo}
-use Rattle.policy_difference.specs.Rivals.{IsBound}
-use Rattle.policy_difference.specs.declared.bounds.Bounds.{Bounds}
 use Rattle.policy_difference.proofs.clashing.cut_as_told.Goals as goal
 
 pub returns : goal.returns

@@ -1,8 +1,8 @@
 use Rattle.std.proofs.Common.{IfSome, None, subst}
+use Rattle.statement_cover.specs.Bounding.{IsBound}
+use Rattle.statement_cover.specs.declared.bounds.Bounds.{Bounds}
 use Rattle.policy_difference.specs.Clashing.{AreToldOf}
 use Rattle.policy_difference.specs.Differences.{IsCutTo}
-use Rattle.policy_difference.specs.Rivals.{IsBound}
-use Rattle.policy_difference.specs.declared.bounds.Bounds.{Bounds}
 use Rattle.policy_difference.proofs.Clashed.{goes-apart}
 use Rattle.policy_difference.proofs.clashing.goes_as_told.Goals as goal
 

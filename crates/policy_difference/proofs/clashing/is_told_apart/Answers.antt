@@ -1,6 +1,6 @@
 use Rattle.std.proofs.Common.{inl, inr}
+use Rattle.statement_cover.proofs.Laws.{moved}
 use Rattle.policy_difference.specs.Clashing.{IsToldElement}
-use Rattle.policy_difference.proofs.Seen.{moved}
 use Rattle.policy_difference.proofs.clashing.is_told_apart.Goals as goal
 
 pub returns-then-is_told_element : goal.returns-then-is_told_element

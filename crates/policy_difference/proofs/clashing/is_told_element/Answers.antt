@@ -1,8 +1,8 @@
 use Rattle.std.proofs.Common.{List, subst}
 use Rattle.policy_model.specs.declared.matcher.Matcher.{Matcher}
 use Rattle.wildcard_lang.specs.declared.piece.Piece.{Piece}
+use Rattle.statement_cover.proofs.Laws.{same-all}
 use Rattle.policy_difference.specs.Clashing.{IsToldClash, IsToldElement}
-use Rattle.policy_difference.proofs.Repeating.{same-all}
 use Rattle.policy_difference.proofs.clashing.is_told_element.Goals as goal
 
 pub returns : goal.returns

@@ -1,7 +1,7 @@
 use Rattle.std.proofs.Common.{List, refl, subst, sym, ◌∙◌}
 use Rattle.policy_model.specs.declared.set.Document.{Document}
+use Rattle.statement_cover.proofs.Laws.{apart}
 use Rattle.policy_difference.specs.Rivals.{AreLeftDocuments}
-use Rattle.policy_difference.proofs.Leaving.{apart}
 use Rattle.policy_difference.proofs.difference.left_grants.Goals as goal
 
 pub returns-then-are_left_slow-clause-some : goal.returns-then-are_left_slow-clause-some

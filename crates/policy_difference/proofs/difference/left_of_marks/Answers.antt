@@ -1,7 +1,7 @@
 use Rattle.std.proofs.Common.{IfSome}
 use Rattle.policy_model.specs.declared.set.PolicySet.{PolicySet}
+use Rattle.statement_cover.proofs.Laws.{moved}
 use Rattle.policy_difference.specs.Rivals.{AreLeftDocuments}
-use Rattle.policy_difference.proofs.Seen.{moved}
 use Rattle.policy_difference.proofs.difference.left_of_marks.Goals as goal
 
 pub returns-clause-left : goal.returns-clause-left

@@ -1,5 +1,5 @@
 use Rattle.std.proofs.Common.{sym, ◌∙◌}
-use Rattle.policy_difference.proofs.Leaving.{apart}
+use Rattle.statement_cover.proofs.Laws.{apart}
 use Rattle.policy_difference.proofs.difference.left_unless_slow.Goals as goal
 
 pub returns-then-are_bounds_slow-clause-some : goal.returns-then-are_bounds_slow-clause-some

@@ -1,6 +1,5 @@
 use Rattle.std.proofs.Common.{refl, sym, ◌∙◌}
-use Rattle.policy_difference.proofs.Leaving.{apart}
-use Rattle.policy_difference.proofs.Seen.{is-false, is-true}
+use Rattle.statement_cover.proofs.Laws.{apart, is-false, is-true}
 use Rattle.policy_difference.proofs.difference.set_with.Goals as goal
 
 pub returns-then-not-left-clause-some : goal.returns-then-not-left-clause-some

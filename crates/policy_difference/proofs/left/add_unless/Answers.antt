@@ -1,5 +1,5 @@
 use Rattle.std.proofs.Common.{◌∷◌, ◌++◌, [], inl, inr, refl, ap, sym, ◌∙◌}
-use Rattle.policy_difference.proofs.Leaving.{apart}
+use Rattle.statement_cover.proofs.Laws.{apart}
 use Rattle.policy_difference.proofs.left.add_unless.Goals as goal
 
 pub returns-then-passes : goal.returns-then-passes

@@ -1,10 +1,10 @@
 use Rattle.std.proofs.Common.{◌<◌, List, length, ap, sym, ◌∙◌}
 use Rattle.wildcard_lang.specs.declared.piece.Piece.{Piece}
 use Rattle.policy_model.specs.declared.set.Statement.{Statement}
+use Rattle.statement_cover.proofs.Laws.{moved}
 use Rattle.policy_difference.specs.Differences.{some_with}
 use Rattle.policy_difference.specs.Rivals.{IsLetThrough, item_alone}
 use Rattle.policy_difference.proofs.Remains.{fewer-left}
-use Rattle.policy_difference.proofs.Seen.{moved}
 use Rattle.policy_difference.proofs.left.left_by_actions.Goals as goal
 
 abbrev IsFewer : List (List Piece) → List (List Piece) → Type 0

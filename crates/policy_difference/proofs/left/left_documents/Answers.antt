@@ -2,9 +2,8 @@ use Rattle.std.proofs.Common.{◌≡◌, ◌↔◌, ◌++◌, ◌∷◌, [], Any
 use Rattle.std.proofs.lemmas.List.{append-nil, append_assoc}
 use Rattle.policy_model.specs.declared.set.Document.{Document}
 use Rattle.policy_model.specs.declared.set.Statement.{Statement}
+use Rattle.statement_cover.proofs.Laws.{grown-some, whole-some, apart, none_of_none}
 use Rattle.policy_difference.specs.Differences.{AreLeft, HasShared, IsLeftOf, StatementsAreLeft}
-use Rattle.policy_difference.proofs.Filtered.{grown-some, whole-some}
-use Rattle.policy_difference.proofs.Leaving.{apart, none_of_none}
 use Rattle.policy_difference.proofs.Remains.{documents-more, documents-none, or-next}
 use Rattle.policy_difference.proofs.left.left_documents.Goals as goal
 

@@ -1,8 +1,8 @@
 use Rattle.std.proofs.Common.{◌↔◌, ◌++◌, Any, IsTrue, List, drop, take}
 use Rattle.policy_model.specs.declared.set.Document.{Document}
 use Rattle.policy_model.specs.declared.set.PolicySet.{PolicySet}
+use Rattle.statement_cover.specs.Bounding.{AreBounds}
 use Rattle.policy_difference.specs.Differences.{AreLeft, HasShared, IsLeftOf}
-use Rattle.policy_difference.specs.Rivals.{AreBounds}
 use Rattle.policy_difference.proofs.left.left_documents.Given as goal
 
 abbrev pub invariant-documents : goal.invariant-documents

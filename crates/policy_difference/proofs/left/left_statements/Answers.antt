@@ -1,8 +1,7 @@
 use Rattle.std.proofs.Common.{◌++◌, [], subst, sym, ◌∙◌}
 use Rattle.std.proofs.lemmas.List.{append-nil}
+use Rattle.statement_cover.proofs.Laws.{grown-some, whole-some, apart, none_of_none}
 use Rattle.policy_difference.specs.Differences.{HasShared, IsLeftOf, StatementsAreLeft, before_rest}
-use Rattle.policy_difference.proofs.Filtered.{grown-some, whole-some}
-use Rattle.policy_difference.proofs.Leaving.{apart, none_of_none}
 use Rattle.policy_difference.proofs.Remains.{add-rest, or-next, statements-more, statements-none}
 use Rattle.policy_difference.proofs.left.left_statements.Goals as goal
 

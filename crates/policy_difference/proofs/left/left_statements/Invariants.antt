@@ -1,9 +1,9 @@
 use Rattle.std.proofs.Common.{◌↔◌, ◌++◌, Any, IsTrue, List, drop, take}
 use Rattle.policy_model.specs.declared.set.PolicySet.{PolicySet}
 use Rattle.policy_model.specs.declared.set.Statement.{Statement}
+use Rattle.statement_cover.specs.Places.{AreWider}
+use Rattle.statement_cover.specs.Bounding.{AreBounds}
 use Rattle.policy_difference.specs.Differences.{HasShared, IsLeftOf, StatementsAreLeft}
-use Rattle.policy_difference.specs.Places.{AreWider}
-use Rattle.policy_difference.specs.Rivals.{AreBounds}
 use Rattle.policy_difference.proofs.left.left_statements.Given as goal
 
 abbrev pub invariant-statements : goal.invariant-statements

@@ -1,7 +1,7 @@
 use Rattle.std.proofs.Common.{inl, inr, refl, sym, subst, ◌∙◌}
 use Rattle.policy_model.specs.declared.set.Statement.{Statement}
+use Rattle.statement_cover.proofs.Laws.{apart}
 use Rattle.policy_difference.specs.Rivals.{IsLetThrough, StaysWhole}
-use Rattle.policy_difference.proofs.Leaving.{apart}
 use Rattle.policy_difference.proofs.left.left_whole.Goals as goal
 
 pub returns-then-passes : goal.returns-then-passes

@@ -9,7 +9,7 @@ use Rattle.policy_difference.proofs.left.passes_as_told.Goals as goal
 pub returns-in-Some-clause-passes : goal.returns-in-Some-clause-passes
 returns-in-Some-clause-passes c =
     let P = λ (x : List Piece). IsLetThrough c.args.rivals.now (item_alone x) in
-    let tells = subst (λ o. IfSome o (IsTold c.as_slice.result.now c.args.action.now)) c.in-Some.is c.told_of.ensures in
+    let tells = subst (λ o. IfSome o (IsTold c.as_slice.result.now c.args.action.now)) c.in-Some.is c.told_by_index.ensures in
     told-right P c.as_slice.result.now c.args.action.now c.in-Some.passes (subst (AreToldRightly P) (sym c.as_slice.ensures.value) c.requires) tells
 
 pub returns-clause-told : goal.returns-clause-told

@@ -1,7 +1,7 @@
 use Rattle.std.proofs.Common.{◌≡◌, Some, ap, sym, ◌∙◌}
 use Rattle.policy_model.specs.declared.set.Statement.{Statement}
+use Rattle.statement_cover.proofs.Laws.{apart}
 use Rattle.policy_difference.specs.Differences.{some_with}
-use Rattle.policy_difference.proofs.Leaving.{apart}
 use Rattle.policy_difference.proofs.Remains.{some-of-more}
 use Rattle.policy_difference.proofs.left.some_with.Goals as goal
 

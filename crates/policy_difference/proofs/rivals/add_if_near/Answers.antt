@@ -1,9 +1,8 @@
 use Rattle.std.proofs.Common.{inl, inr, sym, ◌∙◌}
-use Rattle.policy_difference.specs.Differences.{ClashStatement}
-use Rattle.policy_difference.specs.Rivals.{ClashesWithAction, with_action}
+use Rattle.statement_cover.specs.Statements.{ClashStatement, ClashesWithAction}
+use Rattle.statement_cover.proofs.Laws.{pushed-all, apart}
+use Rattle.policy_difference.specs.Rivals.{with_action}
 use Rattle.policy_difference.proofs.Besides.{clash-action, clash-cases, clash-else}
-use Rattle.policy_difference.proofs.Filtered.{pushed-all}
-use Rattle.policy_difference.proofs.Leaving.{apart}
 use Rattle.policy_difference.proofs.rivals.add_if_near.Goals as goal
 
 pub returns-then-clash_else : goal.returns-then-clash_else

@@ -1,9 +1,8 @@
 use Rattle.std.proofs.Common.{inl, inr, sym, ◌∙◌}
-use Rattle.policy_difference.specs.Differences.{AsksNoMore}
-use Rattle.policy_difference.specs.Rivals.{CoversAction, with_action}
+use Rattle.statement_cover.specs.Statements.{AsksNoMore, CoversAction}
+use Rattle.statement_cover.proofs.Laws.{pushed-any, apart}
+use Rattle.policy_difference.specs.Rivals.{with_action}
 use Rattle.policy_difference.proofs.Besides.{asks-else, asks-whole}
-use Rattle.policy_difference.proofs.Filtered.{pushed-any}
-use Rattle.policy_difference.proofs.Leaving.{apart}
 use Rattle.policy_difference.proofs.rivals.add_if_wider.Goals as goal
 
 pub returns-then-not-may_cover_asked : goal.returns-then-not-may_cover_asked

@@ -1,9 +1,8 @@
 use Rattle.std.proofs.Common.{inl, inr}
 use Rattle.policy_model.specs.declared.set.Statement.{Statement}
-use Rattle.policy_difference.specs.Differences.{AsksNoMore}
+use Rattle.statement_cover.specs.Statements.{AsksNoMore}
+use Rattle.statement_cover.proofs.Laws.{grown-any, whole-any, none_of_none}
 use Rattle.policy_difference.specs.Rivals.{with_action}
-use Rattle.policy_difference.proofs.Filtered.{grown-any, whole-any}
-use Rattle.policy_difference.proofs.Leaving.{none_of_none}
 use Rattle.policy_difference.proofs.rivals.add_wider.Goals as goal
 
 pub statements-init : goal.statements-init

@@ -2,7 +2,7 @@ use Rattle.std.proofs.Common.{◌↔◌, ◌⊎◌, Any, List, take}
 use Rattle.wildcard_lang.specs.declared.piece.Piece.{Piece}
 use Rattle.policy_model.specs.declared.matcher.Matcher.{Matcher}
 use Rattle.policy_model.specs.declared.set.Statement.{Statement}
-use Rattle.policy_difference.specs.Differences.{AsksNoMore}
+use Rattle.statement_cover.specs.Statements.{AsksNoMore}
 use Rattle.policy_difference.specs.Rivals.{IsAskedOf, SomeCoversAction, with_action}
 use Rattle.policy_difference.proofs.rivals.add_wider.Given as goal
 

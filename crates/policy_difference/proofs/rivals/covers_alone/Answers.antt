@@ -1,5 +1,5 @@
 use Rattle.std.proofs.Common.{◌↔◌, IsTrue, subst}
-use Rattle.policy_difference.specs.Rivals.{CoversAction}
+use Rattle.statement_cover.specs.Statements.{CoversAction}
 use Rattle.policy_difference.proofs.rivals.covers_alone.Goals as goal
 
 pub returns : goal.returns

@@ -2,8 +2,9 @@ use Rattle.std.proofs.Common.{List, rules}
 use borrow.Author.Tests.{tests}
 use Rattle.std.proofs.lemmas.Iterator.{YieldsList-from_slice, cases_from_any}
 use Rattle.wildcard_lang.specs.declared.piece.Piece.{Piece}
-use Rattle.policy_difference.specs.Rivals.{CoversAction, item_alone}
-use Rattle.policy_difference.proofs.Tested.{any-tested}
+use Rattle.statement_cover.specs.Statements.{CoversAction}
+use Rattle.statement_cover.proofs.Laws.{any-tested}
+use Rattle.policy_difference.specs.Rivals.{item_alone}
 use Rattle.policy_difference.proofs.rivals.covers_some_alone.Goals as goal
 
 pub returns : goal.returns

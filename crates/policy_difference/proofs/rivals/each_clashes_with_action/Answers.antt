@@ -3,8 +3,8 @@ use borrow.Author.Tests.{tests}
 use Rattle.std.proofs.lemmas.Iterator.{YieldsList-from_slice, cases_from_all}
 use Rattle.std.specs.Borrow.{Bor}
 use Rattle.policy_model.specs.declared.set.Statement.{Statement}
-use Rattle.policy_difference.specs.Rivals.{ClashesWithAction}
-use Rattle.policy_difference.proofs.Tested.{all-tested}
+use Rattle.statement_cover.specs.Statements.{ClashesWithAction}
+use Rattle.statement_cover.proofs.Laws.{all-tested}
 use Rattle.policy_difference.proofs.rivals.each_clashes_with_action.Goals as goal
 
 pub returns : goal.returns

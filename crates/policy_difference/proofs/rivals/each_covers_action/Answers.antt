@@ -1,8 +1,8 @@
 use Rattle.std.proofs.Common.{rules}
 use borrow.Author.Tests.{tests}
 use Rattle.std.proofs.lemmas.Iterator.{YieldsList-from_slice, cases_from_all}
+use Rattle.statement_cover.proofs.Laws.{all-tested}
 use Rattle.policy_difference.specs.Rivals.{SomeCoversAction}
-use Rattle.policy_difference.proofs.Tested.{all-tested}
 use Rattle.policy_difference.proofs.rivals.each_covers_action.Goals as goal
 
 pub returns : goal.returns

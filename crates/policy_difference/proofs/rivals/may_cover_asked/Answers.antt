@@ -1,5 +1,6 @@
 use Rattle.std.proofs.Common.{Any, subst, sym, ◌∙◌}
-use Rattle.policy_difference.specs.Rivals.{CoversAction, item_alone}
+use Rattle.statement_cover.specs.Statements.{CoversAction}
+use Rattle.policy_difference.specs.Rivals.{item_alone}
 use Rattle.policy_difference.proofs.Besides.{asked-covered}
 use Rattle.policy_difference.proofs.rivals.may_cover_asked.Goals as goal
 

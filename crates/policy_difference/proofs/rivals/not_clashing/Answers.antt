@@ -1,6 +1,6 @@
-use Rattle.policy_difference.specs.Differences.{ClashStatement}
+use Rattle.statement_cover.specs.Statements.{ClashStatement}
+use Rattle.statement_cover.proofs.Laws.{grown-each, whole-each}
 use Rattle.policy_difference.specs.Rivals.{with_action}
-use Rattle.policy_difference.proofs.Filtered.{grown-each, whole-each}
 use Rattle.policy_difference.proofs.rivals.not_clashing.Goals as goal
 
 pub statements-preserved : goal.statements-preserved

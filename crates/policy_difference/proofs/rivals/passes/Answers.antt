@@ -1,6 +1,6 @@
 use Rattle.std.proofs.Common.{All, subst, sym, ◌∙◌}
+use Rattle.statement_cover.proofs.Laws.{apart}
 use Rattle.policy_difference.specs.Rivals.{EachClashesWithAction, SomeCoversAction}
-use Rattle.policy_difference.proofs.Leaving.{apart}
 use Rattle.policy_difference.proofs.rivals.passes.Goals as goal
 
 pub returns-then-each_covers_action : goal.returns-then-each_covers_action

@@ -1,5 +1,6 @@
 use Rattle.std.proofs.Common.{subst, sym}
-use Rattle.policy_difference.specs.Rivals.{AllowedByEach, ApartFromEach, with_action}
+use Rattle.statement_cover.specs.Bounding.{AllowedByEach, ApartFromEach}
+use Rattle.policy_difference.specs.Rivals.{with_action}
 use Rattle.policy_difference.proofs.rivals.rivals_of.Goals as goal
 
 pub returns : goal.returns

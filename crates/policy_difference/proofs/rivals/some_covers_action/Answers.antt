@@ -3,8 +3,8 @@ use borrow.Author.Tests.{tests}
 use Rattle.std.proofs.lemmas.Iterator.{YieldsList-from_slice, cases_from_any}
 use Rattle.std.specs.Borrow.{Bor}
 use Rattle.policy_model.specs.declared.set.Statement.{Statement}
-use Rattle.policy_difference.specs.Rivals.{CoversAction}
-use Rattle.policy_difference.proofs.Tested.{any-tested}
+use Rattle.statement_cover.specs.Statements.{CoversAction}
+use Rattle.statement_cover.proofs.Laws.{any-tested}
 use Rattle.policy_difference.proofs.rivals.some_covers_action.Goals as goal
 
 pub returns : goal.returns

@@ -1,9 +1,9 @@
 use Rattle.std.proofs.Common.{◌↔◌, ◌⊎◌, Any, List, subst}
 use Rattle.policy_model.specs.declared.set.Statement.{Statement}
 use Rattle.policy_model.specs.declared.set.Document.{Document}
-use Rattle.policy_difference.specs.Differences.{AsksNoMore}
+use Rattle.statement_cover.specs.Statements.{AsksNoMore}
+use Rattle.statement_cover.proofs.Laws.{grown-some, whole-some}
 use Rattle.policy_difference.specs.Rivals.{SomeCoversAction, with_action}
-use Rattle.policy_difference.proofs.Filtered.{grown-some, whole-some}
 use Rattle.policy_difference.proofs.rivals.wider_of.Goals as goal
 
 pub documents-preserved : goal.documents-preserved

@@ -3,7 +3,7 @@ use Rattle.wildcard_lang.specs.declared.piece.Piece.{Piece}
 use Rattle.policy_model.specs.declared.matcher.Matcher.{Matcher}
 use Rattle.policy_model.specs.declared.set.Statement.{Statement}
 use Rattle.policy_model.specs.declared.set.Document.{Document}
-use Rattle.policy_difference.specs.Differences.{AsksNoMore}
+use Rattle.statement_cover.specs.Statements.{AsksNoMore}
 use Rattle.policy_difference.specs.Rivals.{IsAskedOf, SomeCoversAction, with_action}
 use Rattle.policy_difference.proofs.rivals.wider_of.Given as goal
 

@@ -1,6 +1,6 @@
-use Rattle.policy_difference.specs.Differences.{HasWider}
+use Rattle.statement_cover.specs.Statements.{HasWider}
+use Rattle.statement_cover.proofs.Laws.{grown-each, pushed-all, whole-each}
 use Rattle.policy_difference.specs.Rivals.{SomeCoversAction, with_action}
-use Rattle.policy_difference.proofs.Filtered.{grown-each, pushed-all, whole-each}
 use Rattle.policy_difference.proofs.rivals.wider_of_each.Goals as goal
 
 pub lists-preserved : goal.lists-preserved

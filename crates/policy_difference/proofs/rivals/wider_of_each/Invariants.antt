@@ -1,7 +1,8 @@
 use Rattle.std.proofs.Common.{◌↔◌, All, List, take}
 use Rattle.wildcard_lang.specs.declared.piece.Piece.{Piece}
 use Rattle.policy_model.specs.declared.matcher.Matcher.{Matcher}
-use Rattle.policy_difference.specs.Rivals.{AllowedByEach, IsAskedOf, SomeCoversAction, with_action}
+use Rattle.statement_cover.specs.Bounding.{AllowedByEach}
+use Rattle.policy_difference.specs.Rivals.{IsAskedOf, SomeCoversAction, with_action}
 use Rattle.policy_difference.proofs.rivals.wider_of_each.Given as goal
 
 abbrev pub invariant-lists : goal.invariant-lists

@@ -1,4 +1,4 @@
-use Rattle.std.proofs.Common.{◌≡◌, ◌+◌, ap, get_or, List, length, min, subst, sum_by, take, arith}
+use Rattle.std.proofs.Common.{◌≡◌, ap, get_or, List, length, min, subst, sum_by, arith}
 use Rattle.std.proofs.lemmas.List.{take_all}
 use Rattle.std.proofs.lemmas.List.Sums.{sum_by_more}
 use Rattle.policy_model.specs.declared.set.Document.{Document}

@@ -1,8 +1,0 @@
-use Rattle.std.proofs.Common.{◌↔◌, All, take}
-use Rattle.policy_model.specs.declared.set.Statement.{Statement}
-use Rattle.policy_difference.specs.Differences.{LetsPass}
-use Rattle.policy_difference.specs.Rivals.{AllowedByEach}
-use Rattle.policy_difference.proofs.bounds.add_guards.Given as goal
-
-abbrev pub invariant-guards : goal.invariant-guards
-invariant-guards l = (s : Statement) → AllowedByEach l.lists.items s ↔ (AllowedByEach l.fn.lists.items s × All (LetsPass l.first s) (take l.guard-index l.guards))

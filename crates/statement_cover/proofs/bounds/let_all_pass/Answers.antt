@@ -1,0 +1,13 @@
+use Rattle.std.proofs.Common.{◌≡◌, All, true, rules}
+use borrow.Author.Tests.{tests}
+use Rattle.std.proofs.lemmas.Iterator.{YieldsList-from_slice, cases_from_all}
+use Rattle.policy_model.specs.declared.set.Document.{Document}
+use Rattle.policy_model.specs.declared.set.Statement.{Statement}
+use Rattle.statement_cover.specs.Statements.{HasWider}
+use Rattle.statement_cover.proofs.Tested.{all-tested}
+use Rattle.statement_cover.proofs.bounds.let_all_pass.Goals as goal
+
+pub returns : goal.returns
+returns c =
+    let P : Document → Type 0 = λ d. All (λ (s : Statement). s.allow ≡ true → HasWider c.args.guard.now s) d.statements in
+    all-tested P _ _ (cases_from_all _ _ _ P (λ v. ¬ P v) c.all.ensures.ran (YieldsList-from_slice c.args.documents.now cc) (λ x q k. search (rules, tests)) (λ x q k. search (rules, tests)))

@@ -1,0 +1,16 @@
+use Rattle.std.proofs.Common.{◌↔◌, IsTrue}
+use Rattle.statement_cover.specs.Elements.{ClashMatcher}
+use Rattle.statement_cover.proofs.Seen.{kinds}
+use Rattle.statement_cover.proofs.elements.clash_elements.Goals as goal
+
+pub returns-in-true-false : goal.returns-in-true-false
+returns-in-true-false g c =
+    kinds (λ m n. IsTrue c.cover_items.result ↔ ClashMatcher g.T.Item.covering g.T.Item.clashing m n) _ _ _ _ _ _ _ _ c.element.view_is c.other.view_is c.in-true-false.is-0 c.in-true-false.is-1 c.cover_items.ensures
+
+pub returns-in-false-true : goal.returns-in-false-true
+returns-in-false-true g c =
+    kinds (λ m n. IsTrue c.cover_items-in-false-true.result ↔ ClashMatcher g.T.Item.covering g.T.Item.clashing m n) _ _ _ _ _ _ _ _ c.element.view_is c.other.view_is c.in-false-true.is-0 c.in-false-true.is-1 c.cover_items-in-false-true.ensures
+
+pub returns-in-false-false : goal.returns-in-false-false
+returns-in-false-false g c =
+    kinds (λ m n. IsTrue c.clash_items.result ↔ ClashMatcher g.T.Item.covering g.T.Item.clashing m n) _ _ _ _ _ _ _ _ c.element.view_is c.other.view_is c.in-false-false.is-0 c.in-false-false.is-1 c.clash_items.ensures

@@ -1,0 +1,19 @@
+use Rattle.std.proofs.Common.{◌≡◌, ◌++◌, ◌-◌, [], ◌∷◌, get_or, if◌then◌else◌, nat_eq, ap, ◌∙◌}
+use Rattle.std.proofs.lemmas.Bool.{eq-eqb, eqb-true}
+use Rattle.policy_model.specs.declared.set.Document.{Document}
+use Rattle.statement_cover.specs.Removal.{document_without, documents_without}
+use Rattle.statement_cover.proofs.Removing.{change-next}
+use Rattle.statement_cover.proofs.removal.documents_without.Goals as goal
+
+pub documents-preserved : goal.documents-preserved
+documents-preserved c =
+    let n = c.documents.left in
+    let one = nat_eq n 1 in
+    let x = c.one-item.result in
+    let xs = c.args.documents.now in
+    let i = c.documents.one-index in
+    let f = document_without c.args.statement in
+    let kept : c.push.new.self ≡ c.documents.kept ++ (if one then f (get_or xs i x) else get_or xs i x) ∷ [] =
+    c.in_ok-push.ensures.ok ∙ ap (λ (y : Document). c.documents.kept ++ y ∷ []) (c.in_ok-document_kept.ensures ∙ ap (λ (y : Document). (if one then f y else y)) c.one-item.is) in
+    let left : c.saturating_sub-left.result ≡ n - 1 = c.saturating_sub-left.ensures in
+    rw (kept, left) (change-next f n i one c.documents.kept (documents_without c.args.document c.args.statement xs) xs x c.documents-test.true (λ e. eqb-true n 1 e) (λ e. eq-eqb n 1 e) c.documents.invariant)

@@ -1,0 +1,9 @@
+pub mod Entries
+pub mod Elements
+pub mod Implications
+pub mod Statements
+pub mod Sharing
+pub mod Bounding
+pub mod Places
+pub mod Removal
+pub mod Repeats
