@@ -1,29 +1,29 @@
 //! Prints what single calls answer to lines of standard input. A line begins with a word.
 //!
-//! `pattern KIND PATTERN TEXT ..`, with tabs behind the kind, prints the pattern that was read, written again, and a mark
-//! for each text: `y` where the pattern matches it and `n` where it doesn't; or why the pattern is refused. For the kind
-//! `text` it prints the texts, folded. For the kind `pair` there are two patterns, each behind its kind, and the
-//! answer is three marks: whether the first covers the second, whether the second covers the first, and
-//! whether they clash.
+//! `pattern KIND PATTERN TEXT ..`, with tabs behind the kind, prints the pattern that was read, written again, and a
+//! mark for each text: `y` where the pattern matches it and `n` where it doesn't; or why the pattern is refused. For
+//! the kind `text` it prints the texts, folded. For the kind `pair` there are two patterns, each behind its kind, and
+//! the answer is three marks: whether the first covers the second, whether the second covers the first, and whether
+//! they clash.
 //!
-//! `value WORD TEXT` prints what the text stands for, or that it is refused: the number of an address, the ends of
-//! a block, the units of a decimal or a moment, and a value that meets clauses.
+//! `value WORD TEXT` prints what the text stands for, or that it is refused: the number of an address, the ends of a
+//! block, the units of a decimal or a moment, and a value that meets clauses.
 //!
-//! `product LIMIT YES NO OTHER` asks for what the product answers to the wants that the first pattern matches
-//! and the two others don't: a text; or the product states of a closed set, and whether it is closed, and
-//! whether it is without each of them in turn; or how many texts. `product states LIMIT FORM NAME` asks for how
-//! many product states a product has of which no text is wanted, and whether its closed set is; with the argument
-//! `time` also for how fast it is made and checked.
+//! `product LIMIT YES NO OTHER` asks for what the product answers to the wants that the first pattern matches and the
+//! two others don't: a text; or the product states of a closed set, and whether it is closed, and whether it is
+//! without each of them in turn; or how many texts. `product states LIMIT FORM NAME` asks for how many product states
+//! a product has of which no text is wanted, and whether its closed set is; with the argument `time` also for how fast
+//! it is made and checked.
 //!
-//! `slot ask SLOT SHAPE STATES TEST TEST TEST` asks for a value; of tests that none answers so it prints
-//! the kind of the proof and their numbers, and whether they are accepted with it, under the other
-//! answers, without their last test, and by fixed answers alone. A line `slot stated SLOT SHAPE` asks nothing.
-//! `SHAPE` is that of actions, or of the ids of `AWS` principals, or `-`. A test is its answer, `+`, `-` or
-//! `.` for none, and a pattern, or of the principal an entry: `*`, a kind, an account, or `KIND=ID`.
+//! `slot ask SLOT SHAPE STATES TEST TEST TEST` asks for a value; of tests that none answers so it prints the kind of
+//! the proof and their numbers, and whether they are accepted with it, under the other answers, without their last
+//! test, and by fixed answers alone. A line `slot stated SLOT SHAPE` asks nothing. `SHAPE` is that of actions, or of
+//! the ids of `AWS` principals, or `-`. A test is its answer, `+`, `-` or `.` for none, and a pattern, or of the
+//! principal an entry: `*`, a kind, an account, or `KIND=ID`.
 //!
-//! `slot key KIND FLAGS VALUES STATES TEST TEST TEST` asks for values of the key `k` under the rule of the
-//! three words. A test is its answer and `?`, `=` and a pattern or a truth value, or `#` and some that are
-//! divided by bars. Behind `j` it is on another key. A line `slot stated-key KIND FLAGS VALUES` asks nothing.
+//! `slot key KIND FLAGS VALUES STATES TEST TEST TEST` asks for values of the key `k` under the rule of the three
+//! words. A test is its answer and `?`, `=` and a pattern or a truth value, or `#` and some that are divided by bars.
+//! Behind `j` it is on another key. A line `slot stated-key KIND FLAGS VALUES` asks nothing.
 //!
 //! `outside` reads files and writes texts, and prints what came of each call.
 #![tactic(auto)]

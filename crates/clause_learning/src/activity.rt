@@ -1,5 +1,5 @@
-//! How much part each variable had in the last conflicts. The most active undecided one is decided next, or in turn the first
-//! one of an order.
+//! How much part each variable had in the last conflicts. The most active undecided one is decided next, or in turn
+//! the first one of an order.
 use crate::assignment::Assignment;
 use crate::gain::Gain;
 use plain_lists::NoMemory;
@@ -31,8 +31,8 @@ pub(crate) struct Activity {
     heap: Vec<u32>,
     // By variable its place in the heap.
     places: Vec<Option<usize>>,
-    // Whether variables are decided in the order below. Where much is alike in turn, as in lists of statements, that takes
-    // far fewer conflicts.
+    // Whether variables are decided in the order below. Where much is alike in turn, as in lists of statements, that
+    // takes far fewer conflicts.
     in_order: bool,
     // The variables in that order: at first by number, as the formula has them.
     order: Vec<u32>,

@@ -173,8 +173,8 @@ impl Trace {
         Ok(())
     }
 
-    // Whether the clause's other literals and those of level 0 make this one false. Then it and what leads to it are among
-    // the implied.
+    // Whether the clause's other literals and those of level 0 make this one false. Then it and what leads to it are
+    // among the implied.
     fn is_implied(
         &mut self,
         store: &Store,
@@ -244,8 +244,8 @@ impl Trace {
     }
 }
 
-// The hints in an order in which each leads to the next ones: the literals of level 0, what is implied as the trail has it,
-// and what was traced.
+// The hints in an order in which each leads to the next ones: the literals of level 0, what is implied as the trail
+// has it, and what was traced.
 fn hints_of(alloc: Global, assignment: &Assignment, trace: &Trace) -> Result<Vec<u32>, NoMemory> {
     let mut hints = Vec::new(alloc);
     for variable in trace.first.as_slice() {

@@ -64,8 +64,9 @@ fn note_clause(store: &Store, number: u32, longest: &mut Vec<u32>) {
 }
 
 impl Solver {
-    /// Arranges the variables by number, but that each one draws the others of its longest clause behind it. A clause that
-    /// asks for one of several says little before most of them are decided, and what is learned between is of little use.
+    /// Arranges the variables by number, but that each one draws the others of its longest clause behind it. A clause
+    /// that asks for one of several says little before most of them are decided, and what is learned between is of
+    /// little use.
     pub(crate) fn arrange(&mut self) -> Result<(), NoMemory> {
         let longest = self.longest()?;
         let mut order = Order::new(self.alloc, longest.len())?;

@@ -1,5 +1,5 @@
-//! That no text is both of two, with its closed set written down: no search finds it sooner. The check of lines reads it as
-//! any other, so that nothing rests on it.
+//! That no text is both of two, with its closed set written down: no search finds it sooner. The check of lines reads
+//! it as any other, so that nothing rests on it.
 use crate::asked::Asked;
 use formula_tree::Path;
 use pattern_automata::{Closed, PlaceLists};

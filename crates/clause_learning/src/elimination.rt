@@ -273,7 +273,8 @@ impl Solver {
         kept.add(number, clause)
     }
 
-    // Eliminates variables of nodes, those of inner ones first, until much was added. Those that are left stay as they are.
+    // Eliminates variables of nodes, those of inner ones first, until much was added. Those that are left stay as they
+    // are.
     fn eliminate_all(&mut self, kept: &mut Kept) -> Result<(), NoMemory> {
         let mut elimination = Elimination::new(self.alloc);
         let mut added: usize = 0;
@@ -302,8 +303,8 @@ impl Solver {
         }
     }
 
-    // Puts what follows without the variable in the place of the clauses that have it, where these are few and short, and
-    // it isn't longer. Whether it did.
+    // Puts what follows without the variable in the place of the clauses that have it, where these are few and short,
+    // and it isn't longer. Whether it did.
     fn eliminate(
         &mut self,
         kept: &mut Kept,

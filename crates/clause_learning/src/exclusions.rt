@@ -1,5 +1,5 @@
-//! Pairs of tests of one slot that exclude one another, such as two texts of a key. A slot excludes one pair in a round;
-//! from that it is known which ones it would exclude in later rounds.
+//! Pairs of tests of one slot that exclude one another, such as two texts of a key. A slot excludes one pair in a
+//! round; from that it is known which ones it would exclude in later rounds.
 use crate::asked::Asked;
 use crate::guessing::Guesses;
 use crate::store::Store;
@@ -10,8 +10,8 @@ use slot_theory::{Core, SlotProof};
 use std::alloc::Global;
 use wildcard_lang::clashes;
 
-// How many pairs are looked at where the first one is excluded, and how many at most. Each time it is more by this part:
-// where a slot excludes many pairs few rounds are enough, and where it doesn't few pairs are learned in vain.
+// How many pairs are looked at where the first one is excluded, and how many at most. Each time it is more by this
+// part: where a slot excludes many pairs few rounds are enough, and where it doesn't few pairs are learned in vain.
 const FIRST_LOOKED: usize = 32;
 
 const MOST_LOOKED: usize = 32_768;
@@ -138,7 +138,8 @@ impl Exclusions {
         Ok(())
     }
 
-    /// Proposes pairs of tests of each slot that excludes two of them by one of the cores, whose answers are the path's.
+    /// Proposes pairs of tests of each slot that excludes two of them by one of the cores, whose answers are the
+    /// path's.
     pub fn propose(
         &mut self,
         asked: &Asked<'_>,

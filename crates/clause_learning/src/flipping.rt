@@ -1,5 +1,5 @@
-//! A local search: a variable of a clause that is false gets the other value, again and again. Where very many clauses can
-//! just be satisfied it finds an assignment sooner than learning does.
+//! A local search: a variable of a clause that is false gets the other value, again and again. Where very many clauses
+//! can just be satisfied it finds an assignment sooner than learning does.
 use crate::assignment::Assignment;
 use crate::solver::Solver;
 use crate::store::{Literal, Store};
@@ -226,7 +226,8 @@ impl Walk {
 }
 
 impl Solver {
-    /// Looks for an assignment without learning. Where one is found, variables are decided by it next. No decision stands.
+    /// Looks for an assignment without learning. Where one is found, variables are decided by it next. No decision
+    /// stands.
     pub(crate) fn walk(&mut self) -> Result<(), NoMemory> {
         let mut walk = Walk::new(self.alloc, &self.assignment)?;
         self.take_essential(&mut walk)?;

@@ -80,8 +80,8 @@ impl Guesses {
         }
     }
 
-    /// The answers of those slots whose last value doesn't give all of the path's. Those that are yes come last: a slot's
-    /// question begins with the last, and what is to be has fewer values than what isn't.
+    /// The answers of those slots whose last value doesn't give all of the path's. Those that are yes come last: a
+    /// slot's question begins with the last, and what is to be has fewer values than what isn't.
     pub fn unsettled(&self, asked: &Asked<'_>, path: &Path) -> Result<Path, NoMemory> {
         let tests = asked.query.tests.as_slice();
         let mut settled = vec![in asked.alloc; true; self.values.len()]?;

@@ -286,7 +286,8 @@ impl KnownConflicts {
         Ok(all)
     }
 
-    /// Keeps the answers of the search, whose numbers rise, with the proof that no value gives them, while there is room.
+    /// Keeps the answers of the search, whose numbers rise, with the proof that no value gives them, while there is
+    /// room.
     pub(crate) fn keep(
         &mut self,
         answers: &[(u32, bool)],

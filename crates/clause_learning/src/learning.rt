@@ -14,8 +14,8 @@ use std::rc::Rc;
 const KNOWN_WORK: usize = 40;
 
 impl Solver {
-    /// Learns from the conflict of a clause all of whose literals are false, some at the last level, and goes back to the
-    /// level at which the learned clause makes its first literal true. Whether it is empty, so that the lines end.
+    /// Learns from the conflict of a clause all of whose literals are false, some at the last level, and goes back to
+    /// the level at which the learned clause makes its first literal true. Whether it is empty, so that the lines end.
     pub fn learn(&mut self, number: u32) -> Result<bool, NoMemory> {
         self.fix()?;
         let Learned {
@@ -64,8 +64,8 @@ impl Solver {
         Ok(())
     }
 
-    /// The hints by which the clause says what it does at level 0 of its undecided literals, or else of this variable's: the
-    /// clauses that make the others false, and then itself.
+    /// The hints by which the clause says what it does at level 0 of its undecided literals, or else of this
+    /// variable's: the clauses that make the others false, and then itself.
     pub(crate) fn unit_hints(
         &self,
         number: u32,
@@ -103,8 +103,8 @@ impl Solver {
         })
     }
 
-    // Goes back to the level of the clause's second literal, the latest of its false ones but for the first, and makes the
-    // first one true.
+    // Goes back to the level of the clause's second literal, the latest of its false ones but for the first, and makes
+    // the first one true.
     fn assert(&mut self, number: u32) -> Result<(), NoMemory> {
         let Some(first) = self.store.literal(number, 0) else {
             return Ok(());
@@ -123,7 +123,8 @@ impl Solver {
         Ok(())
     }
 
-    // Brings to the place the literal that isn't false, or else became so at the latest level, from there or from behind.
+    // Brings to the place the literal that isn't false, or else became so at the latest level, from there or from
+    // behind.
     fn draw_latest(&mut self, number: u32, from: usize) {
         let mut latest = from;
         let mut most = 0;
@@ -163,8 +164,8 @@ impl Solver {
         }
     }
 
-    // Takes in a clause of the store at any level. Where all of its literals are false the search goes back to the latest
-    // of their levels and learns from the conflict there. Whether the lines end.
+    // Takes in a clause of the store at any level. Where all of its literals are false the search goes back to the
+    // latest of their levels and learns from the conflict there. Whether the lines end.
     fn take_in(&mut self, number: u32) -> Result<bool, NoMemory> {
         self.draw_latest(number, 0);
         self.draw_latest(number, 1);

@@ -1,5 +1,5 @@
-//! Learns clauses from conflicts, and proposes what the order of tests tells of slots. Nothing rests on any of it: what is said
-//! of a query the check of clausal proofs or a request shows.
+//! Learns clauses from conflicts, and proposes what the order of tests tells of slots. Nothing rests on any of it:
+//! what is said of a query the check of clausal proofs or a request shows.
 #![tactic(auto)]
 
 mod activity;

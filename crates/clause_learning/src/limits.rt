@@ -1,8 +1,8 @@
 //! How long a search may go on, in numbers that don't rest on the machine.
 
-/// The most units of work: literals that are looked at, and product states of slots at a price in units. A unit takes some
-/// nanoseconds, so that a search takes a second or two: it stands before one whose budgets the user gave. The check of
-/// the lines isn't counted, which is made where the search ends with the empty clause.
+/// The most units of work: literals that are looked at, and product states of slots at a price in units. A unit takes
+/// some nanoseconds, so that a search takes a second or two: it stands before one whose budgets the user gave. The
+/// check of the lines isn't counted, which is made where the search ends with the empty clause.
 pub const MOST_WORK: usize = 160_000_000;
 
 // The most literals of learned clauses and hints together, so that their lines take some tens of megabytes.

@@ -6,12 +6,12 @@ use plain_lists::NoMemory;
 // What a decision or a conflict takes at least.
 const STEP_WORK: usize = 40;
 
-// The restart at which the clauses are made simpler, and from which on variables are decided in the other order in turn. It
-// comes after some 200 conflicts, and few queries come to it.
+// The restart at which the clauses are made simpler, and from which on variables are decided in the other order in
+// turn. It comes after some 200 conflicts, and few queries come to it.
 const TURN_RESTART: u32 = 1;
 
-// The restart at which an assignment is looked for without learning. It comes after some 6,000 conflicts where one order
-// stays the better one.
+// The restart at which an assignment is looked for without learning. It comes after some 6,000 conflicts where one
+// order stays the better one.
 const WALK_RESTART: u32 = 6;
 
 /// How the search for an assignment ends.
@@ -60,8 +60,8 @@ impl Solver {
         Ok(None)
     }
 
-    // The value at which the variable is decided. In order it is no, unless yes is wanted: then what is learned names the
-    // variables of a clause that are left, and holds whichever of the others is yes.
+    // The value at which the variable is decided. In order it is no, unless yes is wanted: then what is learned names
+    // the variables of a clause that are left, and holds whichever of the others is yes.
     fn value_for(&self, variable: u32) -> bool {
         if self.activity.is_in_order() {
             return self.assignment.is_wanted(variable);

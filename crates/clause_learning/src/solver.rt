@@ -29,7 +29,8 @@ pub struct Solver {
     pub limits: Limits,
     /// How many restarts there were.
     pub(crate) restarts: u32,
-    /// The clauses that slots exclude, and once they were made simpler those of the formula. All others follow from them.
+    /// The clauses that slots exclude, and once they were made simpler those of the formula. All others follow from
+    /// them.
     pub(crate) essential: Vec<u32>,
     /// The learned clauses that may be forgotten.
     pub(crate) candidates: Vec<Candidate>,

@@ -3,7 +3,8 @@ use crate::store::Literal;
 use plain_lists::NoMemory;
 use std::alloc::Global;
 
-/// A clause in which a literal is watched, and another literal of it: where that one is true the clause needn't be read.
+/// A clause in which a literal is watched, and another literal of it: where that one is true the clause needn't be
+/// read.
 #[derive(Clone, Copy)]
 pub(crate) struct Watch {
     pub(crate) number: u32,

@@ -159,8 +159,9 @@ fn refute_clauses(
 /// Whether the lines refute the query: each up to one whose clause is empty is right by the clauses before it, which
 /// are those of the query's formula and then those of the lines before. What stands behind that line isn't looked at.
 ///
-/// The schema is sound, and the tests suit it and are numbered by 32 bits. Time is that of the hints, of the slot proofs,
-/// and for each line of the greatest variable that it decides; a clause is copied once. The only error is want of memory.
+/// The schema is sound, and the tests suit it and are numbered by 32 bits. Time is that of the hints, of the slot
+/// proofs, and for each line of the greatest variable that it decides; a clause is copied once. The only error is want
+/// of memory.
 pub fn refutes(
     alloc: Global,
     schema: &Schema,

@@ -1,7 +1,7 @@
 -- Values that slots were found to have.
 use Rattle.std.proofs.Common.{◌≡◌, ◌≢◌, ◌<◌, ◌++◌, ◌∷◌, [], length, get_or, All, AllPairs, sym, ap, ◌∙◌, inl, inr, arith}
 use Rattle.std.proofs.lemmas.List.{length_push, get_or_append_left, get_or_push}
-use Rattle.std.proofs.lemmas.List.Elements.{All-push, All-nil}
+use Rattle.std.proofs.lemmas.List.Elements.{All-push}
 use Rattle.formula_tree.specs.Answers.{Answers}
 use Rattle.formula_tree.proofs.Laws.{cases_eq}
 use Rattle.policy_model.specs.declared.test.Slot.{Slot}
@@ -38,11 +38,4 @@ found-more a path values s v are new asked is = record {
   each = All-push (λ (p : Pair). IsSlotValue a.schema.now a.query.now.tests path p.0 p.1) values (s, v) are.each is;
   needed = All-push (λ (p : Pair). HasTest a.query.now.tests path p.0) values (s, v) are.needed asked;
   once = once-push values (s, v) are.once new;
-}
-
-pub found-none : (a : Asked) (path : Answers) → AreFoundValues a path []
-found-none a path = record {
-  each = All-nil (λ (p : Pair). IsSlotValue a.schema.now a.query.now.tests path p.0 p.1);
-  needed = All-nil (λ (p : Pair). HasTest a.query.now.tests path p.0);
-  once = λ i j d low within. absurd (omega arith);
 }

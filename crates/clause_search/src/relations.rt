@@ -197,7 +197,8 @@ fn learn_clauses(
     Ok(false)
 }
 
-// Learns the clause where no value of its tests' slot makes each of its literals false. The path's memory is used again.
+// Learns the clause where no value of its tests' slot makes each of its literals false. The path's memory is used
+// again.
 fn learn_clause(
     asked: &Asked<'_>,
     solver: &mut Solver,

@@ -29,8 +29,8 @@ use std::mem::replace;
 // Formulas whose clauses have more literals are left open at once.
 const MOST_LITERALS: usize = 200_000;
 
-// The round before which it is learned which tests of a slot are wider than others. Formulas that are refuted without the
-// slots don't come to it.
+// The round before which it is learned which tests of a slot are wider than others. Formulas that are refuted without
+// the slots don't come to it.
 const ORDER_ROUND: usize = 1;
 
 // What the choice of answers takes for each literal of the formula's clauses, in units of work.
@@ -42,11 +42,11 @@ const ANSWER_WORK: usize = 20;
 /// Searches for a refutation of the query, or for a valid request that makes it yes. Assignments of the formula's
 /// clauses are found by conflict-driven clause learning; the slots are asked about few answers of each that already
 /// make the formula yes, and what they exclude is learned too. A refutation is one that the check of clausal proofs
-/// accepts. The query is left open where its formula is very large, where slots of such answers need more product states
-/// than `states`, and where the search or its proof would be long; its limits don't rest on the machine.
+/// accepts. The query is left open where its formula is very large, where slots of such answers need more product
+/// states than `states`, and where the search or its proof would be long; its limits don't rest on the machine.
 ///
-/// The schema is sound and every test suits it, the formula's test numbers are below the number of tests, and
-/// `states` is at least 1. The only error is want of memory.
+/// The schema is sound and every test suits it, the formula's test numbers are below the number of tests, and `states`
+/// is at least 1. The only error is want of memory.
 pub fn search(
     alloc: Global,
     schema: &Schema,
@@ -223,8 +223,8 @@ fn round(
     ask(asked, solver, &path, theory)
 }
 
-// Asks the slots about the answers. First those are asked of which no value is known that gives them; where all have one
-// each is asked.
+// Asks the slots about the answers. First those are asked of which no value is known that gives them; where all have
+// one each is asked.
 fn ask(
     asked: &Asked<'_>,
     solver: &mut Solver,

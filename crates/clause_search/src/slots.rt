@@ -97,8 +97,8 @@ impl Failing {
         Ok(())
     }
 
-    // Counts the questions of a level. Where a slot has no value the product states are known that it took, and else only
-    // how many they may be.
+    // Counts the questions of a level. Where a slot has no value the product states are known that it took, and else
+    // only how many they may be.
     fn count(&mut self, path: &Path, states: u32, found: usize) {
         let questions = self.slots.len().saturating_add(found);
         let others = questions.saturating_sub(self.cores.len());

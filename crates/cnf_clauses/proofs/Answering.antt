@@ -1,12 +1,10 @@
 -- What one more answer of the path makes of what was decided.
-use Rattle.std.proofs.Common.{◌≡◌, ℕ, ◌≤◌, List, [], ◌∷◌, ◌++◌, length, take, get_or, arith, ◌<◌, Bool, true, false, not, Option, Some, None, inl, inr, refl, sym, ap, subst, ◌∙◌}
+use Rattle.std.proofs.Common.{◌≡◌, ℕ, List, [], ◌∷◌, ◌++◌, length, take, get_or, arith, Bool, true, false, not, Option, Some, None, inl, inr, refl, sym, ap, subst, ◌∙◌}
 use Rattle.std.proofs.lemmas.List.{take_all, take_at}
-use Rattle.std.proofs.lemmas.Option.{slice_get_within}
 use Rattle.formula_tree.specs.Answers.{Answers, answer_of, Contained}
 use Rattle.formula_tree.proofs.Laws.{answer_of-more, answer_of-last, cases_eq}
 use Rattle.cnf_clauses.specs.Literals.{Clause, Literal, IsRefuted, IsUnit}
 use Rattle.cnf_clauses.specs.Explains.{Agree, IsAnsweredAt, IsRefutedAt}
-use Rattle.cnf_clauses.specs.Levels.{IsLevel}
 use Rattle.cnf_clauses.specs.Propagates.{AreQuiet}
 use Rattle.cnf_clauses.specs.Reasons.{Extends, HaveReasons, IsReason}
 use Rattle.cnf_clauses.specs.Trails.{HasOthers, IsOpposite}
@@ -29,14 +27,6 @@ others-all path d test answer others here decided n b h =
     ]
 
 -- ---- an answer that was decided before
-
-pub level-same : (cs : List Clause) (path d : Answers) (r : List (Option ℕ)) (test : ℕ) (answer value : Bool) → HasOthers test path d → answer_of path test ≡ Some answer → answer_of d test ≡ Some value →
-    value ≡ answer → HaveReasons cs path [] d r → AreQuiet cs d d → IsLevel cs path d r
-level-same cs path d r test answer value others here decided same reasons quiet = record {
-  answers = others-all path d test answer others here (decided ∙ ap (λ (x : Bool). Some x) same);
-  explained = reasons;
-  quiet = quiet;
-}
 
 not-same : (a b : Bool) → (a ≡ b → ⊥) → a ≡ not b
 not-same true true ne = absurd (ne refl)
@@ -65,10 +55,6 @@ pub opposite-clause : (cs : List Clause) (path d : Answers) (r : List (Option �
     found ≡ get_or r index None → found ≡ None → ⊥
 opposite-clause cs path d r test index found reasons (b, here, decided) answered read none =
     contradicted-reason cs path (take index d) test b (get_or r index None) (reasons-at cs path [] d r index (test, not b) reasons (answered (not b) decided)) here (sym read ∙ none)
-
-pub opposite-within : (path d : Answers) (test index : ℕ) → IsOpposite test path d → IsAnsweredAt test index d → index ≤ length d
-opposite-within path d test index (b, here, decided) answered =
-    let inside : index < length d = slice_get_within d index (test, not b) (answered (not b) decided) in omega arith
 
 -- what was decided before it agrees with the path
 pub opposite-agrees : (path d : Answers) (test index : ℕ) → HasOthers test path d → answer_of (take index d) test ≡ None → Agree path (take index d)

@@ -5,8 +5,7 @@ use Rattle.formula_tree.specs.Answers.{Answers, answer_of, Contained}
 use Rattle.formula_tree.proofs.Laws.{answer_of-more, answer_of-rest, answer_of-besides, cases_eq}
 use Rattle.cnf_clauses.specs.Literals.{Clause, Literal, IsFalseUnder, IsRefuted, IsUnit}
 use Rattle.cnf_clauses.specs.Replays.{Replays, refuted, derives}
-use Rattle.cnf_clauses.specs.Explains.{IsNeeded, NeedsAlso, HasNeeded, Explains, AreNeeded, Agree}
-use Rattle.cnf_clauses.specs.Used.{RestOn}
+use Rattle.cnf_clauses.specs.Explains.{IsNeeded, NeedsAlso, HasNeeded, Explains, Agree}
 use Rattle.cnf_clauses.proofs.Convex.{open-in, contained-both}
 use Rattle.cnf_clauses.proofs.Hinting.{unit-is, same_clause, none-replay}
 use Rattle.cnf_clauses.proofs.Settling.{cases_option}
@@ -111,16 +110,6 @@ explains-more cs known l c n old new hs there u needs before = record {
       (before.replay (few ++ l ∷ []) (contained-both few known l inside u.undecided) (grown-needed known few l old new inside needs.kept has));
   all = λ few inside r. more-all cs known l c n old new hs few there u needs before inside r;
 }
-
--- at the path itself
-pub explained-rest : (cs : List Clause) (path : Answers) (needed : List Bool) (hs : List ℕ) (used : Answers) → Explains cs path needed hs → AreNeeded path needed used → RestOn cs path hs used
-explained-rest cs path needed hs used e a few inside = (
-  λ has. e.replay few inside (λ v b n h. has v b (a.all v b n h)),
-  λ r v b h. e.all few inside r v b (a.marked v b h) (a.inside v b h),
-)
-
-pub explained-replay : (cs : List Clause) (path : Answers) (needed : List Bool) (hs : List ℕ) → Explains cs path needed hs → Replays cs path hs
-explained-replay cs path needed hs e = e.replay path (λ v b h. h) (λ v b n h. h)
 
 -- what is false behind a path that agrees with it
 pub false-behind : (path before : Answers) (m : Literal) → Agree path before → IsFalseUnder before m → IsFalseUnder (path ++ before) m

@@ -98,9 +98,6 @@ pub record Alike (cs : List Clause) (p : Answers) (hs : List ℕ) (d : Answers) 
   pub to : Replays cs p hs → Replays cs d rest
   pub from : Replays cs d rest → Replays cs p hs
 
-pub alike-start : (cs : List Clause) (p : Answers) (hs : List ℕ) (d : Answers) → d ≡ p → Alike cs p hs d (drop 0 hs)
-alike-start cs p hs d e = rw e (record { to = λ r. r; from = λ r. r })
-
 drop_here : (hs : List ℕ) (i n : ℕ) → i < length hs → n ≡ get_or hs i 0 → drop i hs ≡ n ∷ drop (i + 1) hs
 drop_here hs i n h e = rw (add-one, e) (drop-cons hs i 0 h)
 

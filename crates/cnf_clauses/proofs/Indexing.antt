@@ -1,5 +1,5 @@
 -- Indexes that grow.
-use Rattle.std.proofs.Common.{◌≡◌, ℕ, ◌<◌, ◌+◌, List, [], ◌∷◌, ◌++◌, length, take, get_or, set, Bool, true, false, Some, None, ◌⊎◌, inl, inr, sym, ap, subst, ◌∙◌, arith, get_or-set_same, get_or-set_other, length-append, slice_get, Result, Ok, Err}
+use Rattle.std.proofs.Common.{◌≡◌, ℕ, ◌<◌, ◌+◌, List, [], ◌∷◌, ◌++◌, length, take, get_or, set, Bool, true, false, Some, ◌⊎◌, inl, inr, sym, ap, subst, ◌∙◌, arith, get_or-set_same, get_or-set_other, length-append, slice_get, Result, Ok, Err}
 use Rattle.std.specs.List.{Contains}
 use Rattle.std.specs.Prelude.{OnOk}
 use Rattle.std.proofs.lemmas.List.{take_more, get_or_append_left, get_or_default}
@@ -8,7 +8,6 @@ use Rattle.std.proofs.Math.Seq.{get_or-append_seam}
 use Rattle.formula_tree.proofs.Laws.{cases_eq}
 use Rattle.cnf_clauses.specs.declared.index.Index.{Index}
 use Rattle.cnf_clauses.specs.Literals.{Clause, Literal}
-use Rattle.cnf_clauses.specs.Found.{IsOpen}
 use Rattle.cnf_clauses.specs.Indexes.{lists_at, held_at, HasEqual, HasTwoLiterals, IsIndexedWith, StandInIndex, StandsAgain}
 use Rattle.cnf_clauses.proofs.Scanning.{in_more}
 
@@ -33,11 +32,6 @@ pub named-more : (before after : Index) (lits : Clause) (k number : ℕ) (dflt :
 named-more before after lits k number dflt h named kept here m c =
     let parts : Contains (take k lits) m ⊎ (m ≡ get_or lits k dflt) = in_more (take k lits) (get_or lits k dflt) m (rw (take_more lits k dflt h) at c) in
     elim parts [ inl a ↦ kept m number (named m a) | inr e ↦ rw e here ]
-
--- nothing is decided, so what is open has two literals
-pub open-two : (d : List (ℕ × Bool)) (c : Clause) → d ≡ [] → IsOpen d c → HasTwoLiterals c
-open-two d c e (inl (m, h, t)) = let bad : None ≡ Some m.1 = rw e at t in absurd (cc)
-open-two d c e (inr (m, n, h, k, x, y, ne)) = (m, n, h, k, ne)
 
 clause-same : (clauses : List Clause) (i k : ℕ) (c d : Clause) → i ≡ k → slice_get clauses i ≡ Some d → c ≡ get_or clauses k c → d ≡ c
 clause-same clauses i k c d e found read =

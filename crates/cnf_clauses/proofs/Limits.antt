@@ -3,7 +3,7 @@ use Rattle.std.proofs.Common.{◌≡◌, ℕ, ◌<◌, ◌≤◌, ◌+◌, ◌-�
 use Rattle.std.proofs.lemmas.List.{take_more, take_all}
 use Rattle.cnf_clauses.specs.Literals.{Clause, Literal}
 use Rattle.cnf_clauses.specs.declared.making.TheConstants.{MOST_CLAUSES}
-use Rattle.cnf_clauses.specs.Numbering.{HaveNumbers, literals_at, pairs_with, with_more}
+use Rattle.cnf_clauses.specs.Numbering.{HaveNumbers, pairs_with, with_more}
 
 take-append : (n : ℕ) (xs ys : List Clause) → take n (xs ++ ys) ≡ take n xs ++ take (n - length (take n xs)) ys
 take-append zero xs ys = refl
@@ -64,9 +64,6 @@ map-more f (y ∷ ys) x = ap (λ zs. f y ∷ zs) (map-more f ys x)
 pub pairs-more : (l : Literal) (b : Bool) (vs : List ℕ) (k dflt : ℕ) → k < length vs → pairs_with l b (take (k + 1) vs) ≡ pairs_with l b (take k vs) ++ (l ∷ (get_or vs k dflt, b) ∷ []) ∷ []
 pairs-more l b vs k dflt h = ap (λ (x : List ℕ). pairs_with l b x) (take_more vs k dflt h) ∙ map-more (λ (v : ℕ). l ∷ (v, b) ∷ []) (take k vs) (get_or vs k dflt)
 
-pub literals-more : (b : Bool) (vs : List ℕ) (k dflt : ℕ) → k < length vs → literals_at b (take (k + 1) vs) ≡ literals_at b (take k vs) ++ (get_or vs k dflt, b) ∷ []
-literals-more b vs k dflt h = ap (λ (x : List ℕ). literals_at b x) (take_more vs k dflt h) ∙ map-more (λ (v : ℕ). (v, b)) (take k vs) (get_or vs k dflt)
-
 pub pairs-step : (old mid new : List Clause) (l : Literal) (b : Bool) (vs : List ℕ) (k dflt : ℕ) → k < length vs → mid ≡ with_more old (pairs_with l b (take k vs)) →
     new ≡ with_more mid ((l ∷ (get_or vs k dflt, b) ∷ []) ∷ []) → new ≡ with_more old (pairs_with l b (take (k + 1) vs))
 pairs-step old mid new l b vs k dflt h e f =
@@ -74,11 +71,3 @@ pairs-step old mid new l b vs k dflt h e f =
 
 pub pairs-end : (old mid : List Clause) (l : Literal) (b : Bool) (vs : List ℕ) (k : ℕ) → length vs ≤ k → mid ≡ with_more old (pairs_with l b (take k vs)) → mid ≡ with_more old (pairs_with l b vs)
 pairs-end old mid l b vs k h e = subst (λ (x : List ℕ). mid ≡ with_more old (pairs_with l b x)) (take_all k vs h) e
-
-pub literals-step : (l : Literal) (b : Bool) (vs : List ℕ) (k dflt : ℕ) (old new : Clause) → k < length vs → old ≡ l ∷ literals_at b (take k vs) → new ≡ old ++ (get_or vs k dflt, b) ∷ [] → new ≡ l ∷ literals_at b (take (k + 1) vs)
-literals-step l b vs k dflt old new h e f = rw (literals-more b vs k dflt h) (f ∙ ap (λ (x : Clause). x ++ (get_or vs k dflt, b) ∷ []) e)
-
-pub long-end : (old new : List Clause) (l : Literal) (b : Bool) (vs : List ℕ) (k : ℕ) (c : Clause) → length vs ≤ k → c ≡ l ∷ literals_at b (take k vs) → new ≡ with_more old (c ∷ []) → new ≡ with_more old ((l ∷ literals_at b vs) ∷ [])
-long-end old new l b vs k c h e f =
-    let whole : c ≡ l ∷ literals_at b vs = subst (λ (x : List ℕ). c ≡ l ∷ literals_at b x) (take_all k vs h) e in
-    subst (λ (x : Clause). new ≡ with_more old (x ∷ [])) whole f

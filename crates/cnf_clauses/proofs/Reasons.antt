@@ -33,14 +33,6 @@ reasons-path cs p q before [] (y ∷ r) inside h = absurd h
 reasons-path cs p q before (l ∷ d) [] inside h = absurd h
 reasons-path cs p q before (l ∷ d) (y ∷ r) inside h = (reason-path cs p q before l y inside h.0, reasons-path cs p q (before ++ l ∷ []) d r inside h.1)
 
--- the first of them
-pub reasons-take : (cs : List Clause) (p before d : Answers) (r : List (Option ℕ)) (m : ℕ) → HaveReasons cs p before d r → HaveReasons cs p before (take m d) (take m r)
-reasons-take cs p before d r zero h = tt
-reasons-take cs p before [] [] (suc m) h = tt
-reasons-take cs p before [] (y ∷ r) (suc m) h = absurd h
-reasons-take cs p before (l ∷ d) [] (suc m) h = absurd h
-reasons-take cs p before (l ∷ d) (y ∷ r) (suc m) h = (h.0, reasons-take cs p (before ++ l ∷ []) d r m h.1)
-
 -- the one at an index
 pub reasons-at : (cs : List Clause) (p before d : Answers) (r : List (Option ℕ)) (i : ℕ) (l : Literal) → HaveReasons cs p before d r → slice_get d i ≡ Some l → IsReason cs p (before ++ take i d) l (get_or r i None)
 reasons-at cs p before [] r i l h e = absurd (cc)

@@ -105,9 +105,6 @@ clauses-next n ts i t old mid new next e was at_next is =
     cut-twice old (node_clauses_in n (of_list (take i ts))) (node_clauses (n + nodes_in (of_list (take i ts))) t) mid new was here ∙
     ap (λ (x : List Clause). with_more old x) (sym (clauses-snoc n (take i ts) t) ∙ ap (λ (x : List Tree). node_clauses_in n (of_list x)) (sym (take_next ts i t e)))
 
-pub nodes_in-all : (ts : List Tree) (i : ℕ) → length ts ≤ i → nodes_in (of_list (take i ts)) ≡ nodes_in (of_list ts)
-nodes_in-all ts i h = ap (λ (x : List Tree). nodes_in (of_list x)) (take_all i ts h)
-
 pub variables-all : (n : ℕ) (ts : List Tree) (i : ℕ) (vs : List ℕ) → length ts ≤ i → vs ≡ variables_of n (of_list (take i ts)) → vs ≡ variables_of n (of_list ts)
 variables-all n ts i vs h e = e ∙ ap (λ (x : List Tree). variables_of n (of_list x)) (take_all i ts h)
 

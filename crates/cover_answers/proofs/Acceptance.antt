@@ -1,8 +1,7 @@
 -- What is printed of a summary with a certificate is accepted.
-use Rattle.std.proofs.Common.{◌≡◌, ◌≤◌, ◌<◌, ◌++◌, ◌∷◌, ◌∙◌, ℕ, List, [], length, map, All, Some, None, Ok, Contains, slice_get, ap, arith, inl, inr, refl, subst, sym}
+use Rattle.std.proofs.Common.{◌≡◌, ◌≤◌, ◌++◌, ◌∙◌, ℕ, List, [], length, All, Some, None, Ok, ap, arith, inl, inr, refl, subst, sym}
 use Rattle.std.specs.Prelude.{string_bytes}
 use Rattle.std.proofs.lemmas.List.{length-append}
-use Rattle.command_words.specs.Asked.{Summarising, SummaryCheck}
 use Rattle.command_words.specs.declared.limits.TheConstants.{MOST_FINDINGS}
 use Rattle.formula_tree.specs.Trees as tree
 use Rattle.policy_compile.specs.declared.outcome.Query.{Query}
@@ -20,9 +19,9 @@ use Rattle.proof_text.specs.Laws.{ClosingProofsAreSmall, ClosingProofsHaveNoFaul
 use Rattle.proof_text.specs.LineForms.{bytes_after, ended_lines}
 use Rattle.proof_text.specs.Spelling.{certificate_text}
 use Rattle.proof_text.specs.declared.fault.ProofFault.{ProofFault}
-use Rattle.proof_text.specs.declared.limits.TheConstants.{MOST_NUMBER, MOST_PROOF_BYTES}
+use Rattle.proof_text.specs.declared.limits.TheConstants.{MOST_PROOF_BYTES}
 use Rattle.proof_text.proofs.Ended.{behind_again}
-use Rattle.read_predicates.specs.Laws.{AreMadeFromFile, FindingsAreWrittenApart}
+use Rattle.read_predicates.specs.Laws.{FindingsAreWrittenApart}
 use Rattle.refute_check.specs.Closing.{FailsAt, at_first}
 use Rattle.refute_check.specs.Proofs.{Proof}
 use Rattle.refute_check.proofs.Laws.{fails-not-closes}
@@ -35,9 +34,7 @@ use Rattle.findings.specs.CoverLaws.{SummariesStand, SummaryVerdictsAreEqual}
 use Rattle.findings.specs.CoverQueries.{IsCoverQuery, cover_plan}
 use Rattle.findings.specs.StandingSummaries.{IsFirstFailing, SummaryStands}
 use Rattle.findings.specs.Summaries.{findings_of}
-use Rattle.findings.specs.declared.standing.SummaryVerdict.{SummaryVerdict}
 use Rattle.findings.specs.declared.standing.SummaryVerdict.TheVariants.{Stands, Fails}
-use Rattle.summary_search.specs.Outcomes.{AreStrataWithin}
 use Rattle.summary_search.specs.declared.outcome.Limits.{Limits}
 use Rattle.summary_search.specs.declared.outcome.Outcome.{Outcome}
 use Rattle.summary_search.specs.declared.outcome.Outcome.TheVariants as outcome
@@ -46,11 +43,11 @@ use Rattle.run_files.specs.declared.status.Status.TheVariants as status
 use Rattle.run_files.specs.Printing.{PrintsText}
 use Rattle.run_sets.specs.declared.one_set.OneSet.{OneSet}
 use Rattle.run_sets.specs.declared.refusal.Refusal.{Refusal}
-use Rattle.run_sets.specs.OneSets.{OfOneSet, OfSetRun, one_of, SetContents}
+use Rattle.run_sets.specs.OneSets.{one_of}
 use Rattle.run_sets.specs.Refusals.{IsRefusedBy}
 use Rattle.run_sets.proofs.Laws.{no_one_fails, of_same_set}
 use Rattle.finding_answers.specs.declared.answer.Found.{Found}
-use Rattle.finding_answers.specs.Dimensions.{NameSlots, dimension_slots}
+use Rattle.finding_answers.specs.Dimensions.{dimension_slots}
 use Rattle.finding_answers.specs.FindingTexts.{found_text}
 use Rattle.finding_answers.specs.Found.{IsFoundOf, IsNotFound, IsNotSummarised, PrintsUnfound}
 use Rattle.finding_answers.specs.Laws.{PrintedRequestsAreReadAgain}
@@ -58,12 +55,11 @@ use Rattle.finding_answers.specs.Printed.{limits_in}
 use Rattle.run_sets.specs.ClosedQueries.{FailsAll}
 use Rattle.run_sets.specs.CertificateLines.{accepted_line}
 use Rattle.finding_answers.proofs.Laws.{found_have_findings}
-use Rattle.cover_answers.specs.Certified.{IsCertifiedSummaryPrinted, IsCoverSaid, IsSetCertified, large_query, short_of_splits, short_of_states, with_certificate}
+use Rattle.cover_answers.specs.Certified.{IsCoverSaid, IsSetCertified, large_query, short_of_splits, short_of_states, with_certificate}
 use Rattle.cover_answers.specs.CoverProofs.{CertifiesCover, CoverIsTooLarge, FailsBehindAt, OfCover, fault_of_cover}
 use Rattle.cover_answers.specs.Decides.{AreNarrow, NameFew, PrintedSummariesAreAccepted}
 use Rattle.cover_answers.specs.Heads.{IsHead, head_lines}
-use Rattle.cover_answers.specs.Judged.{IsJudged, IsListJudged, IsSetChecked, IsSummaryCheckPrinted, all_holds, bad_certificate, failing_node, failing_pair, large_cover}
-use Rattle.cover_answers.specs.Made.{IsMadeOf}
+use Rattle.cover_answers.specs.Judged.{IsJudged, IsListJudged, IsSetChecked, all_holds, bad_certificate, failing_node, failing_pair, large_cover}
 use Rattle.cover_answers.proofs.Certifying.{same-tests}
 use Rattle.cover_answers.proofs.Heads.{AreTextsApart, head-count, head-text, head-unbroken, head_contents, no-head_fault, one-head, printed-head}
 use Rattle.cover_answers.proofs.Laws.{not_made_fails}

@@ -1,5 +1,5 @@
 -- What a search decides of the query of a summary's cover.
-use Rattle.std.proofs.Common.{◌≡◌, ◌≤◌, ◌<◌, ◌*◌, ◌++◌, ℕ, Bool, List, [], ◌∷◌, length, All, Any, refl, sym, ap, ◌∙◌, subst, arith}
+use Rattle.std.proofs.Common.{◌≡◌, ◌++◌, List, [], ◌∷◌, All, refl, ◌∙◌, subst, arith}
 use Rattle.std.specs.Prelude.{String, string_bytes}
 use Rattle.std.specs.declared.alloc.Global.{Global}
 use Rattle.policy_compile.specs.declared.outcome.Query.{Query}
@@ -10,13 +10,11 @@ use Rattle.policy_compile.specs.Sets.{set_plan}
 use Rattle.policy_model.specs.declared.request.Request.{Request}
 use Rattle.policy_model.specs.declared.schema.Schema.{Schema}
 use Rattle.policy_model.specs.declared.set.PolicySet.{PolicySet}
-use Rattle.policy_model.specs.declared.test.Slot.{Slot}
 use Rattle.policy_model.specs.declared.test.Test.{Test}
 use Rattle.proof_text.specs.Spelling.{certificate_text}
 use Rattle.refute_check.specs.Closing.{at_first}
 use Rattle.refute_check.specs.Proofs.{Proof}
 use Rattle.strata.specs.declared.stratum.Strata.{Strata}
-use Rattle.strata.specs.declared.stratum.Stratum.{Stratum}
 use Rattle.strata.specs.Causes.{AreFew}
 use Rattle.strata.specs.Strata.{IsStratum}
 use Rattle.findings.specs.Answers.{StatesFail}
@@ -29,13 +27,12 @@ use Rattle.summary_search.specs.declared.outcome.Limits.{Limits}
 use Rattle.tree_search.specs.Decisions.{IsRefutation, IsWide, MeetsQuery, NeedMore}
 use Rattle.tree_search.specs.declared.outcome.Wide as search_wide
 use Rattle.run_files.specs.declared.printed.Printed.{Printed}
-use Rattle.run_files.specs.declared.status.Status.TheVariants.{Holds, Refused, Undecided}
+use Rattle.run_files.specs.declared.status.Status.TheVariants.{Holds, Undecided}
 use Rattle.run_files.specs.Printing.{PrintsText}
 use Rattle.run_sets.specs.declared.one_set.OneSet.{OneSet}
 use Rattle.finding_answers.specs.declared.answer.Found.{Found}
-use Rattle.finding_answers.specs.FindingTexts.{found_text}
 use Rattle.cover_answers.specs.Certified.{IsCertifiedText, IsCoverSaid, large_query, short_of_splits, short_of_states, with_certificate}
-use Rattle.cover_answers.specs.CoverProofs.{CertifiesCover, IsLargePrinted, OfCover}
+use Rattle.cover_answers.specs.CoverProofs.{CertifiesCover, IsLargePrinted}
 use Rattle.cover_answers.specs.CoverTexts.{cover_splits_line, cover_states_line}
 use Rattle.cover_answers.proofs.Judging.{cover-of}
 

@@ -1,5 +1,5 @@
 -- The lines of a head, read one by one.
-use Rattle.std.proofs.Common.{◌≡◌, ◌≢◌, ◌<◌, ◌≤◌, ◌+◌, ◌*◌, ◌^◌, ◌⊎◌, ℕ, zero, suc, List, [], ◌∷◌, ◌++◌, length, map, drop, take, Bool, true, false, Option, Some, None, Result, Ok, Err, codes, decimal, append_assoc, refl, sym, ap, ◌∙◌, subst, arith, inl, inr}
+use Rattle.std.proofs.Common.{◌≡◌, ◌<◌, ◌≤◌, ◌+◌, ◌*◌, ◌^◌, ℕ, List, [], ◌∷◌, ◌++◌, length, drop, take, true, false, Some, None, Err, codes, decimal, append_assoc, refl, sym, ap, ◌∙◌, subst, arith, inr}
 use Rattle.std.specs.Prelude.{bytes_eq}
 use Rattle.std.proofs.lemmas.List.{length-append, take-append-drop}
 use Rattle.std.proofs.lemmas.Slice.Eq.{bytes_eq-Decides}
@@ -7,7 +7,6 @@ use Rattle.command_words.specs.declared.limits.TheConstants.{MOST_FINDINGS}
 use Rattle.policy_model.specs.declared.request.Request.{Request}
 use Rattle.policy_model.specs.declared.schema.Schema.{Schema}
 use Rattle.strata.specs.declared.stratum.Stratum.{Stratum}
-use Rattle.findings.specs.Findings.{IsFinding}
 use Rattle.findings.specs.Texts.{finding_text}
 use Rattle.request_json.specs.RequestFiles.{request_from}
 use Rattle.proof_text.specs.LineForms.{content_of, lines_of}
@@ -16,10 +15,10 @@ use Rattle.proof_text.proofs.Ended.{content_again, content_spelled, decimal_same
 use Rattle.finding_answers.specs.FindingTexts.{count_line}
 use Rattle.cover_answers.specs.declared.fault.HeadAnswer.{HeadAnswer}
 use Rattle.cover_answers.specs.declared.fault.HeadAnswer.TheVariants.{NoMemory, Refused}
-use Rattle.cover_answers.specs.declared.fault.HeadCode.TheVariants.{C5Count, C6Finding, C7Request}
+use Rattle.cover_answers.specs.declared.fault.HeadCode.TheVariants.{C6Finding, C7Request}
 use Rattle.cover_answers.specs.declared.fault.HeadFault.{HeadFault}
-use Rattle.cover_answers.specs.Heads.{ArePairLines, FailsBehind, FindingFails, IsFindingLine, IsHead, IsHeadFault, IsNoFindingLine, IsNoRequestLine, IsPairAt, IsRequestLine, PairFails, RequestFails, SaysCount, SecondFails, head_fault_at, head_lines}
-use Rattle.cover_answers.specs.Reading.{ArePairRead, IsCountIn, IsCountRead, IsFindingOf, IsFindingRead, IsHeadRead, IsLineOf, IsPairRead, IsRequestOf, IsRequestRead}
+use Rattle.cover_answers.specs.Heads.{ArePairLines, FindingFails, IsFindingLine, IsHeadFault, IsNoFindingLine, IsNoRequestLine, IsPairAt, IsRequestLine, PairFails, RequestFails, head_fault_at, head_lines}
+use Rattle.cover_answers.specs.Reading.{ArePairRead, IsCountIn, IsFindingOf, IsFindingRead, IsHeadRead, IsPairRead, IsRequestOf, IsRequestRead}
 
 -- ---- the count
 
@@ -78,19 +77,6 @@ count-said line content digits n ended begins behind number few =
     sym (take-append-drop 10 content) ∙ ap (λ (t : List ℕ). t ++ drop 10 content) front ∙ ap (λ (t : List ℕ). codes "findings: " ++ t) (sym behind ∙ number) in
     (few, content_spelled line content ended ∙ ap (λ (t : List ℕ). t ++ 10 ∷ []) whole ∙ sym (count-content n))
 
-lines-front : (l m : List ℕ) (ls ms : List (List ℕ)) → l ∷ ls ≡ m ∷ ms → l ≡ m
-lines-front l m ls ms e = cc
-
--- an empty file says no count
-pub no-count-empty : (bytes : List ℕ) → lines_of bytes ≡ [] → IsCountRead bytes None
-no-count-empty bytes none n says =
-    let some = says.is in
-    absurd (cc)
-
-pub no-count : (bytes line behind : List ℕ) → lines_of bytes ≡ line ∷ lines_of behind → IsCountIn line None → IsCountRead bytes None
-no-count bytes line behind lines none n says =
-    none n says.few (lines-front line (count_line n) (lines_of behind) says.behind (sym lines ∙ says.is))
-
 -- ---- lines of findings and requests
 
 pub content-same : (content other : List ℕ) → content ++ 10 ∷ [] ≡ other ++ 10 ∷ [] → content ≡ other
@@ -133,13 +119,6 @@ module _ (bytes line behind : List ℕ) (lines : lines_of bytes ≡ line ∷ lin
   pub request-fails : (schema : Schema) (n : ℕ) → IsNoRequestLine schema line → RequestFails schema n (lines_of bytes) (head_fault_at n C7Request)
   request-fails schema n none = subst (λ (ls : List (List ℕ)). RequestFails schema n ls (head_fault_at n C7Request)) (sym lines) (none, refl)
 
--- no line
-pub finding-missing : (ds : List Stratum) (n : ℕ) (bytes : List ℕ) → lines_of bytes ≡ [] → FindingFails ds n (lines_of bytes) (head_fault_at n C5Count)
-finding-missing ds n bytes none = subst (λ (ls : List (List ℕ)). FindingFails ds n ls (head_fault_at n C5Count)) (sym none) refl
-
-pub request-missing : (schema : Schema) (n : ℕ) (bytes : List ℕ) → lines_of bytes ≡ [] → RequestFails schema n (lines_of bytes) (head_fault_at n C5Count)
-request-missing schema n bytes none = subst (λ (ls : List (List ℕ)). RequestFails schema n ls (head_fault_at n C5Count)) (sym none) refl
-
 -- the answer at a line is a fault there
 pub finding-answer : (ds : List Stratum) (n : ℕ) (bytes : List ℕ) (answer : HeadAnswer) (fault : HeadFault) → answer ≡ Refused fault → FindingFails ds n (lines_of bytes) fault → IsFindingRead ds n bytes (Err answer)
 finding-answer ds n bytes answer fault is fails = subst (λ (a : HeadAnswer). IsFindingRead ds n bytes (Err a)) (sym is) fails
@@ -148,23 +127,6 @@ pub request-answer : (schema : Schema) (n : ℕ) (bytes : List ℕ) (answer : He
 request-answer schema n bytes answer fault is fails = subst (λ (a : HeadAnswer). IsRequestRead schema n bytes (Err a)) (sym is) fails
 
 -- ---- pairs
-
-pub pair-first_fails : (schema : Schema) (ds : List Stratum) (n : ℕ) (bytes : List ℕ) (answer : HeadAnswer) → IsFindingRead ds n bytes (Err answer) → IsPairRead schema ds n bytes (Err answer)
-pair-first_fails schema ds n bytes (Refused fault) fails = inl fails
-pair-first_fails schema ds n bytes NoMemory fails = tt
-
-pub pair-second_fails : (schema : Schema) (ds : List Stratum) (n : ℕ) (bytes behind f : List ℕ) (answer : HeadAnswer) → IsLineOf (λ line. IsFindingLine ds line f) bytes behind → IsRequestRead schema (n + 1) behind (Err answer) → IsPairRead schema ds n bytes (Err answer)
-pair-second_fails schema ds n bytes behind f (Refused fault) first fails =
-    inr (record { line = first.line; finding = f; behind = lines_of behind; lines_are = first.is; of = first.holds; fails = fails })
-pair-second_fails schema ds n bytes behind f NoMemory first fails = tt
-
-pub pair-read : (schema : Schema) (ds : List Stratum) (bytes behind rest f : List ℕ) (r : Request) → IsLineOf (λ line. IsFindingLine ds line f) bytes behind → IsLineOf (λ line. IsRequestLine schema line r) behind rest → ArePairRead schema ds bytes (f, r) rest
-pair-read schema ds bytes behind rest f r first second = record {
-  line = first.line;
-  next = second.line;
-  is = first.is ∙ ap (λ (ls : List (List ℕ)). first.line ∷ ls) second.is;
-  pair = record { finding = first.holds; request = second.holds };
-}
 
 -- the lines of one pair more
 lines-more : (schema : Schema) (ds : List Stratum) (front : List (List ℕ)) (pairs : List (List ℕ × Request)) (line next : List ℕ) (p : List ℕ × Request) → ArePairLines schema ds front pairs → IsPairAt schema ds line next p → ArePairLines schema ds (front ++ line ∷ next ∷ []) (pairs ++ p ∷ [])
@@ -188,9 +150,6 @@ pub record IsHeadSoFar (schema : Schema) (ds : List Stratum) (bytes : List ℕ) 
   pub front : List (List ℕ)
   pub lines : lines_of bytes ≡ count_line count ∷ (front ++ lines_of rest)
   pub are : ArePairLines schema ds front pairs
-
-pub so-far-count : (schema : Schema) (ds : List Stratum) (bytes behind : List ℕ) (count : ℕ) → count ≤ MOST_FINDINGS → lines_of bytes ≡ count_line count ∷ lines_of behind → IsHeadSoFar schema ds bytes count 0 [] behind
-so-far-count schema ds bytes behind count few lines = record { few = few; done = refl; front = []; lines = lines; are = tt }
 
 pub so-far-pair : (schema : Schema) (ds : List Stratum) (bytes rest behind : List ℕ) (count place : ℕ) (pairs more : List (List ℕ × Request)) (p : List ℕ × Request) → IsHeadSoFar schema ds bytes count place pairs rest → ArePairRead schema ds rest p behind → more ≡ pairs ++ p ∷ [] →
     IsHeadSoFar schema ds bytes count (place + 1) more behind
@@ -218,17 +177,6 @@ so-far-fails schema ds bytes rest count place n pairs fault before left number f
       fewer = omega (arith, before.done, left);
       fails = subst (λ (k : ℕ). PairFails schema ds k (lines_of rest) fault) same fails;
     })
-
-pub so-far-whole : (schema : Schema) (ds : List Stratum) (bytes rest : List ℕ) (count place : ℕ) (pairs : List (List ℕ × Request)) → IsHeadSoFar schema ds bytes count place pairs rest → place ≡ count → IsHead schema ds bytes pairs
-so-far-whole schema ds bytes rest count place pairs before all =
-    let same : count ≡ length pairs = omega (arith, before.done, all) in
-    record {
-      few = omega (arith, before.few, same);
-      front = before.front;
-      behind = lines_of rest;
-      lines = before.lines ∙ ap (λ (n : ℕ). count_line n ∷ (before.front ++ lines_of rest)) same;
-      are = before.are;
-    }
 
 pub head-fails : (schema : Schema) (ds : List Stratum) (bytes rest : List ℕ) (count place n : ℕ) (pairs : List (List ℕ × Request)) (answer : HeadAnswer) → IsHeadSoFar schema ds bytes count place pairs rest → place < count → n ≡ 2 * place + 2 → IsPairRead schema ds n rest (Err answer) → IsHeadRead schema ds bytes (Err answer)
 head-fails schema ds bytes rest count place n pairs (Refused fault) before left number fails = so-far-fails schema ds bytes rest count place n pairs fault before left number fails

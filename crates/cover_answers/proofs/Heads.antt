@@ -1,11 +1,11 @@
 -- A file has one head, or one line of it fails; and what a printed summary has as its head.
-use Rattle.std.proofs.Common.{eqb, true, false, ◌≡◌, ◌≢◌, ◌≤◌, ◌<◌, ◌+◌, ◌*◌, ◌^◌, ℕ, zero, suc, List, [], ◌∷◌, ◌++◌, length, map, flat_map, All, Some, Ok, Result, codes, decimal, append_assoc, refl, sym, ap, ◌∙◌, subst, arith, inl, inr}
+use Rattle.std.proofs.Common.{eqb, true, false, ◌≡◌, ◌≤◌, ◌<◌, ◌+◌, ◌*◌, ◌^◌, ℕ, List, [], ◌∷◌, ◌++◌, length, map, flat_map, All, Ok, Result, codes, decimal, append_assoc, refl, sym, ap, ◌∙◌, subst, arith, inl, inr}
 use Rattle.std.specs.Int.{IsInRange}
 use Rattle.std.specs.Str.{all_ascii_digits}
 use Rattle.std.specs.Str.Parse.{digits_value, AllDigits}
 use Rattle.std.proofs.lemmas.Bool.{ne_eqb}
 use Rattle.std.proofs.lemmas.Fmt.{digits_decimal}
-use Rattle.std.proofs.lemmas.List.Elements.{All-from_get_or, All-nil, All-cons, All-append, All-head, All-tail, All-weaker}
+use Rattle.std.proofs.lemmas.List.Elements.{All-from_get_or, All-nil, All-cons, All-head, All-tail, All-weaker}
 use Rattle.std.proofs.lemmas.Str.Parse.{IsNumeralModel, numerals_by_value, tells_all_ascii_digits, digit_at}
 use Rattle.command_words.specs.declared.limits.TheConstants.{MOST_FINDINGS}
 use Rattle.policy_model.specs.declared.request.Request.{Request}
@@ -19,13 +19,13 @@ use Rattle.request_json.specs.declared.fault.RequestFault.{RequestFault}
 use Rattle.request_json.specs.RequestTexts.{request_text}
 use Rattle.proof_text.specs.Laws.{IsUnbroken}
 use Rattle.proof_text.specs.LineForms.{ended_lines, lines_of}
-use Rattle.proof_text.proofs.Ended.{content_again, decimal_same, lines_again}
+use Rattle.proof_text.proofs.Ended.{decimal_same, lines_again}
 use Rattle.finding_answers.specs.declared.answer.Found.{Found}
 use Rattle.finding_answers.specs.FindingTexts.{count_line, found_lines, found_text, request_end}
 use Rattle.finding_answers.specs.Found.{HaveFindings}
 use Rattle.cover_answers.specs.declared.fault.HeadFault.{HeadFault}
-use Rattle.cover_answers.specs.Heads.{ArePairLines, CountFails, FailsBehind, FindingFails, IsFindingLine, IsHead, IsHeadFault, IsPairAt, IsRequestLine, PairFails, RequestFails, SaysCount, head_lines}
-use Rattle.cover_answers.proofs.Heading.{content-same, count-content, lines-count}
+use Rattle.cover_answers.specs.Heads.{ArePairLines, IsFindingLine, IsHead, IsHeadFault, IsPairAt, IsRequestLine, PairFails, RequestFails, head_lines}
+use Rattle.cover_answers.proofs.Heading.{content-same, count-content}
 use Rattle.cover_answers.proofs.Unbroken.{finding-unbroken, join, request-unbroken}
 
 -- ---- one head

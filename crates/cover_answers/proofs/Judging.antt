@@ -1,46 +1,39 @@
 -- What is printed of a list with a certificate.
-use Rattle.std.proofs.Common.{◌≡◌, ◌<◌, ◌≤◌, ◌+◌, ◌*◌, ◌^◌, ◌⊎◌, ℕ, suc, List, [], ◌∷◌, ◌++◌, length, map, min, All, Option, Some, None, Result, Ok, Err, slice_get, refl, sym, ap, ◌∙◌, subst, arith, inl, inr}
+use Rattle.std.proofs.Common.{◌≡◌, ◌<◌, ◌+◌, ◌*◌, ℕ, List, [], ◌∷◌, length, All, Some, None, slice_get, ap, subst, arith, inl, inr}
 use Rattle.std.proofs.lemmas.List.{length-append}
 use Rattle.std.proofs.lemmas.List.Elements.{All-nil, All-cons}
 use Rattle.std.proofs.lemmas.Option.{slice_get_within}
 use Rattle.std.specs.Prelude.{◌-◌}
-use Rattle.command_words.specs.declared.limits.TheConstants.{MOST_FINDINGS}
-use Rattle.formula_tree.specs.Values.{AreBelow}
 use Rattle.policy_compile.specs.declared.outcome.Query.{Query}
-use Rattle.policy_compile.specs.Queries.{IsQuery, asked_tree}
 use Rattle.policy_compile.specs.Sets.{set_plan}
 use Rattle.policy_model.specs.declared.request.Request.{Request}
 use Rattle.policy_model.specs.declared.schema.Schema.{Schema}
-use Rattle.policy_model.specs.declared.set.PolicySet.{PolicySet}
-use Rattle.refute_check.specs.Proofs.{proof_of, size}
+use Rattle.refute_check.specs.Proofs.{proof_of}
 use Rattle.strata.specs.declared.stratum.Strata.{Strata}
 use Rattle.strata.specs.declared.stratum.Stratum.{Stratum}
 use Rattle.findings.specs.CoverLaws.{ClosedCoversLeaveNobodyOut}
-use Rattle.findings.specs.CoverQueries.{IsCoverOf, IsCoverQuery}
+use Rattle.findings.specs.CoverQueries.{IsCoverOf}
 use Rattle.findings.specs.Findings.{IsFinding}
-use Rattle.findings.specs.Queries.{AreMade, AreMadeFor, AreMadeUnder}
-use Rattle.findings.specs.StandingSummaries.{IsSummaryVerdict, JudgesSummary, SummaryStands}
+use Rattle.findings.specs.Queries.{AreMadeFor}
+use Rattle.findings.specs.StandingSummaries.{IsSummaryVerdict, JudgesSummary}
 use Rattle.findings.specs.Summaries.{findings_of}
 use Rattle.findings.specs.declared.standing.SummaryVerdict.{SummaryVerdict}
 use Rattle.findings.specs.declared.standing.SummaryVerdict.TheVariants.{Stands, Fails}
 use Rattle.proof_text.specs.Faults.{fault_after}
 use Rattle.proof_text.specs.Laws.{limits_of}
-use Rattle.proof_text.specs.LineForms.{lines_before, lines_of}
-use Rattle.proof_text.specs.Reads.{HasFewNodes, IsProofReadBehind, IsReadBehind}
-use Rattle.proof_text.specs.declared.fault.ProofAnswer.{ProofAnswer}
+use Rattle.proof_text.specs.LineForms.{lines_before}
 use Rattle.proof_text.specs.declared.fault.ProofAnswer.TheVariants as proof_answer
 use Rattle.proof_text.specs.declared.fault.ProofFault.{ProofFault}
 use Rattle.proof_text.specs.declared.read.ReadProof.{ReadProof}
 use Rattle.run_files.specs.declared.printed.Printed.{Printed}
-use Rattle.run_files.specs.declared.status.Status.TheVariants.{Holds, Refused, BadProof}
+use Rattle.run_files.specs.declared.status.Status.TheVariants.{BadProof}
 use Rattle.run_files.specs.Printing.{PrintsText}
 use Rattle.run_sets.specs.declared.one_set.OneSet.{OneSet}
-use Rattle.cover_answers.specs.CoverProofs.{ClosesBehind, FailsBehindAt, IsLargePrinted, LeaveNobodyOut, OfCover, fault_of_cover}
+use Rattle.cover_answers.specs.CoverProofs.{ClosesBehind, FailsBehindAt, LeaveNobodyOut, OfCover, fault_of_cover}
 use Rattle.run_sets.specs.ClosedQueries.{ClosesAll}
-use Rattle.run_sets.specs.CertificateLines.{accepted_line, not_closing_line}
 use Rattle.cover_answers.specs.CoverTexts.{not_summary_line}
 use Rattle.cover_answers.specs.Heads.{ArePairLines, IsHead, head_lines}
-use Rattle.cover_answers.specs.Judged.{HasHeadLines, IsBadCertificatePrinted, IsCertificateRead, IsClosingPrinted, IsListJudged, IsReadJudged, all_holds, bad_certificate, failing_node, failing_pair, large_cover}
+use Rattle.cover_answers.specs.Judged.{HasHeadLines, IsBadCertificatePrinted, IsClosingPrinted, IsListJudged, IsReadJudged, all_holds, bad_certificate, failing_node, failing_pair}
 use Rattle.cover_answers.proofs.Heading.{lines-count}
 
 -- ---- heads
@@ -68,15 +61,6 @@ pub front-is : (bytes : List ℕ) (pairs : List (List ℕ × Request)) (line : �
 front-is bytes pairs line has is = omega (arith, has.lines, is)
 
 -- ---- certificates
-
-pub certificate-read : (schema : Schema) (q : Query) (pairs : List (List ℕ × Request)) (bytes : List ℕ) (tests line : ℕ) (read : ReadProof) → HasHeadLines bytes pairs → line ≡ 2 * length pairs + 2 → tests ≡ length q.tests →
-    IsReadBehind (record { tests = tests; version = schema.version }) (lines_before line bytes) bytes read → HasFewNodes bytes read → IsCertificateRead schema q pairs bytes read
-certificate-read schema q pairs bytes tests line read has at count is few = record {
-  is =
-      subst (λ (n : ℕ). IsReadBehind (limits_of q.tests schema.version) n bytes read) (front-is bytes pairs line has at)
-      (subst (λ (n : ℕ). IsReadBehind (record { tests = n; version = schema.version }) (lines_before line bytes) bytes read) count is);
-  nodes = few;
-}
 
 pub certificate-bad : (schema : Schema) (q : Query) (pairs : List (List ℕ × Request)) (bytes : List ℕ) (tests line : ℕ) (fault : ProofFault) → HasHeadLines bytes pairs → line ≡ 2 * length pairs + 2 → tests ≡ length q.tests →
     fault_after (record { tests = tests; version = schema.version }) (lines_before line bytes) bytes ≡ Some fault → fault_of_cover schema q (head_lines pairs) bytes ≡ Some fault
@@ -142,10 +126,6 @@ module _ (one : OneSet) (base : Query) (strata : Strata) (pairs : List (List ℕ
 pub judged-bad : (one : OneSet) (base : Query) (strata : Strata) (pairs : List (List ℕ × Request)) (q : Query) (p : Printed) → AreMadeFor one.schema one.set base strata → IsCoverOf base strata (findings_of pairs) q → (bytes : List ℕ) → IsBadCertificatePrinted one.schema q pairs bytes p → IsListJudged one strata.dimensions bytes pairs p
 judged-bad one base strata pairs q p made cover bytes bad =
     bad_certificate {fault = bad.fault} (cover-of one base strata (findings_of pairs) q (λ r. fault_of_cover one.schema r (head_lines pairs) bytes ≡ Some bad.fault) made cover bad.is) bad.prints
-
--- of a cover whose query has too many tests
-pub judged-large : (one : OneSet) (base : Query) (strata : Strata) (pairs : List (List ℕ × Request)) (p : Printed) (bytes : List ℕ) → AreMadeFor one.schema one.set base strata → IsLargePrinted base strata (findings_of pairs) p → IsListJudged one strata.dimensions bytes pairs p
-judged-large one base strata pairs p bytes made large = large_cover (large.large (set_plan one.schema one.set) made.query) large.prints
 
 -- a pair that fails is one of them
 pub failing-within : (one : OneSet) (base : Query) (strata : Strata) (pairs : List (List ℕ × Request)) (place : ℕ) (verdict : SummaryVerdict) → AreMadeFor one.schema one.set base strata → JudgesSummary one.schema base strata pairs verdict → verdict ≡ Fails place → place < length pairs

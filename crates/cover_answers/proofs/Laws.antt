@@ -1,5 +1,5 @@
 -- Which statuses what is printed has, and when the answer comes.
-use Rattle.std.proofs.Common.{◌≡◌, ◌<◌, ◌⊎◌, ◌++◌, ◌∷◌, ℕ, zero, suc, List, [], All, Some, Err, slice_get, refl, arith, subst, sym, inl, inr}
+use Rattle.std.proofs.Common.{◌≡◌, ◌⊎◌, ◌++◌, ◌∷◌, ℕ, zero, suc, List, [], All, Some, Err, slice_get, refl, arith, subst, sym, inl, inr}
 use Rattle.std.proofs.lemmas.List.Elements.{All-contains, All-head, All-tail, Contains-append_right}
 use Rattle.std.specs.Prelude.{Contains}
 use Rattle.command_words.specs.Asked.{Summarising, SummaryCheck}
@@ -29,7 +29,6 @@ use Rattle.run_sets.specs.Refusals.{IsRefusedBy}
 use Rattle.run_sets.proofs.Laws.{no_one_fails, of_same_set}
 use Rattle.finding_answers.specs.declared.answer.Found.{Found}
 use Rattle.finding_answers.specs.Dimensions.{IsFirstUnknown, NameSlots, NamesSlot, dimension_slots}
-use Rattle.finding_answers.specs.Found.{IsFoundOf, IsNotFound}
 use Rattle.run_sets.specs.PastLimits.{IsSetPastLimit}
 use Rattle.finding_answers.specs.Printed.{limits_in}
 use Rattle.finding_answers.proofs.Laws.{not_found_of_text, summarisable_sets_are_found}
@@ -37,7 +36,7 @@ use Rattle.cover_answers.specs.Certified.{IsCertifiedSummaryPrinted, IsCoverSaid
 use Rattle.cover_answers.specs.CoverProofs.{CoverIsTooLarge}
 use Rattle.cover_answers.specs.Decides.{AreNarrow, CertifiedSummariesDecide, FitsCover, IsCertifiable, IsJudgeable, NameFew, SummaryChecksDecide}
 use Rattle.cover_answers.specs.Judged.{IsJudged, IsListJudged, IsSetChecked, IsSummaryCheckPrinted, all_holds, bad_certificate, failing_node, failing_pair, large_cover}
-use Rattle.cover_answers.specs.Made.{IsNotMade, IsUnmade, PrintsUnmade}
+use Rattle.cover_answers.specs.Made.{IsNotMade, PrintsUnmade}
 
 -- ---- statuses
 

@@ -1,6 +1,5 @@
 -- The strata of a set are made, or why not.
-use Rattle.std.proofs.Common.{◌≡◌, ◌<◌, ◌≤◌, ◌⊎◌, ℕ, List, [], ◌∷◌, length, map, All, Result, Ok, Err, refl, sym, ap, ◌∙◌, subst, arith, inl, inr}
-use Rattle.std.specs.Str.{IsUtf8}
+use Rattle.std.proofs.Common.{◌<◌, ◌≤◌, ℕ, List, [], ◌∷◌, length, map, All, Ok, Err, sym, subst, arith, inl, inr}
 use Rattle.std.proofs.lemmas.Bool.{cases_lt}
 use Rattle.std.proofs.lemmas.List.{length-map}
 use Rattle.std.proofs.lemmas.List.Elements.{All-nil, All-cons, All-head, All-tail}
@@ -20,7 +19,7 @@ use Rattle.strata.specs.declared.stratum.Stratum.{Stratum}
 use Rattle.strata.specs.Below.{Keeps, keeps_none, keeps_it, drops_it}
 use Rattle.strata.specs.Causes.{AreFew, AreStrataOf, NamesTooMany}
 use Rattle.strata.specs.Strata.{IsStratum}
-use Rattle.summary_search.specs.Outcomes.{AreAskable, AreStrataWithin, IsQueryOfSet}
+use Rattle.summary_search.specs.Outcomes.{AreAskable, AreStrataWithin}
 use Rattle.summary_search.specs.MadeStrata.{StrataAreMade}
 use Rattle.run_sets.specs.declared.one_set.OneSet.{OneSet}
 use Rattle.run_sets.specs.OneSets.{FitsItsSchema}

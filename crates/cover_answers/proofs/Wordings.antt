@@ -1,5 +1,5 @@
 -- Findings by the texts of their predicates.
-use Rattle.std.proofs.Common.{◌≡◌, ◌≢◌, ◌<◌, ◌≤◌, ◌+◌, ◌^◌, ℕ, zero, suc, List, [], ◌∷◌, ◌++◌, length, map, take, slice_get, All, get_or, Option, Some, None, refl, sym, ap, ◌∙◌, subst, arith, inl, inr}
+use Rattle.std.proofs.Common.{◌≡◌, ◌≢◌, ◌<◌, ◌≤◌, ◌+◌, ℕ, zero, suc, List, [], ◌∷◌, ◌++◌, length, map, take, slice_get, All, get_or, Some, None, refl, sym, ap, ◌∙◌, subst, arith, inl, inr}
 use Rattle.std.specs.Prelude.{String, string_bytes, bytes_eq, true, false}
 use Rattle.std.proofs.lemmas.Slice.Eq.{bytes_eq-Decides}
 use Rattle.std.specs.Str.{IsUtf8}
@@ -8,14 +8,14 @@ use Rattle.std.proofs.lemmas.Bool.{cases_lt}
 use Rattle.std.proofs.lemmas.List.{length-map, map-append, map_more, take_more}
 use Rattle.std.proofs.lemmas.List.Elements.{All-nil, All-cons, All-append, All-head, All-tail}
 use Rattle.std.proofs.lemmas.Option.{get_or_from_slice_get, slice_get_within}
-use Rattle.serde_json.specs.Data.{Data, Items, array, depth, item, items_depth, no_items, string}
+use Rattle.serde_json.specs.Data.{Data, array, depth, item, items_depth, string}
 use Rattle.serde_json.specs.Read.{max_depth}
 use Rattle.serde_json.specs.View.{items_of, view}
 use Rattle.serde_json.specs.Written.{compact_text}
 use Rattle.serde_json.specs.declared.value.Value.{Value}
 use Rattle.command_words.specs.Asked.{texts_in}
 use Rattle.json_shapes.specs.Json.{json_of, values_in, values_of, views}
-use Rattle.json_shapes.specs.Spelled.{CompactTextsAreReadAgain, IsSpelled, ItemsAreSpelled}
+use Rattle.json_shapes.specs.Spelled.{CompactTextsAreReadAgain, ItemsAreSpelled}
 use Rattle.strata.specs.declared.predicate.Predicate.{Predicate}
 use Rattle.strata.specs.declared.stratum.Stratum.{Stratum}
 use Rattle.strata.specs.Covers.{predicate_at}
@@ -171,14 +171,6 @@ so-far-more ds values i n f g d v at here (text, there, is) before grows =
           ap (λ (xs : List Stratum). map string (predicate_texts xs (f ++ n ∷ []))) (sym dims) ∙
           ap (λ (h : List ℕ). map string (predicate_texts (take (i + 1) ds) h)) (sym grows);
     }
-
-pub so-far-all : (ds : List Stratum) (values : List Value) (i : ℕ) (f : List ℕ) → i ≡ length ds → i ≡ length values → IsFindingSoFar ds values i f → IsFindingIn ds values (Some f)
-so-far-all ds values i f count same is =
-    let dims : take i ds ≡ ds = ap (λ (k : ℕ). take k ds) count ∙ take-length ds in
-    let all : take i values ≡ values = ap (λ (k : ℕ). take k values) same ∙ take-length values in (
-      subst (λ (xs : List Stratum). IsFinding xs f) dims is.finding,
-      ap views (sym all) ∙ is.are ∙ ap (λ (xs : List Stratum). map string (predicate_texts xs f)) dims,
-    )
 
 -- ---- texts of findings are read as lists of texts
 

@@ -10,7 +10,6 @@ use Rattle.policy_compile.specs.Numbering.{HasTooMany}
 use Rattle.policy_compile.specs.Plans.{tests_in}
 use Rattle.policy_compile.specs.Queries.{asked_tree}
 use Rattle.policy_compile.specs.Sets.{set_plan}
-use Rattle.refute_check.specs.Closing.{Closes, FailsAt, at_first}
 use Rattle.refute_check.specs.Proofs.{Proof, depth}
 use Rattle.search_parts.specs.Trimmed.{IsTrimmed}
 use Rattle.strata.specs.declared.stratum.Strata.{Strata}

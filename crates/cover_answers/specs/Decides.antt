@@ -1,5 +1,5 @@
 -- When summaries are certified, and files of them judged.
-use Rattle.std.specs.Prelude.{◌≡◌, ◌≤◌, ◌⊎◌, ℕ, List, [], Contains, length, codes, string_bytes}
+use Rattle.std.specs.Prelude.{◌≡◌, ◌≤◌, ◌⊎◌, ℕ, List, [], Contains, length, string_bytes}
 use Rattle.command_words.specs.Asked.{Summarising, SummaryCheck}
 use Rattle.command_words.specs.declared.limits.TheConstants.{MOST_FINDINGS}
 use Rattle.findings.specs.Answers.{StatesFail}

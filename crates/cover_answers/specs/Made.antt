@@ -1,5 +1,5 @@
 -- The strata of a set by dimensions, or what is printed instead.
-use Rattle.std.specs.Prelude.{◌≡◌, ◌⊎◌, ◌<◌, ⊤, ℕ, List, [], length, get_or, Result, Err, Ok}
+use Rattle.std.specs.Prelude.{◌⊎◌, ◌<◌, ⊤, ℕ, List, [], length, get_or, Err}
 use Rattle.std.specs.Str.{chars}
 use Rattle.policy_compile.specs.declared.outcome.Query.{Query}
 use Rattle.policy_compile.specs.Queries.{IsQuery}

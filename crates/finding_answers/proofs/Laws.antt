@@ -4,16 +4,12 @@ use Rattle.std.proofs.lemmas.List.Elements.{All-contains, Contains-append_right}
 use Rattle.std.specs.Prelude.{Contains, true}
 use Rattle.std.specs.Str.{IsUtf8}
 use Rattle.command_words.specs.Asked.{Summarising, are_dimensions}
-use Rattle.findings.specs.Summaries.{IsSummary}
 use Rattle.policy_compile.specs.declared.outcome.Query.{Query}
-use Rattle.policy_model.specs.declared.request.Request.{Request}
 use Rattle.policy_model.specs.declared.schema.Schema.{Schema}
-use Rattle.policy_model.specs.declared.set.PolicySet.{PolicySet}
 use Rattle.policy_model.specs.declared.test.Slot.{Slot}
 use Rattle.policy_model.specs.Soundness.{SchemaIsSound}
 use Rattle.policy_model.proofs.Laws.{slice_get-at}
 use Rattle.strata.specs.Causes.{AreFew, IsFirstTooMany, NamesTooMany}
-use Rattle.strata.specs.declared.stratum.Stratum.{Stratum}
 use Rattle.summary_search.specs.Outcomes.{AreAskable, IsSummaryOutcome}
 use Rattle.summary_search.specs.declared.outcome.Limits.{Limits}
 use Rattle.summary_search.specs.declared.outcome.Outcome.{Outcome}
@@ -42,10 +38,6 @@ use Rattle.finding_answers.proofs.Summarising.{summary-findings}
 -- a summary by names of dimensions that are known may be asked for
 pub names_are_askable : (names : List (List ℕ)) → are_dimensions names ≡ true → (schema : Schema) → SchemaIsSound schema → NameSlots schema names → All IsUtf8 names → AreAskable schema (dimension_slots names)
 names_are_askable names dimensions schema sound known texts = names-askable names dimensions schema sound known texts
-
--- the findings of a summary have a number of each dimension, and so a text
-pub summaries_have_findings : (schema : Schema) (set : PolicySet) (ds : List Stratum) (summary : List (List ℕ × Request)) → IsSummary schema set ds summary → HaveFindings ds summary
-summaries_have_findings schema set ds summary is = summary-findings schema set ds summary is
 
 pub found_have_findings : (names : List (List ℕ)) (limits : Limits) (one : OneSet) (found : Found) → IsFoundOf names limits one found → HaveFindings found.strata.dimensions found.summary
 found_have_findings names limits one found is = summary-findings one.schema one.set found.strata.dimensions found.summary is.summary

@@ -6,13 +6,9 @@ use Rattle.findings.specs.Queries.{AreMadeFor}
 use Rattle.findings.specs.Summaries.{IsSummary}
 use Rattle.findings.specs.Texts.{finding_text}
 use Rattle.policy_compile.specs.declared.outcome.Query.{Query}
-use Rattle.policy_compile.specs.Numbering.{HasTooMany}
-use Rattle.policy_compile.specs.Plans.{tests_in}
-use Rattle.policy_compile.specs.Queries.{HasTooManyPieces, IsQuery}
+use Rattle.policy_compile.specs.Queries.{IsQuery}
 use Rattle.policy_compile.specs.Sets.{set_plan}
 use Rattle.policy_model.specs.declared.request.Request.{Request}
-use Rattle.policy_model.specs.declared.schema.Schema.{Schema}
-use Rattle.policy_model.specs.declared.set.PolicySet.{PolicySet}
 use Rattle.policy_model.specs.declared.test.Slot.{Slot}
 use Rattle.policy_model.specs.Requests.{IsWellKept}
 use Rattle.strata.specs.declared.stratum.Stratum.{Stratum}
@@ -24,8 +20,6 @@ use Rattle.run_files.specs.declared.printed.Printed.{Printed}
 use Rattle.run_files.specs.declared.status.Status.TheVariants.{Refused, Undecided}
 use Rattle.run_files.specs.Printing.{PrintsText}
 use Rattle.run_sets.specs.declared.one_set.OneSet.{OneSet}
-use Rattle.run_sets.specs.declared.refusal.Refusal.{Refusal}
-use Rattle.run_sets.specs.declared.refusal.Refusal.TheVariants.{TooManyTests, TooManyPieces}
 use Rattle.run_sets.specs.declared.shortage.Shortage.TheVariants.{States}
 use Rattle.run_sets.specs.Parts.{shortage_text}
 use Rattle.run_sets.specs.PastLimits.{IsSetPastLimit}

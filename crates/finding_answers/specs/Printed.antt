@@ -1,5 +1,5 @@
 -- What may be printed to a summary of a set.
-use Rattle.std.specs.Prelude.{◌⊎◌, ℕ, List, Option}
+use Rattle.std.specs.Prelude.{◌⊎◌, ℕ, List}
 use Rattle.command_words.specs.Asked.{Summarising}
 use Rattle.summary_search.specs.declared.outcome.Limits.{Limits}
 use Rattle.run_files.specs.declared.printed.Printed.{Printed}

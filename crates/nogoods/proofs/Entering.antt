@@ -56,9 +56,6 @@ grown {X} old new bucket is empty n =
     let e : new ≡ old ++ [] ∷ [] = is ∙ ap (λ (b : List X). old ++ b ∷ []) empty in
     ap (λ (bs : List (List X)). get_or bs n []) e ∙ more-empty old n
 
-pub grown-not : {X : Type 0} (old new : List (List X)) → new ≡ old → (n : ℕ) → get_or new n [] ≡ get_or old n []
-grown-not {X} old new same n = ap (λ (bs : List (List X)). get_or bs n []) same
-
 -- lists that stay kept
 pub lists-kept : (old new : List (List Entry)) (old_without new_without : List ℕ) → KeepsEntries old new → ((index : ℕ) → Contains old_without index → Contains new_without index) → KeepsLists old old_without new new_without
 lists-kept old new old_without new_without keeps also answers index kept =

@@ -255,9 +255,6 @@ tracking-learned lists answers path count number old new hits marked distinct ow
 
 -- ---- the same paths and lists, in other words
 
-pub tracking-kept : (lists : List Answers) (path : Answers) (old new : List (List ℕ)) (hits : List (Option ℕ)) → KeepsWatchers old new → IsTracking lists path old hits → IsTracking lists path new hits
-tracking-kept lists path old new hits keeps was = record { distinct = was.distinct; watched = watched-kept lists path old new keeps was.watched; found = was.found }
-
 pub tracking-shorter : (lists : List Answers) (before more path : Answers) (watching : List (List ℕ)) (hits fewer : List (Option ℕ)) → path ≡ before ++ more → fewer ≡ take (length before + 1) hits → IsTracking lists path watching hits → IsTracking lists before watching fewer
 tracking-shorter lists before more path watching hits fewer e is was = record {
   distinct = was.distinct;

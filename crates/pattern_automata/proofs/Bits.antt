@@ -1,11 +1,11 @@
 -- The bits of a word, as tests.
-use Rattle.std.proofs.Common.{◌≡◌, ℕ, zero, suc, ◌+◌, ◌*◌, ◌/◌, ◌%◌, ◌^◌, ◌-◌, ◌<◌, ◌≤◌, Bool, true, false, cond, ◌||◌, ◌&&◌, eqb, refl, sym, ap, ◌∙◌, arith, pow-suc, min, max, bit_and, bit_or, bit_xor, List, [], ◌∷◌, length, ◌++◌, get_or, drop, take}
+use Rattle.std.proofs.Common.{◌≡◌, ℕ, zero, suc, ◌+◌, ◌*◌, ◌/◌, ◌%◌, ◌^◌, ◌-◌, ◌<◌, ◌≤◌, Bool, true, false, cond, ◌||◌, ◌&&◌, eqb, refl, sym, ap, ◌∙◌, arith, pow-suc, min, max, bit_and, bit_or, bit_xor, List, [], ◌∷◌, length, ◌++◌, drop, take}
 use Rattle.std.specs.Int.{bit_at}
 use Rattle.std.proofs.lemmas.Nat.{or_shifted}
 use Rattle.std.proofs.lemmas.Nat.Bits.{bit_at_and, bit_at_or, bit_at_xor, bit_at-lt, bit_at_cat_low, bit_at_cat_high, same_from_bits_below}
 use mir.Val.{bool_byte}
 use Rattle.std.proofs.Math.Pow.{pow_mono}
-use Rattle.std.proofs.lemmas.List.{at_drop_more, length-drop, drop-drop, take_all}
+use Rattle.std.proofs.lemmas.List.{length-drop, drop-drop, take_all}
 use Rattle.pattern_automata.specs.Packed.{is_bit_on, mark_before, filled_marks, moved_marks, word_with, words_of_marks}
 
 both-set : (x y : ℕ) → x < 2 → y < 2 → eqb (min x y) 1 ≡ (eqb x 1 && eqb y 1)
@@ -112,10 +112,6 @@ pub byte-is : (f : Bool) → bool_byte f ≡ cond f 1 0
 byte-is true = refl
 byte-is false = refl
 
-pub filled-same : (set more leads : ℕ → Bool) (first : Bool) → ((i : ℕ) → i < 64 → set i ≡ more i) → (i : ℕ) → i < 64 → filled_marks set leads first i ≡ filled_marks more leads first i
-filled-same set more leads first same zero h = rw (same 0 h) refl
-filled-same set more leads first same (suc i) h = rw (same (suc i) h, filled-same set more leads first same i (omega arith)) refl
-
 pub on-moved : (shifted one old stay : ℕ) (first : Bool) → ((i : ℕ) → i < 64 → is_bit_on shifted i ≡ mark_before first (is_bit_on old) i) →
     (i : ℕ) → i < 64 → is_bit_on (bit_or (bit_and shifted one) (bit_and old stay)) i ≡ moved_marks (is_bit_on one) (is_bit_on stay) (is_bit_on old) first i
 on-moved shifted one old stay first moves i h =
@@ -134,9 +130,6 @@ half-small xs h = let a = small xs in let b = pow_mono {i = length xs} {j = 63} 
 
 pub word-small : (xs : List Bool) → length xs ≤ 64 → word_with xs < 18446744073709551616
 word-small xs h = let a = small xs in let b = pow_mono {i = length xs} {j = 64} h in omega (arith, a, b)
-
-pub word_with-more : (xs : List Bool) (i : ℕ) (d : Bool) → i < length xs → word_with (drop i xs) ≡ cond (get_or xs i d) 1 0 + 2 * word_with (drop (i + 1) xs)
-word_with-more xs i d h = at_drop_more word_with xs i d h
 
 pub rest-small : (xs : List Bool) (i : ℕ) → 0 < i → length xs ≤ 64 → word_with (drop i xs) < 9223372036854775808
 rest-small xs i h l = half-small (drop i xs) (omega (arith, length-drop i xs))

@@ -1,6 +1,6 @@
 -- Lists that lie one behind another in one list.
-use Rattle.std.proofs.Common.{◌≡◌, ℕ, zero, suc, ◌+◌, ◌-◌, ◌<◌, ◌≤◌, List, [], ◌∷◌, ◌++◌, length, get_or, take, drop, Bool, false, not, nat_eq, refl, sym, ap, ◌∙◌, subst, append_assoc, arith}
-use Rattle.std.proofs.lemmas.List.{drop_at, drop-append-le, drop-take, length-append, length-drop, length-take, length-take-le, take_all, take_at, take_more, take-append-le, take-take}
+use Rattle.std.proofs.Common.{◌≡◌, ℕ, zero, suc, ◌+◌, ◌-◌, ◌<◌, ◌≤◌, List, [], ◌∷◌, ◌++◌, length, get_or, take, drop, Bool, false, not, nat_eq, refl, sym, ap, ◌∙◌, subst, arith}
+use Rattle.std.proofs.lemmas.List.{drop_at, drop-append-le, drop-take, length-append, length-drop, length-take-le, take_all, take_at, take-append-le, take-take}
 use Rattle.std.proofs.lemmas.Bool.{not-false}
 use Rattle.std.proofs.lemmas.Bool.Decides.{Decides-eqb}
 use Rattle.std.specs.Cmp.Lexicographic.{pointwise, pointwise_decides}
@@ -28,13 +28,6 @@ end-within from [] n i are h = absurd (omega arith)
 end-within from (e ∷ es) n zero are h = (are.0, at-most e es n are.1)
 end-within from (e ∷ es) n (suc zero) are h = end-within e es n zero are.1 (omega arith)
 end-within from (e ∷ es) n (suc (suc i)) are h = end-within e es n (suc i) are.1 (omega arith)
-
-pub begin-first : (from : ℕ) (ends : List ℕ) (i : ℕ) → i ≡ 0 → begin_of from ends i ≡ from
-begin-first from ends i e = rw e refl
-
-pub begin-next : (from : ℕ) (ends : List ℕ) (i : ℕ) → 0 < i → begin_of from ends i ≡ get_or ends (i - 1) 0
-begin-next from ends zero h = absurd (omega arith)
-begin-next from ends (suc i) h = let e : suc i - 1 ≡ i = omega arith in rw e refl
 
 -- one list more
 pub cut-push : {X : Type 0} (from : ℕ) (ends : List ℕ) (xs ys : List X) (n : ℕ) → AreEndsOf from ends (length xs) → n ≡ length (xs ++ ys) →
@@ -107,19 +100,8 @@ after-cut ends new_ends xs new k n are h begins taken cut =
       rw (taken, cut, begins) (cut-take 0 ends xs (length xs) k are h),
     )
 
--- lists that are added one by one
-pub added-more : {X : Type 0} (old more : List X) (i : ℕ) (now new : List X) (x d : X) → i < length more → now ≡ old ++ take i more → x ≡ get_or more i d → new ≡ now ++ x ∷ [] → new ≡ old ++ take (i + 1) more
-added-more old more i now new x d h are read is =
-    is ∙ (ap (λ xs. xs ++ x ∷ []) are ∙ (append_assoc old (take i more) (x ∷ []) ∙ ap (λ xs. old ++ xs) (ap (λ y. take i more ++ y ∷ []) read ∙ sym (take_more more i d h))))
-
-pub added-all : {X : Type 0} (old more : List X) (i : ℕ) (now : List X) → length more ≤ i → now ≡ old ++ take i more → now ≡ old ++ more
-added-all old more i now h are = are ∙ ap (λ xs. old ++ xs) (take_all i more h)
-
 pub kept : {X : Type 0} (old more new : List X) → new ≡ old ++ more → take (length old) new ≡ old
 kept old more new is = ap (take (length old)) is ∙ take_at old more (length old) refl
-
-pub kept-length : {X : Type 0} (old new : List X) → take (length old) new ≡ old → length old ≤ length new
-kept-length old new is = omega (arith, ap length is, length-take (length old) new)
 
 -- an index of a list of lists is one of its ends
 pub within-ends : {X : Type 0} (ends : List ℕ) (xs : List X) (view : List (List X)) → cut_at 0 ends xs ≡ view → length view ≡ length ends

@@ -1,6 +1,5 @@
 -- The fronts of patterns, and words of what they do.
-use Rattle.std.proofs.Common.{◌≡◌, ℕ, suc, ◌+◌, ◌*◌, ◌/◌, ◌%◌, ◌-◌, ◌<◌, ◌≤◌, Bool, cond, eqb, sym, ap, ◌∙◌, inl, inr, arith, List, [], ◌∷◌, ◌++◌, length, map, get_or, Option, None, Some, take}
-use mir.Val.{bool_byte}
+use Rattle.std.proofs.Common.{◌≡◌, ℕ, ◌+◌, ◌*◌, ◌/◌, ◌%◌, ◌-◌, ◌<◌, ◌≤◌, Bool, eqb, sym, ap, ◌∙◌, inl, inr, arith, List, [], ◌∷◌, ◌++◌, length, map, get_or, Option, None, Some, take}
 use Rattle.std.proofs.lemmas.Bool.{cases_lt}
 use Rattle.std.proofs.lemmas.Nat.Bits.{bit_at-zero}
 use Rattle.std.proofs.lemmas.List.{map_push, take_more, append_assoc, append-nil, get_or_append_left, get_or_past, get_or_push, length-append}
@@ -10,7 +9,7 @@ use Rattle.wildcard_lang.proofs.Laws.{length-tests, get_or-tests}
 use Rattle.pattern_automata.specs.declared.fronts.Kind.{Kind}
 use Rattle.pattern_automata.specs.Packed.{is_bit_on, word_mark, word_with}
 use Rattle.pattern_automata.specs.Moves.{fronts, piece_does}
-use Rattle.pattern_automata.proofs.Bits.{byte-is, half-small}
+use Rattle.pattern_automata.proofs.Bits.{half-small}
 use Rattle.pattern_automata.proofs.Packing.{on-word_with}
 
 fronts-push : (ps : List (List Piece)) (p : List Piece) → fronts (ps ++ p ∷ []) ≡ fronts ps ++ (None ∷ map Some p)
@@ -31,15 +30,6 @@ pieces-more old now new items i d h are pushed =
     let more : map Some (take (i + 1) items) ≡ map Some (take i items) ++ Some (get_or items i d) ∷ [] =
     ap (map Some) (take_more items i d h) ∙ map_push (λ (x : Piece). Some x) (take i items) (get_or items i d) in
     rw (pushed, are, more) (append_assoc old (None ∷ map Some (take i items)) (Some (get_or items i d) ∷ []))
-
--- one more bit in front
-pub word-more : (f : ℕ → Bool) (s i word b new : ℕ) → 0 < i → i ≤ 64 → word ≡ word_with (tests f (s + i) (64 - i)) → b ≡ bool_byte (f (s + (i - 1))) → new ≡ word * 2 + b →
-    new ≡ word_with (tests f (s + (i - 1)) (64 - (i - 1)))
-word-more f s i word b new low high are made pushed =
-    let n : 64 - (i - 1) ≡ suc (64 - i) = omega arith in
-    let a : s + (i - 1) + 1 ≡ s + i = omega arith in
-    let bit : b ≡ cond (f (s + (i - 1))) 1 0 = made ∙ byte-is (f (s + (i - 1))) in
-    pushed ∙ rw (n, a, ← are, bit) (omega arith)
 
 pub word-half : (f : ℕ → Bool) (s i word : ℕ) → 0 < i → word ≡ word_with (tests f (s + i) (64 - i)) → word < 9223372036854775808
 word-half f s i word low are = let h = half-small (tests f (s + i) (64 - i)) (omega (arith, length-tests f (s + i) (64 - i))) in omega (arith, are, h)

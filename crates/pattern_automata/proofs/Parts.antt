@@ -1,6 +1,6 @@
 -- The marks of all patterns in one list: the part of each pattern, and a turn of the loop over them.
 use Rattle.std.proofs.Common.{◌≡◌, ℕ, ◌+◌, ◌<◌, ◌≤◌, List, [], ◌∷◌, ◌++◌, length, get_or, Bool, refl, sym, ap, ◌∙◌, arith, take, drop}
-use Rattle.std.proofs.lemmas.List.{drop-drop, take_all, drop_all, append_assoc, append-nil, length-append, take_more, take-append-drop, take_at, drop_at, at_drop_more}
+use Rattle.std.proofs.lemmas.List.{drop-drop, take_all, append_assoc, append-nil, length-append, take_more, take-append-drop, take_at, drop_at, at_drop_more}
 use Rattle.std.proofs.lemmas.Slice.{take-put_mid}
 use borrow.Rule.Slice.PartMut.{put_mid}
 use Rattle.wildcard_lang.specs.declared.piece.Piece.{Piece}
@@ -91,10 +91,3 @@ start-end ps i at marks h e l is =
     let whole : take i ps ≡ ps = take_all i ps h in
     let all : at ≡ mark_count ps = e ∙ ap mark_count whole in
     sym (take_all at marks (omega arith)) ∙ (is ∙ ap (λ x. all_marks x []) whole)
-
-pub step-end : (ps : List (List Piece)) (i at : ℕ) (old marks : List Bool) (c : ℕ) → length ps ≤ i → at ≡ mark_count (take i ps) → length old ≡ mark_count ps →
-    marks ≡ all_reached (take i ps) old c ++ drop at old → marks ≡ all_reached ps old c
-step-end ps i at old marks c h e l is =
-    let whole : take i ps ≡ ps = take_all i ps h in
-    let all : at ≡ mark_count ps = e ∙ ap mark_count whole in
-    is ∙ rw (whole, drop_all at old (omega arith), append-nil (all_reached ps old c)) refl

@@ -1,5 +1,5 @@
 -- The loops of a step of words.
-use Rattle.std.proofs.Common.{◌≡◌, ℕ, zero, suc, ◌+◌, ◌*◌, ◌<◌, ◌≤◌, Bool, false, refl, sym, ap, ◌∙◌, inl, inr, arith, List, [], ◌∷◌, ◌++◌, length, get_or, set, take, Any, All, Result, Ok, Err, OnOk}
+use Rattle.std.proofs.Common.{◌≡◌, ℕ, zero, suc, ◌+◌, ◌*◌, ◌<◌, ◌≤◌, Bool, false, sym, ap, ◌∙◌, inl, inr, arith, List, [], ◌∷◌, ◌++◌, length, get_or, set, take, Any, All, Result, Ok, Err, OnOk}
 use Rattle.std.proofs.lemmas.Bool.{cases_lt, cases_eq}
 use Rattle.std.proofs.lemmas.List.{get_or_append_left, get_or_push, length-append, get_or-set_same, get_or-set_other, take_more, take_all}
 use Rattle.std.proofs.lemmas.List.Quantifiers.{Any-push}
@@ -65,9 +65,6 @@ module _ (state : List ℕ) (patches : List Patch) (i : ℕ) (p : Patch) (old mi
               | inr w ↦ inr (same ∙ w.0, none-more (take i patches) p k w.1 ne)
             ]
       ])
-
-pub patched-none : (state : List ℕ) (words : List ℕ) (k : ℕ) → IsPatched state [] words words k
-patched-none state words k = inr (refl, λ w. absurd (omega (arith, w.2)))
 
 pub patched-end : (state : List ℕ) (patches : List Patch) (i : ℕ) (old words : List ℕ) → length patches ≤ i → ((k : ℕ) → k < length state → IsPatched state (take i patches) old words k) →
     (k : ℕ) → k < length state → IsPatched state patches old words k

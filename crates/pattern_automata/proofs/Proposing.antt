@@ -11,10 +11,10 @@ use Rattle.wildcard_lang.specs.declared.piece.Piece.{Piece}
 use Rattle.pattern_automata.specs.declared.moves.Move.{Move}
 use Rattle.pattern_automata.specs.declared.moves.Patch.{Patch}
 use Rattle.pattern_automata.specs.declared.named.Named.{Named}
-use Rattle.pattern_automata.specs.declared.quick_moves.Places.{Places}
+use Rattle.pattern_automata.specs.declared.quick_moves.Indices.{Indices}
 use Rattle.pattern_automata.specs.Moves.{HasPatch, IsMove, IsPatch, distinguishes, if_piece}
 use Rattle.pattern_automata.specs.Named.{HaveNames, bits_of}
-use Rattle.pattern_automata.specs.Proposals.{ArePlaced, HasRightPatches, HaveAllPatches, HaveTheirPatches, index_in}
+use Rattle.pattern_automata.specs.Proposals.{AreAtTheirIndices, HasRightPatches, HaveAllPatches, HaveTheirPatches, index_in}
 use Rattle.pattern_automata.proofs.Telling.{like-others}
 
 -- one more patch
@@ -42,30 +42,30 @@ one_of [] h = absurd (omega (arith, h))
 one_of (x ∷ xs) h = x
 
 -- one more word
-pub patches-next : (places : Places) (moves : List Move) (named : List (Vec Named Global)) (i : ℕ) (own : Vec Named Global) → i < length named → own ≡ get_or named i own → HaveTheirPatches places moves i own.items →
-    ((k : ℕ) (d : Vec Named Global) → k < i → HaveTheirPatches places moves k (get_or named k d).items) →
-    (k : ℕ) (d : Vec Named Global) → k < i + 1 → HaveTheirPatches places moves k (get_or named k d).items
-patches-next places moves named i own within is have before k d h =
+pub patches-next : (indices : Indices) (moves : List Move) (named : List (Vec Named Global)) (i : ℕ) (own : Vec Named Global) → i < length named → own ≡ get_or named i own → HaveTheirPatches indices moves i own.items →
+    ((k : ℕ) (d : Vec Named Global) → k < i → HaveTheirPatches indices moves k (get_or named k d).items) →
+    (k : ℕ) (d : Vec Named Global) → k < i + 1 → HaveTheirPatches indices moves k (get_or named k d).items
+patches-next indices moves named i own within is have before k d h =
     elim (cases_eq k i) [
       | inl e ↦
           let at : get_or named i d ≡ own = get_or_default named i d own within ∙ sym is in
-          let here : HaveTheirPatches places moves i (get_or named i d).items = subst (λ (v : Vec Named Global). HaveTheirPatches places moves i v.items) (sym at) have in
-          subst (λ (n : ℕ). HaveTheirPatches places moves n (get_or named n d).items) (sym e) here
+          let here : HaveTheirPatches indices moves i (get_or named i d).items = subst (λ (v : Vec Named Global). HaveTheirPatches indices moves i v.items) (sym at) have in
+          subst (λ (n : ℕ). HaveTheirPatches indices moves n (get_or named n d).items) (sym e) here
       | inr ne ↦ before k d (omega (arith, h, ne))
     ]
 
 -- a word at which a piece tells the move's character from others has a patch
-module _ (F : List (Option Piece)) (places : Places) (moves : List Move) (k : ℕ) (d : Move) (placed : index_in places (get_or moves k d).character ≡ Some k) where
-  at-colon : (word : ℕ) (named : List Named) → HaveTheirPatches places moves word named → (get_or moves k d).character ≡ 58 → HasPatch (get_or moves k d).patches.items word
-  at-colon word named have colon = have.1 k (subst (λ (c : ℕ). index_in places c ≡ Some k) colon placed) d
+module _ (F : List (Option Piece)) (indices : Indices) (moves : List Move) (k : ℕ) (d : Move) (placed : index_in indices (get_or moves k d).character ≡ Some k) where
+  at-colon : (word : ℕ) (named : List Named) → HaveTheirPatches indices moves word named → (get_or moves k d).character ≡ 58 → HasPatch (get_or moves k d).patches.items word
+  at-colon word named have colon = have.1 k (subst (λ (c : ℕ). index_in indices c ≡ Some k) colon placed) d
 
-  at-entry : (word : ℕ) (named : List Named) → HaveTheirPatches places moves word named → Any (λ (x : Named). x.character ≡ (get_or moves k d).character) named →
+  at-entry : (word : ℕ) (named : List Named) → HaveTheirPatches indices moves word named → Any (λ (x : Named). x.character ≡ (get_or moves k d).character) named →
       HasPatch (get_or moves k d).patches.items word
   at-entry word named have w =
       let same : (get_or named w.0 w.1).character ≡ (get_or moves k d).character = ap (λ (x : Named). x.character) w.3 ∙ w.4 in
-      have.0 w.0 w.1 w.2 k (subst (λ (c : ℕ). index_in places c ≡ Some k) (sym same) placed) d
+      have.0 w.0 w.1 w.2 k (subst (λ (c : ℕ). index_in indices c ≡ Some k) (sym same) placed) d
 
-  covered : (named : List (Vec Named Global)) → HaveNames F named → HaveAllPatches places moves named → (j : ℕ) → j < length F →
+  covered : (named : List (Vec Named Global)) → HaveNames F named → HaveAllPatches indices moves named → (j : ℕ) → j < length F →
       if_piece (distinguishes (get_or moves k d).character) (get_or F j None) ≡ true → HasPatch (get_or moves k d).patches.items (j / 64)
   covered named have all j h told =
       let within : j / 64 < length named = omega (arith, have.count, h) in
@@ -80,12 +80,12 @@ module _ (F : List (Option Piece)) (places : Places) (moves : List Move) (k : �
             ]
       ]
 
-pub all-moves : (F : List (Option Piece)) (places : Places) (moves : List Move) (named : List (Vec Named Global)) → HaveNames F named → All (HasRightPatches F) moves → ArePlaced places moves →
-    HaveAllPatches places moves named → All (IsMove F) moves
-all-moves F places moves named have right placed all k d h = record {
+pub all-moves : (F : List (Option Piece)) (indices : Indices) (moves : List Move) (named : List (Vec Named Global)) → HaveNames F named → All (HasRightPatches F) moves → AreAtTheirIndices indices moves →
+    HaveAllPatches indices moves named → All (IsMove F) moves
+all-moves F indices moves named have right placed all k d h = record {
   scalar = (right k d h).0;
   distinguished = record {
     right = (right k d h).1;
-    covers = covered F places moves k d (placed k d h) named have all;
+    covers = covered F indices moves k d (placed k d h) named have all;
   };
 }

@@ -1,5 +1,5 @@
 -- Each state of a tree is that of some text, and a tree stays one when a state is added.
-use Rattle.std.proofs.Common.{◌≡◌, ℕ, zero, suc, ◌<◌, ◌≤◌, List, [], ◌∷◌, ◌++◌, length, get_or, Bool, true, false, All, Contains, refl, sym, ap, ◌∙◌, inl, inr, arith}
+use Rattle.std.proofs.Common.{◌≡◌, ℕ, zero, suc, ◌<◌, List, [], ◌∷◌, ◌++◌, length, get_or, true, false, All, Contains, refl, sym, ap, ◌∙◌, inl, inr, arith}
 use Rattle.std.proofs.lemmas.Bool.{cases_lt}
 use Rattle.std.proofs.lemmas.List.{length_push, get_or_append_left, get_or_push}
 use Rattle.std.proofs.lemmas.List.Elements.{All-push, All-nil, Contains-push}
@@ -88,9 +88,3 @@ module _ (patterns : List (List Piece)) (found : List (List ℕ)) (parents : Lis
       there = rw is (Contains-push found marks);
       grows = (is, absent);
     }
-
--- a turn takes no state away
-pub turn-kept : (patterns : List (List Piece)) (old found : List (List ℕ)) (parents : List Parent) (words : List ℕ) (i c : ℕ) (new : Bool) → IsTurn patterns old found parents words i c new →
-    length old ≤ length found
-turn-kept patterns old found parents words i c true turn = omega (arith, ap length turn.grows.0, length_push old words)
-turn-kept patterns old found parents words i c false turn = omega (arith, ap length turn.grows)

@@ -6,32 +6,32 @@ use Rattle.indexmap.specs.IndexMap.{get}
 use Rattle.wildcard_lang.specs.declared.piece.Piece.{Piece}
 use Rattle.pattern_automata.specs.declared.moves.Move.{Move}
 use Rattle.pattern_automata.specs.declared.named.Named.{Named}
-use Rattle.pattern_automata.specs.declared.quick_moves.Places.{Places}
+use Rattle.pattern_automata.specs.declared.quick_moves.Indices.{Indices}
 use Rattle.pattern_automata.specs.Moves.{HasPatch, IsPatch}
 
 -- the index of the character
-abbrev pub index_in : Places → ℕ → Option ℕ
-index_in places c = get nat_eq places.index c
+abbrev pub index_in : Indices → ℕ → Option ℕ
+index_in indices c = get nat_eq indices.index c
 
 -- the patches are those of the move's character, maybe not all
 abbrev pub HasRightPatches : List (Option Piece) → Move → Type 0
 HasRightPatches before m = IsScalar m.character × All (IsPatch before m.character) m.patches.items
 
 -- the character's move, where it has an index, has a patch at the word
-abbrev pub HasItsPatch : Places → List Move → ℕ → ℕ → Type 0
-HasItsPatch places moves word c =
-    (i : ℕ) → index_in places c ≡ Some i → (d : Move) → HasPatch (slice_index_or moves i d).patches.items word
+abbrev pub HasItsPatch : Indices → List Move → ℕ → ℕ → Type 0
+HasItsPatch indices moves word c =
+    (i : ℕ) → index_in indices c ≡ Some i → (d : Move) → HasPatch (slice_index_or moves i d).patches.items word
 
 -- the same of each character that the word names, and of the colon
-abbrev pub HaveTheirPatches : Places → List Move → ℕ → List Named → Type 0
-HaveTheirPatches places moves word named =
-    All (λ (x : Named). HasItsPatch places moves word x.character) named × HasItsPatch places moves word 58
+abbrev pub HaveTheirPatches : Indices → List Move → ℕ → List Named → Type 0
+HaveTheirPatches indices moves word named =
+    All (λ (x : Named). HasItsPatch indices moves word x.character) named × HasItsPatch indices moves word 58
 
 -- the same of all words
-abbrev pub HaveAllPatches : Places → List Move → List (Vec Named Global) → Type 0
-HaveAllPatches places moves named =
-    (k : ℕ) (d : Vec Named Global) → k < length named → HaveTheirPatches places moves k (slice_index_or named k d).items
+abbrev pub HaveAllPatches : Indices → List Move → List (Vec Named Global) → Type 0
+HaveAllPatches indices moves named =
+    (k : ℕ) (d : Vec Named Global) → k < length named → HaveTheirPatches indices moves k (slice_index_or named k d).items
 
 -- each move is at the index of its character
-abbrev pub ArePlaced : Places → List Move → Type 0
-ArePlaced places moves = (i : ℕ) (d : Move) → i < length moves → index_in places (slice_index_or moves i d).character ≡ Some i
+abbrev pub AreAtTheirIndices : Indices → List Move → Type 0
+AreAtTheirIndices indices moves = (i : ℕ) (d : Move) → i < length moves → index_in indices (slice_index_or moves i d).character ≡ Some i

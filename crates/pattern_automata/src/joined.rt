@@ -1,5 +1,5 @@
-//! A text that is tried before any product is made: what the patterns that are to match ask for between their stars, one
-//! behind the other. Where hundreds are to match it spares product states of them all.
+//! A text that is tried before any product is made: what the patterns that are to match ask for between their stars,
+//! one behind the other. Where hundreds are to match it spares product states of them all.
 ghost use Rattle.std.specs.Prelude.{length, All, IfOk, IfSome, OnOk};
 ghost use Rattle.std.specs.Char.{IsScalar};
 ghost use Rattle.pattern_automata.specs.Closed.{InRange};
@@ -60,8 +60,8 @@ fn all_wanted<'a>(alloc: Global, wants: &'a Wants) -> Result<Vec<&'a Pattern>, N
     Ok(all)
 }
 
-/// Whether there are several patterns, each with a wildcard for any number of characters, and not too many to try a text
-/// of them all.
+/// Whether there are several patterns, each with a wildcard for any number of characters, and not too many to try a
+/// text of them all.
 fn are_joinable(all: &[&Pattern]) -> bool {
     let mut pieces: usize = 0;
     for pattern in all {
@@ -163,8 +163,8 @@ fn overlap(front: &[char], back: &[char]) -> usize {
     0
 }
 
-/// The longest beginning and the longest end that the patterns ask for, and between them what each pattern asks for that
-/// doesn't match without.
+/// The longest beginning and the longest end that the patterns ask for, and between them what each pattern asks for
+/// that doesn't match without.
 fn joined_by(alloc: Global, all: &[&Pattern], fillers: Fillers) -> Result<Text, NoMemory> {
     let mut front = Vec::new(alloc);
     let mut back = Vec::new(alloc);
@@ -185,8 +185,8 @@ fn joined_by(alloc: Global, all: &[&Pattern], fillers: Fillers) -> Result<Text, 
     whole(alloc, front.as_slice(), back.as_slice())
 }
 
-/// A joined text, where one meets the wants: the shortest, or one with a character that no pattern names for each wildcard,
-/// which patterns that are not to match mostly don't.
+/// A joined text, where one meets the wants: the shortest, or one with a character that no pattern names for each
+/// wildcard, which patterns that are not to match mostly don't.
 pub fn joined(alloc: Global, wants: &Wants) -> Result<Option<Text>, NoMemory>
     requires { InRange (length wants.now.patterns) wants.now.clauses }
     ensures { IfOk result (λ found. IfSome found (IsTextFor wants.now)) }

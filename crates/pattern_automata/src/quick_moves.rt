@@ -5,7 +5,7 @@ ghost use Rattle.std.specs.Prelude.{◌≡◌, ◌*◌, ◌<◌, ◌≤◌, ◌+
 ghost use Rattle.std.specs.Option.{option_to_list};
 ghost use Rattle.pattern_automata.specs.Moves.{characters_of, HasPatch, IsMasks, IsMove, IsPatch};
 ghost use Rattle.pattern_automata.specs.Named.{HaveNames};
-ghost use Rattle.pattern_automata.specs.Proposals.{HaveAllPatches, HaveTheirPatches, ArePlaced, HasRightPatches, HasItsPatch, index_in};
+ghost use Rattle.pattern_automata.specs.Proposals.{HaveAllPatches, HaveTheirPatches, AreAtTheirIndices, HasRightPatches, HasItsPatch, index_in};
 
 use crate::moves::{Masks, Move, Patch, patch_at, push_patch};
 use crate::named::Named;
@@ -16,35 +16,35 @@ use wildcard_lang::Piece;
 
 /// Where the characters stand in their list.
 #[derive(Drop)]
-pub struct Places {
+pub struct Indices {
     index: IndexMap<char, usize>,
 }
 
 /// The index of the character.
-fn index_in(places: &Places, c: char) -> Option<usize>
-    ensures { result ≡ index_in places.now c }
+fn index_in(indices: &Indices, c: char) -> Option<usize>
+    ensures { result ≡ index_in indices.now c }
 {
-    places.index.get(&c).copied()
+    indices.index.get(&c).copied()
 }
 
 /// Where the characters stand. It is tested where it is used, so nothing is asked of it.
-fn places_of(alloc: Global, characters: &[char]) -> Result<Places, NoMemory> {
+fn indices_of(alloc: Global, characters: &[char]) -> Result<Indices, NoMemory> {
     let mut index = IndexMap::new(alloc);
     for (i, c) in characters.iter().enumerate() {
         index.insert(*c, i)?;
     }
-    Ok(Places { index })
+    Ok(Indices { index })
 }
 
 /// Adds the index of a word to the proposals of each character that it names.
 fn propose(
-    places: &Places,
+    indices: &Indices,
     named: &[Named],
     index: usize,
     proposals: &mut Vec<Vec<usize>>,
 ) -> Result<(), NoMemory> {
     for own in named {
-        if let Some(i) = index_in(places, own.character) {
+        if let Some(i) = index_in(indices, own.character) {
             if let Some(words) = proposals.get_mut(i) {
                 words.push(index)?;
             }
@@ -56,7 +56,7 @@ fn propose(
 /// For each character the words that may tell it from others: all for the colon, and those that name it.
 fn proposals_of(
     alloc: Global,
-    places: &Places,
+    indices: &Indices,
     named: &[Vec<Named>],
     count: usize,
 ) -> Result<Vec<Vec<usize>>, NoMemory> {
@@ -64,9 +64,9 @@ fn proposals_of(
     for _ in 0..count {
         proposals.push(Vec::new(alloc))?;
     }
-    let colon = index_in(places, ':');
+    let colon = index_in(indices, ':');
     for (index, own) in named.iter().enumerate() {
-        propose(places, own.as_slice(), index, &mut proposals)?;
+        propose(indices, own.as_slice(), index, &mut proposals)?;
         if let Some(i) = colon {
             if let Some(words) = proposals.get_mut(i) {
                 words.push(index)?;
@@ -151,7 +151,7 @@ fn proposed_moves(
 }
 
 /// Where the patch of the word may stand.
-fn likely_place(patches: &[Patch], index: usize) -> usize {
+fn likely_index(patches: &[Patch], index: usize) -> usize {
     patches.partition_point(|patch| patch.index < index)
 }
 
@@ -159,38 +159,38 @@ fn likely_place(patches: &[Patch], index: usize) -> usize {
 fn has_patch(patches: &[Patch], index: usize) -> bool
     ensures { IsTrue result → HasPatch patches.now index }
 {
-    let i = likely_place(patches, index);
+    let i = likely_index(patches, index);
     i < patches.len() && patches[i].index == index
 }
 
 /// Whether the move of the character, if it has one, has a patch at the index.
-fn has_its_patch(places: &Places, moves: &[Move], c: char, index: usize) -> bool
-    ensures { IsTrue result → HasItsPatch places.now moves.now index c }
+fn has_its_patch(indices: &Indices, moves: &[Move], c: char, index: usize) -> bool
+    ensures { IsTrue result → HasItsPatch indices.now moves.now index c }
 {
-    match index_in(places, c) {
+    match index_in(indices, c) {
         Some(i) => i < moves.len() && has_patch(moves[i].patches.as_slice(), index),
         None => true,
     }
 }
 
 /// Whether the moves of the characters that a word names have a patch at it.
-fn have_their_patches(places: &Places, moves: &[Move], named: &[Named], index: usize) -> bool
-    ensures { IsTrue result → HaveTheirPatches places.now moves.now index named.now }
+fn have_their_patches(indices: &Indices, moves: &[Move], named: &[Named], index: usize) -> bool
+    ensures { IsTrue result → HaveTheirPatches indices.now moves.now index named.now }
 {
     for own in named {
-        if !has_its_patch(places, moves, own.character, index) {
+        if !has_its_patch(indices, moves, own.character, index) {
             return false;
         }
     }
-    has_its_patch(places, moves, ':', index)
+    has_its_patch(indices, moves, ':', index)
 }
 
 /// Whether each move stands where its character does, so that no two are of one character.
-fn are_placed(places: &Places, moves: &[Move]) -> bool
-    ensures { IsTrue result → ArePlaced places.now moves.now }
+fn are_at_their_indices(indices: &Indices, moves: &[Move]) -> bool
+    ensures { IsTrue result → AreAtTheirIndices indices.now moves.now }
 {
     for i in 0..moves.len() {
-        if index_in(places, moves[i].character) != Some(i) {
+        if index_in(indices, moves[i].character) != Some(i) {
             return false;
         }
     }
@@ -198,11 +198,11 @@ fn are_placed(places: &Places, moves: &[Move]) -> bool
 }
 
 /// Whether no word is forgotten.
-fn have_all_patches(places: &Places, moves: &[Move], named: &[Vec<Named>]) -> bool
-    ensures { IsTrue result → HaveAllPatches places.now moves.now named.now }
+fn have_all_patches(indices: &Indices, moves: &[Move], named: &[Vec<Named>]) -> bool
+    ensures { IsTrue result → HaveAllPatches indices.now moves.now named.now }
 {
     for index in 0..named.len() {
-        if !have_their_patches(places, moves, named[index].as_slice(), index) {
+        if !have_their_patches(indices, moves, named[index].as_slice(), index) {
             return false;
         }
     }
@@ -223,8 +223,8 @@ pub fn quick_moves(
     ensures characters { IfOk result
         (λ found. IfSome found (λ v. characters_of v.items ≡ characters.now)) }
 {
-    let places = places_of(alloc, characters)?;
-    let proposals = proposals_of(alloc, &places, named, characters.len())?;
+    let indices = indices_of(alloc, characters)?;
+    let proposals = proposals_of(alloc, &indices, named, characters.len())?;
     let moves = proposed_moves(
         alloc,
         fronts,
@@ -233,10 +233,10 @@ pub fn quick_moves(
         proposals.as_slice(),
         characters,
     )?;
-    if !are_placed(&places, moves.as_slice()) {
+    if !are_at_their_indices(&indices, moves.as_slice()) {
         return Ok(None);
     }
-    if !have_all_patches(&places, moves.as_slice(), named) {
+    if !have_all_patches(&indices, moves.as_slice(), named) {
         return Ok(None);
     }
     Ok(Some(moves))

@@ -1,10 +1,10 @@
 -- An item is put into a set: it is had already, or it is added at the end.
-use Rattle.std.proofs.Common.{◌≡◌, ◌≤◌, ◌<◌, ℕ, zero, suc, List, [], ◌∷◌, ◌++◌, length, get_or, Bool, true, false, true≢false, Some, refl, sym, ap, ◌∙◌, subst, inl, inr, ◌⊎◌, if◌then◌else◌, All, arith}
+use Rattle.std.proofs.Common.{◌≡◌, ◌≤◌, ◌<◌, ℕ, zero, suc, List, [], ◌∷◌, ◌++◌, length, get_or, Bool, true, false, true≢false, Some, refl, sym, ap, ◌∙◌, subst, inl, inr, ◌⊎◌, if◌then◌else◌, arith}
 use Rattle.std.specs.Prelude.{slice_get, Contains, MatchBool, Result, Ok, Err, IfOk, OnErr}
 use Rattle.std.proofs.lemmas.Map.Views.{Contains-from_any}
 use Rattle.std.specs.Bool.{Decides}
 use Rattle.std.proofs.lemmas.Option.{slice_get_within, get_or_from_slice_get}
-use Rattle.std.proofs.lemmas.List.{append-nil, length-append}
+use Rattle.std.proofs.lemmas.List.{length-append}
 use Rattle.std.proofs.lemmas.List.Folds.{list_any_at}
 use Rattle.std.specs.List.{list_any}
 use Rattle.indexmap.specs.IndexSet.{insert_key}
@@ -16,10 +16,10 @@ use Rattle.policy_compile.specs.declared.nodes.Node.{Node}
 use Rattle.policy_compile.specs.declared.nodes.Node.TheVariants as node
 use Rattle.policy_compile.specs.contracts.nodes.NodePartialEq.TheImpl as nodes
 use Rattle.policy_compile.specs.Building.{IsBeginningOf, Built, HasNode, HasNumber}
-use Rattle.policy_compile.specs.Nodes.{AreEarlier, children, plan_ask}
+use Rattle.policy_compile.specs.Nodes.{plan_ask}
 use Rattle.policy_compile.specs.Numbering.{Collects, HasTooMany, nothing, again, anew}
 use Rattle.policy_compile.specs.Plans.{ask}
-use Rattle.policy_compile.proofs.Equal.{nodes-Decides, tests-Decides}
+use Rattle.policy_compile.proofs.Equal.{tests-Decides}
 
 -- an item at an index is contained
 Contains-at : {T : Type 0} (xs : List T) (n : ℕ) (x : T) → slice_get xs n ≡ Some x → Contains xs x
@@ -69,32 +69,6 @@ module _ {T : Type 0} (eq : T → T → Bool) (decides : (x y : T) → Decides (
           let whole : ys ≡ xs ++ t ∷ [] = is ∙ ap (λ b. if b then xs else xs ++ t ∷ []) none in
           let new = not_had xs t none in
           inr (whole, last-index xs t n new (subst (λ (zs : List T). slice_get zs n ≡ Some t) whole here), new)
-
--- ---- nodes
-
--- what an insert leaves: the nodes that were had, and this one
-pub node-put : (xs ys : List Node) (n had : Node) (i : ℕ) → ys ≡ insert_key nodes.eq-value.it xs n → slice_get ys i ≡ Some had → nodes.eq-value.it n had ≡ true → IsBeginningOf xs ys × (slice_get ys i ≡ Some n)
-node-put xs ys n had i is at same = elim (put nodes.eq-value.it nodes-Decides xs ys n had i is at same) [
-  | inl old ↦ (record { rest = []; is = old.0 ∙ sym (append-nil xs) }, subst (λ (zs : List Node). slice_get zs i ≡ Some n) (sym old.0) old.1)
-  | inr new ↦ (
-    record { rest = n ∷ []; is = new.0 },
-    subst (λ (zs : List Node). slice_get zs i ≡ Some n) (sym new.0) (subst (λ (k : ℕ). slice_get (xs ++ n ∷ []) k ≡ Some n) (sym new.1) (slice_get-last xs n)),
-  )
-]
-
-earlier-more : (xs : List Node) (n : Node) → AreEarlier xs → All (λ c. c < length xs) (children n) → AreEarlier (xs ++ n ∷ [])
-earlier-more xs n earlier here i m at = elim (last-or-before xs n i m at) [
-  | inl before ↦ earlier i m before
-  | inr last ↦ subst (λ (k : ℕ). All (λ c. c < k) (children m)) (sym last.0) (subst (λ (x : Node). All (λ c. c < length xs) (children x)) last.1 here)
-]
-
--- each node still names earlier ones
-pub earlier-put : (xs ys : List Node) (n : Node) → ys ≡ insert_key nodes.eq-value.it xs n → AreEarlier xs → All (λ c. c < length xs) (children n) → AreEarlier ys
-earlier-put xs ys n is earlier here = by (list_any (nodes.eq-value.it n) xs) refl
-  where
-    by : (b : Bool) → list_any (nodes.eq-value.it n) xs ≡ b → AreEarlier ys
-    by true found = subst AreEarlier (sym (is ∙ ap (λ b. if b then xs else xs ++ n ∷ []) found)) earlier
-    by false none = subst AreEarlier (sym (is ∙ ap (λ b. if b then xs else xs ++ n ∷ []) none)) (earlier-more xs n earlier here)
 
 -- ---- tests
 

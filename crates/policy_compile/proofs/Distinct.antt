@@ -1,5 +1,5 @@
 -- Lists in which nothing stands twice: what they sum up to within longer ones.
-use Rattle.std.proofs.Common.{◌≡◌, ◌≤◌, ◌+◌, ℕ, zero, suc, List, [], ◌∷◌, ◌++◌, length, get_or, ◌<◌, ◌↔◌, refl, ap, sym, ◌∙◌, subst, inl, inr, ◌⊎◌, arith}
+use Rattle.std.proofs.Common.{◌≡◌, ◌≤◌, ◌+◌, ℕ, zero, suc, List, [], ◌∷◌, ◌++◌, length, get_or, ◌<◌, refl, ap, sym, ◌∙◌, subst, inl, inr, ◌⊎◌, arith}
 use Rattle.std.specs.Prelude.{⊤, Contains, sum_by}
 use Rattle.std.proofs.lemmas.List.Elements.{Contains-append_cases, Contains-append_left, Contains-append_right}
 use Rattle.std.proofs.lemmas.List.Sums.{sum_by-append, sum_by-cons}
@@ -85,12 +85,3 @@ length-within xs ys apart within =
     let first = ones xs in
     let second = ones ys in
     omega (arith, sums, first, second)
-
--- two such lists with the same items sum up to the same, and are of the same length
-pub sum-same : {T : Type 0} (f : T → ℕ) (xs ys : List T) → IsApart xs → IsApart ys → ((t : T) → (Contains xs t ↔ Contains ys t)) → (sum_by f xs ≡ sum_by f ys) × (length xs ≡ length ys)
-sum-same f xs ys first second same =
-    let less : sum_by f xs ≤ sum_by f ys = sum-within f xs ys first (λ t at. (same t).0 at) in
-    let more : sum_by f ys ≤ sum_by f xs = sum-within f ys xs second (λ t at. (same t).1 at) in
-    let few : length xs ≤ length ys = length-within xs ys first (λ t at. (same t).0 at) in
-    let many : length ys ≤ length xs = length-within ys xs second (λ t at. (same t).1 at) in
-    (omega (arith, less, more), omega (arith, few, many))

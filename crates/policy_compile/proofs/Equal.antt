@@ -1,5 +1,5 @@
 -- Equal tests, and equal nodes.
-use Rattle.std.proofs.Common.{◌≡◌, ◌==◌, ◌&&◌, ℕ, List, Bool, true, false, ap, nat_eq, refl, subst}
+use Rattle.std.proofs.Common.{◌≡◌, ◌==◌, ◌&&◌, ℕ, List, Bool, true, false, ap, refl, subst}
 use mathlib.Core.Bool.{beq}
 use Rattle.std.specs.Bool.{Decides}
 use Rattle.std.specs.Cmp.Lexicographic.{pointwise, pointwise_decides}
@@ -13,7 +13,6 @@ use Rattle.policy_model.specs.contracts.cond.CondPartialEq.TheImpl as conds
 use Rattle.policy_model.specs.declared.test.Test.{Test}
 use Rattle.policy_model.specs.declared.test.Test.TheVariants.{Principal, Action, Resource, Present, SomeMeets, SomeMeetsNone}
 use Rattle.policy_model.specs.contracts.test.TestPartialEq.TheImpl as test
-use Rattle.policy_compile.specs.declared.nodes.Node.{Node}
 use Rattle.policy_compile.specs.declared.nodes.Node.TheVariants as node
 use Rattle.policy_compile.specs.contracts.nodes.NodePartialEq.TheImpl as nodes
 use Rattle.policy_compile.proofs.Entries.{entries-Decides}
@@ -74,24 +73,3 @@ tests-own (SomeMeetsNone x cs) = and_from _ _ ((keys-Decide x x).1 refl) ((point
 
 pub tests-Decides : (a b : Test) → Decides (test.eq-value.it a b) (a ≡ b)
 tests-Decides a b = decides-by test.eq-value.it tests-same tests-own a b
-
-same-indices : (m n : List ℕ) → Decides (pointwise (λ a b. nat_eq a b) m n) (m ≡ n)
-same-indices m n = pointwise_decides Decides-eqb m n
-
-nodes-same : (a b : Node) → nodes.eq-value.it a b ≡ true → a ≡ b
-nodes-same node.Yes node.Yes e = refl
-nodes-same (node.Test m) (node.Test n) e = ap node.Test ((Decides-eqb m n).0 e)
-nodes-same (node.Not m) (node.Not n) e = ap node.Not ((Decides-eqb m n).0 e)
-nodes-same (node.All m) (node.All n) e = ap node.All ((same-indices m n).0 e)
-nodes-same (node.OneOf m) (node.OneOf n) e = ap node.OneOf ((same-indices m n).0 e)
-nodes-same a b e = absurd (false≢true e)
-
-nodes-own : (a : Node) → nodes.eq-value.it a a ≡ true
-nodes-own node.Yes = refl
-nodes-own (node.Test m) = (Decides-eqb m m).1 refl
-nodes-own (node.Not m) = (Decides-eqb m m).1 refl
-nodes-own (node.All m) = (same-indices m m).1 refl
-nodes-own (node.OneOf m) = (same-indices m m).1 refl
-
-pub nodes-Decides : (a b : Node) → Decides (nodes.eq-value.it a b) (a ≡ b)
-nodes-Decides a b = decides-by nodes.eq-value.it nodes-same nodes-own a b

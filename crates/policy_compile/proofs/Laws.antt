@@ -25,7 +25,7 @@ pub use Rattle.policy_compile.proofs.Within.{apart-collects, had-read, read-had}
 -- the query of a set and of a part of it has the tests of the set's query
 pub use Rattle.policy_compile.proofs.Members.{part-asks}
 -- what a list in which nothing stands twice sums up to within a longer one; two such lists with the same items
-pub use Rattle.policy_compile.proofs.Distinct.{IsApart, sum-within, sum-same}
+pub use Rattle.policy_compile.proofs.Distinct.{IsApart, sum-within}
 
 -- a numbered tree holds under the request's answers where its plan does of the request
 pub holds-numbered : (answers : ℕ → Bool) (r : Request) (tests : List Test) → AnswersAs answers r tests → (p : Plan) (t : tree.Tree) → IsNumbered tests p t → (IsTrue (holds answers t) ↔ PlanHolds r p)

@@ -62,9 +62,6 @@ stand-more nodes trees more_trees n t stand here within made is tests p i u h th
           subst (λ (v : tree.Tree). IsNumbered tests p v) (sym made ∙ last.1) whole
     ]
 
-pub stand-none : (nodes : List Node) → StandFor nodes []
-stand-none nodes tests p i t h there = absurd (cc)
-
 -- ---- shared formulas
 
 -- the formula of a node that isn't another one

@@ -97,9 +97,6 @@ not-built old mid new p c i inside h = record {
 pub child-within : (old new : Builder) (n : Node) (i : ℕ) → HasNode old new n i → All (λ c. c < length new.nodes.keys) (i ∷ [])
 child-within old new n i h = All-cons (λ c. c < length new.nodes.keys) i [] (slice_get_within new.nodes.keys i n h.at) (All-nil (λ c. c < length new.nodes.keys))
 
-pub built-within : (old new : Builder) (p : Plan) (i : ℕ) → Built old new p i → All (λ c. c < length new.nodes.keys) (i ∷ [])
-built-within old new p i h = All-cons (λ c. c < length new.nodes.keys) i [] (Built-within old new p i h) (All-nil (λ c. c < length new.nodes.keys))
-
 -- a Not element, and one that isn't
 pub some-built : (old new : Builder) (ps : List Plan) (n : Bool) (i : ℕ) → n ≡ false → Built old new (one_of (of_plans ps)) i → Built old new (some_or_none n ps) i
 some-built old new ps true i e h = absurd (cc)
@@ -112,9 +109,6 @@ none-built old new ps false i e h = absurd (cc)
 -- the same plan under another name
 pub at-plan : (old new : Builder) (p q : Plan) (i : ℕ) → p ≡ q → Built old new p i → Built old new q i
 at-plan old new p q i e h = subst (λ (x : Plan). Built old new x i) e h
-
-pub built-at : (old new : Builder) (p q : Plan) (r : Result ℕ QueryFault) → p ≡ q → IsBuilt old new p r → IsBuilt old new q r
-built-at old new p q r e h = subst (λ (x : Plan). IsBuilt old new x r) e h
 
 pub at-plans : (old new : Builder) (ps qs : List Plan) (s t : List ℕ) → ps ≡ qs → Added old new ps s t → Added old new qs s t
 at-plans old new ps qs s t e h = subst (λ (xs : List Plan). Added old new xs s t) e h

@@ -25,7 +25,7 @@ use Rattle.cidr_bits.proofs.Laws.{block_is_around_its_first}
 use Rattle.wildcard_lang.specs.declared.pattern.TheConstants.{MOST_PIECES}
 use Rattle.wildcard_lang.specs.declared.piece.Piece.{Piece}
 use Rattle.wildcard_lang.specs.Arns.{arn_pieces, colons}
-use Rattle.wildcard_lang.specs.Patterns.{IsPattern, own_character}
+use Rattle.wildcard_lang.specs.Patterns.{IsPattern}
 use Rattle.wildcard_lang.specs.Reading.{glob_pieces, literal_pieces}
 use Rattle.wildcard_lang.specs.Text.{IsText}
 use Rattle.wildcard_lang.specs.WrittenAgain.{IsArnOf, IsGlobOf, IsLiteralOf}

@@ -1,5 +1,5 @@
 -- What is known of a key's values by what a condition's values ask, read as one list.
-use Rattle.std.proofs.Common.{◌≡◌, ◌<◌, ◌⊎◌, ◌↔◌, List, get_or, Bool, true, false, not, true≢false, All, Any, IsTrue, inl, inr, refl, subst, sym}
+use Rattle.std.proofs.Common.{◌≡◌, ◌⊎◌, ◌↔◌, List, get_or, Bool, true, false, not, true≢false, All, Any, IsTrue, inl, inr, refl, subst, sym}
 use Rattle.std.proofs.lemmas.List.{get_or_default}
 use Rattle.policy_model.specs.declared.cond.Cond.{Cond}
 use Rattle.policy_model.specs.declared.operator.Condition.{Condition}

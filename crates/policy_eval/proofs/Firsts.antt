@@ -1,7 +1,7 @@
 -- The first statement of a list that has an effect and applies, found piece by piece.
 use Rattle.std.proofs.Common.{◌≡◌, ◌<◌, ◌≤◌, ◌+◌, ℕ, suc, List, [], ◌∷◌, ◌++◌, length, get_or, drop, take, Bool, Option, Some, None, All, refl, ap, sym, ◌∙◌, subst, arith}
 use Rattle.std.proofs.Math.Seq.{drop-cons}
-use Rattle.std.proofs.lemmas.List.{append_assoc, drop_all, take-append-drop, length-take-le, take_all}
+use Rattle.std.proofs.lemmas.List.{drop_all, take-append-drop, length-take-le, take_all}
 use Rattle.std.specs.Option.{is_some}
 use Rattle.std.proofs.Common.{true, false}
 use Rattle.std.proofs.lemmas.List.Elements.{All-cons, All-nil, All-more}
@@ -12,7 +12,7 @@ use Rattle.policy_model.specs.declared.set.Statement.{Statement}
 use Rattle.policy_model.specs.declared.set.StatementName.{StatementName}
 use Rattle.policy_model.specs.declared.set.Document.{Document}
 use Rattle.policy_model.specs.StatementNames.{Named, name_of, named_statements, named_documents, named_guards}
-use Rattle.policy_eval.specs.Deciding.{NamedDecides, NoneDecides, IsFirstDeciding, FirstIs, IsFirstSilent, FirstSilentIs}
+use Rattle.policy_eval.specs.Deciding.{NamedDecides, NoneDecides, FirstIs, IsFirstSilent, FirstSilentIs}
 
 -- a statement before that doesn't decide
 pub FirstIs-cons : (schema : Schema) (allow : Bool) (r : Request) (n : Named) (rest : List Named) (o : Option StatementName) → ¬ NamedDecides schema allow r n → FirstIs schema allow r rest o → FirstIs schema allow r (n ∷ rest) o
@@ -51,17 +51,6 @@ FirstIs-behind schema allow r (x ∷ xs) ys o none first =
     FirstIs-cons schema allow r x (xs ++ ys) o (All-head (λ m. ¬ NamedDecides schema allow r m) x xs none)
     (FirstIs-behind schema allow r xs ys o (All-tail (λ m. ¬ NamedDecides schema allow r m) x xs none) first)
 
--- the first of the statements before
-pub FirstIs-before : (schema : Schema) (allow : Bool) (r : Request) (xs ys : List Named) (name : StatementName) → IsFirstDeciding schema allow r xs name → IsFirstDeciding schema allow r (xs ++ ys) name
-FirstIs-before schema allow r xs ys name first = record {
-  before = first.before;
-  statement = first.statement;
-  after = first.after ++ ys;
-  is = ap (λ zs. zs ++ ys) first.is ∙ append_assoc first.before ((name, first.statement) ∷ first.after) ys;
-  none_before = first.none_before;
-  here = first.here;
-}
-
 -- the names of the statements from an index on
 pub named_statements-drop : (d s i : ℕ) (xs : List Statement) (x : Statement) → i < length xs →
     named_statements d s (drop i xs) ≡ (name_of d s, get_or xs i x) ∷ named_statements d (s + 1) (drop (i + 1) xs)
@@ -89,23 +78,11 @@ statement-passed schema allow r d i xs x h not o first =
     let e : 1 + (i + 1) ≡ 1 + i + 1 = omega arith in
     rw (named_statements-drop d (1 + i) i xs x h) (FirstIs-cons schema allow r (name_of d (1 + i), get_or xs i x) (named_statements d (1 + i + 1) (drop (i + 1) xs)) o not (rw e at first))
 
--- in a document that has the first, and past one that has none
-pub document-found : (schema : Schema) (allow : Bool) (r : Request) (d i : ℕ) (xs : List Document) (x : Document) (name : StatementName) → i < length xs →
-    FirstIs schema allow r (named_statements (d + i) 1 (get_or xs i x).statements) (Some name) → FirstIs schema allow r (named_documents (d + i) (drop i xs)) (Some name)
-document-found schema allow r d i xs x name h first =
-    rw (named_documents-drop (d + i) i xs x h) (FirstIs-before schema allow r (named_statements (d + i) 1 (get_or xs i x).statements) (named_documents (d + i + 1) (drop (i + 1) xs)) name first)
-
 pub document-passed : (schema : Schema) (allow : Bool) (r : Request) (d i : ℕ) (xs : List Document) (x : Document) → i < length xs → FirstIs schema allow r (named_statements (d + i) 1 (get_or xs i x).statements) None → (o : Option StatementName) →
     FirstIs schema allow r (named_documents (d + (i + 1)) (drop (i + 1) xs)) o → FirstIs schema allow r (named_documents (d + i) (drop i xs)) o
 document-passed schema allow r d i xs x h none o first =
     let e : d + (i + 1) ≡ d + i + 1 = omega arith in
     rw (named_documents-drop (d + i) i xs x h) (FirstIs-behind schema allow r (named_statements (d + i) 1 (get_or xs i x).statements) (named_documents (d + i + 1) (drop (i + 1) xs)) o none (rw e at first))
-
--- in a guard that has the first, and past one that has none
-pub guard-found : (schema : Schema) (allow : Bool) (r : Request) (d i : ℕ) (xs : List (List Document)) (x : List Document) (name : StatementName) → i < length xs →
-    FirstIs schema allow r (named_documents d (get_or xs i x)) (Some name) → FirstIs schema allow r (named_guards d (drop i xs)) (Some name)
-guard-found schema allow r d i xs x name h first =
-    rw (named_guards-drop d i xs x h) (FirstIs-before schema allow r (named_documents d (get_or xs i x)) (named_guards (d + length (get_or xs i x)) (drop (i + 1) xs)) name first)
 
 pub guard-passed : (schema : Schema) (allow : Bool) (r : Request) (d i : ℕ) (xs : List (List Document)) (x : List Document) → i < length xs → FirstIs schema allow r (named_documents d (get_or xs i x)) None → (o : Option StatementName) →
     FirstIs schema allow r (named_guards (d + length (get_or xs i x)) (drop (i + 1) xs)) o → FirstIs schema allow r (named_guards d (drop i xs)) o
@@ -126,11 +103,6 @@ guards-left schema allow r d i xs h = let e : drop i xs ≡ [] = drop_all i xs h
 pub first-none : (schema : Schema) (allow : Bool) (r : Request) (xs ys : List Named) (o : Option StatementName) → is_some o ≡ false → xs ≡ ys → FirstIs schema allow r xs o → FirstIs schema allow r ys None
 first-none schema allow r xs ys None e same first = subst (λ (zs : List Named). FirstIs schema allow r zs None) same first
 first-none schema allow r xs ys (Some name) e same first = absurd (cc)
-
-pub first-some : (schema : Schema) (allow : Bool) (r : Request) (xs ys : List Named) (o : Option StatementName) → is_some o ≡ true → ((name : StatementName) → FirstIs schema allow r xs (Some name) → FirstIs schema allow r ys (Some name)) →
-    FirstIs schema allow r xs o → FirstIs schema allow r ys o
-first-some schema allow r xs ys None e more first = absurd (cc)
-first-some schema allow r xs ys (Some name) e more first = more name first
 
 -- at a guard without an Allow statement that applies
 pub silent-found : (schema : Schema) (r : Request) (i : ℕ) (xs : List (List Document)) (x : List Document) → i < length xs → All (SomeDecides schema true r) (take i xs) → ¬ SomeDecides schema true r (get_or xs i x) → IsFirstSilent schema r xs (i + 1)

@@ -1,5 +1,5 @@
 -- The two sets are sound.
-use Rattle.std.proofs.Common.{◌≡◌, ◌<◌, ◌+◌, ℕ, zero, suc, List, [], ◌∷◌, false, codes, refl, arith, lit≤}
+use Rattle.std.proofs.Common.{◌<◌, ℕ, zero, suc, List, [], ◌∷◌, false, codes, refl, arith, lit≤}
 use Rattle.std.specs.Prelude.{All, chars}
 use Rattle.std.proofs.lemmas.List.Elements.{All-append, All-cons}
 use Rattle.wildcard_lang.specs.declared.piece.Piece.{Piece}

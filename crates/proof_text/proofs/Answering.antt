@@ -36,14 +36,6 @@ pair-second None y e = refl
 pair-second (Some x) None e = refl
 pair-second (Some x) (Some y) e = cc
 
-pub label-number_none : (all parts : List (List ℕ)) (part : List ℕ) (answer : LineAnswer) → all ≡ part ∷ parts → IsSmallRead is_small (number_said part) (Err answer) → IsSmallRead is_label_small (label_parts all) (Err answer)
-label-number_none all parts part (Fails code) is read = (ap label_parts is ∙ ap (λ (o : Option ℕ). both_given o (answers_of parts)) read.0, read.1)
-label-number_none all parts part NoLineMemory is read = tt
-
-pub label-answers_none : (all parts : List (List ℕ)) (part : List ℕ) (answer : LineAnswer) → all ≡ part ∷ parts → IsSmallRead are_answers_small (answers_of parts) (Err answer) → IsSmallRead is_label_small (label_parts all) (Err answer)
-label-answers_none all parts part (Fails code) is read = (ap label_parts is ∙ pair-second (number_said part) (answers_of parts) read.0, read.1)
-label-answers_none all parts part NoLineMemory is read = tt
-
 pub label-read : (all parts : List (List ℕ)) (part : List ℕ) (o : Option ℕ) (p : Option Answers) → all ≡ part ∷ parts → IsSmallRead is_small (number_said part) (Ok o) → IsSmallRead are_answers_small (answers_of parts) (Ok p) → IsSmallRead is_label_small (label_parts all) (Ok (both_given o p))
 label-read all parts part (Some n) (Some answers) is number given = (ap label_parts is ∙ ap (λ (x : Option ℕ). both_given x (answers_of parts)) number.0 ∙ ap (λ (y : Option Answers). both_given (Some n) y) given.0, and_from (is_small n) (are_answers_small answers) number.1 given.1)
 label-read all parts part (Some n) None is number given = ((n, given.0), ap label_parts is ∙ ap (λ (x : Option ℕ). both_given x (answers_of parts)) number.0 ∙ ap (λ (y : Option Answers). both_given (Some n) y) given.1, and_right (is_small n) (are_answers_small given.0) given.2)

@@ -19,7 +19,7 @@ use Rattle.proof_text.specs.declared.fault.ProofCode.TheVariants.{C1Syntax, C2Ve
 use Rattle.proof_text.specs.declared.limits.Limits.{Limits}
 use Rattle.proof_text.specs.declared.limits.TheConstants.{MOST_NESTING, MOST_NUMBER}
 use Rattle.proof_text.specs.declared.location.Location.{Location}
-use Rattle.proof_text.proofs.Taking.{fails-behind, fails-below, fails-longer, leads-both, leads-line}
+use Rattle.proof_text.proofs.Taking.{fails-below, leads-both, leads-line}
 
 -- ---- what a line without a fault passes
 
@@ -41,9 +41,6 @@ all-passed a b c d e h =
 pub passes : (limits : Limits) (begun : ℕ) (e : Expected) (l : Line) → fault_of_line limits begun e (Some l) ≡ None → (is_ordered begun e l ≡ true) × (is_shallow e l ≡ true) × (is_of_version limits.version l ≡ true)
 passes limits begun e l h = all-passed (list_all (λ n. nat_le n MOST_NUMBER) (numbers_in l)) (is_ordered begun e l) (is_of_version limits.version l) (list_all (λ n. nat_lt n limits.tests) (tests_named l)) (is_shallow e l) h
 
-pub split-depth : (limits : Limits) (begun depth test : ℕ) (inside : List ℕ) → fault_of_line limits begun (ExpectNode depth inside) (Some (split_line test)) ≡ None → depth < MOST_NESTING
-split-depth limits begun depth test inside h = ltb-true depth MOST_NESTING (passes limits begun (ExpectNode depth inside) (split_line test) h).1
-
 pub label-depth : (limits : Limits) (begun depth n : ℕ) (given : Answers) (inside : List ℕ) → fault_of_line limits begun (ExpectNode depth inside) (Some (label_line n given)) ≡ None → depth < MOST_NESTING
 label-depth limits begun depth n given inside h = ltb-true depth MOST_NESTING (passes limits begun (ExpectNode depth inside) (label_line n given) h).1
 
@@ -61,9 +58,6 @@ push-at (m ∷ ns) n (suc k) h = push-at ns n k (omega arith)
 push-last : (ns : List ℕ) (n : ℕ) → get_or (ns ++ n ∷ []) (length ns) 0 ≡ n
 push-last [] n = refl
 push-last (m ∷ ns) n = push-last ns n
-
-pub around-later : (ns : List ℕ) (begun later : ℕ) → AreAround ns begun → begun ≤ later → AreAround ns later
-around-later ns begun later around h = record { rising = around.rising; below = λ k within. omega (arith, around.below k within) }
 
 around-at : (ns : List ℕ) (n begun : ℕ) → AreAround ns begun → n ≡ begun → (k : ℕ) → k < length (ns ++ n ∷ []) → get_or (ns ++ n ∷ []) k 0 ≤ n
 around-at ns n begun around is k within = elim (cases_lt k (length ns)) [
@@ -91,16 +85,6 @@ split-takes limits depth test inside line location behind middle end y z next sa
     leads-line limits (ExpectNode depth inside) location behind end line (split_line test) (node_lines y ++ node_lines z) next said passes
     (leads-both limits (ExpectNode (depth + 1) inside ∷ []) (ExpectNode (depth + 1) inside ∷ []) behind middle end (node_lines y) (node_lines z) first second)
 
-pub split-first_fails : (limits : Limits) (depth test : ℕ) (inside line : List ℕ) (location behind : Location) (answer : ProofAnswer) → IsBehind line 0 location behind → line_said (ExpectNode depth inside) line ≡ Some (split_line test) → fault_of_line limits location.begun (ExpectNode depth inside) (Some (split_line test)) ≡ None →
-    FailsFrom limits (ExpectNode (depth + 1) inside ∷ []) behind answer → FailsFrom limits (ExpectNode depth inside ∷ []) location answer
-split-first_fails limits depth test inside line location behind answer next said passes fails =
-    fails-below limits (ExpectNode depth inside) location behind line (split_line test) answer next said passes (fails-longer limits (ExpectNode (depth + 1) inside ∷ []) (ExpectNode (depth + 1) inside ∷ []) behind answer fails)
-
-pub split-second_fails : (limits : Limits) (depth test : ℕ) (inside line : List ℕ) (location behind middle : Location) (y : Proof) (answer : ProofAnswer) → IsBehind line 0 location behind → line_said (ExpectNode depth inside) line ≡ Some (split_line test) → fault_of_line limits location.begun (ExpectNode depth inside) (Some (split_line test)) ≡ None →
-    TakesLines limits (ExpectNode (depth + 1) inside ∷ []) behind (node_lines y) middle → FailsFrom limits (ExpectNode (depth + 1) inside ∷ []) middle answer → FailsFrom limits (ExpectNode depth inside ∷ []) location answer
-split-second_fails limits depth test inside line location behind middle y answer next said passes first fails =
-    fails-below limits (ExpectNode depth inside) location behind line (split_line test) answer next said passes (fails-behind limits (ExpectNode (depth + 1) inside ∷ []) (ExpectNode (depth + 1) inside ∷ []) behind middle (node_lines y) answer first fails)
-
 -- the lines of a split's nodes
 pub split-starts : (test n m k : ℕ) (y z : Proof) (before own first all : List ℕ) → own ≡ before ++ n ∷ [] → first ≡ own ++ node_line_numbers m y → all ≡ first ++ node_line_numbers k z → m ≡ n + 1 → k ≡ m + length (node_lines y) → all ≡ before ++ node_line_numbers n (split test y z)
 split-starts test n m k y z before own first all e f g next after =
@@ -120,10 +104,6 @@ pub core-read : {X : Type 0} (tree : X → Proof) (limits : Limits) (depth : ℕ
 core-read tree limits depth inside core line from to (Ok x) next is passes read of =
     subst (λ (ls : List Line). TakesLines limits (ExpectNode depth inside ∷ []) from ls x.1) (sym of.lines) (leads-line limits (ExpectNode depth inside) from to x.1 line (slot_line core) (lines_after (tree x.0)) next is passes read)
 core-read tree limits depth inside core line from to (Err answer) next is passes read of = fails-below limits (ExpectNode depth inside) from to line (slot_line core) answer next is passes read
-
-pub core-starts : {X : Type 0} (tree : X → Proof) (core before own : List ℕ) (n : ℕ) (r : Result (X × Location) ProofAnswer) → own ≡ before ++ n ∷ [] → IfOk r (λ x. IsOfCore core (tree x.0)) → IfOk r (λ x. own ≡ before ++ node_line_numbers n (tree x.0))
-core-starts tree core before own n (Ok x) e of = e ∙ ap (λ l. before ++ l) (sym (of.alone n))
-core-starts tree core before own n (Err answer) e of = tt
 
 -- ---- where the labels around were looked at
 

@@ -1,7 +1,7 @@
 -- Texts byte by byte: digits, parts and lines.
 use Rattle.std.proofs.Common.{◌≡◌, ℕ, ◌+◌, ◌-◌, ◌*◌, ◌<◌, ◌≤◌, Bool, true, false, List, [], ◌∷◌, ◌++◌, length, get_or, take, drop, Option, Some, None, is_some, MatchOption, Ok, Bor, All, eqb, refl, sym, ap, ◌∙◌, arith, if◌then◌else◌}
 use Rattle.std.proofs.Math.Seq.{take-length}
-use Rattle.std.proofs.lemmas.Bool.{and_parts, eq-eqb, eqb-true, le-leb, lt-leb}
+use Rattle.std.proofs.lemmas.Bool.{eq-eqb, eqb-true, le-leb, lt-leb}
 use Rattle.std.proofs.lemmas.Int.Digits.{digits_value_more}
 use Rattle.std.proofs.lemmas.List.{drop_all, drop_more, get_or-take, length-take-le, take-append-drop, take_more}
 use Rattle.std.proofs.lemmas.List.Elements.{All-from_get_or, All-head, All-tail}
@@ -14,7 +14,7 @@ use Rattle.std.specs.List.{onto_first, position_or_len, slice_split}
 use Rattle.std.specs.Option.{option_copied}
 use Rattle.std.specs.Str.{all_ascii_digits}
 use Rattle.std.specs.Str.Parse.{digits_value}
-use Rattle.proof_text.specs.LineForms.{is_number, is_plain_front, lines_of, number_said, numbers_of, one_number, some_numbers}
+use Rattle.proof_text.specs.LineForms.{is_number, lines_of, number_said, numbers_of, one_number, some_numbers}
 use Rattle.proof_text.specs.Steps.{IsSmallRead, is_small, parts_left}
 use Rattle.proof_text.specs.declared.limits.TheConstants.{MOST_NUMBER}
 
@@ -40,9 +40,6 @@ value-front ds i = digits_value-take-le 10 ds i (omega arith)
 
 pub number-is : (part : List ℕ) → is_number part ≡ true → number_said part ≡ Some (digits_value 10 part)
 number-is part e = rw e
-
-pub digits-are : (part : List ℕ) → is_number part ≡ true → all_ascii_digits part ≡ true
-digits-are part e = (and_parts (is_plain_front part) (all_ascii_digits part) e).1
 
 pub number-read : (part : List ℕ) (r : Option ℕ) → is_number part ≡ true → MatchOption r (MOST_NUMBER < digits_value 10 part) (λ n. (n ≡ digits_value 10 part) × (n ≤ MOST_NUMBER)) → IsSmallRead is_small (number_said part) (Ok r)
 number-read part None e h = (digits_value 10 part, number-is part e, lt-leb _ _ h)

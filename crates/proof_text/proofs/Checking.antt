@@ -1,17 +1,15 @@
 -- The checks of a line, form by form.
-use Rattle.std.proofs.Common.{◌≡◌, ℕ, ◌<◌, ◌≤◌, Bool, true, false, ◌&&◌, List, [], ◌∷◌, Option, Some, None, Result, Ok, Err, option_map, eqb, nat_lt, refl, sym, ap, ◌∙◌, subst}
-use Rattle.std.proofs.lemmas.Bool.{le-ltb, lt-ltb}
-use Rattle.std.specs.List.{list_all, slice_split}
-use Rattle.std.specs.Option.{option_and_then}
+use Rattle.std.proofs.Common.{◌≡◌, ℕ, ◌<◌, Bool, true, false, ◌&&◌, List, [], ◌∷◌, Option, Some, None, Ok, option_map, nat_lt, refl, ap, ◌∙◌, subst}
+use Rattle.std.proofs.lemmas.Bool.{lt-ltb}
+use Rattle.std.specs.List.{list_all}
 use Rattle.formula_tree.specs.Answers.{Answers}
 use Rattle.proof_text.specs.Faults.{answered_tests, fault_of_line, is_of_version, is_ordered, is_shallow, numbers_in, tests_named}
-use Rattle.proof_text.specs.LineForms.{Expected, answers_of, content_of, content_said, label_said, label_line_of, line_said, number_said, line_of_word, said_in}
+use Rattle.proof_text.specs.LineForms.{Expected, answers_of, label_said, label_line_of, number_said}
 use Rattle.proof_text.specs.Lines.{Line, label_line}
-use Rattle.proof_text.specs.Steps.{IsLineRead, IsSmallRead, are_answers_small, are_small, is_label_small, is_small, label_parts, both_given}
-use Rattle.proof_text.specs.declared.fault.LineAnswer.{LineAnswer}
-use Rattle.proof_text.specs.declared.fault.LineAnswer.TheVariants.{Fails, NoMemory as NoLineMemory}
+use Rattle.proof_text.specs.Steps.{IsSmallRead, are_answers_small, are_small, is_label_small, is_small, label_parts, both_given}
+use Rattle.proof_text.specs.declared.fault.LineAnswer.TheVariants.{NoMemory as NoLineMemory}
 use Rattle.proof_text.specs.declared.fault.ProofCode.{ProofCode}
-use Rattle.proof_text.specs.declared.fault.ProofCode.TheVariants.{C1Syntax, C2Version, C3TestNumber, C4Limit}
+use Rattle.proof_text.specs.declared.fault.ProofCode.TheVariants.{C1Syntax, C3TestNumber, C4Limit}
 use Rattle.proof_text.specs.declared.limits.Limits.{Limits}
 
 -- ---- the checks one by one
@@ -21,9 +19,6 @@ fault-size limits begun e l size = rw size
 
 pub fault-order : (limits : Limits) (begun : ℕ) (e : Expected) (l : Line) → are_small (numbers_in l) ≡ true → is_ordered begun e l ≡ false → fault_of_line limits begun e (Some l) ≡ Some C1Syntax
 fault-order limits begun e l size order = rw (size, order)
-
-pub fault-version : (limits : Limits) (begun : ℕ) (e : Expected) (l : Line) → are_small (numbers_in l) ≡ true → is_ordered begun e l ≡ true → is_of_version limits.version l ≡ false → fault_of_line limits begun e (Some l) ≡ Some C2Version
-fault-version limits begun e l size order version = rw (size, order, version)
 
 pub fault-test : (limits : Limits) (begun : ℕ) (e : Expected) (l : Line) → are_small (numbers_in l) ≡ true → is_ordered begun e l ≡ true → is_of_version limits.version l ≡ true → list_all (λ n. nat_lt n limits.tests) (tests_named l) ≡ false →
     fault_of_line limits begun e (Some l) ≡ Some C3TestNumber
@@ -38,12 +33,6 @@ pub fault-none : (limits : Limits) (begun : ℕ) (e : Expected) (l : Line) → a
 fault-none limits begun e l size order version tests depth = rw (size, order, version, tests, depth)
 
 -- ---- what a part of a line says, and the line
-
-pub line-none : {X Y : Type 0} (view : Y → Line) (small : X → Bool) (l : X → Line) (limits : Limits) (begun : ℕ) (e : Expected) (said : Option X) (answer : LineAnswer) → IsSmallRead small said (Err answer) →
-    IsLineRead view limits begun e (option_map l said) (Err answer)
-line-none {X} {Y} view small l limits begun e said (Fails code) read =
-    ap (λ (o : Option X). fault_of_line limits begun e (option_map l o)) read.0 ∙ ap Some (sym read.1)
-line-none view small l limits begun e said NoLineMemory read = tt
 
 pub line-large : {X : Type 0} (small : X → Bool) (l : X → Line) (limits : Limits) (begun : ℕ) (e : Expected) (said o : Option X) → ((x : X) → are_small (numbers_in (l x)) ≡ small x) → IsSmallRead small said (Ok o) → o ≡ None →
     fault_of_line limits begun e (option_map l said) ≡ Some C4Limit
@@ -67,9 +56,6 @@ one-true false = refl
 pub test-within : (n count : ℕ) → n < count → (nat_lt n count && true) ≡ true
 test-within n count h = one-true (nat_lt n count) ∙ lt-ltb n count h
 
-pub test-outside : (n count : ℕ) → count ≤ n → (nat_lt n count && true) ≡ false
-test-outside n count h = one-true (nat_lt n count) ∙ le-ltb n count h
-
 -- ---- labels
 
 label-forms : (o : Option ℕ) (p : Option Answers) → label_line_of o p ≡ option_map (λ (x : ℕ × Answers). label_line x.0 x.1) (both_given o p)
@@ -88,10 +74,6 @@ tests-small (p ∷ given) = ap (λ b. is_small p.0 && b) (tests-small given)
 pub label-tells : (x : ℕ × Answers) → are_small (numbers_in (label_line x.0 x.1)) ≡ is_label_small x
 label-tells x = ap (λ b. is_small x.0 && b) (tests-small x.1)
 
--- a relation of what is said holds of what is the same
-pub line-same : {Y : Type 0} (view : Y → Line) (limits : Limits) (begun : ℕ) (e : Expected) (said other : Option Line) (r : Result Y LineAnswer) → said ≡ other → IsLineRead view limits begun e other r → IsLineRead view limits begun e said r
-line-same {Y} view limits begun e said other r is read = subst (λ (o : Option Line). IsLineRead view limits begun e o r) (sym is) read
-
 pub label-known : (parts : List (List ℕ)) (o : Option (ℕ × Answers)) (x : ℕ × Answers) → IsSmallRead is_label_small (label_parts parts) (Ok o) → o ≡ Some x → (label_said parts ≡ Some (label_line x.0 x.1)) × (are_small (numbers_in (label_line x.0 x.1)) ≡ true)
 label-known parts o x read some =
     let known = line-small is_label_small (λ (y : ℕ × Answers). label_line y.0 y.1) (label_parts parts) o x label-tells read some in
@@ -100,9 +82,3 @@ label-known parts o x read some =
 pub label-too_large : (limits : Limits) (begun : ℕ) (e : Expected) (parts : List (List ℕ)) (o : Option (ℕ × Answers)) → IsSmallRead is_label_small (label_parts parts) (Ok o) → o ≡ None → fault_of_line limits begun e (label_said parts) ≡ Some C4Limit
 label-too_large limits begun e parts o read none =
     ap (λ (s : Option Line). fault_of_line limits begun e s) (label-form parts) ∙ line-large is_label_small (λ (y : ℕ × Answers). label_line y.0 y.1) limits begun e (label_parts parts) o label-tells read none
-
--- ---- words
-
--- what a line says by its word and its parts
-pub line-words : (e : Expected) (line text word : List ℕ) (parts : List (List ℕ)) → Some text ≡ content_of line → slice_split (λ b. eqb b 32) text ≡ word ∷ parts → line_said e line ≡ line_of_word e word parts
-line-words e line text word parts is cut = ap (λ (o : Option (List ℕ)). option_and_then (content_said e) o) (sym is) ∙ ap (said_in e) cut

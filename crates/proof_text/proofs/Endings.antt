@@ -1,6 +1,6 @@
 -- Ends of lines, words alone, and labels that ended.
 use Rattle.std.proofs.Common.{◌≡◌, ℕ, ◌<◌, ◌≤◌, Bool, true, false, not, ◌||◌, List, [], ◌∷◌, ◌++◌, length, get_or, Option, Some, None, Result, Ok, Err, MatchResult, is_some, option_map, Bor, eqb, nat_lt, refl, sym, ap, ◌∙◌, arith, inl, inr, zero, suc, ◌⊎◌}
-use Rattle.std.proofs.lemmas.Bool.{cases_lt, eq-eqb, lt-ltb, le-ltb, ne_eqb}
+use Rattle.std.proofs.lemmas.Bool.{cases_lt, eq-eqb, lt-ltb, ne_eqb}
 use Rattle.std.proofs.lemmas.List.Elements.{All-from_get_or, All-head, All-tail}
 use Rattle.std.specs.List.{All, list_any, slice_split}
 use Rattle.std.specs.Option.{option_copied}
@@ -66,9 +66,6 @@ other-at n k ns (inr h) = ne_eqb k n (λ e. omega arith)
 
 ended-by : (begun n : ℕ) (inside : List ℕ) (b : Bool) → n < begun → list_any (λ m. eqb m n) inside ≡ b → has_ended begun inside n ≡ not b
 ended-by begun n inside b within is = let first : nat_lt n begun ≡ true = lt-ltb n begun within in rw (first, is)
-
-pub ended-never : (begun n : ℕ) (inside : List ℕ) → begun ≤ n → has_ended begun inside n ≡ false
-ended-never begun n inside past = let first : nat_lt n begun ≡ false = le-ltb n begun past in rw first
 
 pub ended-is : (begun n : ℕ) (inside : List ℕ) (r : Result ℕ ℕ) → n < begun →
     MatchResult r (λ i. (i < length inside) × (get_or inside i 0 ≡ n)) (λ i. (i ≤ length inside) × ((k : ℕ) → k < i → get_or inside k 0 < n) × ((k : ℕ) → i ≤ k → k < length inside → n < get_or inside k 0)) → is_err r ≡ has_ended begun inside n

@@ -1,14 +1,14 @@
 -- Files whose certificate stands at a location.
-use Rattle.std.proofs.Common.{◌≡◌, ℕ, ◌+◌, ◌-◌, ◌<◌, ◌≤◌, min, List, [], ◌∷◌, ◌++◌, length, drop, zero, suc, Some, None, Result, Ok, Err, IfOk, refl, sym, ap, ◌∙◌, subst, arith, inl, inr, ◌⊎◌}
+use Rattle.std.proofs.Common.{◌≡◌, ℕ, ◌+◌, ◌-◌, ◌<◌, ◌≤◌, min, List, [], ◌∷◌, ◌++◌, length, drop, zero, suc, Result, Ok, Err, IfOk, sym, ap, ◌∙◌, arith, inl, inr, ◌⊎◌}
 use Rattle.std.proofs.lemmas.List.{length-append}
 use Rattle.std.specs.List.{concat}
-use Rattle.refute_check.specs.Proofs.{Proof, proof_of, size}
+use Rattle.refute_check.specs.Proofs.{Proof, proof_of}
 use Rattle.proof_text.specs.Faults.{fault_after, fault_from, proof_fault, skipped_count}
 use Rattle.proof_text.specs.LineForms.{ExpectVersion, bytes_after, lines_before, lines_of}
 use Rattle.proof_text.specs.Lines.{verdict_line}
-use Rattle.proof_text.specs.Reads.{HasFewNodes, IsProofRead, IsProofReadBehind, IsReadBehind, IsReadFrom}
+use Rattle.proof_text.specs.Reads.{HasFewNodes, IsProofRead, IsProofReadBehind}
 use Rattle.proof_text.specs.Spelling.{IsCertificateOf, certificate_text, node_line_numbers}
-use Rattle.proof_text.specs.Steps.{HasLineRoom, IsBehind, IsFirstLocation, IsLocationBehind, IsProofReadAt, IsReadAt}
+use Rattle.proof_text.specs.Steps.{HasLineRoom, IsBehind, IsFirstLocation, IsLocationBehind, IsProofReadAt}
 use Rattle.proof_text.specs.declared.fault.ProofAnswer.{ProofAnswer}
 use Rattle.proof_text.specs.declared.fault.ProofAnswer.TheVariants.{Refused, NoMemory}
 use Rattle.proof_text.specs.declared.limits.Limits.{Limits}

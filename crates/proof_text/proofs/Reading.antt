@@ -1,5 +1,5 @@
 -- Parts that are read one by one.
-use Rattle.std.proofs.Common.{◌≡◌, ℕ, Bool, true, false, if◌then◌else◌, ◌&&◌, List, [], ◌∷◌, ◌++◌, map, Option, Some, None, Ok, Err, Bor, eqb, option_map, append_assoc, append-nil, subst, length, ◌+◌, refl, sym, ap, ◌∙◌}
+use Rattle.std.proofs.Common.{◌≡◌, ℕ, Bool, true, false, if◌then◌else◌, ◌&&◌, List, [], ◌∷◌, ◌++◌, map, Option, Some, None, Ok, Err, Bor, eqb, option_map, append_assoc, subst, length, ◌+◌, refl, sym, ap, ◌∙◌}
 use Rattle.std.proofs.lemmas.List.Folds.{list_all-append}
 use Rattle.std.specs.List.{list_all, slice_split}
 use Rattle.std.specs.Option.{option_copied}
@@ -26,9 +26,6 @@ pub record IsReadSoFar {X : Type 0} (f : List ℕ → Option X) (small : X → B
 given-none : {X : Type 0} (o : Option (List X)) → o ≡ given_behind [] o
 given-none None = refl
 given-none (Some xs) = refl
-
-pub read-none : {X : Type 0} (f : List ℕ → Option X) (small : X → Bool) (all : List (List ℕ)) → IsReadSoFar f small all all false []
-read-none f small all = record { items = []; given = given-none (all_given (map f all)); are = (refl, refl) }
 
 given-one : {X : Type 0} (items : List X) (x : X) (o : Option (List X)) → given_behind items (option_map (λ xs. x ∷ xs) o) ≡ given_behind (items ++ x ∷ []) o
 given-one items x None = refl
@@ -81,21 +78,6 @@ pub read-stop : {X : Type 0} (f : List ℕ → Option X) (small : X → Bool) (a
 read-stop {X} f small all left next large got part so_far is none =
     let P : Option X → Option (List X) = λ o. given_behind so_far.items (all_given (o ∷ map f next)) in
     so_far.given ∙ ap (λ ps. given_behind so_far.items (all_given (map f ps))) is ∙ ap P none
-
--- all are read, and none is too large
-pub read-end : {X : Type 0} (f : List ℕ → Option X) (small : X → Bool) (all left : List (List ℕ)) (large : Bool) (got : List X) →
-    IsReadSoFar f small all left large got → left ≡ [] → large ≡ false → (all_given (map f all) ≡ Some got) × (list_all small got ≡ true)
-read-end {X} f small all left large got so_far is none =
-    let are : AreItems small false so_far.items got = subst (λ (b : Bool). AreItems small b so_far.items got) none so_far.are in
-    let items : so_far.items ≡ got = are.0 in
-    (so_far.given ∙ ap (λ ps. given_behind so_far.items (all_given (map f ps))) is ∙ ap Some (append-nil so_far.items ∙ items), ap (list_all small) (sym items) ∙ are.1)
-
--- or one is
-pub read-end_large : {X : Type 0} (f : List ℕ → Option X) (small : X → Bool) (all left : List (List ℕ)) (large : Bool) (got : List X) →
-    IsReadSoFar f small all left large got → left ≡ [] → large ≡ true → (xs : List X) × (all_given (map f all) ≡ Some xs) × (list_all small xs ≡ false)
-read-end_large {X} f small all left large got so_far is some =
-    let are : AreItems small true so_far.items got = subst (λ (b : Bool). AreItems small b so_far.items got) some so_far.are in
-    (so_far.items, so_far.given ∙ ap (λ ps. given_behind so_far.items (all_given (map f ps))) is ∙ ap Some (append-nil so_far.items), are)
 
 -- ---- what is left of a line
 
@@ -156,14 +138,3 @@ module _ (all : List (List ℕ)) (large : Bool) (got grown : List (List ℕ)) (r
   pub put-stop : (answer : LineAnswer) → IsListPut (places_in part.now) got grown (Err answer) → IsSmallRead are_lists_small (lists_of_places all) (Err answer)
   put-stop (Fails code) put = loop-stop places_in are_small 32 all large got rest more text part (Fails code) so_far is cut put
   put-stop NoLineMemory put = tt
-
-end-left : (between : ℕ) (rest : Option (Bor (List ℕ))) → rest ≡ None → parts_left between (option_copied rest) ≡ []
-end-left between rest is = ap (λ (o : Option (Bor (List ℕ))). parts_left between (option_copied o)) is
-
-pub loop-end : {X : Type 0} (f : List ℕ → Option X) (small : X → Bool) (between : ℕ) (all : List (List ℕ)) (large : Bool) (got : List X) (rest : Option (Bor (List ℕ))) →
-    IsReadSoFar f small all (parts_left between (option_copied rest)) large got → rest ≡ None → large ≡ false → IsSmallRead (list_all small) (all_given (map f all)) (Ok (Some got))
-loop-end f small between all large got rest so_far is none = read-end f small all (parts_left between (option_copied rest)) large got so_far (end-left between rest is) none
-
-pub loop-end_large : {X : Type 0} (f : List ℕ → Option X) (small : X → Bool) (between : ℕ) (all : List (List ℕ)) (large : Bool) (got : List X) (rest : Option (Bor (List ℕ))) →
-    IsReadSoFar f small all (parts_left between (option_copied rest)) large got → rest ≡ None → large ≡ true → IsSmallRead (list_all small) (all_given (map f all)) (Ok None)
-loop-end_large f small between all large got rest so_far is some = read-end_large f small all (parts_left between (option_copied rest)) large got so_far (end-left between rest is) some

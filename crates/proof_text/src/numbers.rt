@@ -39,8 +39,8 @@ fn is_number(part: &[u8]) -> bool
     all_digits(part)
 }
 
-// The number of digits, or none where it is above the greatest. It may stop at the first digit at which it is, since more digits make
-// it no smaller.
+// The number of digits, or none where it is above the greatest. It may stop at the first digit at which it is, since
+// more digits make it no smaller.
 fn value_of(digits: &[u8]) -> Option<u32>
     requires { all_ascii_digits digits.now ≡ true }
     ensures { MatchOption result (MOST_NUMBER < digits_value 10 digits.now)

@@ -66,9 +66,6 @@ kinds-apart CanonicalUser Service e = absurd (differ 0 e refl)
 kinds-apart CanonicalUser Federated e = absurd (differ 0 e refl)
 kinds-apart CanonicalUser CanonicalUser e = refl
 
-abbrev kind_behind : PrincipalKind → List ℕ
-kind_behind k = codes "kind " ++ kind_word k
-
 exact-same : (k : PrincipalKind) (id other : List ℕ) → entry_text (Exact k id) ≡ entry_text (Exact k other) → encode_utf8_all id ≡ encode_utf8_all other
 exact-same Aws id other e = cc
 exact-same Service id other e = cc

@@ -7,7 +7,7 @@ use crate::accepted::AcceptedCores;
 use formula_tree::Path;
 use plain_lists::NoMemory;
 use policy_model::{Schema, TestList};
-use slot_theory::{Core, SlotProof, accepts, shown_by_part};
+use slot_theory::{Core, SlotProof, accepts, is_monotone, shown_by_part};
 use std::alloc::Global;
 use std::rc::Rc;
 
@@ -17,14 +17,6 @@ pub(crate) struct CoreCheck<'a> {
     pub(crate) alloc: Global,
     pub(crate) schema: &'a Schema,
     pub(crate) tests: &'a TestList,
-}
-
-// Whether the proof may show more than it was accepted with.
-fn may_grow(proof: &SlotProof) -> bool {
-    match proof {
-        SlotProof::Points | SlotProof::Absent | SlotProof::Required => true,
-        _ => false,
-    }
 }
 
 // Whether the core is accepted since the tests of the shape at the index are, which are a part of it. Where it says no
@@ -160,7 +152,7 @@ fn is_part_accepted(
         IsTrue yes → AcceptsBy check.now path.now core.now proof.now.value) }
     ensures known { OnOk result (KnowsCores check.now cores.new) }
 {
-    if !may_grow(proof) {
+    if !is_monotone(proof) {
         return Ok(false);
     }
     let Some(index) = known_part(check, cores, path, core, proof)? else {
@@ -189,7 +181,7 @@ fn accepts_whole(
         return Ok(false);
     }
     cores.keep(check.alloc, path, core, proof)?;
-    if may_grow(proof) {
+    if is_monotone(proof) {
         cores.shapes.note_whole(check.alloc, path, core)?;
     }
     Ok(true)

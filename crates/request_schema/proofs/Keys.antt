@@ -63,10 +63,3 @@ module _ (second twice : Bool) (all rest next : List FileKey) (key : FileKey) (s
     values = so_far.values ∙ ap (λ (ks : List FileKey). with_rules rules (rules_of ks)) is ∙ ap (λ (r : Entries KeyRule). with_rules r (rules_of next)) (sym (put_is ∙ ap (λ (r : KeyRule). with_item rules (folded_name key.0) r) rule_is));
     sound = subst RulesAreSound (sym put_is) (All-with_item RuleIsSound rules (folded_name key.0) rule so_far.sound sound);
   }
-
--- all keys are read
-pub all-keys-read : (second : Bool) (all rest : List FileKey) (seen : Seen) (rules : Entries KeyRule) → KeysRead second all rest seen rules → rest ≡ [] → (first_fault (keys_checks second [] all) ≡ None) × (rules ≡ with_rules built_in_rules (rules_of all))
-all-keys-read second all rest seen rules so_far none = (
-  so_far.faults ∙ ap (λ (ks : List FileKey). first_fault (keys_checks second so_far.before ks)) none,
-  sym (so_far.values ∙ ap (λ (ks : List FileKey). with_rules rules (rules_of ks)) none),
-)

@@ -35,10 +35,6 @@ just-shorter closes path many needs inside just there = record {
   needed = λ few within closed. just.needed few (λ n b is. inside n b (within n b is)) closed;
 }
 
--- the path itself closes
-pub just-closes : (closes : Answers → Type 0) (path needs : Answers) → NeedsJust closes path needs → closes path
-just-closes closes path needs just = just.enough path (λ n b is. is) just.there
-
 same-answer : (path few : Answers) (n : ℕ) (b : Bool) (o : Option Bool) → Contained few path → answer_of path n ≡ Some b → answer_of few n ≡ o → IsSome o → answer_of few n ≡ Some b
 same-answer path few n b (Some c) inside given e some = e ∙ (sym (inside n c e) ∙ given)
 same-answer path few n b None inside given e some = absurd (cc)

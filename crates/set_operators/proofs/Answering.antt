@@ -311,9 +311,6 @@ none-required rule asks i values past within up none needs = elim needs [
       any-nil (λ v. MeetsAsk v ask.0) (all.met some.0 ask.0 some.2 ask.1))
 ]
 
-pub idle-found : (rule : KeyRule) (asks : Asks) (states : ℕ) → (NeedsValue rule asks → ⊥) → IsKeyAnswer rule asks states (answer.Found [])
-idle-found rule asks states idle = let own = none-needed rule asks idle in (own.0, own.1)
-
 -- ---- the search for all
 
 pub went-on : (rule : KeyRule) (asks : Asks) (i states : ℕ) (values : List Value) (end : Option KeyAnswer) → end ≡ None → MatchOption end (AreMembersUpTo rule asks i values) (IsKeyAnswer rule asks states) → AreMembersUpTo rule asks i values

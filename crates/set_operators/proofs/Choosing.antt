@@ -1,5 +1,5 @@
 -- The asks that are chosen for one member.
-use Rattle.std.proofs.Common.{◌≡◌, ◌≢◌, ℕ, zero, suc, ◌+◌, ◌<◌, ◌==◌, List, [], ◌∷◌, ◌++◌, length, take, drop, flat_map, get_or, Bool, true, false, not, cond, Option, Some, None, unwrap_or, All, Contains, refl, ap, ◌∙◌, subst, append_assoc, length-append, arith}
+use Rattle.std.proofs.Common.{◌≡◌, ◌≢◌, ℕ, zero, suc, ◌+◌, ◌<◌, ◌==◌, List, [], ◌∷◌, ◌++◌, length, take, drop, flat_map, get_or, Bool, true, false, not, cond, unwrap_or, All, Contains, refl, ap, ◌∙◌, append_assoc, length-append, arith}
 use Rattle.std.specs.Option.{option_to_list}
 use Rattle.std.proofs.lemmas.Bool.Decides.{nat_tests}
 use Rattle.std.proofs.lemmas.List.Elements.{All-nil, All-cons, All-head, All-tail, All-append, All-contains, All-contains_itself, All-filter, All-take, All-drop, All-weaker, Contains-get_or, Contains-append_left, Contains-append_right}
@@ -10,8 +10,6 @@ use Rattle.pattern_automata.specs.declared.wants.Literal.{Literal}
 use Rattle.pattern_automata.specs.declared.wants.Wants.{Wants}
 use Rattle.pattern_automata.specs.Closed.{InRange}
 use Rattle.policy_model.specs.declared.schema.KeyRule.{KeyRule}
-use Rattle.policy_model.specs.declared.value.Value.{Value}
-use Rattle.policy_model.specs.Soundness.{IsShortValue, ListIsSound, RuleIsSound}
 use Rattle.set_operators.specs.declared.ask.KeyAsk.{KeyAsk}
 use Rattle.set_operators.specs.declared.ask.KeyAsk.TheVariants.{Present}
 use Rattle.set_operators.specs.declared.steps.Choice.{Choice}
@@ -111,15 +109,6 @@ wider-all rule asks choice states texts h wide =
     (All-weaker (Contains (asks_patterns asks)) (Contains (value_patterns rule asks)) (λ x c. Contains-append_left (asks_patterns asks) (rule_patterns rule) x c) (asks_patterns (chosen_asks asks choice)) own)
     (All-weaker (Contains (rule_patterns rule)) (Contains (value_patterns rule asks)) (λ x c. Contains-append_right (asks_patterns asks) (rule_patterns rule) x c) (rule_patterns rule) (All-contains_itself (rule_patterns rule))) in
     widths-grow (value_patterns rule (chosen_asks asks choice)) (value_patterns rule asks) states texts among wide
-
--- ---- sound rules
-
-list-short : (rule : KeyRule) (among : Option (List Value)) (listed : List Value) → ListIsSound among rule → among ≡ Some listed → All IsShortValue listed
-list-short rule None listed sound e = absurd (cc)
-list-short rule (Some more) listed sound e = let own : more ≡ listed = cc in subst (All IsShortValue) own sound.2
-
-pub sound-short : (rule : KeyRule) (listed : List Value) → RuleIsSound rule → rule.among ≡ Some listed → All IsShortValue listed
-sound-short rule listed sound e = list-short rule rule.among listed sound.listed e
 
 -- ---- what is wanted
 

@@ -88,10 +88,6 @@ word-free = record { text = refl; nonempty = λ e. absurd cc; fits = tt }
 pub word-sample : (shape : List Piece) (t : List ℕ) → t ≡ sample shape → ¬ (t ≡ []) → IsText t → IsWord (Some shape) t
 word-sample shape t is some text = record { text = text; nonempty = some; fits = rw is (sample-matches shape) }
 
-pub or_x-some : (t u : List ℕ) → t ≡ u → ¬ (t ≡ []) → t ≡ or_x u
-or_x-some t [] is some = absurd (some is)
-or_x-some t (c ∷ cs) is some = is
-
 pub or_x-none : (t u : List ℕ) → t ≡ u → t ≡ [] → codes "x" ≡ or_x u
 or_x-none t [] is none = refl
 or_x-none t (c ∷ cs) is none = absurd (cc (is, none))

@@ -26,7 +26,7 @@ mod wants;
 pub use acceptance::{accepted_cores_are_impossible, accepts_by_the_core_alone};
 pub use check::accepts;
 pub use outcome::{Core, KindProof, Possible, SlotProof, SlotValue};
-pub use parts::shown_by_part;
+pub use parts::{is_monotone, shown_by_part};
 pub use search::possible;
 pub use slots::{is_on, meets, slot_of};
 pub use unasked::{sample, stated_value, stated_values};

@@ -11,8 +11,8 @@ use plain_lists::NoMemory;
 use policy_model::TestList;
 use std::alloc::Global;
 
-// Whether what the proof says of some asks it says of more.
-fn is_monotone(proof: &SlotProof) -> bool
+/// Whether what the proof says of some asks it says of more.
+pub fn is_monotone(proof: &SlotProof) -> bool
     ensures { result ≡ is_monotone proof.now }
 {
     match proof {

@@ -37,8 +37,8 @@ const FEW_WORDS: usize = 8;
 /// A core with fewer tests of a key with several texts mostly comes to its end soon, too.
 const FEW_MEMBERS: usize = 8;
 
-/// Of more pairs of a test that is answered yes and one that is answered no, members aren't looked for all at once: each
-/// yes takes a product with all of those, in vain where a later one has no member.
+/// Of more pairs of a test that is answered yes and one that is answered no, members aren't looked for all at once:
+/// each yes takes a product with all of those, in vain where a later one has no member.
 const MOST_MEMBER_PAIRS: usize = 20_000;
 
 /// Whether a core of so many tests has taken as long to grow as all tests at once would take.

@@ -11,8 +11,8 @@ pub(crate) const FEW_SPLITS: u32 = 100;
 // The same where slots are known to exclude what makes the other search short.
 const FEWER_SPLITS: u32 = 10;
 
-// For so many queries few splits are left alone from the first on. Where many more are asked most of them are small, and
-// then few splits are cheaper.
+// For so many queries few splits are left alone from the first on. Where many more are asked most of them are small,
+// and then few splits are cheaper.
 const FIRST_QUERIES: u32 = 600;
 
 // For how many queries few splits are left alone after they were in vain, at first and at most.

@@ -15,14 +15,14 @@ use refute_check::closed_queries_are_no;
 use std::alloc::Global;
 use tree_search::{Budgets, decide};
 
-/// Decides a query within budgets: by few splits, by a search that learns clauses, and by all splits, each where
-/// those before it don't decide. The search that learns clauses splits in any order, so it decides much that takes the
-/// search in the fixed order many splits, or states of slots that don't matter. A budget of at most 100 splits is spent
-/// at once, and clauses aren't learned; and where few splits end at a slot that is too wide, all would end there. Where a
-/// budget is too small it is one that `tree_search::decide` names.
+/// Decides a query within budgets: by few splits, by a search that learns clauses, and by all splits, each where those
+/// before it don't decide. The search that learns clauses splits in any order, so it decides much that takes the
+/// search in the fixed order many splits, or states of slots that don't matter. A budget of at most 100 splits is
+/// spent at once, and clauses aren't learned; and where few splits end at a slot that is too wide, all would end
+/// there. Where a budget is too small it is one that `tree_search::decide` names.
 ///
-/// The schema is sound and every test suits it, the formula's test numbers are below the number of
-/// tests, and both budgets are at least 1. The only error is want of memory.
+/// The schema is sound and every test suits it, the formula's test numbers are below the number of tests, and both
+/// budgets are at least 1. The only error is want of memory.
 pub fn decide_in_stages(
     alloc: Global,
     schema: &Schema,
@@ -41,9 +41,9 @@ pub fn decide_in_stages(
     decide_after(alloc, schema, query, budgets, &mut earlier)
 }
 
-/// Decides a query as `decide_in_stages` does, after others under the same schema: the search that learns clauses begins
-/// with what slots excluded for these, and is asked after 10 splits in place of 100: for hundreds of queries, and then where
-/// 100 were in vain lately.
+/// Decides a query as `decide_in_stages` does, after others under the same schema: the search that learns clauses
+/// begins with what slots excluded for these, and is asked after 10 splits in place of 100: for hundreds of queries,
+/// and then where 100 were in vain lately.
 ///
 /// The conditions are those of `decide_in_stages`.
 pub fn decide_after(

@@ -36,9 +36,6 @@ kept-few schema s earlier [] kept keeps_none = omega arith
 kept-few schema s earlier (p ∷ names) kept (keeps_it {kept = more} here rest) = omega (arith, kept-few schema s (earlier ++ p ∷ []) names more rest)
 kept-few schema s earlier (p ∷ names) kept (drops_it here rest) = omega (arith, kept-few schema s (earlier ++ p ∷ []) names kept rest)
 
-same-turned : (schema : Schema) (s : Slot) (p q : Predicate) → MeetTheSame schema s p q → MeetTheSame schema s q p
-same-turned schema s p q same = record { below = same.above; above = same.below }
-
 -- each of the named predicates that is met has a kept one that the same requests meet
 abbrev pub Covers : Schema → Slot → List Predicate → List Predicate → Type 0
 Covers schema s names kept = (q : Predicate) → Contains names q → IsMetUnder schema s q → Any (λ k. MeetTheSame schema s k q) kept

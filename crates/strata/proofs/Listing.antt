@@ -11,9 +11,6 @@ use Rattle.strata.specs.Rows.{AreListed, AreMaximalByRows, IsMaximalByRows}
 le-true : (a b : ℕ) → a ≤ b → nat_le a b ≡ true
 le-true a b h = grind (arith, nat_tests)
 
-true-le : (a b : ℕ) → nat_le a b ≡ true → a ≤ b
-true-le a b h = grind (arith, nat_tests)
-
 rises-push : (xs : List ℕ) (a n : ℕ) → rises_from a xs ≡ true → All (λ j. j < n) xs → a ≤ n → rises_from a (xs ++ n ∷ []) ≡ true
 rises-push [] a n rise within h = and_from (nat_le a n) true (le-true a n h) refl
 rises-push (x ∷ xs) a n rise within h =

@@ -1,24 +1,18 @@
 -- What strata and findings come to is what a summary comes to.
-use Rattle.std.proofs.Common.{◌≡◌, ℕ, List, All, subst}
+use Rattle.std.proofs.Common.{◌≡◌, ℕ, List, subst}
 use Rattle.std.specs.Prelude.{Result}
 use Rattle.policy_model.specs.declared.request.Request.{Request}
 use Rattle.policy_model.specs.declared.schema.Schema.{Schema}
 use Rattle.policy_model.specs.declared.set.PolicySet.{PolicySet}
 use Rattle.policy_model.specs.declared.test.Slot.{Slot}
 use Rattle.policy_model.specs.Requests.{HasValidRequest}
-use Rattle.policy_model.specs.Soundness.{TestSuits}
 use Rattle.policy_compile.specs.declared.outcome.Query.{Query}
-use Rattle.policy_compile.specs.Laws.{TestsOfSetQueriesSuit}
 use Rattle.strata.specs.declared.stratum.Strata.{Strata}
 use Rattle.findings.specs.declared.outcome.SummaryFault.{SummaryFault}
 use Rattle.findings.specs.Answers.{IsSummarised}
 use Rattle.findings.specs.Queries.{AreMadeFor}
 use Rattle.summary_search.specs.declared.outcome.Limits.{Limits}
-use Rattle.summary_search.specs.Outcomes.{AreAskable, AreStrataWithin, IsOfSomeSet, IsQueryOfSet}
-
--- the tests of a set's query suit the schema
-pub suit-of-set : TestsOfSetQueriesSuit → (schema : Schema) (query : Query) → IsOfSomeSet schema query → All (TestSuits schema) query.tests
-suit-of-set law schema query (set, of) = law schema set query.tests of.fits of.is.tests
+use Rattle.summary_search.specs.Outcomes.{AreAskable, AreStrataWithin, IsQueryOfSet}
 
 -- what findings are asked of
 pub made-for : (schema : Schema) (set : PolicySet) (query : Query) (slots : List Slot) (strata : Strata) → HasValidRequest schema → AreAskable schema slots → IsQueryOfSet schema set query → AreStrataWithin schema query slots strata → AreMadeFor schema set query strata

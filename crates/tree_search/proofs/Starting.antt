@@ -31,7 +31,7 @@ use Rattle.tree_search.specs.declared.found.Found.{Found}
 use Rattle.tree_search.specs.declared.found.Found.TheVariants as found
 use Rattle.tree_search.specs.declared.outcome.Budgets.{Budgets}
 use Rattle.tree_search.specs.declared.outcome.Decided.{Decided}
-use Rattle.tree_search.specs.Decisions.{IsDecision, IsNear, IsRefutation, IsWithinSplits}
+use Rattle.tree_search.specs.Decisions.{IsDecision, IsFewSplitsAway, IsRefutation, IsWithinSplits}
 use Rattle.tree_search.specs.Leading.{IsReachedBy}
 use Rattle.tree_search.specs.declared.state.State.{State}
 use Rattle.tree_search.specs.Search.{AreCarried, IsFoundFrom, IsRefutedPart, followed_at, spent_between}
@@ -48,7 +48,7 @@ module _ (schema : Schema) (query : Query) where
       let done : IsRefutationOf schema query.tests (asked_tree query) used (renamed_proof [] 0 (part_proof part)) = finished-made schema query.tests (asked_tree query) store used part is.made in
       rw same (record { closes = done.closes; few = let splits = done.few in omega arith; nests = done.nests; trimmed = done.trimmed })
 
-  near-from : (store : List Answers) (most used : ℕ) (node : Answers) → IsReachedBy schema query store 0 used [] node → used ≤ most → IsNear schema query at_first most [] node
+  near-from : (store : List Answers) (most used : ℕ) (node : Answers) → IsReachedBy schema query store 0 used [] node → used ≤ most → IsFewSplitsAway schema query at_first most [] node
   near-from store most used node reached few = record {
     count = used;
     lead = leads-renamed schema query store 0 used [] node 0 [] reached.lead (names-none 0);

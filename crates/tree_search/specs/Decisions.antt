@@ -39,7 +39,7 @@ pub record MeetsQuery (schema : Schema) (query : Query) (q : Request) : Type 0 w
   pub meets : MakesYes query.tests (asked_tree query) q
 
 -- no more splits than so many lead from the first path to the second, after what stands before
-pub record IsNear (schema : Schema) (query : Query) (before : Before) (most : ℕ) (path node : Answers) : Type 0 where
+pub record IsFewSplitsAway (schema : Schema) (query : Query) (before : Before) (most : ℕ) (path node : Answers) : Type 0 where
   pub count : ℕ
   pub lead : LeadTo schema query before count path node
   pub few : count ≤ most
@@ -48,7 +48,7 @@ pub record IsNear (schema : Schema) (query : Query) (before : Before) (most : �
 -- isn't no; it answers a test of the slot, and the kept texts show the patterns of the slot there wider than the states
 pub record IsWide (schema : Schema) (query : Query) (before : Before) (most states : ℕ) (path : Answers) (w : Wide) : Type 0 where
   pub node : IsNode (IsPossible schema query.tests) (asked_tree query) path w.path
-  pub near : IsNear schema query before most path w.path
+  pub near : IsFewSplitsAway schema query before most path w.path
   pub not_no : value w.path (asked_tree query) ≢ No
   pub asked : HasTest query.tests w.path w.slot
   pub texts : ShowWider (patterns_at schema query.tests w.path w.slot) states w.texts
@@ -70,7 +70,7 @@ IsDecision schema query budgets (OutOfStates w) = IsWide schema query at_first b
 pub record IsMetNear (schema : Schema) (query : Query) (before : Before) (most : ℕ) (path : Answers) (q : Request) : Type 0 where
   pub node : Answers
   pub on_run : IsNode (IsPossible schema query.tests) (asked_tree query) path node
-  pub near : IsNear schema query before most path node
+  pub near : IsFewSplitsAway schema query before most path node
   pub answers : AnswersPath query.tests node q
   pub is_yes : value node (asked_tree query) ≡ Yes
 
@@ -88,4 +88,4 @@ abbrev pub IsWithinSplits : Schema → Query → ℕ → Decided → Type 0
 IsWithinSplits schema query most (Refuted r) = splits (proof_of r.value) ≤ most
 IsWithinSplits schema query most (Met q) = IsMetNear schema query at_first most [] q
 IsWithinSplits schema query most OutOfSplits = IsStoppedAfter schema query at_first most []
-IsWithinSplits schema query most (OutOfStates w) = IsNear schema query at_first most [] w.path
+IsWithinSplits schema query most (OutOfStates w) = IsFewSplitsAway schema query at_first most [] w.path

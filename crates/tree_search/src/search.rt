@@ -1,5 +1,5 @@
-//! The search. A node is closed by the tree's value, by a conflict of clauses, by what was learned, by a kept core or by
-//! its slot, in this order, and else split. What clauses derive isn't put into the path, so each node is one of the
+//! The search. A node is closed by the tree's value, by a conflict of clauses, by what was learned, by a kept core or
+//! by its slot, in this order, and else split. What clauses derive isn't put into the path, so each node is one of the
 //! plain run.
 ghost use Rattle.std.specs.Prelude.{◌≡◌, ◌≢◌, ◌<◌, [], None, IfOk, OnOk, length};
 ghost use Rattle.formula_tree.specs.Answers.{answer_of};

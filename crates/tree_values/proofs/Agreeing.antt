@@ -106,9 +106,6 @@ changed-not answers test answer is = record { tests = refl; at = is; others = λ
 abbrev pub AreSettledBefore : List Node → (ℕ → Option Bool) → List Look → ℕ → Type 0
 AreSettledBefore nodes answers marks upto = (i : ℕ) (node : Node) → i < upto → slice_get nodes i ≡ Some node → seen_at marks i ≡ node_seen answers marks node
 
-pub before-none : (nodes : List Node) (answers : ℕ → Option Bool) (marks : List Look) → AreSettledBefore nodes answers marks 0
-before-none nodes answers marks i n lt there = absurd (omega arith)
-
 shorter : (nodes : List Node) (marks : List Look) (s : Look) (c i : ℕ) (n : Node) → AreOrdered nodes → slice_get nodes i ≡ Some n → has_child n c ≡ true → i ≤ length marks → seen_at (marks ++ s ∷ []) c ≡ seen_at marks c
 shorter nodes marks s c i n ordered there child le = let lt : c < i = ordered i c n there child in let inside : c < length marks = omega arith in get_or_append_left marks (s ∷ []) seen.Yes c inside
 

@@ -4,7 +4,7 @@ use Rattle.std.specs.Prelude.{OnOk}
 use Rattle.std.proofs.Common.{Result, Ok, Err}
 use Rattle.std.proofs.lemmas.Option.{slice_get_within}
 use Rattle.formula_tree.proofs.Laws.{cases_eq}
-use Rattle.tree_values.specs.Nodes.{AreOrdered, Enters, HasEntered, PutsAt, has_child, has_test, holds_number, list_at}
+use Rattle.tree_values.specs.Nodes.{Enters, HasEntered, PutsAt, has_child, has_test, holds_number, list_at}
 use Rattle.tree_values.specs.declared.node.Node.{Node}
 use Rattle.tree_values.specs.declared.node.Node.TheVariants.{Both, Either, Not}
 use Rattle.tree_values.proofs.Lists.{among-push, number-other, number-same, or-assoc, or-cases, or-left, or-none, or-right, same-number}
@@ -129,17 +129,6 @@ entered-next nodes parents leaves ups asks k node here long up ask before = reco
 empty : (xs : List ℕ) (p : ℕ) → xs ≡ [] → holds_number xs p ≡ true → ⊥
 empty [] p e is = cc
 empty (x ∷ xs) p e is = cc
-
--- no node is entered yet
-pub entered-none : (nodes : List Node) (parents leaves : List (List ℕ)) → AreOrdered nodes → length parents ≡ length nodes → ((i : ℕ) → list_at parents i ≡ []) → ((i : ℕ) → list_at leaves i ≡ []) → HasEntered nodes parents leaves 0
-entered-none nodes parents leaves ordered long none bare = record {
-  ordered = ordered;
-  long = long;
-  later = λ c p is. absurd (empty (list_at parents c) p (none c) is);
-  there = λ n i is. absurd (empty (list_at leaves n) i (bare n) is);
-  up = λ i c n lt there child. absurd (omega arith);
-  asked = λ i t n lt there test. absurd (omega arith);
-}
 
 -- the children of a node that is entered next
 pub children-below : (nodes : List Node) (parents leaves : List (List ℕ)) (k : ℕ) (node : Node) → slice_get nodes k ≡ Some node → k < length nodes → HasEntered nodes parents leaves k → (c : ℕ) → has_child node c ≡ true → c < length parents

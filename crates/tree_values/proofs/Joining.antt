@@ -192,15 +192,6 @@ pub halves-ok : {E : Type 0} (r : Result ℕ E) (mid new : List Node) (every : B
 halves-ok (Ok i) mid new every whole front rest a b e f g h = subst (λ (cs : List ℕ). IsJointNode new every cs i) (sym e) (h front rest f g)
 halves-ok (Err e) mid new every whole front rest a b f g h k = tt
 
-pub then-ok : {E : Type 0} (r : Result ℕ E) (old mid new : List Node) → IsPrefix old mid → OnOk r (IsPrefix mid new) → OnOk r (IsPrefix old new)
-then-ok (Ok i) old mid new a b = prefix-then old mid new a b
-then-ok (Err e) old mid new a b = tt
-
--- a formula's node, from that of its branches
-pub tree-ok : {E : Type 0} (r : Result ℕ E) (new : List Node) (t u : Tree) (P : Type 0) → P → t ≡ u → IfOk r (λ i. P → IsAt new u i) → IfOk r (IsAt new t)
-tree-ok (Ok i) new t u P p e h = subst (λ (x : Tree). IsAt new x i) (sym e) (h p)
-tree-ok (Err e) new t u P p f h = tt
-
 -- ---- the list of nodes as it grows
 
 ordered-snoc : (old : List Node) (node : Node) → AreOrdered old → AreChildrenIn old node → AreOrdered (old ++ node ∷ [])

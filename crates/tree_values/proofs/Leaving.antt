@@ -2,7 +2,7 @@
 use Rattle.std.proofs.Common.{◌≡◌, ◌≢◌, ℕ, ◌<◌, ◌≤◌, ◌+◌, ◌-◌, ◌==◌, List, [], ◌∷◌, ◌++◌, length, take, drop, get_or, zero, suc, Bool, true, false, Option, Some, None, is_some, slice_get, ◌⊎◌, inl, inr, refl, sym, ap, subst, ◌∙◌, arith, if◌then◌else◌}
 use Rattle.std.proofs.Common.{Result, Ok, Err, append-nil}
 use Rattle.std.specs.Prelude.{IfOk, OnOk}
-use Rattle.std.proofs.lemmas.List.{drop_all, drop_more, ext_get_or, take_more}
+use Rattle.std.proofs.lemmas.List.{drop_more, ext_get_or, take_more}
 use Rattle.std.proofs.lemmas.Option.{get_or_from_slice_get, slice_get-get_or}
 use Rattle.formula_tree.specs.Answers.{Answers, IsDistinct, answer_of}
 use Rattle.formula_tree.specs.Trees.{Tree, tree_of}
@@ -59,17 +59,7 @@ set-with old mid test b there n =
       | inr ne ↦ there.others n ne ∙ sym (with-other (answer_at old.answers) test b n ne)
     ]
 
-set-without : (old mid : Answered) (test : ℕ) → IsSet old mid test None → (n : ℕ) → answer_in mid n ≡ without_answer (answer_at old.answers) test n
-set-without old mid test gone n =
-    elim (cases_eq n test) [
-      | inl e ↦ ap (answer_in mid) e ∙ gone.at ∙ sym (without-same (answer_at old.answers) test n e)
-      | inr ne ↦ gone.others n ne ∙ sym (without-other (answer_at old.answers) test n ne)
-    ]
-
 -- ---- trying one
-
-pub out-none : (a : Answered) (needed : Answers) (test : ℕ) (sides : Sides) → IsNoGiven (answered_tree a) (answer_at a.answers) test sides → IsLeftOut a a needed test sides
-out-none a needed test sides given = record { formula = refl; tests = refl; fewer = λ n b is. is; needed_stay = λ n b need is. is; still = given }
 
 pub out-then : (old mid new : Answered) (needed : Answers) (test : ℕ) (sides : Sides) → IsLeftOut old mid needed test sides → IsLeftOut mid new needed test sides → IsLeftOut old new needed test sides
 out-then old mid new needed test sides a b = record {
@@ -79,13 +69,6 @@ out-then old mid new needed test sides a b = record {
   needed_stay = λ n c need is. b.needed_stay n c need (a.needed_stay n c need is);
   still = subst (λ (f : Formula). IsNoGiven (tree_of f) (answer_at new.answers) test sides) a.formula b.still;
 }
-
--- where nothing was answered there is nothing to keep
-pub kept-none : (a : Answered) (needed : Answers) (test : ℕ) (sides : Sides) (n : ℕ) → None ≡ answer_in a n → IsKeptFor a needed test sides n
-kept-none a needed test sides n free b is = absurd (none-some b (free ∙ is))
-
-pub kept-needed : (a : Answered) (needed : Answers) (test : ℕ) (sides : Sides) (n : ℕ) → is_some (answer_of needed n) ≡ true → IsKeptFor a needed test sides n
-kept-needed a needed test sides n need b is = inl need
 
 not-needed : (needed : Answers) (n : ℕ) (b : Bool) → is_some (answer_of needed n) ≡ false → answer_of needed n ≡ Some b → ⊥
 not-needed needed n b free is = let bad : is_some (Some b) ≡ false = rw is at free in cc
@@ -163,9 +146,6 @@ kept-next mid new needed rest test sides p out before own n c is b there =
           ]
     ]
 
-pub kept-start : (a : Answered) (needed path : Answers) (test : ℕ) (sides : Sides) (k : ℕ) → length path ≤ k → AreKeptFor a needed test sides (drop k path)
-kept-start a needed path test sides k past = subst (λ (ps : Answers). AreKeptFor a needed test sides ps) (sym (drop_all k path past)) (λ n c is. absurd (none-some c is))
-
 pub kept-step : (mid new : Answered) (needed path : Answers) (test : ℕ) (sides : Sides) (k : ℕ) (p : ℕ × Bool) → slice_get path k ≡ Some p → k < length path → IsLeftOut mid new needed test sides →
     AreKeptFor mid needed test sides (drop (k + 1) path) → IsKeptFor new needed test sides p.0 → AreKeptFor new needed test sides (drop k path)
 kept-step mid new needed path test sides k p at lt out before own =
@@ -180,10 +160,6 @@ kept-before mid new needed path items test sides left e more within out before o
     kept-step mid new needed path test sides (left - 1) (get_or path (left - 1) (0, false)) (slice_get-get_or path (left - 1) (0, false) lt) lt out
     (subst (λ (k : ℕ). AreKeptFor mid needed test sides (drop k path)) next before)
     (subst (λ (ps : Answers). IsKeptFor new needed test sides (get_or ps (left - 1) (0, false)).0) e own)
-
--- the split's own test stays unanswered
-pub stays-free : (old new : Answered) (needed : Answers) (test : ℕ) (sides : Sides) → IsLeftOut old new needed test sides → answer_in old test ≡ None → answer_in new test ≡ None
-stays-free old new needed test sides out free = none-of (answer_in new test) (λ b is. none-some b (sym free ∙ out.fewer test b is))
 
 pub past : (answers : List (Option Bool)) (n : ℕ) (b : Bool) → answer_at answers n ≡ Some b → n < length answers
 past [] n b h = absurd (cc)

@@ -1,39 +1,15 @@
 -- What comes of adding to what is asked and isn't looked up.
-use Rattle.std.proofs.Common.{◌≡◌, ◌⊎◌, ◌↔◌, ◌∙◌, ◌<◌, ◌≤◌, ℕ, ◌+◌, ℤ, ◌≤ℤ◌, List, [], ◌∷◌, ◌++◌, length, get_or, take, Bool, true, false, true≢false, refl, sym, ap, subst, inl, inr, arith}
+use Rattle.std.proofs.Common.{◌≡◌, ◌⊎◌, ◌↔◌, ◌∙◌, ◌<◌, ◌≤◌, ℕ, ◌+◌, List, [], ◌∷◌, ◌++◌, length, get_or, take, Bool, true, false, true≢false, refl, sym, ap, subst, inl, inr}
 use Rattle.std.specs.Prelude.{Contains, IsTrue}
-use Rattle.std.proofs.lemmas.Int.{ints}
 use Rattle.std.proofs.lemmas.List.{take_all, take_more}
 use Rattle.std.proofs.lemmas.List.Elements.{Contains-append_left, Contains-push, Contains-push_cases}
-use Rattle.intervals.specs.declared.compare.Compare.{Compare}
-use Rattle.intervals.specs.declared.compare.Compare.TheVariants.{Less, LessOrEqual, Greater, GreaterOrEqual}
 use Rattle.policy_model.specs.Conds.{CondMeets, MeetsSome}
 use Rattle.policy_model.specs.declared.cond.Cond.{Cond}
 use Rattle.policy_model.specs.declared.cond.Cond.TheVariants as cond
 use Rattle.policy_model.specs.declared.value.Value.{Value}
 use Rattle.policy_model.specs.declared.value.Value.TheVariants as value
 use Rattle.value_lookups.specs.LookedUp.{HaveSameMet, IsUnlisted, MeetsNoLookedUp, is_looked_up}
-use Rattle.value_lookups.specs.Rests.{AddsUnlisted, BoundIncludes, Includes, IsAdded, IsMetBySome, KeepsBut}
-
--- ---- bounds
-
-pub less-includes : (bound other : ℤ) → other ≤ℤ bound → BoundIncludes Less bound other
-less-includes bound other h n k = omega (arith, ints)
-
-pub at-most-includes : (bound other : ℤ) → other ≤ℤ bound → BoundIncludes LessOrEqual bound other
-at-most-includes bound other h n k = omega (arith, ints)
-
-pub greater-includes : (bound other : ℤ) → bound ≤ℤ other → BoundIncludes Greater bound other
-greater-includes bound other h n k = omega (arith, ints)
-
-pub at-least-includes : (bound other : ℤ) → bound ≤ℤ other → BoundIncludes GreaterOrEqual bound other
-at-least-includes bound other h n k = omega (arith, ints)
-
-pub compared-includes : (how : Compare) (bound other : ℤ) → BoundIncludes how bound other → Includes (cond.Compares how bound) (cond.Compares how other)
-compared-includes how bound other h (value.Number n) m = h n m
-compared-includes how bound other h (value.Word t) m = absurd m
-compared-includes how bound other h (value.Truth b) m = absurd m
-compared-includes how bound other h (value.Address a) m = absurd m
-compared-includes how bound other h (value.Bytes bs) m = absurd m
+use Rattle.value_lookups.specs.Rests.{AddsUnlisted, Includes, IsCondAdded, KeepsBut}
 
 -- ---- lists with one more
 
@@ -50,9 +26,6 @@ some-split v cs c h = elim (Contains-push_cases cs c h.1 (h.0, h.2, h.3)) [
   | inr same ↦ inr (subst (λ (d : Cond). CondMeets v d) (sym same) h.4)
 ]
 
-pub last-includes : (front : List Cond) (last c : Cond) → Includes last c → IsMetBySome (front ++ last ∷ []) c
-last-includes front last c h v m = some-here v front last (h v m)
-
 -- the last one was taken away
 pub dropped : (old new : List Cond) (last c : Cond) → old ≡ new ++ last ∷ [] → Includes c last → KeepsBut old c new
 dropped old new last c is h = record {
@@ -66,10 +39,7 @@ all-kept old new c is = record {
   but = λ v some. inr (subst (λ (cs : List Cond). MeetsSome cs v) is some);
 }
 
-pub added-included : (old : List Cond) (c : Cond) → IsMetBySome old c → IsAdded old c old
-added-included old c h v = (λ some. inr some, λ either. elim either [ inl here ↦ h v here | inr some ↦ some ])
-
-pub added-last : (old kept new : List Cond) (c : Cond) → KeepsBut old c kept → new ≡ kept ++ c ∷ [] → IsAdded old c new
+pub added-last : (old kept new : List Cond) (c : Cond) → KeepsBut old c kept → new ≡ kept ++ c ∷ [] → IsCondAdded old c new
 added-last old kept new c keeps is v = (
   λ some. elim (some-split v kept c (subst (λ (cs : List Cond). MeetsSome cs v) is some)) [ inl had ↦ inr (keeps.fewer v had) | inr here ↦ inl here ],
   λ either. subst (λ (cs : List Cond). MeetsSome cs v) (sym is) (elim either [
@@ -85,7 +55,7 @@ adds-nothing old c looked = record {
   here = λ v not m. absurd (true≢false (sym looked ∙ not));
 }
 
-pub adds : (old new : List Cond) (c : Cond) → IsAdded old c new → AddsUnlisted old c new
+pub adds : (old new : List Cond) (c : Cond) → IsCondAdded old c new → AddsUnlisted old c new
 adds old new c h = record {
   within = λ v some. (h v).0 some;
   kept = λ v some. (h v).1 (inr some);
@@ -93,9 +63,6 @@ adds old new c h = record {
 }
 
 -- ---- the loops
-
-pub unlisted-none : IsUnlisted [] []
-unlisted-none = record { within = λ v some. some; whole = λ v c had not m. absurd (let none = had.1 in omega arith) }
 
 unlisted-next : (cs rest new : List Cond) (c : Cond) → IsUnlisted cs rest → AddsUnlisted rest c new → IsUnlisted (cs ++ c ∷ []) new
 unlisted-next cs rest new c h step = record {

@@ -25,8 +25,8 @@ pub record KeepsBut (old : List Cond) (c : Cond) (new : List Cond) : Type 0 wher
   pub but : (v : Value) → MeetsSome old v → CondMeets v c ⊎ MeetsSome new v
 
 -- the same values meet some of them, besides those that meet this one
-abbrev pub IsAdded : List Cond → Cond → List Cond → Type 0
-IsAdded old c new = (v : Value) → MeetsSome new v ↔ (CondMeets v c ⊎ MeetsSome old v)
+abbrev pub IsCondAdded : List Cond → Cond → List Cond → Type 0
+IsCondAdded old c new = (v : Value) → MeetsSome new v ↔ (CondMeets v c ⊎ MeetsSome old v)
 
 -- the same where this one isn't looked up. Where it is, it may be left out
 pub record AddsUnlisted (old : List Cond) (c : Cond) (new : List Cond) : Type 0 where

@@ -1,9 +1,7 @@
 //! Places of values that may meet what is asked. They are guesses: nothing is promised of them, so whoever
 //! takes one asks the value.
 
-use crate::blocks::{bits_of, block_around};
 use crate::literal::literal_pattern;
-use cidr_bits::Address;
 use indexmap::IndexSet;
 use intervals::Compare;
 use plain_lists::{EqualClone, NoMemory};
@@ -40,13 +38,6 @@ fn put_text(
     Ok(())
 }
 
-fn put_address(asked: &IndexSet<Cond>, places: &mut Vec<usize>, address: Address, place: usize) {
-    for prefix in 0..bits_of(address) + 1 {
-        let own = Cond::Inside(block_around(address, prefix));
-        put(asked, places, &own, place);
-    }
-}
-
 fn put_value(
     alloc: Global,
     asked: &IndexSet<Cond>,
@@ -56,7 +47,7 @@ fn put_value(
 ) -> Result<(), NoMemory> {
     match value {
         Value::Word(text) => put_text(alloc, asked, places, text, place)?,
-        Value::Truth(_) => {}
+        Value::Truth(_) | Value::Address(_) => {}
         Value::Number(number) => {
             put(
                 asked,
@@ -65,7 +56,6 @@ fn put_value(
                 place,
             );
         }
-        Value::Address(address) => put_address(asked, places, *address, place),
         Value::Bytes(bytes) => put(asked, places, &Cond::Equals(bytes.copy()?), place),
     }
     Ok(())
@@ -106,7 +96,7 @@ fn put_bounds(values: &[Value], asked: &IndexSet<Cond>, places: &mut Vec<usize>)
 }
 
 /// For each of what is asked the place of a value that may meet it, or `NOWHERE` where none is known. Of
-/// patterns with wildcards none is.
+/// patterns with wildcards and of blocks of addresses none is. `NoMemory` only where there is no memory.
 pub fn places_met(
     alloc: Global,
     values: &[Value],

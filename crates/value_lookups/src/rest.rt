@@ -1,7 +1,7 @@
 //! What is asked and isn't looked up.
 ghost use Rattle.std.specs.Prelude.{IfOk, IsTrue, OnOk};
 ghost use Rattle.value_lookups.specs.LookedUp.{IsUnlisted};
-ghost use Rattle.value_lookups.specs.Rests.{AddsUnlisted, BoundIncludes, Includes, IsAdded, IsMetBySome, KeepsBut};
+ghost use Rattle.value_lookups.specs.Rests.{AddsUnlisted, BoundIncludes, Includes, IsCondAdded, IsMetBySome, KeepsBut};
 
 use crate::found::is_looked_up;
 use intervals::{Compare, Scaled, satisfies};
@@ -58,7 +58,7 @@ fn drop_included(rest: &mut Vec<Cond>, cond: &Cond) -> Result<(), NoMemory>
 }
 
 fn add(rest: &mut Vec<Cond>, cond: &Cond) -> Result<(), NoMemory>
-    ensures { OnOk result (IsAdded rest.old.items cond.now rest.new.items) }
+    ensures { OnOk result (IsCondAdded rest.old.items cond.now rest.new.items) }
 {
     if is_included(rest.as_slice(), cond) {
         return Ok(());

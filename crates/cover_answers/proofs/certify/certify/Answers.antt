@@ -1,11 +1,8 @@
-use Rattle.std.proofs.Common.{ap, refl, subst, sym}
+use Rattle.std.proofs.Common.{refl, subst}
 use Rattle.refute_check.specs.Proofs.{proof_of}
 use Rattle.refute_check.specs.declared.refutation.Refutation.{Refutation}
 use Rattle.tree_search.specs.Decisions.{IsDecision}
 use Rattle.tree_search.specs.declared.outcome.Decided.{Decided}
-use Rattle.tree_search.specs.declared.outcome.Decided.TheVariants.{Met, OutOfSplits, OutOfStates, Refuted}
-use Rattle.std.specs.declared.alloc.Global.{Global}
-use Rattle.std.specs.Prelude.{String}
 use Rattle.cover_answers.specs.Certified.{IsCertifiedText}
 use Rattle.cover_answers.proofs.Certifying.{certified-said, met-never, splits-said, states-said}
 use Rattle.cover_answers.proofs.certify.certify.Goals as goal

@@ -1,4 +1,4 @@
-use Rattle.std.proofs.Common.{arith, refl, subst, sym}
+use Rattle.std.proofs.Common.{arith, refl}
 use Rattle.run_files.specs.declared.printed.Printed.{Printed}
 use Rattle.run_files.proofs.Laws.{or_answered_weaker}
 use Rattle.cover_answers.specs.Judged.{IsClosingPrinted, IsReadJudged}

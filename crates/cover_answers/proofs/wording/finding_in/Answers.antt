@@ -1,4 +1,4 @@
-use Rattle.std.proofs.Common.{◌∙◌, ap, arith, length}
+use Rattle.std.proofs.Common.{ap, arith, length}
 use Rattle.cover_answers.proofs.Wordings.{dimension-more, dimension-none, none-long, table-long}
 use Rattle.cover_answers.proofs.wording.finding_in.Goals as goal
 

@@ -1,4 +1,4 @@
-use Rattle.std.proofs.Common.{◌∙◌, ◌<◌, Some, ap, arith, length, sym}
+use Rattle.std.proofs.Common.{◌∙◌, Some, ap, arith, sym}
 use Rattle.command_words.specs.Asked.{texts_in}
 use Rattle.cover_answers.proofs.Wordings.{other-text, others-all, others-more, same-text, texts-at}
 use Rattle.cover_answers.proofs.wording.number_of.Goals as goal

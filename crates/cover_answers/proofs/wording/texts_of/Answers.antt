@@ -1,7 +1,6 @@
 use Rattle.std.proofs.Common.{◌∙◌, get_or, List, ap, arith, length, subst, sym}
 use Rattle.std.specs.Prelude.{String}
 use Rattle.std.specs.declared.alloc.Global.{Global}
-use Rattle.strata.specs.declared.predicate.Predicate.{Predicate}
 use Rattle.strata.specs.declared.stratum.Stratum.{Stratum}
 use Rattle.cover_answers.proofs.Wordings.{IsTableSoFar, table-all, table-more, table-none}
 use Rattle.cover_answers.proofs.wording.texts_of.Goals as goal

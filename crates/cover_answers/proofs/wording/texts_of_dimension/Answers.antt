@@ -2,7 +2,6 @@ use Rattle.std.proofs.Common.{◌∙◌, List, get_or, ap, arith, length, subst}
 use Rattle.std.specs.Str.{IsUtf8}
 use Rattle.findings.specs.Texts.{predicate_text}
 use Rattle.strata.specs.declared.predicate.Predicate.{Predicate}
-use Rattle.strata.specs.declared.stratum.Stratum.{Stratum}
 use Rattle.cover_answers.proofs.Wordings.{texts-more, utf8-more}
 use Rattle.cover_answers.proofs.wording.texts_of_dimension.Goals as goal
 

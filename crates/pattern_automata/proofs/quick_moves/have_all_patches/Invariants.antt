@@ -5,4 +5,4 @@ use Rattle.pattern_automata.specs.Proposals.{HaveTheirPatches}
 use Rattle.pattern_automata.proofs.quick_moves.have_all_patches.Given as goal
 
 abbrev pub invariant-loop-index : goal.invariant-loop-index
-invariant-loop-index l = (k : ℕ) (d : Vec Named Global) → k < l.index → HaveTheirPatches l.places l.moves k (get_or l.named k d).items
+invariant-loop-index l = (k : ℕ) (d : Vec Named Global) → k < l.index → HaveTheirPatches l.indices l.moves k (get_or l.named k d).items
