@@ -100,7 +100,7 @@ fn try_request(
 {
     let answers = Answers {
         defined: holds(case, asked.values.as_slice()),
-        evaluated: evaluated(alloc, tried.schema, tried.set, &asked.request)?,
+        evaluated: evaluated(tried.schema, tried.set, &asked.request)?,
         compiled: compiled(alloc, tried.query, &asked.request)?,
     };
     if !answers.agree() {

@@ -83,16 +83,11 @@ pub(crate) fn query_of(alloc: Global, schema: &Schema, set: &PolicySet) -> io::R
 }
 
 /// Whether evaluation allows the request, which has to be valid.
-pub(crate) fn evaluated(
-    alloc: Global,
-    schema: &Schema,
-    set: &PolicySet,
-    request: &Request,
-) -> io::Result<bool>
+pub(crate) fn evaluated(schema: &Schema, set: &PolicySet, request: &Request) -> io::Result<bool>
     requires { SchemaFits schema.now set.now }
 {
     if valid(schema, request) {
-        Ok(allows(alloc, set, schema, request))
+        Ok(allows(set, schema, request))
     } else {
         Err(ErrorKind::InvalidData.into())
     }

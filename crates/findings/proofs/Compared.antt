@@ -1,5 +1,5 @@
 -- Which findings are comparable, number by number and pair by pair.
-use Rattle.std.proofs.Common.{◌≡◌, ◌↔◌, ℕ, zero, suc, ◌+◌, ◌<◌, Bool, true, false, List, [], ◌∷◌, Some, length, get_or, inl, inr, refl, sym, ap, subst, ◌∙◌, arith, nat_eq}
+use Rattle.std.proofs.Common.{◌≡◌, ◌≢◌, ◌↔◌, ℕ, zero, suc, ◌+◌, ◌<◌, ◌≤◌, Bool, true, false, List, [], ◌∷◌, Some, length, get_or, inl, inr, refl, sym, ap, subst, ◌∙◌, arith, nat_eq}
 use Rattle.std.specs.Prelude.{All, Any, IsTrue, slice_get}
 use Rattle.std.specs.Cmp.Lexicographic.{pointwise, pointwise_decides, slice_cmp}
 use Rattle.std.specs.Ordering.{is_lt, nat_cmp}
@@ -17,8 +17,8 @@ use Rattle.strata.specs.declared.stratum.Strata.{Strata}
 use Rattle.strata.specs.declared.stratum.Stratum.{Stratum}
 use Rattle.strata.specs.Covers.{IsBelowAt}
 use Rattle.strata.specs.Strata.{AnswersOrderOf, IsStratum}
-use Rattle.findings.specs.Findings.{IsFiner, IsFinding, IsStrictlyFiner}
-use Rattle.findings.specs.Judging.{DecidesFiner, DecidesStrictlyFiner, HasNoneFinerOfFirst, IsComparedWith, IsFirstFiner, OfOrder}
+use Rattle.findings.specs.Findings.{IsFiner, IsFinding}
+use Rattle.findings.specs.Judging.{DecidesComparable, DecidesComparedBehind, DecidesFiner, IsApartBetween, IsComparedWith, IsFirstCompared, OfOrder}
 use Rattle.findings.specs.StandingSummaries.{AreComparable}
 use Rattle.findings.specs.Steps.{predicate_number_at}
 use Rattle.findings.specs.Summaries.{findings_of}
@@ -68,20 +68,30 @@ below-told schema tests ds f g j n m d b are is_f is_g at own other told =
       λ below. says.1 (record { lower = number-within ds f is_f j d at; upper = number-within ds g is_g j d at; below = below }),
     )
 
--- ---- strictly finer
+-- ---- comparable
 
-pub finer-equal : (strata : Strata) (f g : List ℕ) (b : Bool) → b ≡ pointwise nat_eq f g → b ≡ true → DecidesStrictlyFiner strata f g false
-finer-equal strata f g b is equal schema tests are =
+pub comparable-equal : (strata : Strata) (f g : List ℕ) (b : Bool) → b ≡ pointwise nat_eq f g → b ≡ true → DecidesComparable strata f g false
+comparable-equal strata f g b is equal schema tests are =
     let same : f ≡ g = (pointwise_decides Decides-eqb f g).0 (sym is ∙ equal) in (
       λ e. absurd (cc),
-      λ finer. absurd (finer.1 same),
+      λ compared. elim compared [ inl finer ↦ absurd (finer.1 same) | inr above ↦ absurd (above.1 (sym same)) ],
     )
 
-pub finer-differs : (strata : Strata) (f g : List ℕ) (b finer : Bool) → b ≡ pointwise nat_eq f g → b ≡ false → DecidesFiner strata f g finer → DecidesStrictlyFiner strata f g finer
-finer-differs strata f g b finer is unequal told schema tests are = (
-  λ e. ((told schema tests are).0 e, λ same. (let yes_ : pointwise nat_eq f g ≡ true = (pointwise_decides Decides-eqb f g).1 same in absurd (cc))),
-  λ strictly. (told schema tests are).1 strictly.0,
-)
+differ-told : (f g : List ℕ) (b : Bool) → b ≡ pointwise nat_eq f g → b ≡ false → f ≢ g
+differ-told f g b is unequal same = let yes_ : pointwise nat_eq f g ≡ true = (pointwise_decides Decides-eqb f g).1 same in absurd (cc)
+
+module _ (strata : Strata) (f g : List ℕ) (b finer : Bool) (is : b ≡ pointwise nat_eq f g) (unequal : b ≡ false) (told : DecidesFiner strata f g finer) where
+  pub comparable-finer : finer ≡ true → DecidesComparable strata f g true
+  comparable-finer holds schema tests are = (λ e. inl ((told schema tests are).0 holds, differ-told f g b is unequal), λ compared. refl)
+
+  pub comparable-above : finer ≡ false → (up : Bool) → DecidesFiner strata g f up → DecidesComparable strata f g up
+  comparable-above fails up upper schema tests are = (
+    λ e. inr ((upper schema tests are).0 e, λ same. differ-told f g b is unequal (sym same)),
+    λ compared. elim compared [
+      | inl lower ↦ (let bad : finer ≡ true = (told schema tests are).1 lower.0 in absurd (cc))
+      | inr above ↦ (upper schema tests are).1 above.0
+    ],
+  )
 
 -- ---- pairs
 
@@ -118,33 +128,85 @@ any-compared schema ds f pairs some =
     let pair = pair-of pairs some.0 some.1 some.2 some.3 in
     record { index = pair.index; other = pair.pair; at = pair.at; compared = subst (AreComparable schema ds f) (sym pair.is) some.4 }
 
--- ---- the first that is strictly finer
+-- ---- a pair that is compared with those behind it
 
-module _ (strata : Strata) (f : List ℕ) (pairs : Pairs) (i : ℕ) where
-  pub finer-here : (p : List ℕ × Request) (b : Bool) → slice_get pairs i ≡ Some p → DecidesStrictlyFiner strata p.0 f b → b ≡ true → OfOrder strata (λ schema. HasNoneFinerOfFirst schema strata.dimensions f pairs i) → IsFirstFiner strata f pairs i
-  finer-here p b at told holds before = record {
-    within = (let inside = slice_get_within pairs i p at in omega (arith, inside));
-    before = before;
-    here = λ schema tests are q there.
-        let same : p ≡ q = cc in
-        subst (λ (x : List ℕ × Request). IsStrictlyFiner schema strata.dimensions x.0 f) same ((told schema tests are).0 holds);
-  }
+pub same-at : (pairs : Pairs) (i : ℕ) (p q : List ℕ × Request) → slice_get pairs i ≡ Some p → slice_get pairs i ≡ Some q → p ≡ q
+same-at pairs i p q first second = cc
 
-  pub finer-next : (p : List ℕ × Request) (b : Bool) → slice_get pairs i ≡ Some p → DecidesStrictlyFiner strata p.0 f b → b ≡ false → OfOrder strata (λ schema. HasNoneFinerOfFirst schema strata.dimensions f pairs i) →
-      OfOrder strata (λ schema. HasNoneFinerOfFirst schema strata.dimensions f pairs (i + 1))
-  finer-next p b at told fails before schema tests are j q less there finer = elim (cases_lt j i) [
-    | inl lower ↦ before schema tests are j q lower there finer
+module _ (strata : Strata) (pairs : Pairs) (i : ℕ) (own : List ℕ × Request) (here : slice_get pairs i ≡ Some own) where
+  -- none of those behind it and before index n is comparable to it
+  abbrev pub ApartBefore : ℕ → Type 0
+  ApartBefore n = OfOrder strata (λ schema. IsApartBetween schema strata.dimensions own.0 pairs i n)
+
+  pub compared-behind : (j : ℕ) (p : List ℕ × Request) (b : Bool) → slice_get pairs j ≡ Some p → DecidesComparable strata own.0 p.0 b → b ≡ true → DecidesComparedBehind strata pairs i true
+  compared-behind j p b at told holds schema tests are q there =
+      let same = same-at pairs i own q here there in
+      record { index = j; other = p; at = at; compared = subst (λ (x : List ℕ × Request). AreComparable schema strata.dimensions x.0 p.0) same ((told schema tests are).0 holds) }
+
+  pub apart-next : (j : ℕ) (p : List ℕ × Request) (b : Bool) → slice_get pairs j ≡ Some p → DecidesComparable strata own.0 p.0 b → b ≡ false → ApartBefore j → ApartBefore (j + 1)
+  apart-next j p b at told fails before schema tests are k q behind less there compared = elim (cases_lt k j) [
+    | inl lower ↦ before schema tests are k q behind lower there compared
     | inr upper ↦ (
-        let index : j ≡ i = omega (arith, less, upper) in
-        let own : slice_get pairs i ≡ Some q = subst (λ (k : ℕ). slice_get pairs k ≡ Some q) index there in
-        let is : q ≡ p = cc in
-        let bad : b ≡ true = (told schema tests are).1 (subst (λ (x : List ℕ × Request). IsStrictlyFiner schema strata.dimensions x.0 f) is finer) in
+        let index : k ≡ j = omega (arith, less, upper) in
+        let same = same-at pairs j q p (subst (λ (m : ℕ). slice_get pairs m ≡ Some q) index there) at in
+        let bad : b ≡ true = (told schema tests are).1 (subst (λ (x : List ℕ × Request). AreComparable schema strata.dimensions own.0 x.0) same compared) in
         absurd (cc))
   ]
 
-  pub finer-none : length pairs ≡ i → OfOrder strata (λ schema. HasNoneFinerOfFirst schema strata.dimensions f pairs i) → IsFirstFiner strata f pairs (length pairs)
-  finer-none whole before = record {
+  pub apart-behind : (n : ℕ) → length pairs ≤ n → ApartBefore n → DecidesComparedBehind strata pairs i false
+  apart-behind n past before schema tests are p at j q behind less there compared =
+      let same = same-at pairs i p own at here in
+      before schema tests are j q behind (omega (arith, less, past)) there (subst (λ (x : List ℕ × Request). AreComparable schema strata.dimensions x.0 q.0) same compared)
+
+-- ---- the first pair that is compared with another one
+
+-- none of the first n pairs is comparable to one behind it
+abbrev pub ApartBehind : Strata → Pairs → ℕ → Type 0
+ApartBehind strata pairs n = OfOrder strata (λ schema. (i j : ℕ) (p q : List ℕ × Request) → i < n → i < j → slice_get pairs i ≡ Some p → slice_get pairs j ≡ Some q → ¬ AreComparable schema strata.dimensions p.0 q.0)
+
+other-side : (schema : Schema) (ds : List Stratum) (f g : List ℕ) → AreComparable schema ds f g → AreComparable schema ds g f
+other-side schema ds f g (inl finer) = inr finer
+other-side schema ds f g (inr above) = inl above
+
+itself-apart : (schema : Schema) (ds : List Stratum) (f : List ℕ) → ¬ AreComparable schema ds f f
+itself-apart schema ds f (inl finer) = finer.1 refl
+itself-apart schema ds f (inr above) = above.1 refl
+
+module _ (strata : Strata) (pairs : Pairs) (n : ℕ) (before : ApartBehind strata pairs n) where
+  -- nor to any other
+  none-compared : (schema : Schema) (tests : List Test) → All (IsStratum schema tests) strata.dimensions → (i : ℕ) (p : List ℕ × Request) → i < n → slice_get pairs i ≡ Some p → ¬ IsComparedWith schema strata.dimensions p.0 pairs
+  none-compared schema tests are i p less at has = elim (cases_lt i has.index) [
+    | inl behind ↦ before schema tests are i has.index p has.other less behind at has.at has.compared
+    | inr upto ↦ elim (cases_lt has.index i) [
+      | inl ahead ↦ before schema tests are has.index i has.other p (omega (arith, less, ahead)) ahead has.at at (other-side schema strata.dimensions p.0 has.other.0 has.compared)
+      | inr from ↦ (
+          let index : has.index ≡ i = omega (arith, upto, from) in
+          let same = same-at pairs i has.other p (subst (λ (k : ℕ). slice_get pairs k ≡ Some has.other) index has.at) at in
+          itself-apart schema strata.dimensions p.0 (subst (λ (x : List ℕ × Request). AreComparable schema strata.dimensions p.0 x.0) same has.compared))
+    ]
+  ]
+
+  pub first-here : (most : ℕ) (b : Bool) → n < most → DecidesComparedBehind strata pairs n b → b ≡ true → IsFirstCompared strata pairs most n
+  first-here most false less told holds = absurd (cc)
+  first-here most true less told holds = record {
+    within = omega (arith, less);
+    before = none-compared;
+    here = λ schema tests are p within at. told schema tests are p at;
+  }
+
+  pub first-later : (b : Bool) → DecidesComparedBehind strata pairs n b → b ≡ false → ApartBehind strata pairs (n + 1)
+  first-later true told fails = absurd (cc)
+  first-later false told fails = λ schema tests are i j p q less behind at there compared. elim (cases_lt i n) [
+    | inl lower ↦ before schema tests are i j p q lower behind at there compared
+    | inr upper ↦ (
+        let index : i ≡ n = omega (arith, less, upper) in
+        let own = subst (λ (k : ℕ). slice_get pairs k ≡ Some p) index at in
+        told schema tests are p own j q (omega (arith, index, behind)) (slice_get_within pairs j q there) there compared)
+  ]
+
+  pub first-none : (most : ℕ) → most ≤ n → IsFirstCompared strata pairs most most
+  first-none most past = record {
     within = omega arith;
-    before = subst (λ (n : ℕ). OfOrder strata (λ schema. HasNoneFinerOfFirst schema strata.dimensions f pairs n)) (sym whole) before;
-    here = λ schema tests are q there. (let inside = slice_get_within pairs (length pairs) q there in absurd (omega (arith, inside)));
+    before = λ schema tests are i p less. none-compared schema tests are i p (omega (arith, less, past));
+    here = λ schema tests are p less. absurd (omega (arith, less));
   }

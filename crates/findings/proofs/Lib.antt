@@ -14,7 +14,6 @@ mod LeftOut
 mod Looking
 mod Lying
 mod Made
-mod Marked
 mod Ordered
 mod Orders
 mod Owning
@@ -26,11 +25,8 @@ mod Whole
 mod Saying
 mod Sets
 mod Standings
-mod Answered
 mod Stepping
 mod Summing
 mod Texts
 mod Trees
 mod Walking
-mod Lowering
-mod Neighbours

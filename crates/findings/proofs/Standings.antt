@@ -75,10 +75,9 @@ module _ (schema : Schema) (base : Query) (strata : Strata) (pairs : Pairs) (set
   alone-fault i p (inl foreign) = inl foreign
   alone-fault i p (inr falls) = inr (inl falls)
 
-  module _ (alone first : ℕ) (is_alone : IsFirstAlone schema base strata pairs alone) (is_first : IsFirstCompared strata pairs alone (length pairs) first) where
+  module _ (alone first : ℕ) (is_alone : IsFirstAlone schema base strata pairs alone) (is_first : IsFirstCompared strata pairs alone first) where
     apart-at : (i : ℕ) (p : List ℕ × Request) → i < first → slice_get pairs i ≡ Some p → ¬ IsComparedWith schema ds p.0 pairs
-    apart-at i p less at has =
-        is_first.before schema base.tests made.are.each i p less at has.index has.other (slice_get_within pairs has.index has.other has.at) has.at has.compared
+    apart-at i p less at = is_first.before schema base.tests made.are.each i p less at
 
     stands-at : (i : ℕ) (p : List ℕ × Request) → i < first → slice_get pairs i ≡ Some p → StandsAlone schema set ds pairs i p
     stands-at i p less at = let most = is_first.within in is_alone.before set i p made (omega (arith, less, most)) at
@@ -195,6 +194,6 @@ module _ (schema : Schema) (base : Query) (strata : Strata) (pairs : Pairs) (i :
 
 -- ---- the verdict
 
-pub judged-as : (schema : Schema) (base : Query) (strata : Strata) (pairs : Pairs) (alone first : ℕ) (verdict : SummaryVerdict) → IsFirstAlone schema base strata pairs alone → IsFirstCompared strata pairs alone (length pairs) first → verdict ≡ verdict_at first (length pairs) → JudgesSummary schema base strata pairs verdict
+pub judged-as : (schema : Schema) (base : Query) (strata : Strata) (pairs : Pairs) (alone first : ℕ) (verdict : SummaryVerdict) → IsFirstAlone schema base strata pairs alone → IsFirstCompared strata pairs alone first → verdict ≡ verdict_at first (length pairs) → JudgesSummary schema base strata pairs verdict
 judged-as schema base strata pairs alone first verdict is_alone is_first is set made =
     subst (IsSummaryVerdict schema set strata.dimensions pairs) (sym is) (judged schema base strata pairs set made alone first is_alone is_first)

@@ -19,11 +19,9 @@ use Rattle.strata.specs.declared.stratum.Stratum.{Stratum}
 use Rattle.strata.specs.Strata.{IsStratum}
 use Rattle.findings.specs.declared.standing.SummaryVerdict.{SummaryVerdict}
 use Rattle.findings.specs.declared.standing.SummaryVerdict.TheVariants.{Stands, Fails}
-use Rattle.findings.specs.Findings.{IsFiner, IsOwn, IsStrictlyFiner}
+use Rattle.findings.specs.Findings.{IsFiner, IsOwn}
 use Rattle.findings.specs.Queries.{AreMadeFor}
 use Rattle.findings.specs.StandingSummaries.{AreComparable, DoesNotRise}
-use Rattle.findings.specs.Stretches.{AreEndsOfDepths}
-use Rattle.findings.specs.Words.{HasNoCommonBit, HasWords}
 
 -- the answer to the test of a number, or no where there is none
 abbrev pub nth_answer : List Bool → ℕ → Bool
@@ -57,21 +55,9 @@ OfOrder strata P = (schema : Schema) (tests : List Test) → All (IsStratum sche
 abbrev pub DecidesFiner : Strata → List ℕ → List ℕ → Bool → Type 0
 DecidesFiner strata f g b = OfOrder strata (λ schema. IsTrue b ↔ IsFiner schema strata.dimensions f g)
 
--- whether the one finding is strictly finer than the other
-abbrev pub DecidesStrictlyFiner : Strata → List ℕ → List ℕ → Bool → Type 0
-DecidesStrictlyFiner strata f g b = OfOrder strata (λ schema. IsTrue b ↔ IsStrictlyFiner schema strata.dimensions f g)
-
--- none of the first n pairs has a finding that is strictly finer than this one
-abbrev pub HasNoneFinerOfFirst : Schema → List Stratum → List ℕ → List (List ℕ × Request) → ℕ → Type 0
-HasNoneFinerOfFirst schema ds f pairs n =
-    (j : ℕ) (q : List ℕ × Request) → j < n → slice_get pairs j ≡ Some q → ¬ IsStrictlyFiner schema ds q.0 f
-
--- this is the first of the pairs with a finding that is strictly finer than this one, or their number
-pub record IsFirstFiner (strata : Strata) (f : List ℕ) (pairs : List (List ℕ × Request)) (place : ℕ) : Type 0 where
-  pub within : place ≤ length pairs
-  pub before : OfOrder strata (λ schema. HasNoneFinerOfFirst schema strata.dimensions f pairs place)
-  pub here : OfOrder strata (λ schema. (q : List ℕ × Request) → slice_get pairs place ≡ Some q →
-      IsStrictlyFiner schema strata.dimensions q.0 f)
+-- whether one of the two is strictly finer than the other
+abbrev pub DecidesComparable : Strata → List ℕ → List ℕ → Bool → Type 0
+DecidesComparable strata f g b = OfOrder strata (λ schema. IsTrue b ↔ AreComparable schema strata.dimensions f g)
 
 -- the finding of some pair is strictly finer than this one, or strictly above it
 pub record IsComparedWith (schema : Schema) (ds : List Stratum) (f : List ℕ) (pairs : List (List ℕ × Request)) : Type 0 where
@@ -124,59 +110,20 @@ pub record IsFirstAlone (schema : Schema) (base : Query) (strata : Strata) (pair
 abbrev pub verdict_at : ℕ → ℕ → SummaryVerdict
 verdict_at first count = (if nat_lt first count then Fails first else Stands)
 
--- none of the first n pairs has a finding that is strictly finer than this one or strictly above it
-abbrev pub IsApartFromFirst : Schema → List Stratum → List ℕ → List (List ℕ × Request) → ℕ → Type 0
-IsApartFromFirst schema ds f pairs n =
-    (j : ℕ) (q : List ℕ × Request) → j < n → slice_get pairs j ≡ Some q → ¬ AreComparable schema ds f q.0
+-- none of the pairs behind index i and before index n has a finding that is strictly finer than this one or strictly above it
+abbrev pub IsApartBetween : Schema → List Stratum → List ℕ → List (List ℕ × Request) → ℕ → ℕ → Type 0
+IsApartBetween schema ds f pairs i n =
+    (j : ℕ) (q : List ℕ × Request) → i < j → j < n → slice_get pairs j ≡ Some q → ¬ AreComparable schema ds f q.0
 
--- this is the first of so many pairs with a finding that is strictly finer than one of the first n or strictly above one, or so many
-pub record IsFirstCompared (strata : Strata) (pairs : List (List ℕ × Request)) (most n first : ℕ) : Type 0 where
+-- whether the finding of this index is comparable to one behind it
+abbrev pub DecidesComparedBehind : Strata → List (List ℕ × Request) → ℕ → Bool → Type 0
+DecidesComparedBehind strata pairs i b = OfOrder strata (λ schema. (p : List ℕ × Request) → slice_get pairs i ≡ Some p →
+    MatchBool b (IsComparedWith schema strata.dimensions p.0 pairs) (IsApartBetween schema strata.dimensions p.0 pairs i (length pairs)))
+
+-- this is the first of so many pairs with a finding that is strictly finer than one of the list or strictly above one, or so many
+pub record IsFirstCompared (strata : Strata) (pairs : List (List ℕ × Request)) (most first : ℕ) : Type 0 where
   pub within : first ≤ most
   pub before : OfOrder strata (λ schema. (i : ℕ) (p : List ℕ × Request) → i < first → slice_get pairs i ≡ Some p →
-      IsApartFromFirst schema strata.dimensions p.0 pairs n)
+      ¬ IsComparedWith schema strata.dimensions p.0 pairs)
   pub here : OfOrder strata (λ schema. (p : List ℕ × Request) → first < most → slice_get pairs first ≡ Some p →
       IsComparedWith schema strata.dimensions p.0 pairs)
-
--- ---- an index that is lowered to those of compared pairs
-
--- where the finding of the second index is strictly finer than that of the first, neither index is below the bound
-abbrev pub BoundsFiner : Strata → List (List ℕ × Request) → ℕ → ℕ → ℕ → Type 0
-BoundsFiner strata pairs bound i j = OfOrder strata (λ schema. (p q : List ℕ × Request) → slice_get pairs i ≡ Some p →
-    slice_get pairs j ≡ Some q → IsStrictlyFiner schema strata.dimensions q.0 p.0 → (bound ≤ i) × (bound ≤ j))
-
--- the finding of the pair of this index is strictly finer than one of the list, or strictly above one
-abbrev pub IsComparedAt : Strata → List (List ℕ × Request) → ℕ → Type 0
-IsComparedAt strata pairs i = OfOrder strata (λ schema. (p : List ℕ × Request) → slice_get pairs i ≡ Some p →
-    IsComparedWith schema strata.dimensions p.0 pairs)
-
--- the index is lowered to that of a compared pair, if at all, and then bounds where the findings of the indices from c to d are strictly
--- finer than those from a to b
-pub record IsLowered (strata : Strata) (pairs : List (List ℕ × Request)) (a b c d old new : ℕ) : Type 0 where
-  pub within : new ≤ old
-  pub bounds : (i j : ℕ) → a ≤ i → i < b → c ≤ j → j < d → BoundsFiner strata pairs new i j
-  pub here : new < old → IsComparedAt strata pairs new
-
--- there are words for the findings of all pairs
-abbrev pub HaveFindingWords : List (List ℕ) → List (List ℕ × Request) → Type 0
-HaveFindingWords words pairs = (i : ℕ) (p : List ℕ × Request) → slice_get pairs i ≡ Some p → HasWords words p.0
-
--- there are the ends of stretches for as many first numbers as each finding has
-pub record HaveEnds (ends : List (List ℕ)) (pairs : List (List ℕ × Request)) : Type 0 where
-  pub long : (i : ℕ) (p : List ℕ × Request) → slice_get pairs i ≡ Some p → length p.0 ≡ length ends
-  pub each : AreEndsOfDepths pairs (length ends) ends
-
--- the words of each finding from this index up to the end have no bit in common
-pub record ArePassedOver (words : List (List ℕ)) (pairs : List (List ℕ × Request)) (i end : ℕ) : Type 0 where
-  pub least : i ≤ end
-  pub within : end ≤ length pairs
-  pub barred : (j : ℕ) (q : List ℕ × Request) → i ≤ j → j < end → slice_get pairs j ≡ Some q → HasNoCommonBit words q.0 (length q.0)
-
--- the lesser of two numbers
-pub record IsLesser (a b c : ℕ) : Type 0 where
-  pub one : c ≤ a
-  pub other : c ≤ b
-  pub is : (c ≡ a) ⊎ (c ≡ b)
-
--- all the pairs, or those before the first where the block doesn't start before it
-abbrev pub IsReach : ℕ → ℕ → ℕ → ℕ → Type 0
-IsReach start first count end = (end ≡ count) ⊎ ((end ≡ first) × (first ≤ start))

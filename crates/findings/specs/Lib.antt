@@ -18,6 +18,3 @@ pub mod Judging
 pub mod Nobody
 pub mod KnownAnswers
 pub mod Screening
-pub mod Stretches
-pub mod Words
-pub mod Together

@@ -1,66 +1,24 @@
 //! Whether a set allows a request, by the query of the set.
-ghost use Rattle.std.specs.Prelude.{◌≡◌, ◌↔◌, IfOk, IsTrue, length};
+ghost use Rattle.std.specs.Prelude.{◌≡◌, IfOk, length};
 ghost use Rattle.formula_tree.specs.Trees.{children_of, tree_of};
 ghost use Rattle.formula_tree.specs.Values.{AreBelow, EachBelow, each_holds, holds, some_holds};
-ghost use Rattle.policy_model.specs.Tests.{TestHolds};
 ghost use Rattle.findings.specs.Judging.{AreAnswersOf, DecidesAllowed, nth_answer};
-ghost use Rattle.findings.specs.Together.{AreTestAnswers};
 
-use crate::together::{TestAnswers, find_answers, found_answer};
 use formula_tree::{Branches, Formula};
 use plain_lists::NoMemory;
 use policy_compile::Query;
 use policy_model::{Request, Test, test_holds};
 use std::alloc::Global;
-use value_lookups::some_matches;
 
-// What a test answers on the request. Whether each of many values meets one of much that is asked is looked
-// up: compared each with each, millions of values of a key would take an hour.
-fn test_answer(alloc: Global, test: &Test, request: &Request) -> bool
-    ensures { IsTrue result ↔ TestHolds request.now test.now }
-{
-    match test {
-        Test::SomeMeetsNone(key, conds) => {
-            some_matches(alloc, request.values_at(key), conds, true)
-        }
-        _ => test_holds(test, request),
-    }
-}
-
-// What a test answers, where the answers of some were found together.
-fn answer_to(alloc: Global, found: &TestAnswers, test: &Test, request: &Request) -> bool
-    requires { AreTestAnswers request.now found.now }
-    ensures { IsTrue result ↔ TestHolds request.now test.now }
-{
-    match found_answer(found, test, request) {
-        Some(answer) => answer,
-        None => test_answer(alloc, test, request),
-    }
-}
-
-// What the tests answer, in the order of their numbers.
-fn answers_by(
-    alloc: Global,
-    found: &TestAnswers,
-    tests: &[Test],
-    request: &Request,
-) -> Result<Vec<bool>, NoMemory>
-    requires { AreTestAnswers request.now found.now }
+// What the tests answer on the request, in the order of their numbers.
+fn answers_of(alloc: Global, tests: &[Test], request: &Request) -> Result<Vec<bool>, NoMemory>
     ensures { IfOk result (λ v. AreAnswersOf request.now tests.now v.items) }
 {
     let mut answers = Vec::new(alloc);
     'tests: for test in tests {
-        answers.push(answer_to(alloc, found, test, request))?;
+        answers.push(test_holds(test, request))?;
     }
     Ok(answers)
-}
-
-// What the tests answer on the request.
-fn answers_of(alloc: Global, tests: &[Test], request: &Request) -> Result<Vec<bool>, NoMemory>
-    ensures { IfOk result (λ v. AreAnswersOf request.now tests.now v.items) }
-{
-    let found = find_answers(alloc, tests, request)?;
-    answers_by(alloc, &found, tests, request)
 }
 
 // Whether the formula holds where the tests have these answers.

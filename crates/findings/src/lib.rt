@@ -2,7 +2,6 @@
 //! request of their own and no such finding above them.
 #![tactic(auto)]
 
-mod blocks;
 mod certified;
 mod cover;
 mod decide;
@@ -21,12 +20,9 @@ mod reading;
 mod screening;
 mod standing;
 mod steps;
-mod stretches;
 mod summary;
 mod text;
-mod together;
 mod walk;
-mod words;
 
 pub use certified::{
     closed_covers_leave_nobody_out, cover_limits, summaries_stand, summary_verdicts_are_equal,

@@ -1,10 +1,10 @@
 //! Which findings are finer than which.
-ghost use Rattle.std.specs.Prelude.{◌≡◌, ◌↔◌, IsTrue, All};
+ghost use Rattle.std.specs.Prelude.{◌≡◌, ◌<◌, ◌≤◌, ◌↔◌, IsTrue, All, length};
 ghost use Rattle.std.specs.Cmp.Lexicographic.{slice_cmp};
 ghost use Rattle.std.specs.Ordering.{nat_cmp};
 ghost use Rattle.std.specs.declared.cmp.Ordering.TheVariants.{Less};
 ghost use Rattle.findings.specs.Findings.{IsFinding};
-ghost use Rattle.findings.specs.Judging.{DecidesFiner, DecidesStrictlyFiner, IsFirstFiner};
+ghost use Rattle.findings.specs.Judging.{DecidesComparable, DecidesComparedBehind, DecidesFiner, IsFirstCompared};
 ghost use Rattle.findings.specs.Summaries.{findings_of};
 
 use crate::outcome::Finding;
@@ -35,28 +35,46 @@ fn is_finer(strata: &Strata, one: &Finding, other: &Finding) -> bool
     true
 }
 
-// Whether the one finding is strictly finer than the other.
-fn is_strictly_finer(strata: &Strata, one: &Finding, other: &Finding) -> bool
+// Whether one of the two findings is strictly finer than the other.
+fn are_comparable(strata: &Strata, one: &Finding, other: &Finding) -> bool
     requires one { IsFinding strata.now.dimensions one.now }
     requires other { IsFinding strata.now.dimensions other.now }
-    ensures { DecidesStrictlyFiner strata.now one.now other.now result }
+    ensures { DecidesComparable strata.now one.now other.now result }
 {
     if one == other {
         return false;
     }
-    is_finer(strata, one, other)
+    if is_finer(strata, one, other) {
+        return true;
+    }
+    is_finer(strata, other, one)
 }
 
-/// The place of the first of these pairs whose finding is strictly finer than this one, or their number.
-pub(crate) fn first_finer(strata: &Strata, finding: &Finding, pairs: &[(Finding, Request)]) -> usize
-    requires finding { IsFinding strata.now.dimensions finding.now }
-    requires pairs { All (IsFinding strata.now.dimensions) (findings_of pairs.now) }
-    ensures { IsFirstFiner strata.now finding.now pairs.now result }
+// Whether the finding of the pair of an index is comparable to that of a pair behind it.
+fn is_compared_behind(strata: &Strata, pairs: &[(Finding, Request)], i: usize) -> bool
+    requires findings { All (IsFinding strata.now.dimensions) (findings_of pairs.now) }
+    requires within { i < length pairs.now }
+    ensures { DecidesComparedBehind strata.now pairs.now i result }
 {
-    'places: for place in 0..pairs.len() {
-        if is_strictly_finer(strata, &pairs[place].0, finding) {
-            return place;
+    'behind: for j in i + 1..pairs.len() {
+        if are_comparable(strata, &pairs[i].0, &pairs[j].0) {
+            return true;
         }
     }
-    pairs.len()
+    false
+}
+
+/// Of the first pairs the first whose finding is strictly finer or strictly above that of another pair,
+/// also of a later one, or the number of those pairs.
+pub(crate) fn first_compared(strata: &Strata, pairs: &[(Finding, Request)], most: usize) -> usize
+    requires findings { All (IsFinding strata.now.dimensions) (findings_of pairs.now) }
+    requires most { most ≤ length pairs.now }
+    ensures { IsFirstCompared strata.now pairs.now most result }
+{
+    'pairs: for i in 0..most {
+        if is_compared_behind(strata, pairs, i) {
+            return i;
+        }
+    }
+    most
 }

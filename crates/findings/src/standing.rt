@@ -6,8 +6,7 @@ ghost use Rattle.findings.specs.Queries.{AreMadeUnder};
 ghost use Rattle.findings.specs.StandingSummaries.{JudgesSummary};
 ghost use Rattle.findings.specs.Summaries.{findings_of};
 
-use crate::blocks::first_compared;
-use crate::order::is_before;
+use crate::order::{first_compared, is_before};
 use crate::outcome::{Finding, Summary};
 use crate::own::is_own;
 use plain_lists::NoMemory;
@@ -129,6 +128,6 @@ pub fn check_summary(
     let pairs = summary.as_slice();
     let alone = first_failing(alloc, schema, strata, base, pairs)?;
     // Those before it rise strictly, so they differ: a pair of them that is finer or above isn't equal.
-    let first = first_compared(alloc, strata, pairs, alone)?;
+    let first = first_compared(strata, pairs, alone);
     Ok(verdict_at(first, pairs.len()))
 }

@@ -1,4 +1,3 @@
-mod Asked
 mod Firsts
 mod Unique
 mod Telling

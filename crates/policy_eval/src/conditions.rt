@@ -5,11 +5,8 @@ ghost use Rattle.policy_model.specs.Conditions.{ConditionHolds, HoldsOfValues, N
 ghost use Rattle.policy_model.specs.Operators.{is_negated};
 
 use policy_model::{
-    Condition, ConditionList, Kind, Operand, Quantifier, Request, Schema, Value, conds_of,
-    operand_meets,
+    Condition, ConditionList, Kind, Operand, Quantifier, Request, Schema, Value, operand_meets,
 };
-use std::alloc::Global;
-use value_lookups::{FEW, some_matches};
 
 // Whether the value meets some of what the condition's values ask.
 fn meets_some(kind: Kind, condition: &Condition, value: &Value) -> bool
@@ -41,8 +38,8 @@ fn one_matches(kind: Kind, condition: &Condition, values: &[Value]) -> bool
     }
 }
 
-// With `ForAllValues:`, each compared with what the condition's values ask.
-fn all_compared(kind: Kind, condition: &Condition, values: &[Value]) -> bool
+// With `ForAllValues:`.
+fn all_match(kind: Kind, condition: &Condition, values: &[Value]) -> bool
     ensures { IsTrue result ↔ All (ValueMatches kind condition.now) values.now }
 {
     values
@@ -50,8 +47,8 @@ fn all_compared(kind: Kind, condition: &Condition, values: &[Value]) -> bool
         .all(|value| value_matches(kind, condition, value))
 }
 
-// With `ForAnyValue:`, each compared with what the condition's values ask.
-fn any_compared(kind: Kind, condition: &Condition, values: &[Value]) -> bool
+// With `ForAnyValue:`.
+fn any_matches(kind: Kind, condition: &Condition, values: &[Value]) -> bool
     ensures { IsTrue result ↔ Any (ValueMatches kind condition.now) values.now }
 {
     values
@@ -59,47 +56,14 @@ fn any_compared(kind: Kind, condition: &Condition, values: &[Value]) -> bool
         .any(|value| value_matches(kind, condition, value))
 }
 
-// Whether values of a key, or of a condition, are too few for a list of what is asked.
-fn are_few(condition: &Condition, values: &[Value]) -> bool {
-    values.len() <= FEW || condition.values.len() <= FEW
-}
-
-// Each value matches where none fails to: none that meets nothing of what is asked, or where the operator
-// is negated none that meets some of it.
-fn all_match(alloc: Global, kind: Kind, condition: &Condition, values: &[Value]) -> bool
-    ensures { IsTrue result ↔ All (ValueMatches kind condition.now) values.now }
-{
-    if are_few(condition, values) {
-        return all_compared(kind, condition, values);
-    }
-    let negated = condition.operator.base.is_negated();
-    match conds_of(alloc, kind, condition) {
-        Ok(conds) => !some_matches(alloc, values, &conds, !negated),
-        Err(_) => all_compared(kind, condition, values),
-    }
-}
-
-fn any_matches(alloc: Global, kind: Kind, condition: &Condition, values: &[Value]) -> bool
-    ensures { IsTrue result ↔ Any (ValueMatches kind condition.now) values.now }
-{
-    if are_few(condition, values) {
-        return any_compared(kind, condition, values);
-    }
-    let negated = condition.operator.base.is_negated();
-    match conds_of(alloc, kind, condition) {
-        Ok(conds) => some_matches(alloc, values, &conds, negated),
-        Err(_) => any_compared(kind, condition, values),
-    }
-}
-
 // By the prefix of the operator.
-fn values_match(alloc: Global, kind: Kind, condition: &Condition, values: &[Value]) -> bool
+fn values_match(kind: Kind, condition: &Condition, values: &[Value]) -> bool
     ensures { IsTrue result ↔ ValuesMatch kind condition.now values.now }
 {
     match condition.operator.quantifier {
         Quantifier::Plain => one_matches(kind, condition, values),
-        Quantifier::ForAll => all_match(alloc, kind, condition, values),
-        Quantifier::ForAny => any_matches(alloc, kind, condition, values),
+        Quantifier::ForAll => all_match(kind, condition, values),
+        Quantifier::ForAny => any_matches(kind, condition, values),
     }
 }
 
@@ -124,39 +88,40 @@ fn some_null_holds(values: &[Value], condition: &Condition) -> bool
 }
 
 // Without `IfExists`.
-fn operator_holds(alloc: Global, kind: Kind, condition: &Condition, values: &[Value]) -> bool
+fn operator_holds(kind: Kind, condition: &Condition, values: &[Value]) -> bool
     ensures { IsTrue result ↔ OperatorHolds kind condition.now values.now }
 {
     if condition.operator.base.is_null() {
         some_null_holds(values, condition)
     } else {
-        values_match(alloc, kind, condition, values)
+        values_match(kind, condition, values)
     }
 }
 
-fn holds_of_values(alloc: Global, kind: Kind, condition: &Condition, values: &[Value]) -> bool
+fn holds_of_values(kind: Kind, condition: &Condition, values: &[Value]) -> bool
     ensures { IsTrue result ↔ HoldsOfValues kind condition.now values.now }
 {
-    (condition.operator.if_exists && values.is_empty())
-        || operator_holds(alloc, kind, condition, values)
+    (condition.operator.if_exists && values.is_empty()) || operator_holds(kind, condition, values)
 }
 
 // Whether the condition holds of the request.
-fn condition_holds(alloc: Global, schema: &Schema, condition: &Condition, request: &Request) -> bool
+fn condition_holds(schema: &Schema, condition: &Condition, request: &Request) -> bool
     ensures { IsTrue result ↔ ConditionHolds schema.now request.now condition.now }
 {
     let kind = schema.kind_at(&condition.key);
-    holds_of_values(alloc, kind, condition, request.values_at(&condition.key))
+    holds_of_values(kind, condition, request.values_at(&condition.key))
 }
 
 // Whether each condition holds of the request.
 pub(crate) fn conditions_hold(
-    alloc: Global,
     schema: &Schema,
     conditions: &ConditionList,
     request: &Request,
 ) -> bool
     ensures { IsTrue result ↔ All (ConditionHolds schema.now request.now) conditions.now }
 {
-    conditions.as_slice().iter().all(|condition| condition_holds(alloc, schema, condition, request))
+    conditions
+        .as_slice()
+        .iter()
+        .all(|condition| condition_holds(schema, condition, request))
 }

@@ -11,7 +11,6 @@ use policy_model::{
     Document, DocumentList, Entry, GuardList, Matcher, PolicySet, Request, Schema, Statement,
     entry_holds,
 };
-use std::alloc::Global;
 use wildcard_lang::{Pattern, Text, matches};
 
 fn entries_hold(matcher: &Matcher<Entry>, request: &Request) -> bool
@@ -54,7 +53,7 @@ fn resource_holds(matcher: &Option<Matcher<Pattern>>, text: &Text) -> bool
     }
 }
 
-fn applies(alloc: Global, schema: &Schema, statement: &Statement, request: &Request) -> bool
+fn applies(schema: &Schema, statement: &Statement, request: &Request) -> bool
     ensures { IsTrue result ↔ Applies schema.now statement.now request.now }
 {
     if !principal_holds(&statement.principal, request) {
@@ -66,12 +65,11 @@ fn applies(alloc: Global, schema: &Schema, statement: &Statement, request: &Requ
     if !resource_holds(&statement.resource, &request.resource) {
         return false;
     }
-    conditions_hold(alloc, schema, &statement.conditions, request)
+    conditions_hold(schema, &statement.conditions, request)
 }
 
 // Whether the statement has this effect and applies.
 pub(crate) fn decides(
-    alloc: Global,
     schema: &Schema,
     statement: &Statement,
     allow: bool,
@@ -79,26 +77,21 @@ pub(crate) fn decides(
 ) -> bool
     ensures { IsTrue result ↔ Decides schema.now allow request.now statement.now }
 {
-    statement.allow == allow && applies(alloc, schema, statement, request)
+    statement.allow == allow && applies(schema, statement, request)
 }
 
-fn document_decides(
-    alloc: Global,
-    schema: &Schema,
-    document: &Document,
-    allow: bool,
-    request: &Request,
-) -> bool
+fn document_decides(schema: &Schema, document: &Document, allow: bool, request: &Request) -> bool
     ensures { IsTrue result ↔ Any (Decides schema.now allow request.now) document.now.statements }
 {
-    document.statements.as_slice().iter().any(|statement| decides(
-        alloc, schema, statement, allow, request,
-    ))
+    document
+        .statements
+        .as_slice()
+        .iter()
+        .any(|statement| decides(schema, statement, allow, request))
 }
 
 // Whether some statement of the documents has this effect and applies.
 pub(crate) fn some_decides(
-    alloc: Global,
     schema: &Schema,
     documents: &DocumentList,
     allow: bool,
@@ -106,47 +99,46 @@ pub(crate) fn some_decides(
 ) -> bool
     ensures { IsTrue result ↔ SomeDecides schema.now allow request.now documents.now }
 {
-    documents.as_slice().iter().any(|document| document_decides(
-        alloc, schema, document, allow, request,
-    ))
+    documents.as_slice().iter().any(|document| document_decides(schema, document, allow, request))
 }
 
-fn guards_allow(alloc: Global, schema: &Schema, guards: &[DocumentList], request: &Request) -> bool
+fn guards_allow(schema: &Schema, guards: &[DocumentList], request: &Request) -> bool
     ensures { IsTrue result ↔ All (SomeDecides schema.now true request.now) guards.now }
 {
     for guard in guards {
-        if !some_decides(alloc, schema, guard, true, request) {
+        if !some_decides(schema, guard, true, request) {
             return false;
         }
     }
     true
 }
 
-fn guards_deny(alloc: Global, schema: &Schema, guards: &GuardList, request: &Request) -> bool
+fn guards_deny(schema: &Schema, guards: &GuardList, request: &Request) -> bool
     ensures { IsTrue result ↔ Any (SomeDecides schema.now false request.now) guards.now }
 {
     guards
         .as_slice()
         .iter()
-        .any(|guard| some_decides(alloc, schema, guard, false, request))
+        .any(|guard| some_decides(schema, guard, false, request))
 }
 
 /// Whether the set allows the request: some Allow statement of the grants applies, each guard has an
 /// Allow statement that applies, and no Deny statement of the grants or of a guard applies.
 ///
-/// The schema fits the set, and the request is valid under it. Memory is taken for long lists of values
-/// alone; where there is none, the answer takes longer.
-pub fn allows(alloc: Global, set: &PolicySet, schema: &Schema, request: &Request) -> bool
+/// The schema fits the set, and the request is valid under it. It takes no memory.
+pub fn allows(set: &PolicySet, schema: &Schema, request: &Request) -> bool
     requires fits { SchemaFits schema.now set.now }
     requires valid { IsValid schema.now request.now }
     ensures { IsTrue result ↔ Allows schema.now set.now request.now }
 {
-    if some_decides(alloc, schema, &set.grants, false, request) {
+    if !some_decides(schema, &set.grants, true, request) {
         return false;
     }
-    if guards_deny(alloc, schema, &set.guards, request) {
+    if !guards_allow(schema, set.guards.as_slice(), request) {
         return false;
     }
-    some_decides(alloc, schema, &set.grants, true, request)
-        && guards_allow(alloc, schema, set.guards.as_slice(), request)
+    if guards_deny(schema, &set.guards, request) {
+        return false;
+    }
+    !some_decides(schema, &set.grants, false, request)
 }

@@ -8,11 +8,9 @@ ghost use Rattle.policy_eval.specs.Deciding.{FirstIs, FirstSilentIs, IsDecider};
 use crate::eval::{decides, some_decides};
 use crate::outcome::Decider;
 use policy_model::{Document, DocumentList, PolicySet, Request, Schema, Statement, StatementName};
-use std::alloc::Global;
 
 // The first statement of a document with this effect that applies.
 fn first_of_statements(
-    alloc: Global,
     schema: &Schema,
     document: u32,
     statements: &[Statement],
@@ -24,7 +22,7 @@ fn first_of_statements(
         (named_statements document 1 statements.now) result }
 {
     for (i, statement) in statements.iter().enumerate() {
-        if decides(alloc, schema, statement, allow, request) {
+        if decides(schema, statement, allow, request) {
             return Some(StatementName {
                 document,
                 statement: i as u32 + 1,
@@ -36,7 +34,6 @@ fn first_of_statements(
 
 // The first statement of documents with this effect that applies; the first document has this number.
 fn first_of_documents(
-    alloc: Global,
     schema: &Schema,
     from: usize,
     documents: &[Document],
@@ -50,7 +47,6 @@ fn first_of_documents(
     for (i, document) in documents.iter().enumerate() {
         let number = (from + i) as u32;
         let first = first_of_statements(
-            alloc,
             schema,
             number,
             document.statements.as_slice(),
@@ -66,7 +62,6 @@ fn first_of_documents(
 
 // The same of guards.
 fn first_of_guards(
-    alloc: Global,
     schema: &Schema,
     from: usize,
     guards: &[DocumentList],
@@ -79,7 +74,7 @@ fn first_of_guards(
 {
     let mut next = from;
     for guard in guards {
-        let first = first_of_documents(alloc, schema, next, guard.as_slice(), allow, request);
+        let first = first_of_documents(schema, next, guard.as_slice(), allow, request);
         if first.is_some() {
             return first;
         }
@@ -89,21 +84,15 @@ fn first_of_guards(
 }
 
 // The first Deny statement that applies.
-fn first_deny(
-    alloc: Global,
-    schema: &Schema,
-    set: &PolicySet,
-    request: &Request,
-) -> Option<StatementName>
+fn first_deny(schema: &Schema, set: &PolicySet, request: &Request) -> Option<StatementName>
     requires { IsSound set.now }
     ensures { FirstIs schema.now false request.now (named_set set.now) result }
 {
-    let first = first_of_documents(alloc, schema, 1, set.grants.as_slice(), false, request);
+    let first = first_of_documents(schema, 1, set.grants.as_slice(), false, request);
     if first.is_some() {
         return first;
     }
     first_of_guards(
-        alloc,
         schema,
         1 + set.grants.len(),
         set.guards.as_slice(),
@@ -113,17 +102,12 @@ fn first_deny(
 }
 
 // The first guard without an Allow statement that applies.
-fn first_silent(
-    alloc: Global,
-    schema: &Schema,
-    guards: &[DocumentList],
-    request: &Request,
-) -> Option<u32>
+fn first_silent(schema: &Schema, guards: &[DocumentList], request: &Request) -> Option<u32>
     requires { length guards.now ≤ 4294967295 }
     ensures { FirstSilentIs schema.now request.now guards.now result }
 {
     for (i, guard) in guards.iter().enumerate() {
-        if !some_decides(alloc, schema, guard, true, request) {
+        if !some_decides(schema, guard, true, request) {
             return Some(i as u32 + 1);
         }
     }
@@ -134,21 +118,19 @@ fn first_silent(
 /// Allow statement of the grants applies, that no grant does; where one does and some guard has none,
 /// the first such guard; and otherwise the first Allow statement of the grants that applies.
 ///
-/// The schema fits the set, and the request is valid under it. Memory is taken for long lists of values
-/// alone; where there is none, the answer takes longer.
-pub fn decider(alloc: Global, set: &PolicySet, schema: &Schema, request: &Request) -> Decider
+/// The schema fits the set, and the request is valid under it. It takes no memory.
+pub fn decider(set: &PolicySet, schema: &Schema, request: &Request) -> Decider
     requires fits { SchemaFits schema.now set.now }
     requires valid { IsValid schema.now request.now }
     ensures { IsDecider schema.now set.now request.now result }
 {
-    if let Some(name) = first_deny(alloc, schema, set, request) {
+    if let Some(name) = first_deny(schema, set, request) {
         return Decider::Statement(name);
     }
-    let Some(name) = first_of_documents(alloc, schema, 1, set.grants.as_slice(), true, request)
-    else {
+    let Some(name) = first_of_documents(schema, 1, set.grants.as_slice(), true, request) else {
         return Decider::NoGrant;
     };
-    match first_silent(alloc, schema, set.guards.as_slice(), request) {
+    match first_silent(schema, set.guards.as_slice(), request) {
         Some(guard) => Decider::NoGuard(guard),
         None => Decider::Statement(name),
     }

@@ -27,15 +27,15 @@ fn ungranted(set: &PolicySet) -> Denial
 }
 
 // What the set says of the request.
-fn decision_on(alloc: Global, set: &PolicySet, schema: &Schema, request: &Request) -> Evaluation
+fn decision_on(set: &PolicySet, schema: &Schema, request: &Request) -> Evaluation
     requires fits { SchemaFits schema.now set.now }
     requires valid { IsValid schema.now request.now }
     ensures { IsEvaluation schema.now set.now request.now result }
 {
     deciders_tell_what_is_allowed();
-    match decider(alloc, set, schema, request) {
+    match decider(set, schema, request) {
         Decider::Statement(name) => {
-            if allows(alloc, set, schema, request) {
+            if allows(set, schema, request) {
                 Evaluation::Allowed(name)
             } else {
                 Evaluation::Denied(Denial::ByStatement(name))
@@ -64,7 +64,7 @@ fn print_request(alloc: Global, one: &OneSet, request: &[u8]) -> Result<Printed,
     ensures { IfPrinted result (IsRequestPrinted request.now one.now) }
 {
     let request = request_of(alloc, &one.schema, request)?;
-    let answer = decision_on(alloc, &one.set, &one.schema, &request);
+    let answer = decision_on(&one.set, &one.schema, &request);
     Ok(Printed {
         text: evaluation_text(alloc, answer)?,
         status: evaluation_status(answer),

@@ -1,5 +1,0 @@
-mod Equal
-mod Finding
-mod Literals
-mod Resting
-mod Tested

@@ -1,3 +1,0 @@
-pub mod Literals
-pub mod LookedUp
-pub mod Rests
