@@ -31,7 +31,7 @@ written_whole p w BadProof is of whole = (is, whole)
 pub promised : (asked : Option Asked) (r : Reading) (w : Writing) (p : Printed) (s : Status) → IsPrinted asked r p → IsWritten p w s
     → Promises asked r w s
 promised asked r w p WriteFault may ends = record { rose = ends.0; printed = p; may = may; count = ends.1.0; less = ends.1.1; written = ends.1.2 }
-promised asked r w p NoMemory may ends = ends
+promised asked r w p NoMemory may ends = absurd ends
 promised asked r w p Holds may ends = record { printed = p; may = may; of_status = ends.0; written = ends.1 }
 promised asked r w p Fails may ends = record { printed = p; may = may; of_status = ends.0; written = ends.1 }
 promised asked r w p Refused may ends = record { printed = p; may = may; of_status = ends.0; written = ends.1 }

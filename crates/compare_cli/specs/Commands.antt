@@ -1,13 +1,15 @@
 -- What may be printed, by what the arguments ask and what the folder holds.
-use Rattle.std.specs.Prelude.{◌⊎◌, ℕ, List, [], ◌∷◌, ◌++◌, Bool, true, false, Option, Some, None, ⊤, codes}
+use Rattle.std.specs.Prelude.{◌⊎◌, ℕ, List, [], ◌∷◌, ◌++◌, Bool, true, false, Option, Some, None, Result, Ok, Err, ⊤, codes}
 use Rattle.command_words.specs.Asked.{Asked, Summarising, CheckCommand, CompareCommand, LoadCommand, ReachCommand, SummaryCommand, CheckSummaryCommand}
 use Rattle.command_words.specs.Asked.{IdleCommand, EmitCommand, EvalCommand}
+use Rattle.run_files.specs.declared.printed.EarlyEnd.{EarlyEnd}
+use Rattle.run_files.specs.declared.printed.EarlyEnd.TheVariants.{Answered, NoMemory}
 use Rattle.run_files.specs.declared.printed.Printed.{Printed}
 use Rattle.run_files.specs.declared.role.Role.TheVariants.{First, Second, Proof, Zone}
 use Rattle.run_files.specs.declared.role.Role.TheVariants.{Set as set_file, Schema as schema_file, Request as request_file}
 use Rattle.run_files.specs.declared.status.Status.TheVariants.{Usage}
 use Rattle.run_files.specs.Printing.{PrintsText}
-use Rattle.run_files.specs.Readings.{FileName, FilesFail, IsCalm, OfReadFiles, Reading, file, if_given, if_named}
+use Rattle.run_files.specs.Readings.{FileName, FilesFail, IsCalm, IsStopped, OfReadFiles, Reading, file, if_given, if_named}
 use Rattle.run_sets.specs.Pairs.{Contents}
 use Rattle.pair_answers.specs.Printed.{IsCheckPrinted, IsComparisonPrinted}
 use Rattle.statement_answers.specs.Evaluated.{EvaluationContents, IsEvaluationPrinted}
@@ -34,6 +36,11 @@ named_files (IdleCommand u) = file set_file u.set ∷ if_named schema_file u.sch
 named_files (ReachCommand s zone) = file set_file s.set ∷ file Zone zone ∷ if_named schema_file s.schema
 named_files (EmitCommand s) = file set_file s.set ∷ if_named schema_file s.schema
 named_files (CheckSummaryCommand k) = file set_file k.set ∷ file Proof k.proof ∷ if_named schema_file k.schema
+
+-- the files that the arguments name
+abbrev pub files_named : Option Asked → List FileName
+files_named None = []
+files_named (Some asked) = named_files asked
 
 -- the bytes of a check's files: of the two sets and the schema, and of the certificate
 pub record CheckContents : Type 0 where
@@ -92,10 +99,16 @@ usage_line =
     ++ codes "| idle SET | reach SET ZONE DIMENSION.. | emit SET DIMENSION.. | check-summary SET PROOF DIMENSION..\n"
 
 -- the usage line, exactly where the arguments ask for nothing; what is printed of the first file that fails; or what the command may
--- print, and the name of the folder's last fault is as it was
+-- print, and the folder was asked for the command's files and wasn't failed at any
 abbrev pub IsPrinted : Option Asked → Reading → Printed → Type 0
-IsPrinted None r p = PrintsText usage_line Usage p × IsCalm r
-IsPrinted (Some asked) r p = FilesFail (named_files asked) r p ⊎ (MayPrint asked r p × IsCalm r)
+IsPrinted None r p = PrintsText usage_line Usage p × IsCalm [] r
+IsPrinted (Some asked) r p = FilesFail (named_files asked) r p ⊎ (MayPrint asked r p × IsCalm (named_files asked) r)
+
+-- what is printed, at the end of the command or before; or want of memory, without a fault of reading
+abbrev pub IsCommandEnd : Option Asked → Reading → Result Printed EarlyEnd → Type 0
+IsCommandEnd asked r (Ok p) = IsPrinted asked r p
+IsCommandEnd asked r (Err (Answered p)) = IsPrinted asked r p
+IsCommandEnd asked r (Err NoMemory) = IsStopped (files_named asked) r
 
 -- the arguments name no file: they ask for nothing, or for a load
 abbrev pub NameNoFile : Option Asked → Type 0

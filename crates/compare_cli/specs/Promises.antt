@@ -6,8 +6,8 @@ use Rattle.pol_outside.specs.Sink.{Appends}
 use Rattle.run_files.specs.declared.printed.Printed.{Printed}
 use Rattle.run_files.specs.declared.status.Status.{Status}
 use Rattle.run_files.specs.declared.status.Status.TheVariants.{Usage, WriteFault, NoMemory}
-use Rattle.run_files.specs.Readings.{Reading}
-use Rattle.compare_cli.specs.Commands.{IsPrinted}
+use Rattle.run_files.specs.Readings.{IsStopped, Reading}
+use Rattle.compare_cli.specs.Commands.{IsPrinted, files_named}
 
 -- the sink of a run: how many faults it had and, where it tells that, what was written, before the run and now
 pub record Writing : Type 0 where
@@ -36,8 +36,8 @@ pub record Breaks (asked : Option Asked) (r : Reading) (w : Writing) : Type 0 wh
 abbrev pub Promises : Option Asked → Reading → Writing → Status → Type 0
 -- of a text that may be printed the beginning was written, and not the whole
 Promises asked r w WriteFault = Breaks asked r w
--- nothing was written
-Promises asked r w NoMemory = w.now ≡ w.before
+-- nothing was written, and no file was failed at
+Promises asked r w NoMemory = (w.now ≡ w.before) × IsStopped (files_named asked) r
 -- what was written is the whole of a text that may be printed with this status
 Promises asked r w status = Says asked r w status
 
@@ -53,5 +53,5 @@ abbrev pub IsWritten : Printed → Writing → Status → Type 0
 IsWritten p w WriteFault =
     Rose w.faults_before w.faults ×
     ((count : ℕ) × (count < length (string_bytes p.text)) × Appends w.before (take count (string_bytes p.text)) w.now)
-IsWritten p w NoMemory = w.now ≡ w.before
+IsWritten p w NoMemory = ⊥
 IsWritten p w status = (p.status ≡ status) × Appends w.before (string_bytes p.text) w.now

@@ -3,9 +3,8 @@ ghost use Rattle.std.specs.Prelude.{◌≡◌, ◌≤◌, Some, string_bytes};
 ghost use Rattle.command_words.specs.Asked.{AreFindingsInRange, HasUseNumbersInRange, IsInRange, IsSummaryCheckInRange};
 ghost use Rattle.command_words.specs.Asked.{CheckCommand, CompareCommand, ReachCommand, SummaryCommand, CheckSummaryCommand, IdleCommand, EmitCommand, EvalCommand};
 ghost use Rattle.command_words.specs.Asked.{asked_in, checking_in, comparing_in, evaluating_in, summarising_in, summary_check_in, use_question_in};
-ghost use Rattle.run_files.specs.Printing.{IfPrinted};
 ghost use Rattle.run_files.specs.Readings.{reading_of};
-ghost use Rattle.compare_cli.specs.Commands.{NameNoFile, IsPrinted};
+ghost use Rattle.compare_cli.specs.Commands.{IsCommandEnd, NameNoFile};
 
 use crate::files::{read_last, read_named};
 use crate::loading::print_load;
@@ -32,9 +31,8 @@ fn comparison<F: Folder>(
 ) -> Result<Printed, EarlyEnd>
     requires splits { 1 ≤ arguments.now.splits }
     requires states { 1 ≤ arguments.now.states }
-    ensures prints { IfPrinted result
-        (IsPrinted (Some (CompareCommand (comparing_in arguments.now)))
-        (reading_of F.held F.faults F.last_fault folder.old folder.new)) }
+    ensures prints { IsCommandEnd (Some (CompareCommand (comparing_in arguments.now)))
+        (reading_of F.held F.faults F.last_fault F.asked folder.old folder.new) result }
     ensures held { F.held folder.new ≡ F.held folder.old }
     ensures later { F.faults folder.old ≤ F.faults folder.new }
 {
@@ -56,8 +54,8 @@ fn proof_check<F: Folder>(
     folder: &mut F,
     arguments: &CheckArguments,
 ) -> Result<Printed, EarlyEnd>
-    ensures prints { IfPrinted result (IsPrinted (Some (CheckCommand (checking_in arguments.now)))
-        (reading_of F.held F.faults F.last_fault folder.old folder.new)) }
+    ensures prints { IsCommandEnd (Some (CheckCommand (checking_in arguments.now)))
+        (reading_of F.held F.faults F.last_fault F.asked folder.old folder.new) result }
     ensures held { F.held folder.new ≡ F.held folder.old }
     ensures later { F.faults folder.old ≤ F.faults folder.new }
 {
@@ -81,9 +79,9 @@ fn summary<F: Folder>(
     arguments: &SummaryArguments,
 ) -> Result<Printed, EarlyEnd>
     requires { AreFindingsInRange arguments.now.summary }
-    ensures prints { IfPrinted result (IsPrinted
+    ensures prints { IsCommandEnd
         (Some (SummaryCommand (summarising_in arguments.now.summary) arguments.now.certified))
-        (reading_of F.held F.faults F.last_fault folder.old folder.new)) }
+        (reading_of F.held F.faults F.last_fault F.asked folder.old folder.new) result }
     ensures held { F.held folder.new ≡ F.held folder.old }
     ensures later { F.faults folder.old ≤ F.faults folder.new }
 {
@@ -103,9 +101,9 @@ fn evaluation<F: Folder>(
     folder: &mut F,
     arguments: &EvalArguments,
 ) -> Result<Printed, EarlyEnd>
-    ensures prints { IfPrinted result (IsPrinted
+    ensures prints { IsCommandEnd
         (Some (EvalCommand (evaluating_in arguments.now)))
-        (reading_of F.held F.faults F.last_fault folder.old folder.new)) }
+        (reading_of F.held F.faults F.last_fault F.asked folder.old folder.new) result }
     ensures held { F.held folder.new ≡ F.held folder.old }
     ensures later { F.faults folder.old ≤ F.faults folder.new }
 {
@@ -132,9 +130,9 @@ fn idle<F: Folder>(
     arguments: &IdleArguments,
 ) -> Result<Printed, EarlyEnd>
     requires { HasUseNumbersInRange arguments.now }
-    ensures prints { IfPrinted result (IsPrinted
+    ensures prints { IsCommandEnd
         (Some (IdleCommand (use_question_in arguments.now)))
-        (reading_of F.held F.faults F.last_fault folder.old folder.new)) }
+        (reading_of F.held F.faults F.last_fault F.asked folder.old folder.new) result }
     ensures held { F.held folder.new ≡ F.held folder.old }
     ensures later { F.faults folder.old ≤ F.faults folder.new }
 {
@@ -154,10 +152,10 @@ fn reach<F: Folder>(
     arguments: &ReachArguments,
 ) -> Result<Printed, EarlyEnd>
     requires { AreFindingsInRange arguments.now.summary }
-    ensures prints { IfPrinted result (IsPrinted
+    ensures prints { IsCommandEnd
         (Some (ReachCommand (summarising_in arguments.now.summary)
         (string_bytes arguments.now.zone)))
-        (reading_of F.held F.faults F.last_fault folder.old folder.new)) }
+        (reading_of F.held F.faults F.last_fault F.asked folder.old folder.new) result }
     ensures held { F.held folder.new ≡ F.held folder.old }
     ensures later { F.faults folder.old ≤ F.faults folder.new }
 {
@@ -180,8 +178,8 @@ fn emission<F: Folder>(
     arguments: &FindingArguments,
 ) -> Result<Printed, EarlyEnd>
     requires { AreFindingsInRange arguments.now }
-    ensures prints { IfPrinted result (IsPrinted (Some (EmitCommand (summarising_in arguments.now)))
-        (reading_of F.held F.faults F.last_fault folder.old folder.new)) }
+    ensures prints { IsCommandEnd (Some (EmitCommand (summarising_in arguments.now)))
+        (reading_of F.held F.faults F.last_fault F.asked folder.old folder.new) result }
     ensures held { F.held folder.new ≡ F.held folder.old }
     ensures later { F.faults folder.old ≤ F.faults folder.new }
 {
@@ -201,9 +199,9 @@ fn summary_check<F: Folder>(
     arguments: &CheckSummaryArguments,
 ) -> Result<Printed, EarlyEnd>
     requires { IsSummaryCheckInRange arguments.now }
-    ensures prints { IfPrinted result (IsPrinted
+    ensures prints { IsCommandEnd
         (Some (CheckSummaryCommand (summary_check_in arguments.now)))
-        (reading_of F.held F.faults F.last_fault folder.old folder.new)) }
+        (reading_of F.held F.faults F.last_fault F.asked folder.old folder.new) result }
     ensures held { F.held folder.new ≡ F.held folder.old }
     ensures later { F.faults folder.old ≤ F.faults folder.new }
 {
@@ -231,8 +229,8 @@ pub fn print_command<F: Folder>(
     command: &Command,
 ) -> Result<Printed, EarlyEnd>
     requires { IsInRange command.now }
-    ensures prints { IfPrinted result (IsPrinted (Some (asked_in command.now))
-        (reading_of F.held F.faults F.last_fault folder.old folder.new)) }
+    ensures prints { IsCommandEnd (Some (asked_in command.now))
+        (reading_of F.held F.faults F.last_fault F.asked folder.old folder.new) result }
     ensures untouched { NameNoFile (Some (asked_in command.now)) → folder.new ≡ folder.old }
     ensures held { F.held folder.new ≡ F.held folder.old }
     ensures later { F.faults folder.old ≤ F.faults folder.new }

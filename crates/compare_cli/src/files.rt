@@ -1,7 +1,7 @@
 //! Reads the files of a command, in the order of its line.
-ghost use Rattle.std.specs.Prelude.{◌≡◌, ◌≤◌, option_map, string_bytes};
-ghost use Rattle.run_files.specs.Readings.{IsFileRead, file, reading_of};
-ghost use Rattle.compare_cli.specs.LastFiles.{AreLastRead, last_names};
+ghost use Rattle.std.specs.Prelude.{◌≡◌, ◌≤◌, ◌∷◌, [], option_map, string_bytes};
+ghost use Rattle.run_files.specs.Readings.{AreFilesRead, file, one_content, reading_of};
+ghost use Rattle.compare_cli.specs.LastFiles.{last_bytes, last_names};
 
 use pol_outside::Folder;
 use run_files::{EarlyEnd, Role, read_file, read_if_named};
@@ -21,8 +21,8 @@ pub(crate) fn read_named<F: Folder>(
     role: Role,
     name: &String,
 ) -> Result<Vec<u8>, EarlyEnd>
-    ensures reads { IsFileRead (file role (string_bytes name.now))
-        (reading_of F.held F.faults F.last_fault folder.old folder.new) result }
+    ensures reads { AreFilesRead (file role (string_bytes name.now) ∷ []) one_content
+        (reading_of F.held F.faults F.last_fault F.asked folder.old folder.new) result }
     ensures held { F.held folder.new ≡ F.held folder.old }
     ensures later { F.faults folder.old ≤ F.faults folder.new }
 {
@@ -38,9 +38,10 @@ pub(crate) fn read_last<F: Folder>(
     name: &String,
     schema: &Option<String>,
 ) -> Result<LastFiles, EarlyEnd>
-    ensures reads { AreLastRead
+    ensures reads { AreFilesRead
         (last_names role (string_bytes name.now) (option_map (λ n. string_bytes n) schema.now))
-        (reading_of F.held F.faults F.last_fault folder.old folder.new) result }
+        last_bytes
+        (reading_of F.held F.faults F.last_fault F.asked folder.old folder.new) result }
     ensures held { F.held folder.new ≡ F.held folder.old }
     ensures later { F.faults folder.old ≤ F.faults folder.new }
 {

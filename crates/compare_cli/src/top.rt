@@ -2,9 +2,9 @@
 ghost use Rattle.std.specs.Prelude.{◌≡◌, ◌≤◌, None};
 ghost use Rattle.pol_outside.specs.Faults.{Rose};
 ghost use Rattle.command_words.specs.Asked.{asked_by};
-ghost use Rattle.run_files.specs.Printing.{IfPrinted, IsOfText};
+ghost use Rattle.run_files.specs.Printing.{IsOfText};
 ghost use Rattle.run_files.specs.Readings.{reading_of};
-ghost use Rattle.compare_cli.specs.Commands.{NameNoFile, IsPrinted};
+ghost use Rattle.compare_cli.specs.Commands.{IsCommandEnd, NameNoFile};
 ghost use Rattle.compare_cli.specs.Complete.{IsAccepted, IsDecided};
 ghost use Rattle.compare_cli.specs.Promises.{IsUsageOrFault, IsWritten, Promises};
 
@@ -25,8 +25,8 @@ fn print<F: Folder>(
     arguments: &[String],
     folder: &mut F,
 ) -> Result<Printed, EarlyEnd>
-    ensures prints { IfPrinted result (IsPrinted (asked_by arguments.now)
-        (reading_of F.held F.faults F.last_fault folder.old folder.new)) }
+    ensures prints { IsCommandEnd (asked_by arguments.now)
+        (reading_of F.held F.faults F.last_fault F.asked folder.old folder.new) result }
     ensures untouched { NameNoFile (asked_by arguments.now) → folder.new ≡ folder.old }
     ensures held { F.held folder.new ≡ F.held folder.old }
     ensures later { F.faults folder.old ≤ F.faults folder.new }
@@ -81,10 +81,11 @@ fn write<S: Sink>(printed: &Printed, out: &mut S) -> Status
 ///   with `--proof` a certificate of it; or `eval`'s set doesn't allow the request. With `BadProof` the line is that
 ///   of the certificate's or the summary's first fault, or of the first node or finding that fails. A refusal, a
 ///   budget, a fault of reading and the usage line come only by their cause, with their line. With `ReadFault` the
-///   folder's count of faults rose in this call, with `WriteFault` the sink's, and with every other answer the name
-///   of the folder's last fault is as it was.
+///   folder's count of faults rose in this call, with `WriteFault` the sink's. With every answer but `ReadFault`, or
+///   a `WriteFault` of its line, the name of the folder's last fault is as it was. The folder is asked for the
+///   files in their order, once each, up to the first that fails, and for nothing else.
 /// - `usage`: where the arguments ask for nothing, nothing else than `Usage` comes but for want of memory
-///   or of room.
+///   or a fault of the sink.
 /// - `untouched`: where they ask for nothing, or for a load, the folder is as before.
 /// - `held`, `reads`, `writes`: what the folder holds stays as it is, and no count of faults falls.
 /// - `complete`: accepted files whose sets have a schema, dimensions that it has, budgets that aren't below
@@ -98,7 +99,7 @@ pub fn run<F: Folder, S: Sink>(
     out: &mut S,
 ) -> Status
     ensures promises { Promises (asked_by arguments.now)
-        (reading_of F.held F.faults F.last_fault folder.old folder.new)
+        (reading_of F.held F.faults F.last_fault F.asked folder.old folder.new)
         (record {
           faults_before = S.faults out.old;
           faults = S.faults out.new;

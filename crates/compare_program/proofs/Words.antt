@@ -1,6 +1,6 @@
 -- The words that are collected, and the numbers of ends.
-use Rattle.std.proofs.Common.{◌≡◌, ◌∙◌, ◌∷◌, ℕ, List, [], length, Option, Some, None, Result, Ok, Err, inl, inr, sym, subst, ap, refl, arith}
-use Rattle.std.specs.Prelude.{String, drop}
+use Rattle.std.proofs.Common.{◌≡◌, ◌∙◌, ◌∷◌, ℕ, List, [], length, Option, Some, None, Result, Ok, Err, inl, inr, sym, ap, refl, arith}
+use Rattle.std.specs.Prelude.{String, Vec, drop}
 use Rattle.std.specs.Iterator.{DrainsIf}
 use Rattle.std.specs.Vec.Iter.{into_iter_items, into_iter_len, into_iter_steps}
 use Rattle.std.specs.declared.alloc.Global.{Global}
@@ -11,9 +11,8 @@ use Rattle.std.proofs.lemmas.Iterator.Adapters.{YieldsList-from_vec}
 use Rattle.std.proofs.lemmas.List.{map-id}
 use Rattle.run_files.specs.declared.status.Status.TheVariants.{NoMemory}
 use Rattle.run_files.specs.Readings.{Reading}
-use Rattle.run_files.specs.Statuses.{exit_number}
 use Rattle.compare_cli.specs.Promises.{Writing}
-use Rattle.compare_program.specs.Numbers.{IsEndNumber}
+use Rattle.compare_program.specs.Numbers.{End, IsEndNumber}
 use Rattle.compare_program.specs.Runs.{IsProgramEnd}
 
 -- as many words are left as there are
@@ -37,14 +36,8 @@ pub behind-first : {X Z : Type 0} (s t : IntoIter X Z) (first : Option X) → in
 behind-first s t None none = none-left t none.1 ∙ sym (ap (drop 1) (none-left s none.0))
 behind-first s t (Some x) steps = sym (ap (drop 1) steps.0)
 
--- where there is no memory for the words nothing is written
-pub ends-without-memory : (words : Result (IntoIter (String Global) Global) Error) (read : IntoIter (String Global) Global) (r : Reading) (w : Writing) (n : ℕ)
-    → words ≡ Ok read → w.now ≡ w.before → n ≡ exit_number NoMemory → IsProgramEnd words r w n
-ends-without-memory words read r w n is still number =
-    subst (λ (given : Result (IntoIter (String Global) Global) Error). IsProgramEnd given r w n) (sym is) (record { status = NoMemory; promises = still; number = number })
-
 -- each end has a number of an end
-pub end-number : (words : Result (IntoIter (String Global) Global) Error) (r : Reading) (w : Writing) (n : ℕ) → IsProgramEnd words r w n → IsEndNumber n
-end-number (Ok words) r w n end = inl (end.status, end.number)
-end-number (Err error) r w n (inl memory, still) = inl (NoMemory, memory.1)
-end-number (Err error) r w n (inr refused, still) = inr refused.1
+pub end-number : (arguments : Result (Vec (String Global) Global) Error) (r : Reading) (w : Writing) (end : End) → IsProgramEnd arguments r w end → IsEndNumber end.number
+end-number (Ok arguments) r w end v = inl (v.status, v.number)
+end-number (Err error) r w end (inl memory, none, still) = inl (NoMemory, memory.1)
+end-number (Err error) r w end (inr refused, none, still) = inr refused.1

@@ -1,14 +1,11 @@
-//! One run, from the words that the program was called with to the number that it ends with.
-ghost use Rattle.std.specs.Prelude.{◌≡◌, IfOk};
+//! How the program ends: by a run, or without one.
+ghost use Rattle.std.specs.Prelude.{◌≡◌, ℕ, true, false};
 ghost use Rattle.std.specs.Process.{exit_status};
-ghost use Rattle.run_files.specs.Readings.{reading_of};
+ghost use Rattle.run_files.specs.Statuses.{exit_number};
 ghost use Rattle.compare_program.specs.Numbers.{EndNumbers, IsRefusedNumber};
-ghost use Rattle.compare_program.specs.Runs.{IsProgramEnd, IsRunEnd, arguments_of};
 
-use compare_cli::{Status, exit_number, run};
-use pol_outside::{Folder, Sink};
-use std::alloc::{AllocError, Global};
-use std::env::Args;
+use crate::running::Ran;
+use compare_cli::{Status, exit_number};
 use std::io;
 use std::io::Eprint;
 use std::marker::Model;
@@ -17,27 +14,53 @@ use std::process::{ExitCode, Termination};
 /// The exit number where the runtime refuses the arguments. No status has it.
 pub(crate) const NO_ARGUMENTS: u8 = 9;
 
-/// How a run ended, which contracts see as its exit number. Only `program_over` makes one, so that a
-/// `main` that gives one has run the program.
-#[derive(Drop)]
+/// How the program ended: its exit number, and whether a run was made. It can't be dropped: who has it
+/// must end with it.
 pub struct Ended {
-    code: ExitCode,
+    number: u8,
+    is_of_run: bool,
 }
 
 impl Model for Ended {
-    ghost use Rattle.std.specs.Prelude.{ℕ};
-    ghost use Rattle.std.specs.Process.{exit_status};
+    ghost use Rattle.compare_program.specs.Numbers.{End};
 
-    ghost Value = { ℕ };
+    ghost Value = { End };
 
-    ghost view = { λ ended. exit_status ended.code };
+    ghost view = { λ ended. record { number = ended.number; is_of_run = ended.is_of_run } };
+}
+
+impl Ended {
+    /// The end by a run.
+    pub(crate) fn after(ran: Ran) -> Ended
+        ensures { result ≡ record { number = exit_number ran; is_of_run = true } }
+    {
+        Ended {
+            number: ran.number(),
+            is_of_run: true,
+        }
+    }
+
+    /// The end where there are no arguments.
+    pub(crate) fn without(error: &io::Error) -> Ended
+        ensures number { IsRefusedNumber error.now result.number }
+        ensures no_run { result.is_of_run ≡ false }
+    {
+        Ended {
+            number: refused_number(error),
+            is_of_run: false,
+        }
+    }
 }
 
 impl Termination for Ended {
     fn report<R: Eprint>(self, _rt: &R) -> ExitCode
-        ensures { exit_status result ≡ self }
+        ensures { exit_status result ≡ self.number }
     {
-        self.code
+        let Ended {
+            number,
+            is_of_run: _,
+        } = self;
+        ExitCode::from(number)
     }
 }
 
@@ -46,15 +69,7 @@ pub fn program_numbers()
     ensures { EndNumbers }
 {}
 
-fn end_with(number: u8) -> Ended
-    ensures { result ≡ number }
-{
-    Ended {
-        code: ExitCode::from(number),
-    }
-}
-
-// The exit number where the runtime gives no words.
+// The exit number where there are no arguments.
 fn refused_number(error: &io::Error) -> u8
     ensures { IsRefusedNumber error.now result }
 {
@@ -62,45 +77,5 @@ fn refused_number(error: &io::Error) -> u8
         exit_number(Status::NoMemory)
     } else {
         NO_ARGUMENTS
-    }
-}
-
-// The words after the program's name.
-fn arguments_of(alloc: Global, words: Args) -> Result<Vec<String>, AllocError>
-    ensures { IfOk result (λ arguments. arguments.items ≡ arguments_of words) }
-{
-    let mut words = words;
-    let _program = words.next();
-    words.collect(alloc)
-}
-
-/// One run over a folder and a sink, with the words that the runtime gives: the program's name, and the
-/// arguments after it. The number is the exit number of the status that `run` gives to the arguments; or
-/// 9 where the runtime refuses the words, or that of want of memory, and then nothing is written.
-pub fn program_over<F: Folder, S: Sink>(
-    alloc: Global,
-    words: io::Result<Args>,
-    folder: &mut F,
-    sink: &mut S,
-) -> Ended
-    ensures { IsProgramEnd words
-        (reading_of F.held F.faults F.last_fault folder.old folder.new)
-        (record {
-          faults_before = S.faults sink.old;
-          faults = S.faults sink.new;
-          before = S.written sink.old;
-          now = S.written sink.new;
-        })
-        result }
-{
-    match words {
-        Ok(words) => {
-            let Ok(arguments) = arguments_of(alloc, words) else {
-                return end_with(exit_number(Status::NoMemory));
-            };
-            let status = run(alloc, arguments.as_slice(), folder, sink);
-            end_with(exit_number(status))
-        }
-        Err(error) => end_with(refused_number(&error)),
     }
 }

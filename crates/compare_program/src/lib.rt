@@ -4,8 +4,11 @@
 ghost use Rattle.compare_program.specs.Numbers.{IsEndNumber};
 
 mod ending;
+mod over;
+mod running;
 
-pub use ending::{Ended, program_numbers, program_over};
+pub use ending::{Ended, program_numbers};
+pub use over::{arguments_of, program_over};
 use pol_outside::{DiskFolder, StdSink};
 use std::{env, io};
 
@@ -13,9 +16,10 @@ use std::{env, io};
 /// and writes is the system's, of which no contract can speak: that the run is right is what
 /// `program_over` promises of every folder and sink.
 pub fn program(rt: HostRuntime) -> Ended
-    ensures { IsEndNumber result }
+    ensures { IsEndNumber result.number }
 {
     let mut folder = DiskFolder::new(&rt);
     let mut sink = StdSink::new(io::writer(&rt));
-    program_over(rt.alloc(), env::args(&rt), &mut folder, &mut sink)
+    let arguments = arguments_of(rt.alloc(), env::args(&rt));
+    program_over(rt.alloc(), arguments, &mut folder, &mut sink)
 }

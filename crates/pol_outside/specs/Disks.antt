@@ -12,3 +12,8 @@ OpensFile (Some files) name left = (bytes : List ℕ) × (files name ≡ Some by
 abbrev pub ReadsPart : {E : Type 0} → Result ℕ E → List ℕ → Option (List ℕ) → Option (List ℕ) → Type 0
 ReadsPart (Ok n) part old new = (n ≤ length part) × Consumes old new (take n part) × (n ≡ 0 → IsAtEnd new)
 ReadsPart (Err e) part old new = Keeps old new
+
+-- an error is at the file of this name; else the name of the last fault is as it was
+abbrev pub FaultsAt : {T E : Type 0} → Result T E → Option (List ℕ) → Option (List ℕ) → Option (List ℕ) → Type 0
+FaultsAt (Ok v) name before now = now ≡ before
+FaultsAt (Err e) name before now = now ≡ name

@@ -1,5 +1,5 @@
 -- What one `take` from a folder says.
-use Rattle.std.specs.Prelude.{◌≡◌, ℕ, ◌+◌, ◌<◌, ◌≤◌, List, [], ◌++◌, length, take, Option, Some, None, option_map, String, string_bytes, Result, Ok, Err, ⊤, if◌then◌else◌}
+use Rattle.std.specs.Prelude.{◌≡◌, ◌⊎◌, ℕ, ◌+◌, ◌<◌, ◌≤◌, List, [], ◌∷◌, ◌++◌, length, take, Option, Some, None, option_map, String, string_bytes, Result, Ok, Err, ⊤, if◌then◌else◌}
 use Rattle.std.specs.Str.{bytes_eq}
 use Rattle.pol_outside.specs.declared.folder.TheConstants.{MOST_TAKEN}
 use Rattle.pol_outside.specs.declared.folder.TakeFault.{TakeFault}
@@ -56,6 +56,25 @@ NamesFault (Err Failed) name before now last_before last_now = Rose before now �
 NamesFault (Err TooLong) name before now last_before last_now = last_now ≡ last_before
 NamesFault (Err NoMemory) name before now last_before last_now = last_now ≡ last_before
 NamesFault (Ok u) name before now last_before last_now = last_now ≡ last_before
+
+-- `Failed` is answered where the last fault is at the file of this name. No other answer changes the name of the last fault.
+abbrev pub FaultIsAt : {T : Type 0} → Result T TakeFault → Option (List ℕ) → Option (List ℕ) → Option (List ℕ) → Type 0
+FaultIsAt (Err Failed) name before now = now ≡ name
+FaultIsAt (Err TooLong) name before now = now ≡ before
+FaultIsAt (Err NoMemory) name before now = now ≡ before
+FaultIsAt (Ok u) name before now = now ≡ before
+
+-- where the names that it was asked for are told, they have grown by these
+abbrev pub AsksFor : Option (List (List ℕ)) → List (List ℕ) → Option (List (List ℕ)) → Type 0
+AsksFor None names new = ⊤
+AsksFor (Some before) names new = new ≡ Some (before ++ names)
+
+-- they have grown by this name, once; or by none, where there was no memory
+abbrev pub AsksOnce : {T : Type 0} → Result T TakeFault → List ℕ → Option (List (List ℕ)) → Option (List (List ℕ)) → Type 0
+AsksOnce (Err Failed) name old new = AsksFor old (name ∷ []) new
+AsksOnce (Err TooLong) name old new = AsksFor old (name ∷ []) new
+AsksOnce (Err NoMemory) name old new = AsksFor old [] new ⊎ AsksFor old (name ∷ []) new
+AsksOnce (Ok u) name old new = AsksFor old (name ∷ []) new
 
 -- the count is one higher where `Failed` is answered, and after every other answer it is as it was
 abbrev pub CountsFault : {T : Type 0} → Result T TakeFault → ℕ → ℕ → Type 0

@@ -1,5 +1,5 @@
 -- What a folder in memory stands for: its files, and its calls with their faults.
-use Rattle.std.specs.Prelude.{◌≡◌, ℕ, ◌==◌, Bool, true, false, List, [], ◌∷◌, ◌++◌, Option, None, option_map, string_bytes, is_none, Result, Ok, Err, ⊤, if◌then◌else◌}
+use Rattle.std.specs.Prelude.{◌≡◌, ℕ, ◌==◌, Bool, true, false, List, [], ◌∷◌, ◌++◌, map, Option, None, option_map, string_bytes, is_none, Result, Ok, Err, ⊤, if◌then◌else◌}
 use Rattle.std.specs.List.{list_any}
 use Rattle.std.specs.BTreeMap.{get_by_text}
 use Rattle.pol_outside.specs.Faults.{one_more}
@@ -12,10 +12,15 @@ use Rattle.pol_outside.specs.declared.memory_folder.MemoryFolder.{MemoryFolder}
 abbrev pub files_of : MemoryFolder → Files
 files_of folder = λ name. option_map (λ v. v.items) (get_by_text folder.files name)
 
--- the numbers of the calls that are to fail, counted from 1; how many calls were made; the faults
+-- the names that it was asked for, in their order
+abbrev pub asked_names : MemoryFolder → List (List ℕ)
+asked_names folder = map (λ s. string_bytes s) folder.asked.items
+
+-- the numbers of the calls that are to fail, counted from 1; how many calls were made, and for which names; the faults
 pub record FolderCalls : Type 0 where
   pub failing : List ℕ
   pub made : ℕ
+  pub asked : List (List ℕ)
   pub faults : ℕ
   pub last_fault : Option (List ℕ)
 
@@ -23,13 +28,14 @@ abbrev pub folder_calls : MemoryFolder → FolderCalls
 folder_calls folder = record {
   failing = folder.failing.items;
   made = folder.calls;
+  asked = asked_names folder;
   faults = folder.faults;
   last_fault = option_map (λ s. string_bytes s) folder.last_fault;
 }
 
 -- no call was made and none is to fail
 abbrev pub no_folder_calls : FolderCalls
-no_folder_calls = record { failing = []; made = 0; faults = 0; last_fault = None }
+no_folder_calls = record { failing = []; made = 0; asked = []; faults = 0; last_fault = None }
 
 -- the calls where one more is to fail
 abbrev pub take_fails_at : ℕ → FolderCalls → FolderCalls

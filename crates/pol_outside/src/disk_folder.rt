@@ -1,40 +1,37 @@
 // The files of a disk, as a folder.
 ghost use Rattle.std.specs.Prelude.{◌≡◌, ◌≤◌, [], Some, None};
 ghost use Rattle.pol_outside.specs.declared.folder.TheConstants.{MOST_TAKEN};
-ghost use Rattle.pol_outside.specs.Folder.{Takes, NamesFault, CountsFault, one_file, name_bytes};
+ghost use Rattle.pol_outside.specs.Folder.{AsksOnce, CountsFault, FaultIsAt, NamesFault, Takes, one_file};
 
 use crate::{Disk, Folder, SystemDisk, TakeFault};
 use std::alloc::Global;
 use std::rt::Files;
 
-/// The files of a disk, under their names. It holds what the disk holds, counts the disk's faults, and
-/// keeps the name of the last.
+/// The files of a disk, under their names. It holds what the disk holds, its faults are the disk's, and the
+/// disk is asked for what it is asked for.
 #[derive(Drop)]
 pub struct DiskFolder<D: Disk> {
     disk: D,
-    last_fault: Option<String>,
 }
 
 impl<D: Disk> DiskFolder<D> {
-    /// The folder over a disk, with no name of a fault yet. It takes no memory.
+    /// The folder over a disk. It takes no memory.
     pub fn over(disk: D) -> DiskFolder<D>
         ensures held { ⟦<DiskFolder<D> as Folder>⟧.held result ≡ D.held disk }
         ensures faults { ⟦<DiskFolder<D> as Folder>⟧.faults result ≡ D.faults disk }
-        ensures last_fault { ⟦<DiskFolder<D> as Folder>⟧.last_fault result ≡ None }
+        ensures last_fault { ⟦<DiskFolder<D> as Folder>⟧.last_fault result ≡ D.last_fault disk }
+        ensures asked { ⟦<DiskFolder<D> as Folder>⟧.asked result ≡ D.asked disk }
     {
-        DiskFolder {
-            disk,
-            last_fault: None,
-        }
+        DiskFolder { disk }
     }
 }
 
-impl<'a, R: Files> DiskFolder<SystemDisk<'a, R>> {
+impl<'a, R: Files> DiskFolder<SystemDisk<&'a R>> {
     /// The folder over the files of a runtime, with no fault yet. It takes no memory.
-    pub fn new(files: &'a R) -> DiskFolder<SystemDisk<'a, R>>
-        ensures nothing_held { ⟦<DiskFolder<SystemDisk<'a, R>> as Folder>⟧.held result ≡ None }
-        ensures faults { ⟦<DiskFolder<SystemDisk<'a, R>> as Folder>⟧.faults result ≡ 0 }
-        ensures last_fault { ⟦<DiskFolder<SystemDisk<'a, R>> as Folder>⟧.last_fault result ≡ None }
+    pub fn new(files: &'a R) -> DiskFolder<SystemDisk<&'a R>>
+        ensures nothing_held { ⟦<DiskFolder<SystemDisk<&'a R>> as Folder>⟧.held result ≡ None }
+        ensures faults { ⟦<DiskFolder<SystemDisk<&'a R>> as Folder>⟧.faults result ≡ 0 }
+        ensures last_fault { ⟦<DiskFolder<SystemDisk<&'a R>> as Folder>⟧.last_fault result ≡ None }
     {
         DiskFolder::over(SystemDisk::new(files))
     }
@@ -45,7 +42,9 @@ impl<D: Disk> Folder for DiskFolder<D> {
 
     ghost faults = { λ f. D.faults f.disk };
 
-    ghost last_fault = { λ f. name_bytes f.last_fault };
+    ghost last_fault = { λ f. D.last_fault f.disk };
+
+    ghost asked = { λ f. D.asked f.disk };
 
     /// As the trait says. It opens the file and reads it in pieces, never more than `limit + 1` bytes.
     /// A name that isn't there is a fault.
@@ -63,37 +62,17 @@ impl<D: Disk> Folder for DiskFolder<D> {
         ensures later { D.faults self.old.disk ≤ D.faults self.new.disk }
         ensures cause { NamesFault result name.now
             (D.faults self.old.disk) (D.faults self.new.disk)
-            (name_bytes self.old.last_fault) (name_bytes self.new.last_fault) }
+            (D.last_fault self.old.disk) (D.last_fault self.new.disk) }
+        ensures asks { AsksOnce result name.now (D.asked self.old.disk) (D.asked self.new.disk) }
         ensures counts { CountsFault result (D.faults self.old.disk) (D.faults self.new.disk) }
     {
         let Ok(asked) = String::from_str(alloc, name) else {
             return Err(TakeFault::NoMemory);
         };
-        let taken = take_from(&mut self.disk, name, limit, into);
-        if matches!(taken, Err(TakeFault::Failed)) {
-            self.last_fault = Some(asked);
+        match self.disk.open(asked) {
+            Ok(mut file) => read_up_to(&mut self.disk, &mut file, limit, into),
+            Err(_) => Err(TakeFault::Failed),
         }
-        taken
-    }
-}
-
-// Opens the file of that name, and reads it up to the limit.
-fn take_from<D: Disk>(
-    disk: &mut D,
-    name: &str,
-    limit: u64,
-    into: &mut Vec<u8>,
-) -> Result<(), TakeFault>
-    requires { limit ≤ MOST_TAKEN }
-    ensures given { Takes (D.held disk.old) name.now limit result into.old.items
-        into.new.items }
-    ensures held { D.held disk.new ≡ D.held disk.old }
-    ensures counts { CountsFault result (D.faults disk.old) (D.faults disk.new) }
-    ensures later { D.faults disk.old ≤ D.faults disk.new }
-{
-    match disk.open(name) {
-        Ok(mut file) => read_up_to(disk, &mut file, limit, into),
-        Err(_) => Err(TakeFault::Failed),
     }
 }
 
@@ -112,7 +91,10 @@ fn read_up_to<D: Disk>(
     ensures given { Takes (one_file (D.left file.old)) [] limit result into.old.items
         into.new.items }
     ensures held { D.held disk.new ≡ D.held disk.old }
+    ensures asked { D.asked disk.new ≡ D.asked disk.old }
     ensures counts { CountsFault result (D.faults disk.old) (D.faults disk.new) }
+    ensures cause { FaultIsAt result (D.opened_by file.old) (D.last_fault disk.old)
+        (D.last_fault disk.new) }
     ensures later { D.faults disk.old ≤ D.faults disk.new }
 {
     let mut chunk = [0u8; CHUNK];

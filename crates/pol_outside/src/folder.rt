@@ -1,7 +1,7 @@
 // A folder of files, by their names.
 ghost use Rattle.std.specs.Prelude.{◌≡◌, ◌≤◌, List, ℕ, Option};
 ghost use Rattle.pol_outside.specs.declared.folder.TheConstants.{MOST_TAKEN};
-ghost use Rattle.pol_outside.specs.Folder.{Files, FolderLimits, Takes, NamesFault};
+ghost use Rattle.pol_outside.specs.Folder.{AsksOnce, Files, FolderLimits, Takes, NamesFault};
 
 use std::alloc::Global;
 
@@ -35,11 +35,15 @@ pub trait Folder {
     /// The name that was asked for at its last fault.
     ghost last_fault: { Self → Option (List ℕ) };
 
+    /// The names that it was asked for, in their order, where it tells that.
+    ghost asked: { Self → Option (List (List ℕ)) };
+
     /// Adds the bytes of the file of that name to `into`. `Ok`: all of them, at most `limit`.
     /// `TooLong` exactly where there are more than `limit`: then the first `limit + 1` are added.
     /// `Failed` only where the count of faults rose in this call, and then the name of the last
     /// fault is this one; no other answer changes that name. After `Failed` and `NoMemory` the
-    /// first bytes that were given are added, maybe none. What the folder holds never changes.
+    /// first bytes that were given are added, maybe none. What the folder holds never changes, and
+    /// this name is the one that it was asked for besides; after `NoMemory` maybe not even that.
     fn take(
         &mut self,
         alloc: Global,
@@ -52,5 +56,6 @@ pub trait Folder {
         ensures held { held self.new ≡ held self.old }
         ensures later { faults self.old ≤ faults self.new }
         ensures cause { NamesFault result name.now (faults self.old) (faults self.new)
-            (last_fault self.old) (last_fault self.new) };
+            (last_fault self.old) (last_fault self.new) }
+        ensures asks { AsksOnce result name.now (asked self.old) (asked self.new) };
 }

@@ -1,8 +1,8 @@
 // A folder in memory, whose calls fail where they are told to.
-ghost use Rattle.std.specs.Prelude.{◌≡◌, ◌≤◌, ℕ, List, [], Some, None, OnOk, OnErr, option_map, string_bytes};
+ghost use Rattle.std.specs.Prelude.{◌≡◌, ◌≤◌, ℕ, List, [], ◌∷◌, ◌++◌, Some, None, IfOk, OnOk, OnErr, option_map, string_bytes};
 ghost use Rattle.pol_outside.specs.declared.folder.TheConstants.{MOST_TAKEN};
 ghost use Rattle.pol_outside.specs.Faults.{one_more};
-ghost use Rattle.pol_outside.specs.Folder.{Takes, NamesFault, CountsFault, Replaces, SameFiles};
+ghost use Rattle.pol_outside.specs.Folder.{AsksOnce, Takes, NamesFault, CountsFault, Replaces, SameFiles};
 
 use crate::give::give;
 use crate::{Folder, NoMemory, TakeFault};
@@ -10,18 +10,19 @@ use std::alloc::Global;
 use std::collections::BTreeMap;
 
 /// A folder in memory. It keeps a map from name to bytes, the numbers of the calls that are to
-/// fail, counted from 1, and its faults with the name of the last.
+/// fail, counted from 1, the names that it was asked for, and its faults with the name of the last.
 #[derive(Drop)]
 pub struct MemoryFolder {
     files: BTreeMap<String, Vec<u8>>,
     failing: Vec<u64>,
     calls: u64,
+    asked: Vec<String>,
     faults: u64,
     last_fault: Option<String>,
 }
 
 impl MemoryFolder {
-    ghost use Rattle.pol_outside.specs.MemoryFolder.{files_of, folder_calls, no_folder_calls, take_fails_at};
+    ghost use Rattle.pol_outside.specs.MemoryFolder.{asked_names, files_of, folder_calls, no_folder_calls, take_fails_at};
 
     /// The folder without a file, whose calls aren't to fail. It takes no memory.
     pub fn new(alloc: Global) -> MemoryFolder
@@ -32,6 +33,7 @@ impl MemoryFolder {
             files: BTreeMap::new(alloc),
             failing: Vec::new(alloc),
             calls: 0,
+            asked: Vec::new(alloc),
             faults: 0,
             last_fault: None,
         }
@@ -64,6 +66,19 @@ impl MemoryFolder {
         Ok(())
     }
 
+    // Keeps the name of a call, and gives it once more. Where there is no memory none is kept.
+    fn keep(&mut self, alloc: Global, name: &str) -> Result<String, NoMemory>
+        ensures value { IfOk result (λ s. string_bytes s ≡ name.now) }
+        ensures kept { OnOk result (asked_names self.new ≡ asked_names self.old ++ name.now ∷ []) }
+        ensures none { OnErr result (asked_names self.new ≡ asked_names self.old) }
+        ensures after { self.new ≡ record self.old { asked = self.new.asked } }
+    {
+        let kept = String::from_str(alloc, name)?;
+        let asked = String::from_str(alloc, name)?;
+        self.asked.push(kept)?;
+        Ok(asked)
+    }
+
     // One fault more, at that name.
     fn fail(&mut self, asked: String) -> TakeFault
         ensures fault { result ≡ TakeFault.Failed }
@@ -80,13 +95,15 @@ impl MemoryFolder {
 }
 
 impl Folder for MemoryFolder {
-    ghost use Rattle.pol_outside.specs.MemoryFolder.{files_of, folder_calls, next_is_fault, FaultIsAnswered};
+    ghost use Rattle.pol_outside.specs.MemoryFolder.{asked_names, files_of, folder_calls, next_is_fault, FaultIsAnswered};
 
     ghost held = { λ f. Some (files_of f) };
 
     ghost faults = { λ f. f.faults };
 
     ghost last_fault = { λ f. option_map (λ s. string_bytes s) f.last_fault };
+
+    ghost asked = { λ f. Some (asked_names f) };
 
     /// As the trait says. A call is a fault exactly where its number is among those that are to
     /// fail or the name isn't there, up to want of memory, and it raises the count by that alone.
@@ -106,6 +123,8 @@ impl Folder for MemoryFolder {
         ensures cause { NamesFault result name.now
             (folder_calls self.old).faults (folder_calls self.new).faults
             (folder_calls self.old).last_fault (folder_calls self.new).last_fault }
+        ensures asks { AsksOnce result name.now (Some (folder_calls self.old).asked)
+            (Some (folder_calls self.new).asked) }
         ensures made { (folder_calls self.new).made ≡ one_more (folder_calls self.old).made }
         ensures failing { (folder_calls self.new).failing ≡ (folder_calls self.old).failing }
         ensures fault { FaultIsAnswered (next_is_fault self.old name.now) result }
@@ -113,9 +132,8 @@ impl Folder for MemoryFolder {
             (folder_calls self.old).faults (folder_calls self.new).faults }
     {
         self.calls = self.calls.saturating_add(1);
-        let asked = match String::from_str(alloc, name) {
-            Ok(asked) => asked,
-            Err(_) => return Err(TakeFault::NoMemory),
+        let Ok(asked) = self.keep(alloc, name) else {
+            return Err(TakeFault::NoMemory);
         };
         if self.failing.contains(&self.calls) {
             return Err(self.fail(asked));

@@ -52,6 +52,8 @@ impl Folder for SafeFolder {
 
     ghost last_fault = { λ _. None };
 
+    ghost asked = { λ _. None };
+
     fn take(
         &mut self,
         _alloc: Global,

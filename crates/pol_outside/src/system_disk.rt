@@ -1,58 +1,91 @@
-// The files of the system. What they hold is not told.
+// A disk over what opens files, as the system does.
 ghost use Rattle.std.specs.Prelude.{◌≡◌, ◌≤◌, None};
-ghost use Rattle.pol_outside.specs.Faults.{CountsError};
+ghost use Rattle.pol_outside.specs.Faults.{one_more};
+ghost use Rattle.pol_outside.specs.Folder.{name_bytes};
 
-use crate::Disk;
+use crate::{Disk, Opener};
+use std::io;
 use std::io::Read;
-use std::rt::Files;
-use std::{fs, io};
+use std::mem::replace;
 
-/// The files of the system: a name is a path, from the folder that the program runs in. It doesn't tell
-/// what they hold, and counts its faults.
+/// A disk over what opens files, as the system does. It counts its faults, and keeps the name of the last.
 #[derive(Drop)]
-pub struct SystemDisk<'a, R: Files> {
-    files: &'a R,
+pub struct SystemDisk<O: Opener> {
+    files: O,
     faults: u64,
+    last_fault: Option<String>,
 }
 
-impl<'a, R: Files> SystemDisk<'a, R> {
-    /// The files of a runtime, with no fault yet. It takes no memory.
-    pub fn new(files: &'a R) -> SystemDisk<'a, R>
-        ensures nothing_held { ⟦<SystemDisk<'a, R> as Disk>⟧.held result ≡ None }
-        ensures faults { ⟦<SystemDisk<'a, R> as Disk>⟧.faults result ≡ 0 }
+/// An open file, with the name that it was opened by.
+#[derive(Drop)]
+pub struct NamedFile<F> {
+    file: F,
+    name: Option<String>,
+}
+
+impl<O: Opener> SystemDisk<O> {
+    /// The disk over what opens files, with no fault yet. It takes no memory.
+    pub fn new(files: O) -> SystemDisk<O>
+        ensures held { ⟦<SystemDisk<O> as Disk>⟧.held result ≡ O.held files }
+        ensures asked { ⟦<SystemDisk<O> as Disk>⟧.asked result ≡ O.asked files }
+        ensures faults { ⟦<SystemDisk<O> as Disk>⟧.faults result ≡ 0 }
+        ensures last_fault { ⟦<SystemDisk<O> as Disk>⟧.last_fault result ≡ None }
     {
-        SystemDisk { files, faults: 0 }
+        SystemDisk {
+            files,
+            faults: 0,
+            last_fault: None,
+        }
     }
 
-    // The same result, with one fault more where it is an error.
-    fn counted<T: Drop>(&mut self, outcome: io::Result<T>) -> io::Result<T>
-        ensures same { result ≡ outcome }
-        ensures counts { CountsError result self.old.faults self.new.faults }
+    // One fault more, at the file of that name.
+    fn fail(&mut self, name: Option<String>)
+        ensures after { self.new ≡ record self.old {
+          faults = one_more self.old.faults;
+          last_fault = name;
+        } }
         ensures later { self.old.faults ≤ self.new.faults }
     {
-        if outcome.is_err() {
-            self.faults = self.faults.saturating_add(1);
-        }
-        outcome
+        self.faults = self.faults.saturating_add(1);
+        self.last_fault = name;
     }
 }
 
-impl<'a, R: Files> Disk for SystemDisk<'a, R> {
-    type File = R::File;
+impl<O: Opener> Disk for SystemDisk<O> {
+    type File = NamedFile<O::File>;
 
-    ghost held = { λ _. None };
+    ghost held = { λ d. O.held d.files };
+
+    ghost asked = { λ d. O.asked d.files };
 
     ghost faults = { λ d. d.faults };
 
-    ghost left = { λ file. R.File.remaining file };
+    ghost last_fault = { λ d. name_bytes d.last_fault };
 
-    fn open(&mut self, name: &str) -> io::Result<R::File> {
-        let opened = fs::open(self.files, name);
-        self.counted(opened)
+    ghost left = { λ f. O.File.remaining f.file };
+
+    ghost opened_by = { λ f. name_bytes f.name };
+
+    fn open(&mut self, name: String) -> io::Result<NamedFile<O::File>> {
+        match self.files.open(name.as_str()) {
+            Ok(file) => Ok(NamedFile {
+                file,
+                name: Some(name),
+            }),
+            Err(error) => {
+                self.fail(Some(name));
+                Err(error)
+            }
+        }
     }
 
-    fn read(&mut self, file: &mut R::File, part: &mut [u8]) -> io::Result<usize> {
-        let read = file.read(part);
-        self.counted(read)
+    fn read(&mut self, file: &mut NamedFile<O::File>, part: &mut [u8]) -> io::Result<usize> {
+        match file.file.read(part) {
+            Ok(n) => Ok(n),
+            Err(error) => {
+                self.fail(replace(&mut file.name, None));
+                Err(error)
+            }
+        }
     }
 }

@@ -3,7 +3,7 @@ use Rattle.std.specs.Prelude.{ℕ, List, ◌++◌, codes, decimal}
 use Rattle.run_files.specs.declared.printed.EarlyEnd.{EarlyEnd}
 use Rattle.run_files.specs.declared.role.Role.{Role}
 use Rattle.run_files.specs.declared.role.Role.TheVariants.{First, Second, Set, Schema, Request, Proof, Zone}
-use Rattle.run_files.specs.declared.status.Status.TheVariants.{ReadFault, Refused}
+use Rattle.run_files.specs.declared.status.Status.TheVariants.{Refused}
 use Rattle.run_files.specs.Files.{limit_of}
 use Rattle.run_files.specs.Printing.{IfAnswered, PrintsText}
 
@@ -28,9 +28,6 @@ too_long_end role = codes ": file longer than " ++ decimal (limit_of role) ++ co
 abbrev pub too_long_line : Role → List ℕ
 too_long_line role = codes "refused: " ++ role_word role ++ too_long_end role
 
--- what is printed of them
-abbrev pub IsReadFault : Role → EarlyEnd → Type 0
-IsReadFault role e = IfAnswered e (PrintsText (read_fault_line role) ReadFault)
-
+-- what is printed of a file that is too long
 abbrev pub IsTooLong : Role → EarlyEnd → Type 0
 IsTooLong role e = IfAnswered e (PrintsText (too_long_line role) Refused)

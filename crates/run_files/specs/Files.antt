@@ -1,5 +1,5 @@
 -- Files within their limit, and above it.
-use Rattle.std.specs.Prelude.{ℕ, ◌<◌, ◌≤◌, List, length, Option, Some, None, ⊤}
+use Rattle.std.specs.Prelude.{ℕ, ◌<◌, ◌≤◌, List, length, Option}
 use Rattle.pol_outside.specs.Folder.{Files, IsFile}
 use Rattle.proof_text.specs.declared.limits.TheConstants.{MOST_PROOF_BYTES}
 use Rattle.run_files.specs.declared.role.Role.{Role}
@@ -23,9 +23,3 @@ IsShort held role name bytes = IsFile held name bytes × (length bytes ≤ limit
 -- the file has more bytes than the limit of its role
 abbrev pub IsLong : Option Files → Role → List ℕ → Type 0
 IsLong held role name = (bytes : List ℕ) × IsFile held name bytes × (limit_of role < length bytes)
-
--- the bytes of a file that is named, within its limit, and none of one that isn't
-abbrev pub IsShortIfNamed : Option Files → Role → Option (List ℕ) → Option (List ℕ) → Type 0
-IsShortIfNamed held role None None = ⊤
-IsShortIfNamed held role (Some name) (Some bytes) = IsShort held role name bytes
-IsShortIfNamed held role _ _ = ⊥

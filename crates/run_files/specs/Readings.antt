@@ -1,32 +1,39 @@
 -- The files of a run, read in their order.
-use Rattle.std.specs.Prelude.{◌≡◌, ◌⊎◌, ⊤, ℕ, List, [], ◌∷◌, ◌++◌, Option, Some, None, MatchOption, option_map, Result, Vec}
+use Rattle.std.specs.Prelude.{◌≡◌, ◌⊎◌, ⊤, ℕ, List, [], ◌∷◌, ◌++◌, Option, Some, None, map, option_map, Result, Ok, Err, Vec}
 use Rattle.std.specs.declared.alloc.Global.{Global}
 use Rattle.pol_outside.specs.Faults.{Rose}
-use Rattle.pol_outside.specs.Folder.{Files}
+use Rattle.pol_outside.specs.Folder.{AsksFor, Files}
 use Rattle.run_files.specs.declared.printed.EarlyEnd.{EarlyEnd}
+use Rattle.run_files.specs.declared.printed.EarlyEnd.TheVariants.{Answered, NoMemory}
 use Rattle.run_files.specs.declared.printed.Printed.{Printed}
 use Rattle.run_files.specs.declared.role.Role.{Role}
 use Rattle.run_files.specs.declared.status.Status.TheVariants.{ReadFault, Refused}
 use Rattle.run_files.specs.FileLines.{read_fault_line, too_long_line}
-use Rattle.run_files.specs.Files.{IsLong, IsShort, IsShortIfNamed}
-use Rattle.run_files.specs.Printing.{OrAnswered, PrintsText}
+use Rattle.run_files.specs.Files.{IsLong, IsShort}
+use Rattle.run_files.specs.Printing.{PrintsText}
 
--- the folder of a run: what it holds, and how many faults it had and the name of the last, before the run and now
+-- the folder of a run: what it holds; and how many faults it had, the name of the last, and the names that it was asked for, before
+-- the run and now
 pub record Reading : Type 0 where
   pub held : Option Files
   pub faults_before : ℕ
   pub faults : ℕ
   pub last_before : Option (List ℕ)
   pub last : Option (List ℕ)
+  pub asked_before : Option (List (List ℕ))
+  pub asked : Option (List (List ℕ))
 
 -- what a folder's members tell of it before a run and now
-abbrev pub reading_of : {X : Type 0} → (X → Option Files) → (X → ℕ) → (X → Option (List ℕ)) → X → X → Reading
-reading_of held faults last before now =
-    record { held = held before; faults_before = faults before; faults = faults now; last_before = last before; last = last now }
-
--- no file was failed at: the name of the folder's last fault is as it was
-abbrev pub IsCalm : Reading → Type 0
-IsCalm r = r.last ≡ r.last_before
+abbrev pub reading_of : {X : Type 0} → (X → Option Files) → (X → ℕ) → (X → Option (List ℕ)) → (X → Option (List (List ℕ))) → X → X → Reading
+reading_of held faults last asked before now = record {
+  held = held before;
+  faults_before = faults before;
+  faults = faults now;
+  last_before = last before;
+  last = last now;
+  asked_before = asked before;
+  asked = asked now;
+}
 
 -- a file that a command names, and what it is to the command
 pub record FileName : Type 0 where
@@ -35,6 +42,21 @@ pub record FileName : Type 0 where
 
 abbrev pub file : Role → List ℕ → FileName
 file role name = record { role = role; name = name }
+
+-- the folder was asked for these files, once each and in this order, and for no other
+abbrev pub AsksFiles : List FileName → Reading → Type 0
+AsksFiles files r = AsksFor r.asked_before (map (λ f. f.name) files) r.asked
+
+-- the same, and no file was failed at: the name of the folder's last fault is as it was
+abbrev pub IsCalm : List FileName → Reading → Type 0
+IsCalm files r = (r.last ≡ r.last_before) × AsksFiles files r
+
+-- want of memory ended the reading of these files: the first of them were asked for, and none was failed at
+pub record IsStopped (files : List FileName) (r : Reading) : Type 0 where
+  pub front : List FileName
+  pub behind : List FileName
+  pub are : files ≡ front ++ behind
+  pub calm : IsCalm front r
 
 -- a file that may be named, and the bytes of one
 abbrev pub if_named : Role → Option (List ℕ) → List FileName
@@ -56,9 +78,9 @@ AreRead held _ _ = ⊥
 abbrev pub FileFails : FileName → Reading → Printed → Type 0
 FileFails f r p =
     (Rose r.faults_before r.faults × (r.last ≡ Some f.name) × PrintsText (read_fault_line f.role) ReadFault p)
-    ⊎ (IsLong r.held f.role f.name × IsCalm r × PrintsText (too_long_line f.role) Refused p)
+    ⊎ (IsLong r.held f.role f.name × (r.last ≡ r.last_before) × PrintsText (too_long_line f.role) Refused p)
 
--- what is printed of the first of the files that fails: those before it were read within their limits
+-- what is printed of the first of the files that fails: those before it were read within their limits, and none behind it was asked for
 pub record FilesFail (files : List FileName) (r : Reading) (p : Printed) : Type 0 where
   pub front : List FileName
   pub failing : FileName
@@ -66,6 +88,7 @@ pub record FilesFail (files : List FileName) (r : Reading) (p : Printed) : Type 
   pub are : files ≡ front ++ failing ∷ behind
   pub contents : List (List ℕ)
   pub read : AreRead r.held front contents
+  pub asked : AsksFiles (front ++ failing ∷ []) r
   pub fails : FileFails failing r p
 
 -- all files were read within their limits, and of their contents, whose bytes in order are these, this holds
@@ -75,13 +98,15 @@ pub record OfReadFiles (held : Option Files) (files : List FileName) {C : Type 0
   pub read : AreRead held files (bytes contents)
   pub holds : P contents
 
--- a file that is asked for: its bytes within its limit, or what is printed of it
-abbrev pub IsFileRead : FileName → Reading → Result (Vec ℕ Global) EarlyEnd → Type 0
-IsFileRead f r result =
-    OrAnswered result (λ bytes. IsShort r.held f.role f.name bytes.items × IsCalm r) (FileFails f r)
+-- files that are asked for: their bytes within their limits, or what is printed of the first that fails, or want of memory without a fault
+abbrev pub AreFilesRead : {X : Type 0} → List FileName → (X → List (List ℕ)) → Reading → Result X EarlyEnd → Type 0
+AreFilesRead files bytes r (Ok x) = AreRead r.held files (bytes x) × IsCalm files r
+AreFilesRead files bytes r (Err (Answered p)) = FilesFail files r p
+AreFilesRead files bytes r (Err NoMemory) = IsStopped files r
 
--- the same of one that may be named
-abbrev pub IsReadIfNamed : Role → Option (List ℕ) → Reading → Result (Option (Vec ℕ Global)) EarlyEnd → Type 0
-IsReadIfNamed role name r result =
-    OrAnswered result (λ bytes. IsShortIfNamed r.held role name (option_map (λ b. b.items) bytes) × IsCalm r)
-    (λ p. MatchOption name ⊥ (λ n. FileFails (file role n) r p))
+-- the bytes of one file, and of one that may be named
+abbrev pub one_content : Vec ℕ Global → List (List ℕ)
+one_content bytes = bytes.items ∷ []
+
+abbrev pub content_if_given : Option (Vec ℕ Global) → List (List ℕ)
+content_if_given bytes = if_given (option_map (λ b. b.items) bytes)

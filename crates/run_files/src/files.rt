@@ -1,8 +1,8 @@
 //! Reads the files that the arguments name.
-ghost use Rattle.std.specs.Prelude.{◌≡◌, ◌≤◌, option_map, string_bytes};
+ghost use Rattle.std.specs.Prelude.{◌≡◌, ◌≤◌, ◌∷◌, [], option_map, string_bytes};
 ghost use Rattle.run_files.specs.Files.{limit_of};
 ghost use Rattle.run_files.specs.Limits.{FileLimits};
-ghost use Rattle.run_files.specs.Readings.{IsFileRead, IsReadIfNamed, file, reading_of};
+ghost use Rattle.run_files.specs.Readings.{AreFilesRead, content_if_given, file, if_named, one_content, reading_of};
 
 use crate::lines::{read_fault, too_long};
 use crate::printed::EarlyEnd;
@@ -35,22 +35,24 @@ pub fn limit_of(role: Role) -> u64
 }
 
 /// The bytes of a file that has at most as many as its role may have, or what is printed where the folder
-/// fails at it or it has more.
+/// fails at it or it has more. The line on a fault is made before the file is asked for, so that want of
+/// memory stands for no fault.
 pub fn read_file<F: Folder>(
     alloc: Global,
     folder: &mut F,
     role: Role,
     name: &str,
 ) -> Result<Vec<u8>, EarlyEnd>
-    ensures reads { IsFileRead (file role name.now)
-        (reading_of F.held F.faults F.last_fault folder.old folder.new) result }
+    ensures reads { AreFilesRead (file role name.now ∷ []) one_content
+        (reading_of F.held F.faults F.last_fault F.asked folder.old folder.new) result }
     ensures held { F.held folder.new ≡ F.held folder.old }
     ensures later { F.faults folder.old ≤ F.faults folder.new }
 {
+    let fault = read_fault(alloc, role)?;
     let mut bytes = Vec::new(alloc);
     match folder.take(alloc, name, limit_of(role), &mut bytes) {
         Ok(()) => Ok(bytes),
-        Err(TakeFault::Failed) => Err(read_fault(alloc, role)),
+        Err(TakeFault::Failed) => Err(EarlyEnd::Answered(fault)),
         Err(TakeFault::TooLong) => Err(too_long(alloc, role)),
         Err(TakeFault::NoMemory) => Err(EarlyEnd::NoMemory),
     }
@@ -63,8 +65,9 @@ pub fn read_if_named<F: Folder>(
     role: Role,
     name: &Option<String>,
 ) -> Result<Option<Vec<u8>>, EarlyEnd>
-    ensures reads { IsReadIfNamed role (option_map (λ n. string_bytes n) name.now)
-        (reading_of F.held F.faults F.last_fault folder.old folder.new) result }
+    ensures reads { AreFilesRead (if_named role (option_map (λ n. string_bytes n) name.now))
+        content_if_given
+        (reading_of F.held F.faults F.last_fault F.asked folder.old folder.new) result }
     ensures held { F.held folder.new ≡ F.held folder.old }
     ensures later { F.faults folder.old ≤ F.faults folder.new }
 {

@@ -1,6 +1,8 @@
 //! The lines on files that can't be read or are too long.
 ghost use Rattle.std.specs.Prelude.{◌≡◌, IfOk, string_bytes};
-ghost use Rattle.run_files.specs.FileLines.{IsReadFault, IsTooLong, read_fault_line, role_word, too_long_end, too_long_line};
+ghost use Rattle.run_files.specs.FileLines.{IsTooLong, read_fault_line, role_word, too_long_end, too_long_line};
+ghost use Rattle.run_files.specs.Printing.{PrintsText};
+ghost use Rattle.run_files.specs.declared.status.Status.TheVariants.{ReadFault};
 
 use crate::files::limit_of;
 use crate::printed::{EarlyEnd, Printed};
@@ -51,16 +53,13 @@ fn too_long_line(alloc: Global, role: Role) -> Result<String, AllocError>
 }
 
 /// What is printed of a file that can't be read.
-pub fn read_fault(alloc: Global, role: Role) -> EarlyEnd
-    ensures { IsReadFault role result }
+pub fn read_fault(alloc: Global, role: Role) -> Result<Printed, AllocError>
+    ensures { IfOk result (PrintsText (read_fault_line role) ReadFault) }
 {
-    match read_fault_line(alloc, role) {
-        Ok(text) => EarlyEnd::Answered(Printed {
-            text,
-            status: Status::ReadFault,
-        }),
-        Err(_) => EarlyEnd::NoMemory,
-    }
+    Ok(Printed {
+        text: read_fault_line(alloc, role)?,
+        status: Status::ReadFault,
+    })
 }
 
 /// What is printed of a file that is too long.

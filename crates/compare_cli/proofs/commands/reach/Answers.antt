@@ -1,16 +1,16 @@
-use Rattle.std.proofs.Common.{◌∙◌, ◌≤◌, ◌∷◌, ℕ, List, Option, Some, arith, option_map, refl, subst, sym}
+use Rattle.std.proofs.Common.{◌≤◌, ◌∷◌, ℕ, List, [], Option, Some, arith, option_map, refl, subst, sym}
 use Rattle.std.specs.Prelude.{string_bytes}
 use Rattle.std.proofs.lemmas.Result.{err_from_is_err_and}
 use Rattle.command_words.specs.Asked.{Asked, ReachCommand, summarising_in}
 use Rattle.run_files.specs.declared.printed.Printed.{Printed}
 use Rattle.run_files.specs.declared.role.Role.TheVariants as role
 use Rattle.run_files.specs.Files.{IsShort}
-use Rattle.run_files.specs.Readings.{AreRead, FileFails, FileName, FilesFail, Reading, file, if_given, reading_of}
-use Rattle.run_files.proofs.Laws.{if_answered_weaker, or_answered_weaker}
+use Rattle.run_files.specs.Readings.{AreRead, FileName, IsCalm, Reading, file, if_given, one_content, reading_of}
+use Rattle.run_files.proofs.Laws.{calm_more, failed_first, failed_later}
 use Rattle.reach_answers.specs.ReachPrinted.{IsReachPrinted, reach_contents}
 use Rattle.compare_cli.specs.Commands.{IsPrinted}
-use Rattle.compare_cli.specs.LastFiles.{last_names}
-use Rattle.compare_cli.proofs.Reading.{fails_printed, first_fails, last_read, may_print, rest_fails, rest_read}
+use Rattle.compare_cli.specs.LastFiles.{last_bytes, last_names}
+use Rattle.compare_cli.proofs.Reading.{failed_end, last_read, may_print, printed_end, rest_read}
 use Rattle.compare_cli.proofs.commands.reach.Goals as goal
 
 pub returns-in_err-set-clause-prints : goal.returns-in_err-set-clause-prints
@@ -20,10 +20,10 @@ returns-in_err-set-clause-prints g c =
     let last : List FileName = last_names role.Zone (string_bytes arguments.zone) (option_map (λ n. string_bytes n) arguments.summary.schema) in
     let before = c.args.folder.now in
     let first : FileName = file role.Set (string_bytes arguments.summary.set) in
-    let r : Reading = reading_of g.F.Folder.held g.F.Folder.faults g.F.Folder.last_fault before c.read_named.new.folder in
+    let r : Reading = reading_of g.F.Folder.held g.F.Folder.faults g.F.Folder.last_fault g.F.Folder.asked before c.read_named.new.folder in
     let p = err_from_is_err_and c.from_residual.result c.from_residual.ensures.1 in
-    rw (p.1, p.2) (fails_printed asked r _ (first ∷ last) refl
-    (if_answered_weaker _ (FileFails first r) (FilesFail (first ∷ last) r) (first_fails r first last) c.in_err-set.ensures.reads))
+    rw (p.1, p.2) (failed_end asked r _ (first ∷ last) refl last_bytes
+    (failed_first _ (first ∷ []) last r one_content last_bytes c.in_err-set.ensures.reads))
 
 pub returns-in_err-rest-clause-prints : goal.returns-in_err-rest-clause-prints
 returns-in_err-rest-clause-prints g c =
@@ -32,13 +32,11 @@ returns-in_err-rest-clause-prints g c =
     let last : List FileName = last_names role.Zone (string_bytes arguments.zone) (option_map (λ n. string_bytes n) arguments.summary.schema) in
     let before = c.args.folder.now in
     let first : FileName = file role.Set (string_bytes arguments.summary.set) in
-    let r : Reading = reading_of g.F.Folder.held g.F.Folder.faults g.F.Folder.last_fault before c.read_last.new.folder in
-    let here : Reading = reading_of g.F.Folder.held g.F.Folder.faults g.F.Folder.last_fault c.read_named.new.folder c.read_last.new.folder in
+    let r : Reading = reading_of g.F.Folder.held g.F.Folder.faults g.F.Folder.last_fault g.F.Folder.asked before c.read_last.new.folder in
     let more : g.F.Folder.faults before ≤ g.F.Folder.faults c.read_named.new.folder = omega (arith, c.in_ok-set.ensures.later) in
-    let says : (p : Printed) → FilesFail last here p → FilesFail (first ∷ last) r p =
-    rest_fails g.F.Folder.held g.F.Folder.faults g.F.Folder.last_fault before c.read_named.new.folder c.read_last.new.folder c.in_ok-set.ensures.held more c.in_ok-set.ensures.reads.1 first c.in_ok-set.set.items c.in_ok-set.ensures.reads.0 last in
     let p = err_from_is_err_and c.from_residual-in_err-rest.result c.from_residual-in_err-rest.ensures.1 in
-    rw (p.1, p.2) (fails_printed asked r _ (first ∷ last) refl (if_answered_weaker _ (FilesFail last here) (FilesFail (first ∷ last) r) says c.in_err-rest.ensures.reads))
+    rw (p.1, p.2) (failed_end asked r _ (first ∷ last) refl last_bytes
+    (failed_later g.F.Folder.held g.F.Folder.faults g.F.Folder.last_fault g.F.Folder.asked before c.read_named.new.folder c.read_last.new.folder c.in_ok-set.ensures.held more (first ∷ []) last (one_content c.in_ok-set.set) c.in_ok-set.ensures.reads.0 c.in_ok-set.ensures.reads.1 _ last_bytes last_bytes c.in_err-rest.ensures.reads))
 
 pub returns-clause-prints : goal.returns-clause-prints
 returns-clause-prints g c =
@@ -47,13 +45,15 @@ returns-clause-prints g c =
     let last : List FileName = last_names role.Zone (string_bytes arguments.zone) (option_map (λ n. string_bytes n) arguments.summary.schema) in
     let before = c.args.folder.now in
     let first : FileName = file role.Set (string_bytes arguments.summary.set) in
-    let r : Reading = reading_of g.F.Folder.held g.F.Folder.faults g.F.Folder.last_fault before c.read_last.new.folder in
+    let r : Reading = reading_of g.F.Folder.held g.F.Folder.faults g.F.Folder.last_fault g.F.Folder.asked before c.read_last.new.folder in
     let schema : Option (List ℕ) = option_map (λ b. b.now) c.bytes_of.result in
     let short : IsShort (g.F.Folder.held before) first.role first.name c.as_slice.result.now =
-    subst (λ (bs : List ℕ). IsShort (g.F.Folder.held before) first.role first.name bs) (sym c.as_slice.ensures.value) c.in_ok-set.ensures.reads.0 in
+    subst (λ (bs : List ℕ). IsShort (g.F.Folder.held before) first.role first.name bs) (sym c.as_slice.ensures.value) c.in_ok-set.ensures.reads.0.0 in
     let given : AreRead (g.F.Folder.held before) last (c.as_slice-2.result.now ∷ if_given schema) =
-    rest_read g.F.Folder.held g.F.Folder.faults g.F.Folder.last_fault before c.read_named.new.folder c.in_ok-set.ensures.held last (c.as_slice-2.result.now ∷ if_given schema)
+    rest_read (g.F.Folder.held before) (g.F.Folder.held c.read_named.new.folder) c.in_ok-set.ensures.held last (c.as_slice-2.result.now ∷ if_given schema)
     (last_read (g.F.Folder.held c.read_named.new.folder) last c.as_slice-2.result.now schema c.in_ok-rest.rest c.as_slice-2.ensures.value c.bytes_of.ensures c.in_ok-rest.ensures.reads.0) in
+    let calm : IsCalm (first ∷ last) r =
+    calm_more g.F.Folder.held g.F.Folder.faults g.F.Folder.last_fault g.F.Folder.asked before c.read_named.new.folder c.read_last.new.folder (first ∷ []) last c.in_ok-set.ensures.reads.1 c.in_ok-rest.ensures.reads.1 in
     let says : (p : Printed) → IsReachPrinted (summarising_in arguments.summary) (reach_contents c.as_slice.result.now c.as_slice-2.result.now schema) p → IsPrinted (Some asked) r p =
-    λ p v. may_print asked r (c.in_ok-rest.ensures.reads.1 ∙ c.in_ok-set.ensures.reads.1) p (record { contents = reach_contents c.as_slice.result.now c.as_slice-2.result.now schema; read = (short, given); holds = v }) in
-    or_answered_weaker c.print_reach.result _ (IsPrinted (Some asked) r) _ (IsPrinted (Some asked) r) says says c.print_reach.ensures
+    λ p v. may_print asked r calm p (record { contents = reach_contents c.as_slice.result.now c.as_slice-2.result.now schema; read = (short, given); holds = v }) in
+    printed_end asked r calm c.print_reach.result _ says c.print_reach.ensures
