@@ -50,16 +50,16 @@ use Rattle.finding_answers.specs.declared.answer.Found.{Found}
 use Rattle.finding_answers.specs.Dimensions.{dimension_slots}
 use Rattle.finding_answers.specs.FindingTexts.{found_text}
 use Rattle.finding_answers.specs.Found.{IsFoundOf, IsNotFound, IsNotSummarised, PrintsUnfound}
-use Rattle.finding_answers.specs.Laws.{PrintedRequestsAreReadAgain}
 use Rattle.finding_answers.specs.Printed.{limits_in}
 use Rattle.run_sets.specs.ClosedQueries.{FailsAll}
 use Rattle.run_sets.specs.CertificateLines.{accepted_line}
 use Rattle.finding_answers.proofs.Laws.{found_have_findings}
 use Rattle.cover_answers.specs.Certified.{IsCoverSaid, IsSetCertified, large_query, short_of_splits, short_of_states, with_certificate}
 use Rattle.cover_answers.specs.CoverProofs.{CertifiesCover, CoverIsTooLarge, FailsBehindAt, OfCover, fault_of_cover}
-use Rattle.cover_answers.specs.Decides.{AreNarrow, NameFew, PrintedSummariesAreAccepted}
+use Rattle.cover_answers.specs.Decides.{NameFew, PrintedSummariesAreAccepted}
 use Rattle.cover_answers.specs.Heads.{IsHead, head_lines}
 use Rattle.cover_answers.specs.Judged.{IsJudged, IsListJudged, IsSetChecked, all_holds, bad_certificate, failing_node, failing_pair, large_cover}
+use Rattle.cover_answers.specs.Made.{AreNarrow}
 use Rattle.cover_answers.proofs.Certifying.{same-tests}
 use Rattle.cover_answers.proofs.Heads.{AreTextsApart, head-count, head-text, head-unbroken, head_contents, no-head_fault, one-head, printed-head}
 use Rattle.cover_answers.proofs.Laws.{not_made_fails}
@@ -223,7 +223,6 @@ pub record CitedLaws : Type 0 where
   pub within : QueriesAreWithinLimits
   pub determined : StrataAreDetermined
   pub apart : FindingsAreWrittenApart
-  pub again : PrintedRequestsAreReadAgain
   pub none : ClosingProofsHaveNoFaultBehind
   pub sizes : ClosingProofsAreSmall
   pub law : OneProofForEachText
@@ -246,13 +245,13 @@ set-accepted laws names limits states bytes one p q stands few narrow holds shor
     let same : of.strata ≡ found.strata = strata-too laws.determined names one is.query of.query found.strata of.strata is.made.query of.is.made.query is.strata.are of.is.within.are in
     let judged : IsJudged one found.strata.dimensions (string_bytes p.text) q = subst (λ (x : Strata). IsJudged one x.dimensions (string_bytes p.text) q) same of.holds in
     let apart : AreTextsApart found.strata.dimensions = laws.apart one.schema found.strata (record { bytes = bytes; set = one.set; stands = stands; base = is.query; made = is.made }) in
-    let head = printed-head one.schema found by.text (string_bytes p.text) small (found_have_findings names limits one found is) (laws.again names limits one found is) by.prints in
+    let head = printed-head one.schema found by.text (string_bytes p.text) small (found_have_findings names limits one found is) is.again by.prints in
     judged-accepted laws.none laws.sizes laws.law laws.stand laws.equal names limits one found p is by small short apart head q judged
 
 pub printed_summaries_are_accepted : CitedLaws → PrintedSummariesAreAccepted
-printed_summaries_are_accepted laws s asked c p q few same narrow (inl refused) holds short checked = absurd (refused-not _ p refused holds)
-printed_summaries_are_accepted laws s asked c p q few same narrow (inr given) holds short (inl (r, not, told)) = absurd (no_one_fails c.set c.schema _ given r not)
-printed_summaries_are_accepted laws s asked c p q few same narrow (inr given) holds short (inr of) =
+printed_summaries_are_accepted laws s c p few (inl refused) asked q holds short same narrow checked = absurd (refused-not _ p refused holds)
+printed_summaries_are_accepted laws s c p few (inr given) asked q holds short same narrow (inl (r, not, told)) = absurd (no_one_fails c.set c.schema _ given r not)
+printed_summaries_are_accepted laws s c p few (inr given) asked q holds short same narrow (inr of) =
     let checks = of_same_set c.set c.schema _ _ given of in
     let narrows = of_same_set c.set c.schema _ _ given narrow in
     let one = one_of given.named given.set in

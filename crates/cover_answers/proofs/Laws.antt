@@ -32,11 +32,11 @@ use Rattle.finding_answers.specs.Dimensions.{IsFirstUnknown, NameSlots, NamesSlo
 use Rattle.run_sets.specs.PastLimits.{IsSetPastLimit}
 use Rattle.finding_answers.specs.Printed.{limits_in}
 use Rattle.finding_answers.proofs.Laws.{not_found_of_text, summarisable_sets_are_found}
-use Rattle.cover_answers.specs.Certified.{IsCertifiedSummaryPrinted, IsCoverSaid, IsSetCertified, large_query, short_of_splits, short_of_states, with_certificate}
+use Rattle.cover_answers.specs.Certified.{IsCertifiedSummaryPrinted, IsCoverSaid, IsSetCertified, IsSummaryCertified, large_query, short_of_splits, short_of_states, with_certificate}
 use Rattle.cover_answers.specs.CoverProofs.{CoverIsTooLarge}
-use Rattle.cover_answers.specs.Decides.{AreNarrow, CertifiedSummariesDecide, FitsCover, IsCertifiable, IsJudgeable, NameFew, SummaryChecksDecide}
+use Rattle.cover_answers.specs.Decides.{CertifiedSummariesDecide, FitsCover, IsCertifiable, IsJudgeable, NameFew, SummaryChecksDecide}
 use Rattle.cover_answers.specs.Judged.{IsJudged, IsListJudged, IsSetChecked, IsSummaryCheckPrinted, all_holds, bad_certificate, failing_node, failing_pair, large_cover}
-use Rattle.cover_answers.specs.Made.{IsNotMade, PrintsUnmade}
+use Rattle.cover_answers.specs.Made.{AreNarrow, IsNotMade, PrintsUnmade}
 
 -- ---- statuses
 
@@ -58,8 +58,11 @@ set_with names limits one p (inr is) = cover_with limits one is.found p is.print
 
 -- what is printed to a summary with a certificate has the status of a text
 pub certified_summary_of_text : (s : Summarising) (c : SetContents) (p : Printed) → IsCertifiedSummaryPrinted s c p → IsOfText p.status
-certified_summary_of_text s c p (inl none) = refusal_with _ p none
-certified_summary_of_text s c p (inr of) = set_with s.dimensions (limits_in s) _ p of.holds.holds
+certified_summary_of_text s c p is = by is.printed
+  where
+    by : IsSummaryCertified s c p → IsOfText p.status
+    by (inl none) = refusal_with _ p none
+    by (inr of) = set_with s.dimensions (limits_in s) _ p of.holds.holds
 
 unmade_with : (names : List (List ℕ)) (states : ℕ) (fault : StrataFault) (p : Printed) → PrintsUnmade names states fault p → IsOfText p.status
 unmade_with names states (cause.TooManyPredicates d) p told = with_status p status.Refused tt told.1
@@ -105,10 +108,13 @@ module _ (names : List (List ℕ)) (limits : Limits) (one : OneSet) (p : Printed
   set_certified d (inr is) = cover_decides is.found (d.covers is.found is.is) is.printed
 
 pub certified_summaries_decide : CertifiedSummariesDecide
-certified_summaries_decide s c p d (inl (r, none, told)) = absurd (no_one_fails c.set c.schema (IsCertifiable s.dimensions (limits_in s)) d r none)
-certified_summaries_decide s c p d (inr of) =
-    let same = of_same_set c.set c.schema _ _ d of in
-    set_certified s.dimensions (limits_in s) (one_of d.named d.set) p d.holds.holds same.holds
+certified_summaries_decide s c p d is = by is.printed
+  where
+    by : IsSummaryCertified s c p → p.status ≡ status.Holds
+    by (inl (r, none, told)) = absurd (no_one_fails c.set c.schema (IsCertifiable s.dimensions (limits_in s)) d r none)
+    by (inr of) =
+        let same = of_same_set c.set c.schema _ _ d of in
+        set_certified s.dimensions (limits_in s) (one_of d.named d.set) p d.holds.holds same.holds
 
 -- ---- files that are judged
 

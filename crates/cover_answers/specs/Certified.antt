@@ -1,11 +1,11 @@
 -- What may be printed to a summary for which a certificate is asked for.
-use Rattle.std.specs.Prelude.{◌≡◌, ◌⊎◌, ◌++◌, ◌≤◌, ℕ, List, [], String, string_bytes}
+use Rattle.std.specs.Prelude.{◌≡◌, ◌⊎◌, ◌++◌, ◌≤◌, ℕ, List, [], length, String, string_bytes}
 use Rattle.std.specs.declared.alloc.Global.{Global}
-use Rattle.command_words.specs.Asked.{Summarising}
+use Rattle.command_words.specs.Asked.{Summarising, SummaryCheck}
 use Rattle.refute_check.specs.Proofs.{Proof}
 use Rattle.proof_text.specs.Laws.{HoldsSmallNumbers}
 use Rattle.proof_text.specs.Spelling.{certificate_text}
-use Rattle.proof_text.specs.declared.limits.TheConstants.{MOST_NUMBER}
+use Rattle.proof_text.specs.declared.limits.TheConstants.{MOST_NUMBER, MOST_PROOF_BYTES}
 use Rattle.findings.specs.Answers.{StatesFail}
 use Rattle.findings.specs.Summaries.{findings_of}
 use Rattle.findings.specs.declared.decide.Wide.{Wide}
@@ -15,6 +15,7 @@ use Rattle.run_files.specs.declared.printed.Printed.{Printed}
 use Rattle.run_files.specs.declared.status.Status.TheVariants.{Holds, Refused, Undecided}
 use Rattle.run_files.specs.Printing.{PrintsText}
 use Rattle.run_sets.specs.declared.one_set.OneSet.{OneSet}
+use Rattle.run_sets.specs.CertificateLines.{accepted_line}
 use Rattle.run_sets.specs.OneSets.{IsNoOneSet, OfOneSet, SetContents}
 use Rattle.run_sets.specs.Refusals.{IsRefusedBy}
 use Rattle.finding_answers.specs.declared.answer.Found.{Found}
@@ -23,6 +24,8 @@ use Rattle.finding_answers.specs.Found.{IsFoundOf, IsNotFound}
 use Rattle.finding_answers.specs.Printed.{limits_in}
 use Rattle.cover_answers.specs.CoverProofs.{CertifiesCover, CoverIsTooLarge, OfCover}
 use Rattle.cover_answers.specs.CoverTexts.{cover_splits_line, cover_states_line, cover_tests_line}
+use Rattle.cover_answers.specs.Judged.{IsSummaryCheckPrinted}
+use Rattle.cover_answers.specs.Made.{AreNarrow}
 
 -- what is printed of what was found: that the query of its cover has more than 1,000 tests; that the query needs more splits, or at a slot
 -- more states, than there may be; or the text of the summary, and behind it the certificate that no valid request that the set allows lies
@@ -53,10 +56,23 @@ abbrev pub IsSetCertified : List (List ℕ) → Limits → OneSet → Printed �
 IsSetCertified names limits one p = IsNotFound names limits one p ⊎ IsCoverPrinted names limits one p
 
 -- of files: why they stand for no set, or what is printed of the set that they stand for
-abbrev pub IsCertifiedSummaryPrinted : Summarising → SetContents → Printed → Type 0
-IsCertifiedSummaryPrinted s c p =
+abbrev pub IsSummaryCertified : Summarising → SetContents → Printed → Type 0
+IsSummaryCertified s c p =
     IsRefusedBy (IsNoOneSet c.set c.schema) p
     ⊎ OfOneSet c.set c.schema (λ one. IsSetCertified s.dimensions (limits_in s) one p)
+
+-- where it is a summary with a certificate, each check of the same files, by the same dimensions, and of all that was printed accepts
+-- it, as long as it has at most as many bytes as a certificate may have, and the check's number of states is enough for the strata
+abbrev pub IsAcceptedByChecks : Summarising → SetContents → Printed → Type 0
+IsAcceptedByChecks s c p = (asked : SummaryCheck) (checked : Printed) →
+    p.status ≡ Holds → length (string_bytes p.text) ≤ MOST_PROOF_BYTES → asked.dimensions ≡ s.dimensions →
+    OfOneSet c.set c.schema (AreNarrow asked.dimensions asked.states) →
+    IsSummaryCheckPrinted asked (string_bytes p.text) c checked → PrintsText accepted_line Holds checked
+
+-- both
+pub record IsCertifiedSummaryPrinted (s : Summarising) (c : SetContents) (p : Printed) : Type 0 where
+  pub printed : IsSummaryCertified s c p
+  pub accepted : IsAcceptedByChecks s c p
 
 -- ---- parts
 

@@ -1,5 +1,5 @@
 -- When summaries are certified, and files of them judged.
-use Rattle.std.specs.Prelude.{◌≡◌, ◌≤◌, ◌⊎◌, ℕ, List, [], Contains, length, string_bytes}
+use Rattle.std.specs.Prelude.{◌≡◌, ◌≤◌, ◌⊎◌, ℕ, List, []}
 use Rattle.command_words.specs.Asked.{Summarising, SummaryCheck}
 use Rattle.command_words.specs.declared.limits.TheConstants.{MOST_FINDINGS}
 use Rattle.findings.specs.Answers.{StatesFail}
@@ -11,15 +11,12 @@ use Rattle.policy_compile.specs.Plans.{tests_in}
 use Rattle.policy_compile.specs.Queries.{HasTooManyPieces, IsQuery}
 use Rattle.policy_compile.specs.Sets.{set_plan}
 use Rattle.policy_model.specs.declared.request.Request.{Request}
-use Rattle.policy_model.specs.declared.test.Slot.{Slot}
-use Rattle.proof_text.specs.declared.limits.TheConstants.{MOST_PROOF_BYTES}
-use Rattle.strata.specs.Causes.{AreFew, NamesWide}
+use Rattle.strata.specs.Causes.{AreFew}
 use Rattle.strata.specs.declared.stratum.Strata.{Strata}
 use Rattle.summary_search.specs.declared.outcome.Limits.{Limits}
 use Rattle.tree_search.specs.Decisions.{NeedMore}
 use Rattle.run_files.specs.declared.printed.Printed.{Printed}
 use Rattle.run_files.specs.declared.status.Status.TheVariants.{Holds, BadProof}
-use Rattle.run_files.specs.Printing.{PrintsText}
 use Rattle.run_sets.specs.declared.one_set.OneSet.{OneSet}
 use Rattle.run_sets.specs.OneSets.{OfOneSet, SetContents}
 use Rattle.finding_answers.specs.declared.answer.Found.{Found}
@@ -27,12 +24,11 @@ use Rattle.finding_answers.specs.Complete.{IsSummarisable}
 use Rattle.finding_answers.specs.Dimensions.{NameSlots, dimension_slots}
 use Rattle.finding_answers.specs.Found.{IsFoundOf}
 use Rattle.finding_answers.specs.Printed.{limits_in}
-use Rattle.run_sets.specs.CertificateLines.{accepted_line}
-use Rattle.cover_answers.specs.Certified.{IsCertifiedSummaryPrinted}
+use Rattle.cover_answers.specs.Certified.{IsAcceptedByChecks, IsCertifiedSummaryPrinted, IsSummaryCertified}
 use Rattle.cover_answers.specs.CoverProofs.{CoverIsTooLarge, OfCover}
 use Rattle.cover_answers.specs.Heads.{IsHead}
 use Rattle.cover_answers.specs.Judged.{IsSummaryCheckPrinted}
-use Rattle.cover_answers.specs.Made.{IsMadeOf}
+use Rattle.cover_answers.specs.Made.{AreNarrow, IsMadeOf}
 
 -- ---- summaries with certificates
 
@@ -55,12 +51,6 @@ CertifiedSummariesDecide = (s : Summarising) (c : SetContents) (p : Printed) →
     OfOneSet c.set c.schema (IsCertifiable s.dimensions (limits_in s)) → IsCertifiedSummaryPrinted s c p → p.status ≡ Holds
 
 -- ---- checks of them
-
--- two predicates of no dimension have patterns with more product states
-abbrev pub AreNarrow : List (List ℕ) → ℕ → OneSet → Type 0
-AreNarrow names states one =
-    (q : Query) → IsQuery (set_plan one.schema one.set) q → (s : Slot) (texts : List (List ℕ)) →
-    Contains (dimension_slots names) s → ¬ NamesWide one.schema q.tests states s texts
 
 -- of no dimension too many predicates are named
 abbrev pub NameFew : List (List ℕ) → OneSet → Type 0
@@ -85,12 +75,7 @@ SummaryChecksDecide = (asked : SummaryCheck) (bytes : List ℕ) (c : SetContents
 
 -- ---- what is printed is accepted
 
--- where to files of a set a summary with a certificate is printed, a check of the same files, by the same dimensions, and of all that was
--- printed accepts it, as long as it has at most as many bytes as a certificate may have, and its number of states is enough for the
--- strata
+-- what is printed to a summary with a certificate is accepted by a check
 abbrev pub PrintedSummariesAreAccepted : Type 0
-PrintedSummariesAreAccepted =
-    (s : Summarising) (asked : SummaryCheck) (c : SetContents) (printed checked : Printed) →
-    s.findings ≤ MOST_FINDINGS → asked.dimensions ≡ s.dimensions → OfOneSet c.set c.schema (AreNarrow asked.dimensions asked.states) →
-    IsCertifiedSummaryPrinted s c printed → printed.status ≡ Holds → length (string_bytes printed.text) ≤ MOST_PROOF_BYTES →
-    IsSummaryCheckPrinted asked (string_bytes printed.text) c checked → PrintsText accepted_line Holds checked
+PrintedSummariesAreAccepted = (s : Summarising) (c : SetContents) (p : Printed) →
+    s.findings ≤ MOST_FINDINGS → IsSummaryCertified s c p → IsAcceptedByChecks s c p

@@ -1,14 +1,15 @@
 -- The strata of a set by dimensions, or what is printed instead.
-use Rattle.std.specs.Prelude.{◌⊎◌, ◌<◌, ⊤, ℕ, List, [], length, get_or, Err}
+use Rattle.std.specs.Prelude.{◌⊎◌, ◌<◌, ⊤, ℕ, List, [], length, get_or, Contains, Err}
 use Rattle.std.specs.Str.{chars}
 use Rattle.policy_compile.specs.declared.outcome.Query.{Query}
 use Rattle.policy_compile.specs.Queries.{IsQuery}
 use Rattle.policy_compile.specs.Sets.{set_plan}
+use Rattle.policy_model.specs.declared.test.Slot.{Slot}
 use Rattle.strata.specs.declared.outcome.StrataFault.{StrataFault}
 use Rattle.strata.specs.declared.outcome.StrataFault.TheVariants.{TooManyPredicates, Wide, NoMemory}
 use Rattle.strata.specs.declared.stratum.Strata.{Strata}
 use Rattle.strata.specs.declared.stratum.Stratum.{Stratum}
-use Rattle.strata.specs.Causes.{AreStrataOf}
+use Rattle.strata.specs.Causes.{AreStrataOf, NamesWide}
 use Rattle.summary_search.specs.Outcomes.{AreStrataWithin}
 use Rattle.run_files.specs.declared.printed.Printed.{Printed}
 use Rattle.run_files.specs.declared.status.Status.TheVariants.{Refused, Undecided}
@@ -36,6 +37,12 @@ pub record OfMade (names : List (List ℕ)) (one : OneSet) (P : List Stratum →
   pub strata : Strata
   pub is : IsMadeOf names one query strata
   pub holds : P strata.dimensions
+
+-- two predicates of no dimension have patterns with more product states
+abbrev pub AreNarrow : List (List ℕ) → ℕ → OneSet → Type 0
+AreNarrow names states one =
+    (q : Query) → IsQuery (set_plan one.schema one.set) q → (s : Slot) (texts : List (List ℕ)) →
+    Contains (dimension_slots names) s → ¬ NamesWide one.schema q.tests states s texts
 
 -- the line on why there are none: a dimension of which too many predicates are named is refused, and a number of states that is too small
 -- for two predicates leaves them unmade

@@ -2,7 +2,6 @@
 //! it.
 ghost use Rattle.cover_answers.specs.Decides.{CertifiedSummariesDecide, PrintedSummariesAreAccepted, SummaryChecksDecide};
 
-use finding_answers::printed_requests_are_read_again;
 use findings::{summaries_stand, summary_verdicts_are_equal};
 use policy_compile::queries_are_within_limits;
 use proof_text::{
@@ -25,13 +24,12 @@ pub fn summary_checks_decide()
 /// What is printed to a summary for which a certificate is asked is accepted by a check of the same files, by the
 /// same dimensions, as long as it has at most 67,108,864 bytes and the check's number of states is enough for the
 /// strata.
-pub fn printed_summaries_are_accepted()
+pub(crate) fn printed_summaries_are_accepted()
     ensures { PrintedSummariesAreAccepted }
 {
     queries_are_within_limits();
     strata_are_determined();
     findings_are_written_apart();
-    printed_requests_are_read_again();
     closing_proofs_have_no_fault_behind();
     closing_proofs_are_small();
     one_proof_for_each_text();

@@ -13,9 +13,7 @@ mod printing;
 mod text;
 mod wording;
 
-pub use accepting::{
-    certified_summaries_decide, printed_summaries_are_accepted, summary_checks_decide,
-};
+pub use accepting::{certified_summaries_decide, summary_checks_decide};
 pub use fault::{HeadCode, HeadFault};
 pub use printing::{
     print_certified_summary, print_set_certified, print_set_checked, print_summary_check,

@@ -9,6 +9,7 @@ ghost use Rattle.finding_answers.specs.Printed.{limits_in};
 ghost use Rattle.cover_answers.specs.Certified.{IsCertifiedSummaryPrinted, IsSetCertified};
 ghost use Rattle.cover_answers.specs.Judged.{IsSetChecked, IsSummaryCheckPrinted};
 
+use crate::accepting::printed_summaries_are_accepted;
 use crate::certify::certify;
 use crate::check::judge;
 use crate::made::make_strata;
@@ -38,7 +39,7 @@ pub fn print_set_certified(
 }
 
 /// What is printed to a summary of files that were read, that of a set and that of a schema where one is named,
-/// for which a certificate is asked.
+/// for which a certificate is asked. A check of the same files accepts the summary that is printed.
 pub fn print_certified_summary(
     alloc: Global,
     set: &[u8],
@@ -50,6 +51,7 @@ pub fn print_certified_summary(
     ensures { IfPrinted result (IsCertifiedSummaryPrinted (summarising_in arguments.now)
         (set_contents set.now (option_map (λ f. f.now) schema.entry))) }
 {
+    printed_summaries_are_accepted();
     let one = read_one(alloc, set, schema)?;
     print_set_certified(
         alloc,

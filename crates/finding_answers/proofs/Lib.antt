@@ -1,5 +1,4 @@
 mod Growing
 pub mod Laws
 mod Naming
-mod Reading
 mod Summarising

@@ -8,6 +8,7 @@ use Rattle.findings.specs.Summaries.{IsSummary, findings_of}
 use Rattle.policy_model.specs.declared.schema.Schema.{Schema}
 use Rattle.policy_model.specs.declared.set.PolicySet.{PolicySet}
 use Rattle.policy_model.specs.Requests.{HasValidRequest}
+use Rattle.request_json.specs.Laws.{WrittenRequestsAreReadAgain}
 use Rattle.strata.specs.declared.stratum.Stratum.{Stratum}
 use Rattle.summary_search.specs.Outcomes.{AreAskable, IsSummaryOutcome}
 use Rattle.summary_search.specs.declared.outcome.Limits.{Limits}
@@ -44,8 +45,8 @@ pub texts-of : (names : List (List ℕ)) (limits : Limits) (one : OneSet) (o : O
 texts-of names limits one o is = texts-in names limits one o is is.comes
 
 -- a summary that it comes to is found, where requests under the schema may have values of the dimensions
-pub found-of : (names : List (List ℕ)) (limits : Limits) (one : OneSet) (o : Outcome) → IsSetOutcome (dimension_slots names) limits one o → NameSlots one.schema names → FitsItsSchema one → HasValidRequest one.schema → AreAskable one.schema (dimension_slots names) → (f : Found) → IsFoundIn o f → IsFoundOf names limits one f
-found-of names limits one o is known fits some askable f finds =
+pub found-of : WrittenRequestsAreReadAgain → (names : List (List ℕ)) (limits : Limits) (one : OneSet) (o : Outcome) → IsSetOutcome (dimension_slots names) limits one o → NameSlots one.schema names → FitsItsSchema one → HasValidRequest one.schema → AreAskable one.schema (dimension_slots names) → (f : Found) → IsFoundIn o f → IsFoundOf names limits one f
+found-of written names limits one o is known fits some askable f finds =
     let comes : IsSummaryOutcome one.schema one.set is.query (dimension_slots names) limits (outcome.Found f.strata f.summary) =
     subst (λ (x : Outcome). IsSummaryOutcome one.schema one.set is.query (dimension_slots names) limits x) finds.is is.comes in
     record {
@@ -65,5 +66,5 @@ found-of names limits one o is known fits some askable f finds =
       strata = comes.0;
       summary = comes.1;
       few = comes.2;
-      kept = finds.kept;
+      again = λ k d l. written one.schema _ (finds.kept k d l) (comes.1.own k d l).valid;
     }

@@ -9,8 +9,10 @@ use Rattle.policy_compile.specs.declared.outcome.Query.{Query}
 use Rattle.policy_compile.specs.Queries.{IsQuery}
 use Rattle.policy_compile.specs.Sets.{set_plan}
 use Rattle.policy_model.specs.declared.request.Request.{Request}
+use Rattle.policy_model.specs.declared.schema.Schema.{Schema}
 use Rattle.policy_model.specs.declared.test.Slot.{Slot}
 use Rattle.policy_model.specs.Requests.{IsWellKept}
+use Rattle.request_json.specs.Laws.{RequestIsReadAgain}
 use Rattle.strata.specs.declared.stratum.Stratum.{Stratum}
 use Rattle.summary_search.specs.Outcomes.{AreStrataWithin, IsSummaryOutcome}
 use Rattle.summary_search.specs.declared.outcome.Limits.{Limits}
@@ -34,12 +36,13 @@ use Rattle.finding_answers.specs.FindingTexts.{findings_line, splits_line, state
 abbrev pub HaveFindings : List Stratum → List (List ℕ × Request) → Type 0
 HaveFindings ds summary = All (λ p. IsFinding ds p.0) summary
 
--- each request has each of its keys once, with values, and of texts: so its line is read again as the request
-abbrev pub AreWellKept : List (List ℕ × Request) → Type 0
-AreWellKept summary = All (λ p. IsWellKept p.1) summary
+-- the line of each request is read again under the schema as that request
+abbrev pub AreReadAgain : Schema → List (List ℕ × Request) → Type 0
+AreReadAgain schema summary = All (λ p. RequestIsReadAgain schema p.1) summary
 
 -- each name is that of a dimension, the strata are made for the query of the set by these dimensions, of none of which too many
--- predicates are named, and the summary is that of the set by them, of no more findings than may be looked at
+-- predicates are named, and the summary is that of the set by them, of no more findings than may be looked at, whose
+-- requests are read again as they are printed
 pub record IsFoundOf (names : List (List ℕ)) (limits : Limits) (one : OneSet) (found : Found) : Type 0 where
   pub known : NameSlots one.schema names
   pub query : Query
@@ -47,7 +50,7 @@ pub record IsFoundOf (names : List (List ℕ)) (limits : Limits) (one : OneSet) 
   pub strata : AreStrataWithin one.schema query (dimension_slots names) found.strata
   pub summary : IsSummary one.schema one.set found.strata.dimensions found.summary
   pub few : length found.summary ≤ limits.findings
-  pub kept : AreWellKept found.summary
+  pub again : AreReadAgain one.schema found.summary
 
 -- ---- what is printed instead
 
@@ -95,6 +98,10 @@ HasTexts names (outcome.Wide s texts) = ⊤
 HasTexts names outcome.OutOfFindings = ⊤
 HasTexts names (outcome.OutOfSplits strata f) = IsFinding strata.dimensions f
 HasTexts names (outcome.OutOfStates strata f w) = IsFinding strata.dimensions f
+
+-- each request has each of its keys once, with values, and of texts
+abbrev pub AreWellKept : List (List ℕ × Request) → Type 0
+AreWellKept summary = All (λ p. IsWellKept p.1) summary
 
 -- the outcome is that this was found
 pub record IsFoundIn (came : Outcome) (found : Found) : Type 0 where

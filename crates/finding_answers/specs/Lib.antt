@@ -2,5 +2,4 @@ pub mod Complete
 pub mod Dimensions
 pub mod FindingTexts
 pub mod Found
-pub mod Laws
 pub mod Printed

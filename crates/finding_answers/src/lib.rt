@@ -6,7 +6,6 @@ mod answer;
 mod dimensions;
 mod ending;
 mod printing;
-mod reading_again;
 mod summary;
 mod text;
 
@@ -14,6 +13,5 @@ pub use answer::Found;
 pub use dimensions::slots_of;
 pub use ending::{ended, too_many_line};
 pub use printing::{limits_of, print_set_summary, print_summary};
-pub use reading_again::printed_requests_are_read_again;
 pub use summary::{found, query_of};
 pub use text::found_text;

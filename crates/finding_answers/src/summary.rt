@@ -17,6 +17,7 @@ use findings::Finding;
 use policy_compile::{Query, QueryFault, set_query};
 use policy_model::{Request, SlotList};
 use request_build::sound_schemas_have_requests;
+use request_json::written_requests_are_read_again;
 use run_files::{EarlyEnd, Status};
 use run_sets::{OneSet, Refusal, Shortage, refused, shortage_text};
 use std::alloc::Global;
@@ -118,5 +119,6 @@ pub fn found(
     let slots = slots_of(alloc, &one.schema, names)?;
     let outcome = outcome_of(alloc, one, &slots, limits)?;
     sound_schemas_have_requests();
+    written_requests_are_read_again();
     found_in(alloc, names, limits, outcome)
 }

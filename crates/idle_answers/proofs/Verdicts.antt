@@ -18,6 +18,7 @@ use Rattle.proof_text.specs.Laws.{ClosingProofsAreSmall, ClosingProofsHaveNoFaul
 use Rattle.proof_text.specs.Spelling.{certificate_text}
 use Rattle.proof_text.specs.declared.limits.TheConstants.{MOST_NUMBER}
 use Rattle.refute_check.specs.Proofs.{Proof, proof_of}
+use Rattle.request_json.specs.Laws.{WrittenRequestsAreReadAgain}
 use Rattle.run_sets.specs.declared.one_set.OneSet.{OneSet}
 use Rattle.run_sets.specs.declared.shortage.Shortage.TheVariants as shortage
 use Rattle.run_sets.specs.OneSets.{FitsItsSchema}
@@ -153,16 +154,16 @@ pub smaller_askable : SmallerQuestionsTell → (one : OneSet) (name : StatementN
     → QueryIsAskable one.schema q
 smaller_askable law one name q fitting (s, asked, question) = (law one.schema one.set (name, s) asked q question).askable fitting.sound
 
-staged_if_tells : (budgets : Budgets) (one : OneSet) (name : StatementName) (q : Query) → DecidesUse one.schema one.set name q
+staged_if_tells : WrittenRequestsAreReadAgain → (budgets : Budgets) (one : OneSet) (name : StatementName) (q : Query) → DecidesUse one.schema one.set name q
     → (v : Verdict) → IsStagedVerdict one.schema q budgets v → (a : UseAnswer) → IsAnswerByVerdict budgets v a → IsStagedUseAnswer budgets one name q a
-staged_if_tells budgets one name q tells verdict.Nobody h a by =
+staged_if_tells written budgets one name q tells verdict.Nobody h a by =
     subst (λ (x : UseAnswer). IsStagedUseAnswer budgets one name q x) (sym by) (tells.idle (λ r met. h r met.valid met.meets))
-staged_if_tells budgets one name q tells (verdict.Met r) h a by =
+staged_if_tells written budgets one name q tells (verdict.Met r) h a by =
     subst (λ (x : UseAnswer). IsStagedUseAnswer budgets one name q x) (sym by.0)
-    (by.1, tells.used r (record { valid = h.valid; answers = λ n b t e at. absurd (cc); meets = h.meets }))
-staged_if_tells budgets one name q tells verdict.OutOfSplits h a by =
+    (written one.schema r by.1 h.valid, tells.used r (record { valid = h.valid; answers = λ n b t e at. absurd (cc); meets = h.meets }))
+staged_if_tells written budgets one name q tells verdict.OutOfSplits h a by =
     subst (λ (x : UseAnswer). IsStagedUseAnswer budgets one name q x) (sym by) (refl, (h.plain, h.propagated))
-staged_if_tells budgets one name q tells (verdict.OutOfStates w) h a by =
+staged_if_tells written budgets one name q tells (verdict.OutOfStates w) h a by =
     subst (λ (x : UseAnswer). IsStagedUseAnswer budgets one name q x) (sym by) (
       refl,
       record {
@@ -173,10 +174,10 @@ staged_if_tells budgets one name q tells (verdict.OutOfStates w) h a by =
     )
 
 -- the verdict on it answers on the statement
-pub staged_if_verdict : SmallerQuestionsTell → (budgets : Budgets) (one : OneSet) (name : StatementName) (q : Query) → IsSmallerFor one name q
+pub staged_if_verdict : SmallerQuestionsTell → WrittenRequestsAreReadAgain → (budgets : Budgets) (one : OneSet) (name : StatementName) (q : Query) → IsSmallerFor one name q
     → (v : Verdict) → IsStagedVerdict one.schema q budgets v → (a : UseAnswer) → IsAnswerByVerdict budgets v a → IsStagedUseAnswer budgets one name q a
-staged_if_verdict law budgets one name q (s, asked, question) v h a by =
-    staged_if_tells budgets one name q (law one.schema one.set (name, s) asked q question) v h a by
+staged_if_verdict law written budgets one name q (s, asked, question) v h a by =
+    staged_if_tells written budgets one name q (law one.schema one.set (name, s) asked q question) v h a by
 
 -- which is an answer where no certificate is asked for: of whichever query, where it is decided
 pub answer_if_decided : (budgets : Budgets) (one : OneSet) (name : StatementName) (q : Query) (a : UseAnswer) → is_undecided a ≡ false
@@ -227,18 +228,18 @@ idle_if_refuted sizes law certified budgets one named p idle of (answer.Proved t
     (asked, idle, certifies sizes law one.schema one.set named p (string_bytes text) version spelled small of)
 idle_if_refuted sizes law certified budgets one named p idle of _ v = absurd v
 
-answer_of_use : ClosingProofsAreSmall → ClosingProofsHaveNoFault → (certified : Bool) (budgets : Budgets) (one : OneSet) (named : Named) (u : Use)
+answer_of_use : ClosingProofsAreSmall → ClosingProofsHaveNoFault → WrittenRequestsAreReadAgain → (certified : Bool) (budgets : Budgets) (one : OneSet) (named : Named) (u : Use)
     → IsUseOf one.schema budgets.splits budgets.states one.set named u → (a : UseAnswer) → IsAnswerToUse certified one.schema.version budgets u a
     → IsUseAnswer certified budgets one named a
-answer_of_use sizes law certified budgets one named (use_of.Used q) h a v = subst (λ (x : UseAnswer). IsUseAnswer certified budgets one named x) (sym v.0) (v.1, h)
-answer_of_use sizes law certified budgets one named (use_of.Idle r) h a v = idle_if_refuted sizes law certified budgets one named (proof_of r.value) h.0 h.1 a v
-answer_of_use sizes law certified budgets one named use_of.OutOfSplits h a v = subst (λ (x : UseAnswer). IsUseAnswer certified budgets one named x) (sym v) (refl, h)
-answer_of_use sizes law certified budgets one named (use_of.OutOfStates w) h a v =
+answer_of_use sizes law written certified budgets one named (use_of.Used q) h a v = subst (λ (x : UseAnswer). IsUseAnswer certified budgets one named x) (sym v.0) (written one.schema q v.1 h.valid, h)
+answer_of_use sizes law written certified budgets one named (use_of.Idle r) h a v = idle_if_refuted sizes law certified budgets one named (proof_of r.value) h.0 h.1 a v
+answer_of_use sizes law written certified budgets one named use_of.OutOfSplits h a v = subst (λ (x : UseAnswer). IsUseAnswer certified budgets one named x) (sym v) (refl, h)
+answer_of_use sizes law written certified budgets one named (use_of.OutOfStates w) h a v =
     subst (λ (x : UseAnswer). IsUseAnswer certified budgets one named x) (sym v)
     (refl, record { query = h.query; is = h.is; holds = record { wide = w; slot = refl; fails = h.holds } })
 
 -- what is told of the use of a statement answers on it
-pub answer_if_told : ClosingProofsAreSmall → ClosingProofsHaveNoFault → (certified : Bool) (budgets : Budgets) (one : OneSet) (name : StatementName) (u : Use)
+pub answer_if_told : ClosingProofsAreSmall → ClosingProofsHaveNoFault → WrittenRequestsAreReadAgain → (certified : Bool) (budgets : Budgets) (one : OneSet) (name : StatementName) (u : Use)
     → IsUseAt one.schema budgets.splits budgets.states one.set name u → (a : UseAnswer) → IsAnswerToUse certified one.schema.version budgets u a
     → IsUseAnswerAt certified budgets one name a
-answer_if_told sizes law certified budgets one name u h a v = λ s there. answer_of_use sizes law certified budgets one (name, s) u (h s there) a v
+answer_if_told sizes law written certified budgets one name u h a v = λ s there. answer_of_use sizes law written certified budgets one (name, s) u (h s there) a v

@@ -12,6 +12,7 @@ use Rattle.proof_text.specs.Laws.{HoldsSmallNumbers}
 use Rattle.proof_text.specs.Spelling.{certificate_text}
 use Rattle.proof_text.specs.declared.limits.TheConstants.{MOST_NUMBER}
 use Rattle.refute_check.specs.Proofs.{Proof, proof_of}
+use Rattle.request_json.specs.Laws.{RequestIsReadAgain}
 use Rattle.run_sets.specs.declared.one_set.OneSet.{OneSet}
 use Rattle.run_sets.specs.declared.shortage.Shortage.TheVariants.{Splits, States}
 use Rattle.set_questions.specs.Idle.{IsIdle, IsUsedBy, without_statement}
@@ -82,7 +83,7 @@ IsAnswerByVerdict budgets (verdict.OutOfStates w) answer = answer ≡ Undecided 
 -- the answer on a statement by a query that is asked in place of its change query: whether the statement is used, or a budget that is
 -- too small for the query that was asked
 abbrev pub IsStagedUseAnswer : Budgets → OneSet → StatementName → Query → UseAnswer → Type 0
-IsStagedUseAnswer budgets one name query (Used q) = IsWellKept q × IsUsedBy one.schema one.set name q
+IsStagedUseAnswer budgets one name query (Used q) = RequestIsReadAgain one.schema q × IsUsedBy one.schema one.set name q
 IsStagedUseAnswer budgets one name query Idle = IsIdle one.schema one.set name
 IsStagedUseAnswer budgets one name query (Proved text) = ⊥
 IsStagedUseAnswer budgets one name query (Undecided (Splits n)) = (n ≡ budgets.splits) × BothRunsFail one.schema query n

@@ -1,11 +1,9 @@
--- What a check of the certificate of an idle statement comes to, and what the line of a used statement is read as.
+-- What a check of the certificate of an idle statement comes to.
 use Rattle.std.specs.Prelude.{◌≤◌, length, Bool, String, string_bytes, if◌then◌else◌}
 use Rattle.std.specs.declared.alloc.Global.{Global}
-use Rattle.policy_model.specs.declared.request.Request.{Request}
 use Rattle.policy_model.specs.Requests.{HasValidRequest}
 use Rattle.policy_model.specs.StatementNames.{Named}
 use Rattle.proof_text.specs.declared.limits.TheConstants.{MOST_PROOF_BYTES}
-use Rattle.request_json.specs.Laws.{RequestIsReadAgain}
 use Rattle.run_sets.specs.declared.one_set.OneSet.{OneSet}
 use Rattle.run_sets.specs.declared.pair.Pair.{Pair}
 use Rattle.run_sets.specs.Pairs.{pair_of_sets}
@@ -13,7 +11,7 @@ use Rattle.set_questions.specs.Idle.{without_statement}
 use Rattle.pair_answers.specs.declared.answer.CheckAnswer.TheVariants.{Accepted}
 use Rattle.pair_answers.specs.Decided.{IsChecked}
 use Rattle.tree_search.specs.declared.outcome.Budgets.{Budgets}
-use Rattle.idle_answers.specs.declared.answer.UseAnswer.TheVariants.{Proved, Used}
+use Rattle.idle_answers.specs.declared.answer.UseAnswer.TheVariants.{Proved}
 use Rattle.idle_answers.specs.UseAnswers.{IsUseAnswer}
 
 -- the pair whose query is the change query of a statement: of an Allow the set and the set without it, of a Deny the other way round
@@ -27,8 +25,3 @@ abbrev pub IdleProofsAreAccepted : Type 0
 IdleProofsAreAccepted = (certified : Bool) (budgets : Budgets) (one : OneSet) (named : Named) (text : String Global) →
     HasValidRequest one.schema → IsUseAnswer certified budgets one named (Proved text) →
     length (string_bytes text) ≤ MOST_PROOF_BYTES → IsChecked (string_bytes text) (change_pair one named) Accepted
-
--- the line of a used statement's request is read again, under the schema of the run, as that request
-abbrev pub UsedRequestsAreReadAgain : Type 0
-UsedRequestsAreReadAgain = (certified : Bool) (budgets : Budgets) (one : OneSet) (named : Named) (q : Request) →
-    IsUseAnswer certified budgets one named (Used q) → RequestIsReadAgain one.schema q

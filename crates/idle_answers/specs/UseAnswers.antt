@@ -5,7 +5,6 @@ use Rattle.findings.specs.declared.decide.Wide.{Wide}
 use Rattle.policy_model.specs.declared.schema.Schema.{Schema}
 use Rattle.policy_model.specs.declared.set.StatementName.{StatementName}
 use Rattle.policy_model.specs.declared.test.Slot.{Slot}
-use Rattle.policy_model.specs.Requests.{IsWellKept}
 use Rattle.policy_model.specs.StatementNames.{Named}
 use Rattle.policy_compile.specs.declared.outcome.Query.{Query}
 use Rattle.proof_text.specs.Faults.{proof_fault}
@@ -13,6 +12,7 @@ use Rattle.proof_text.specs.Laws.{IsSmall, limits_of}
 use Rattle.proof_text.specs.Spelling.{certificate_text}
 use Rattle.proof_text.specs.declared.limits.TheConstants.{MOST_PROOF_BYTES}
 use Rattle.refute_check.specs.Proofs.{Proof}
+use Rattle.request_json.specs.Laws.{RequestIsReadAgain}
 use Rattle.run_sets.specs.declared.one_set.OneSet.{OneSet}
 use Rattle.run_sets.specs.declared.shortage.Shortage.TheVariants.{Splits, States}
 use Rattle.set_questions.specs.Idle.{IsIdle, IsUsedBy, OfNamed}
@@ -42,11 +42,11 @@ pub record IsShortAt (schema : Schema) (states : ℕ) (s : Slot) (q : Query) : T
   pub slot : wide.slot ≡ s
   pub fails : StatesFail schema q states wide
 
--- A valid request that the set answers otherwise without the statement, whose printed line is read again as the request. That there is
+-- A valid request that the set answers otherwise without the statement, kept so that its line is read again as it (a law). That there is
 -- none: the statement is idle, with a certificate of its change query where one is asked for. Or a budget that is too small for the
 -- change query.
 abbrev pub IsUseAnswer : Bool → Budgets → OneSet → Named → UseAnswer → Type 0
-IsUseAnswer certified budgets one named (Used q) = IsWellKept q × IsUsedBy one.schema one.set named.0 q
+IsUseAnswer certified budgets one named (Used q) = RequestIsReadAgain one.schema q × IsUsedBy one.schema one.set named.0 q
 IsUseAnswer certified budgets one named Idle = (certified ≡ false) × IsIdle one.schema one.set named.0
 IsUseAnswer certified budgets one named (Proved text) =
     (certified ≡ true) × IsIdle one.schema one.set named.0 ×

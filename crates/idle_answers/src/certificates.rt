@@ -1,8 +1,5 @@
-//! What checks of certificates of idle statements come to, and what the lines of used statements are read as. Each
-//! law is a function whose contract states it.
-ghost use Rattle.idle_answers.specs.IdleProofs.{IdleProofsAreAccepted, UsedRequestsAreReadAgain};
-
-use request_json::written_requests_are_read_again;
+//! What checks of certificates of idle statements come to. The law is a function whose contract states it.
+ghost use Rattle.idle_answers.specs.IdleProofs.{IdleProofsAreAccepted};
 
 /// What is printed as the certificate of an idle statement is accepted by a check of the set and the set without
 /// the statement, or of a Deny statement of the set without it and the set, under the set's schema and as long
@@ -11,11 +8,3 @@ use request_json::written_requests_are_read_again;
 pub fn idle_proofs_are_accepted()
     ensures { IdleProofsAreAccepted }
 {}
-
-/// The line of each request that is printed of a used statement is read under the schema of its run as that
-/// request.
-pub fn used_requests_are_read_again()
-    ensures { UsedRequestsAreReadAgain }
-{
-    written_requests_are_read_again();
-}

@@ -21,6 +21,7 @@ use policy_difference::{AskedPair, apart_statements_say_nothing, shared_statemen
 use policy_model::{PolicySet, StatementName};
 use proof_text::{closing_proofs_are_small, closing_proofs_have_no_fault, write_proof};
 use refute_check::Refutation;
+use request_json::written_requests_are_read_again;
 use run_sets::{OneSet, Shortage};
 use set_questions::{
     Use, change_query, is_allow, named_statement, narrowed, narrowed_pairs_ask_the_same,
@@ -104,6 +105,7 @@ fn staged_answer(
     ensures { IfOk result (IsStagedUseAnswer budgets one.now name query.now) }
 {
     smaller_questions_tell();
+    written_requests_are_read_again();
     let verdict = decide_in_stages(alloc, &one.schema, query, budgets)?;
     Ok(answer_by(verdict, budgets))
 }
@@ -215,6 +217,7 @@ fn whole_answer(
     let mut by = ByRefutation::new(&one.schema, budgets);
     closing_proofs_are_small();
     closing_proofs_have_no_fault();
+    written_requests_are_read_again();
     let told = use_of(alloc, &one.schema, &one.set, name, &mut by)?;
     told_use(alloc, told, one.schema.version, budgets, certified)
 }

@@ -13,5 +13,5 @@ mod sizes;
 mod text;
 
 pub use answer::UseAnswer;
-pub use certificates::{idle_proofs_are_accepted, used_requests_are_read_again};
+pub use certificates::idle_proofs_are_accepted;
 pub use printing::print_idle;

@@ -24,6 +24,7 @@ use Rattle.policy_model.specs.declared.test.Slot.{Slot}
 use Rattle.policy_model.specs.declared.test.Slot.TheVariants as slot
 use Rattle.policy_model.specs.declared.value.Kind.{Kind}
 use Rattle.policy_model.specs.declared.value.Kind.TheVariants.{Text, Truth, Number}
+use Rattle.request_schema.specs.KeyOperators.{IsOperatorOn}
 use Rattle.request_schema.specs.Uses.{is_bool, is_plain}
 use Rattle.slot_theory.specs.Slots.{SlotIsIn}
 use Rattle.strata.specs.declared.predicate.Predicate.{Predicate}
@@ -33,7 +34,7 @@ use Rattle.strata.specs.declared.stratum.Stratum.{Stratum}
 use Rattle.strata.specs.Covers.{predicate_at}
 use Rattle.findings.specs.Texts.{is_narrow_wildcard, takes_either_case}
 use Rattle.std.specs.List.{list_any}
-use Rattle.read_predicates.specs.KnownKeys.{EachConditionIn, EachConditionOf, IsOperatorOn, KnownKeysKeepSchemas, StandsForPredicate}
+use Rattle.read_predicates.specs.KnownKeys.{EachConditionIn, EachConditionOf, KnownKeysKeepSchemas, StandsForPredicate}
 use Rattle.policy_emit.specs.Emitted.{cond_base, condition_on, conditions_in, emitted_document, emitted_set, emitted_statement, has_several, key_conditions, numeric_base}
 use Rattle.policy_emit.specs.KnownKeys.{EmittedKeysAreKnown}
 use Rattle.policy_emit.proofs.Placing.{ordered-all}

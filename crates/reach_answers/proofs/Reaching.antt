@@ -12,6 +12,7 @@ use Rattle.policy_model.proofs.Laws.{Any-nil}
 use Rattle.summary_search.specs.declared.outcome.Limits.{Limits}
 use Rattle.trust_zones.specs.declared.zone.Zone.{Zone}
 use Rattle.trust_zones.specs.ZoneFiles.{zone_from}
+use Rattle.trust_zones.specs.ZoneRuns.{ZonesKeepSchemas}
 use Rattle.trust_zones.specs.Zones.{HasFreeNumber, TakesZone, ZonesLeaveTheOutside, outside}
 use Rattle.run_files.specs.declared.printed.Printed.{Printed}
 use Rattle.run_sets.specs.declared.one_set.OneSet.{OneSet}
@@ -22,7 +23,7 @@ use Rattle.reach_answers.specs.ReachPrinted.{IsOutsidePrinted, IsReachOfSet, IsZ
 
 -- ---- what is found
 
-module _ (leave : ZonesLeaveTheOutside) (covers : SummariesCover) where
+module _ (leave : ZonesLeaveTheOutside) (keep : ZonesKeepSchemas) (covers : SummariesCover) where
   says-who : (names : List (List ℕ)) (limits : Limits) (one : OneSet) (zone : Zone) (found : Found) → TakesZone one.schema zone → IsFoundOf names limits (left_outside one zone) found → SaysWhoReaches one zone found
   says-who names limits one zone found takes is =
       let ds = found.strata.dimensions in
@@ -42,7 +43,7 @@ module _ (leave : ZonesLeaveTheOutside) (covers : SummariesCover) where
   outside-printed names limits one left zone takes is p (inl none) = inl (subst (λ (o : OneSet). IsNotFound names limits o p) is none)
   outside-printed names limits one left zone takes is p (inr found) =
       let own : IsOutsidePrinted names limits (left_outside one zone) p = subst (λ (o : OneSet). IsOutsidePrinted names limits o p) is found in
-      inr (record { printed = own; says = says-who names limits one zone own.found takes own.is })
+      inr (record { printed = own; says = says-who names limits one zone own.found takes own.is; own = λ named inferred. keep named one.schema one.set zone inferred takes })
 
 -- ---- the zone of a file
 

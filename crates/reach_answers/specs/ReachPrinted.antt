@@ -1,11 +1,13 @@
 -- What may be printed to the question who is allowed anything from outside a trust zone.
-use Rattle.std.specs.Prelude.{◌≡◌, ◌⊎◌, ℕ, List, [], ◌∷◌, Option, All, Any}
+use Rattle.std.specs.Prelude.{◌≡◌, ◌⊎◌, ℕ, List, [], ◌∷◌, Option, None, Ok, All, Any}
 use Rattle.command_words.specs.Asked.{Summarising}
 use Rattle.findings.specs.Findings.{LiesInFinding}
 use Rattle.findings.specs.Summaries.{findings_of}
 use Rattle.policy_model.specs.declared.request.Request.{Request}
 use Rattle.policy_model.specs.Requests.{IsValid}
 use Rattle.policy_model.specs.Sets.{Allows}
+use Rattle.policy_model.specs.declared.schema.Schema.{Schema}
+use Rattle.request_schema.specs.RunSchemas.{IsInferred}
 use Rattle.summary_search.specs.declared.outcome.Limits.{Limits}
 use Rattle.trust_zones.specs.declared.zone.Zone.{Zone}
 use Rattle.trust_zones.specs.Zones.{IsInside, outside}
@@ -55,10 +57,16 @@ pub record IsOutsidePrinted (names : List (List ℕ)) (limits : Limits) (left : 
   pub is : IsFoundOf names limits left found
   pub prints : PrintsText (found_text found) (status_by found.summary) p
 
--- and it says who reaches
+-- under the named keys that give the set this schema, what is outside the zone has it in a run of its own
+abbrev pub HasOwnRun : OneSet → Zone → Type 0
+HasOwnRun one zone = (named : Schema) →
+    IsInferred named one.set None (Ok one.schema) → IsInferred named (outside one.set zone) None (Ok one.schema)
+
+-- and it says who reaches, as a summary of the set of what is outside does
 pub record IsReachFound (names : List (List ℕ)) (limits : Limits) (one : OneSet) (zone : Zone) (p : Printed) : Type 0 where
   pub printed : IsOutsidePrinted names limits (left_outside one zone) p
   pub says : SaysWhoReaches one zone printed.found
+  pub own : HasOwnRun one zone
 
 -- of a set and a zone: why what is outside isn't summarised, or what is found of it
 abbrev pub IsZonePrinted : List (List ℕ) → Limits → OneSet → Zone → Printed → Type 0

@@ -15,7 +15,7 @@ use run_files::{EarlyEnd, Printed, Status};
 use run_sets::OneSet;
 use std::alloc::Global;
 use summary_search::Limits;
-use trust_zones::{Zone, outside, zones_leave_the_outside};
+use trust_zones::{Zone, outside, zones_keep_schemas, zones_leave_the_outside};
 
 // The set of what is outside the zone, under the same schema.
 fn left_outside(alloc: Global, one: &OneSet, zone: &Zone) -> Result<OneSet, NoMemory>
@@ -79,6 +79,7 @@ pub(crate) fn print_outside(
     ensures { IfPrinted result (IsZonePrinted (texts_in names.now) limits one.now zone.now) }
 {
     zones_leave_the_outside();
+    zones_keep_schemas();
     summaries_cover();
     let left = left_outside(alloc, one, zone)?;
     print_left(alloc, &left, names, limits)

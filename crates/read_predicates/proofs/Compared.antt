@@ -1,6 +1,6 @@
 -- Keys of which strata keep a predicate are keys whose values some condition of the set compares; and conditions that stand for such
 -- predicates are known in runs on the set.
-use Rattle.std.proofs.Common.{◌≡◌, ℕ, ◌&&◌, Bool, true, false, not, List, [], get_or, All as Each, Any, Option, Some, None, Ok, refl, ap, sym, ◌∙◌, subst, inl, inr}
+use Rattle.std.proofs.Common.{◌≡◌, ℕ, ◌&&◌, Bool, true, false, not, List, [], ◌++◌, append-nil, get_or, All as Each, Any, Option, Some, None, Ok, refl, ap, sym, ◌∙◌, subst, inl, inr}
 use Rattle.std.specs.Prelude.{⊤, MatchOption}
 use Rattle.std.proofs.lemmas.List.Elements.{All-cons, All-contains, All-map, All-nil}
 use Rattle.text_table.specs.Table.{item_at}
@@ -26,8 +26,10 @@ use Rattle.policy_compile.specs.Sets.{set_plan}
 use Rattle.policy_compile.specs.declared.outcome.Query.{Query}
 use Rattle.policy_compile.proofs.Laws.{All-collects, set-asked}
 use Rattle.request_schema.specs.BuiltIn.{is_key}
+use Rattle.request_schema.specs.KeyOperators.{IsOperatorOn}
 use Rattle.request_schema.specs.RunSchemas.{IsInferred, KeysHaveTheirRules, infer_checks, infer_fault, run_rule, schema_for, schema_of_run}
 use Rattle.request_schema.specs.Uses.{Use, uses_in, uses_of}
+use Rattle.request_schema.proofs.Laws.{IsKnownUse, IsRunOf, is_key-same, run-among, run-renamed, to-set}
 use Rattle.json_shapes.specs.Checks.{first_fault}
 use Rattle.strata.specs.declared.predicate.Predicate.{Predicate}
 use Rattle.strata.specs.declared.predicate.Predicate.TheVariants.{Every, Principal, Word, Meets}
@@ -37,11 +39,9 @@ use Rattle.strata.specs.Predicates.{SuitsSlot}
 use Rattle.strata.specs.Strata.{IsStratum}
 use Rattle.strata.proofs.Laws.{stratum-suits}
 use Rattle.findings.specs.Queries.{AreMadeFor}
-use Rattle.read_predicates.specs.KnownKeys.{EachConditionOf, IsDimensionOf, IsOperatorOn, KnownKeysKeepSchemas, StandsForPredicate}
-use Rattle.read_predicates.proofs.Entries.{key-same}
-use Rattle.read_predicates.proofs.KnownRuns.{IsKnownUse, IsRunOf, run-behind, run-front, run-moved}
+use Rattle.read_predicates.specs.KnownKeys.{EachConditionOf, IsDimensionOf, KnownKeysKeepSchemas, StandsForPredicate}
 use Rattle.read_predicates.proofs.Naming.{NamesOwn, stratum-named}
-use Rattle.read_predicates.proofs.Uses.{each-use, some-use, uses-moved}
+use Rattle.read_predicates.proofs.Uses.{some-use, uses-moved}
 
 -- ---- what the set compares
 
@@ -68,7 +68,7 @@ some-of-with P Q step set (inr guarded) = inr (any-with (SomeStatementIn P) (Som
 
 key-compared : (key : List ℕ) (c : Condition) → c.key ≡ key → is_null c.operator.base ≡ false → compares_key key c ≡ true
 key-compared key c same other =
-    let here : is_key key c.key ≡ true = subst (λ (k : List ℕ). is_key key k ≡ true) (sym same) (key-same key) in
+    let here : is_key key c.key ≡ true = subst (λ (k : List ℕ). is_key key k ≡ true) (sym same) (is_key-same key) in
     rw (here, other) refl
 
 asked-compared : (schema : Schema) (key : List ℕ) (asked : Cond) (s : Statement) → IsAskedBy schema (test.SomeMeets key asked) s → Compares key s
@@ -152,13 +152,13 @@ module _ (laws : RunLaws) (schema : Schema) (set : PolicySet) (base : Query) (st
 
   each-there : (b : Bool) (other : PolicySet) → EachConditionOf (StandsForPredicate schema strata) other → Each (λ u. IsKnownThere u.condition) (uses_in b other)
   each-there b other each =
-      let stand = each-use (StandsForPredicate schema strata) b other each in
+      let stand = to-set (StandsForPredicate schema strata) b other each.granting each.guarding in
       λ i u within. known-there (get_or (uses_in b other) i u).condition (stand i u within)
 
   -- where a list of uses of the set has the schema, such uses are known to it
   known-use : (named : Schema) (b : Bool) → ((k : List ℕ) → item_at k schema.keys ≡ run_rule named (uses_in b set) k) → (u : Use) → IsKnownThere u.condition → IsKnownUse named (uses_in b set) u
   known-use named b ruled u known = record {
-    in_use = some-use (compares_key u.condition.key) b set known.compared;
+    in_use = λ further. some-use (compares_key u.condition.key) b set known.compared;
     rule = subst (λ (o : Option KeyRule). MatchOption o ⊥ (λ rule. IsOperatorOn rule.kind rule.many u.condition.operator)) (ruled u.condition.key) known.rule;
   }
 
@@ -179,7 +179,7 @@ module _ (laws : RunLaws) (schema : Schema) (set : PolicySet) (base : Query) (st
 
     -- the same set in the second place
     run-second : IsRunOf named (uses_in false set) (uses_in true set)
-    run-second = subst (IsRunOf named (uses_in false set)) (sym (uses-moved set)) (run-moved named (uses_in false set) passed)
+    run-second = subst (IsRunOf named (uses_in false set)) (sym (uses-moved set)) (run-renamed named (uses_in false set) (λ u. true) (λ u. u.name) passed [] (uses_in false set) refl)
 
     ruled-alone : (k : List ℕ) → item_at k (schema_for named (uses_in true set)).keys ≡ run_rule named (uses_in true set) k
     unfolding schema_of_run uses_of
@@ -195,13 +195,16 @@ module _ (laws : RunLaws) (schema : Schema) (set : PolicySet) (base : Query) (st
       set-first : IsInferred named set (Some other) (Ok schema)
       unfolding infer_fault schema_of_run uses_of
       set-first =
-          let run = run-front named (uses_in false set) passed (uses_in true other) (known-to true false ruled-first) in
+          let us = uses_in false set in
+          let es = uses_in true other in
+          let ended : IsRunOf named us (us ++ (es ++ [])) = run-among named us passed us [] (sym (append-nil us)) es (known-to true false ruled-first) in
+          let run : IsRunOf named us (us ++ es) = subst (λ (ts : List Use). IsRunOf named us (us ++ ts)) (append-nil es) ended in
           (run.passed, schema-is ∙ sym run.schema)
 
       set-second : IsInferred named other (Some set) (Ok schema)
       unfolding infer_fault schema_of_run uses_of
       set-second =
-          let run = run-behind named (uses_in true set) run-second.passed (uses_in false other) (known-to false true ruled-second) in
+          let run = run-among named (uses_in true set) run-second.passed [] (uses_in true set) refl (uses_in false other) (known-to false true ruled-second) in
           (run.passed, schema-is ∙ sym run-second.schema ∙ sym run.schema)
 
 pub schemas-kept : RunLaws → KnownKeysKeepSchemas

@@ -1,9 +1,8 @@
--- The uses of a set's conditions: what holds of each condition, and of some condition, and the same uses in the other set's place.
-use Rattle.std.proofs.Common.{◌≡◌, ℕ, ◌+◌, ◌||◌, List, [], ◌∷◌, ◌++◌, length, map, Bool, true, false, All as Each, Any, refl, ap, sym, ◌∙◌, subst, inl, inr, ◌⊎◌}
+-- The uses of a set's conditions: what some condition passes, and the same uses in the other set's place.
+use Rattle.std.proofs.Common.{◌≡◌, ℕ, ◌+◌, ◌||◌, List, [], ◌∷◌, ◌++◌, length, map, Bool, true, false, Any, refl, ap, sym, ◌∙◌, inl, inr, ◌⊎◌}
 use Rattle.std.specs.List.{list_any}
 use Rattle.std.proofs.lemmas.List.{map-append}
 use Rattle.std.proofs.lemmas.List.Concat.{flat_map-append}
-use Rattle.std.proofs.lemmas.List.Elements.{All-append, All-head, All-map, All-nil, All-tail}
 use Rattle.std.proofs.lemmas.List.Folds.{list_any-append}
 use Rattle.policy_model.specs.StatementNames.{Named, name_of, named_documents, named_grants, named_guards, named_set, named_statements}
 use Rattle.policy_model.specs.declared.operator.Condition.{Condition}
@@ -14,41 +13,6 @@ use Rattle.policy_model.specs.declared.set.StatementName.{StatementName}
 use Rattle.policy_model.proofs.Laws.{Any-nil, Any-split}
 use Rattle.policy_compile.specs.Asked.{SomeStatementIn, SomeStatementOf}
 use Rattle.request_schema.specs.Uses.{Use, use_of, uses_in, uses_of_statement, uses_of_statements}
-use Rattle.read_predicates.specs.KnownKeys.{EachConditionIn, EachConditionOf}
-
--- ---- each condition
-
-module _ (P : Condition → Type 0) (b : Bool) where
-  abbrev Of : Use → Type 0
-  Of u = P u.condition
-
-  abbrev InStatements : List Statement → Type 0
-  InStatements xs = Each (λ s. Each P s.conditions) xs
-
-  join : (xs ys : List Named) → Each Of (uses_of_statements b xs) → Each Of (uses_of_statements b ys) → Each Of (uses_of_statements b (xs ++ ys))
-  join xs ys front behind = subst (Each Of) (sym (flat_map-append (uses_of_statement b) xs ys)) (All-append Of (uses_of_statements b xs) (uses_of_statements b ys) front behind)
-
-  each-statements : (d i : ℕ) (xs : List Statement) → InStatements xs → Each Of (uses_of_statements b (named_statements d i xs))
-  each-statements d i [] each = All-nil Of
-  each-statements d i (x ∷ xs) each =
-      let own : Statement → Type 0 = λ (s : Statement). Each P s.conditions in
-      All-append Of (map (use_of b (name_of d i)) x.conditions) (uses_of_statements b (named_statements d (i + 1) xs))
-      (All-map Of (use_of b (name_of d i)) x.conditions (All-head own x xs each)) (each-statements d (i + 1) xs (All-tail own x xs each))
-
-  each-documents : (d : ℕ) (xs : List Document) → EachConditionIn P xs → Each Of (uses_of_statements b (named_documents d xs))
-  each-documents d [] each = All-nil Of
-  each-documents d (x ∷ xs) each =
-      let own : Document → Type 0 = λ (y : Document). InStatements y.statements in
-      join (named_statements d 1 x.statements) (named_documents (d + 1) xs) (each-statements d 1 x.statements (All-head own x xs each)) (each-documents (d + 1) xs (All-tail own x xs each))
-
-  each-guards : (d : ℕ) (xs : List (List Document)) → Each (EachConditionIn P) xs → Each Of (uses_of_statements b (named_guards d xs))
-  each-guards d [] each = All-nil Of
-  each-guards d (x ∷ xs) each =
-      join (named_documents d x) (named_guards (d + length x) xs) (each-documents d x (All-head (EachConditionIn P) x xs each)) (each-guards (d + length x) xs (All-tail (EachConditionIn P) x xs each))
-
-  -- of each condition of a set it holds, so of each of its uses
-  pub each-use : (set : PolicySet) → EachConditionOf P set → Each (λ u. P u.condition) (uses_in b set)
-  each-use set each = join (named_grants set) (named_guards (1 + length set.grants) set.guards) (each-documents 1 set.grants each.granting) (each-guards (1 + length set.grants) set.guards each.guarding)
 
 -- ---- some condition
 

@@ -1,32 +1,21 @@
 -- Conditions that stand for predicates of a set: they ask no key for more than the set does, so that a run on both sets has the schema
 -- of a run on the set alone.
-use Rattle.std.specs.Prelude.{◌≡◌, List, Bool, true, false, not, All as Each, Any, Contains, None, Some, Ok}
+use Rattle.std.specs.Prelude.{◌≡◌, List, All as Each, Any, Contains, None, Some, Ok}
 use Rattle.policy_model.specs.Conds.{cond_kind}
-use Rattle.policy_model.specs.Operators.{family_of, is_null, takes_family}
 use Rattle.policy_model.specs.Soundness.{IsKeyWith}
 use Rattle.policy_model.specs.declared.cond.Cond.{Cond}
 use Rattle.policy_model.specs.declared.operator.Condition.{Condition}
-use Rattle.policy_model.specs.declared.operator.Operator.{Operator}
 use Rattle.policy_model.specs.declared.schema.Schema.{Schema}
 use Rattle.policy_model.specs.declared.set.Document.{Document}
 use Rattle.policy_model.specs.declared.set.PolicySet.{PolicySet}
 use Rattle.policy_model.specs.declared.test.Slot.TheVariants as slot
-use Rattle.policy_model.specs.declared.value.Kind.{Kind}
-use Rattle.policy_model.specs.declared.value.Kind.TheVariants.{Truth}
 use Rattle.policy_compile.specs.declared.outcome.Query.{Query}
+use Rattle.request_schema.specs.KeyOperators.{IsOperatorOn}
 use Rattle.request_schema.specs.RunSchemas.{IsInferred}
-use Rattle.request_schema.specs.Uses.{is_bool, is_plain}
 use Rattle.strata.specs.declared.predicate.Predicate.TheVariants.{Meets}
 use Rattle.strata.specs.declared.stratum.Strata.{Strata}
 use Rattle.strata.specs.declared.stratum.Stratum.{Stratum}
 use Rattle.findings.specs.Queries.{AreMadeFor}
-
--- the operator compares values of the kind, of truth values by `Bool` alone, and has a prefix exactly where there may be several
-pub record IsOperatorOn (k : Kind) (many : Bool) (o : Operator) : Type 0 where
-  pub compares : is_null o.base ≡ false
-  pub takes : takes_family k (family_of o.base) ≡ true
-  pub truth : k ≡ Truth → is_bool (family_of o.base) ≡ true
-  pub prefixed : not (is_plain o.quantifier) ≡ many
 
 -- the dimension is of the condition's key, and this is one of its predicates
 pub record IsDimensionOf (c : Condition) (asked : Cond) (x : Stratum) : Type 0 where

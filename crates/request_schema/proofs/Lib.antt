@@ -1,3 +1,4 @@
+pub mod Laws
 mod Comparing
 mod Entries
 mod Files
@@ -6,8 +7,11 @@ mod Fitting
 mod Further
 mod Inferring
 mod Keys
+mod KnownRuns
 mod Listed
 mod OfSets
 mod Passing
+mod PutRules
 mod Putting
 mod RuleSound
+mod SameRules

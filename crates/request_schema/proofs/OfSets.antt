@@ -67,7 +67,7 @@ module _ (P : Condition → Type 0) (second : Bool) where
       let parts = split own rest all in
       All-cons (λ (y : Document). InStatements y.statements) x xs (of-statements d 1 x.statements (all-front Of (uses_of_statements second own) (uses_of_statements second rest) parts)) (of-documents (d + 1) xs (all-behind Of (uses_of_statements second own) (uses_of_statements second rest) parts))
 
-  to-documents : (d : ℕ) (xs : List Document) → InDocuments xs → All Of (uses_of_statements second (named_documents d xs))
+  pub to-documents : (d : ℕ) (xs : List Document) → InDocuments xs → All Of (uses_of_statements second (named_documents d xs))
   to-documents d [] all = All-nil Of
   to-documents d (x ∷ xs) all =
       join (named_statements d 1 x.statements) (named_documents (d + 1) xs) (to-statements d 1 x.statements (All-head (λ (y : Document). InStatements y.statements) x xs all)) (to-documents (d + 1) xs (All-tail (λ (y : Document). InStatements y.statements) x xs all))
@@ -90,7 +90,7 @@ module _ (P : Condition → Type 0) (second : Bool) where
       let parts = split (named_grants set) guards all in
       (of-documents 1 set.grants (all-front Of (uses_of_statements second (named_grants set)) (uses_of_statements second guards) parts), of-guards (1 + length set.grants) set.guards (all-behind Of (uses_of_statements second (named_grants set)) (uses_of_statements second guards) parts))
 
-  to-set : (set : PolicySet) → InDocuments set.grants → InGuards set.guards → All Of (uses_in second set)
+  pub to-set : (set : PolicySet) → InDocuments set.grants → InGuards set.guards → All Of (uses_in second set)
   to-set set grants guards = join (named_grants set) (named_guards (1 + length set.grants) set.guards) (to-documents 1 set.grants grants) (to-guards (1 + length set.grants) set.guards guards)
 
 -- the keys of a sound set are folded

@@ -7,4 +7,5 @@ pub mod SchemaWords
 pub mod SchemaFiles
 pub mod Uses
 pub mod RunSchemas
+pub mod KeyOperators
 pub mod KeyUses

@@ -28,6 +28,7 @@ wide-within schema query few budgets w below same h =
     subst (λ (n : ℕ). IsWide schema query at_first budgets.splits n [] w) same
     (record {
       node = h.node;
+      propagated = h.propagated;
       near = record { count = h.near.count; lead = h.near.lead; few = let least = h.near.few in omega (arith, below, least) };
       not_no = h.not_no;
       asked = h.asked;

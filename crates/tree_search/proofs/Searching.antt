@@ -36,6 +36,8 @@ use Rattle.search_parts.proofs.Laws.{clauses-made, closed-none, closes-grows, ke
 use Rattle.tree_search.specs.declared.found.Found.{Found}
 use Rattle.tree_search.specs.declared.found.Found.TheVariants.{Refuted, Met, OutOfSplits, OutOfStates}
 use Rattle.tree_search.specs.Decisions.{NeedMore}
+use Rattle.tree_search.specs.Nodes.{IsToBeSplit}
+use Rattle.tree_search.specs.Nodes as nodes
 use Rattle.tree_search.specs.Leading.{IsReachedBy, LeadBy, nowhere, to_yes, to_no}
 use Rattle.tree_search.specs.Search.{IsFoundFrom, IsMetThere, IsRefutedPart, IsShortOf, IsWideBy}
 use Rattle.tree_search.specs.States.{AreAllUnmet}
@@ -72,6 +74,9 @@ module _ (schema : Schema) (query : Query) where
     abbrev on_no : Answers
     on_no = path_with p t false
 
+    abbrev split : IsToBeSplit schema query p
+    split = record { possible = h; test = t; picks = e; quiet = quiet }
+
     -- both runs from it split
     need-one : NeedMore schema query p 0
     need-one = record {
@@ -88,7 +93,11 @@ module _ (schema : Schema) (query : Query) where
 
     -- a node that is reached from its yes side
     reached-yes : (store : List Answers) (ended k used : ℕ) (node : Answers) → used ≡ k + 1 → IsReachedBy schema query store ended k on_yes node → IsReachedBy schema query store ended used p node
-    reached-yes store ended k used node sum r = record { on_run = in_yes p node t h e r.on_run; lead = to_yes ended p node t k used r.lead sum }
+    reached-yes store ended k used node sum r = record {
+      on_run = in_yes p node t h e r.on_run;
+      propagated = nodes.in_yes p node split r.propagated;
+      lead = to_yes ended p node t k used r.lead sum;
+    }
 
     -- what is found on the yes side, unless that is refuted
     pub after-yes : (states left rest k used : ℕ) (old new : List Answers) (f : Found) → rest + 1 ≡ left → used ≡ k + 1 → ((r : _) → f ≡ Refuted r → ⊥) →
@@ -141,6 +150,7 @@ module _ (schema : Schema) (query : Query) where
       reached-no : (new more : List Answers) (m used : ℕ) (node : Answers) → new ≡ middle ++ more → used ≡ k + m + 1 → IsReachedBy schema query new (length middle) m on_no node → IsReachedBy schema query new (length old) used p node
       reached-no new more m used node grows sum r = record {
         on_run = in_no p node t h e yes-side-ends r.on_run;
+        propagated = nodes.in_no p node split (λ n run. let bad = (side_yes.counted.propagated true n run).0 in absurd (cc)) r.propagated;
         lead =
             to_no (length old) p node t k m used (part_proof y)
             (record { closes = side-closes new more grows; order = side_yes.made.closed.order; within = side-ended new more grows; among = side_yes.made.trim.few; counted = side_yes.counted })
@@ -205,7 +215,7 @@ module _ (schema : Schema) (query : Query) where
 
   module _ (path : Answers) (store : List Answers) where
     reached-here : (used : ℕ) (node : Answers) → used ≡ 0 → node ≡ path → IsReachedBy schema query store (length store) used path node
-    reached-here used node none same = rw (none, same) (record { on_run = at_start path; lead = nowhere (length store) path })
+    reached-here used node none same = rw (none, same) (record { on_run = at_start path; propagated = nodes.at_start path; lead = nowhere (length store) path })
 
     pub wide-here : (states used : ℕ) (copy : Answers) (s : Slot) (texts : List (List ℕ)) → used ≡ 0 → copy ≡ path → value path tree ≢ No → HasTest query.tests path s → ShowWider (patterns_at schema query.tests path s) states texts →
         IsWideBy schema query store (length store) used states path (record { path = copy; slot = s; texts = texts })
@@ -224,7 +234,7 @@ module _ (schema : Schema) (query : Query) where
       more = subst (λ (most : ℕ). NeedMore schema query path most) (sym none) (need-one path t h quiet e);
       node = path;
       reached = reached-here left path none refl;
-      next = record { possible = h; test = t; picks = e; quiet = quiet };
+      next = split path t h quiet e;
     }
 
     module _ (below : TreeInRange query.tests tree) (range : PathInRange query.tests path) where

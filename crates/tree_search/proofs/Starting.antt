@@ -64,6 +64,7 @@ module _ (schema : Schema) (query : Query) where
   told-decides budgets (found.OutOfStates w) d whole told =
       subst (λ (x : Decided). IsDecision schema query budgets x) (sym told) (record {
         node = whole.is.reached.on_run;
+        propagated = whole.is.reached.propagated;
         near = near-from whole.store budgets.splits whole.used w.path whole.is.reached whole.few;
         not_no = whole.is.not_no;
         asked = whole.is.asked;
@@ -78,6 +79,7 @@ module _ (schema : Schema) (query : Query) where
       subst (λ (x : Decided). IsWithinSplits schema query budgets.splits x) (sym told) (record {
         node = whole.is.node;
         on_run = whole.is.reached.on_run;
+        propagated = whole.is.reached.propagated;
         near = near-from whole.store budgets.splits whole.used whole.is.node whole.is.reached whole.few;
         answers = whole.is.met.answers;
         is_yes = whole.is.is_yes;
@@ -86,6 +88,7 @@ module _ (schema : Schema) (query : Query) where
       subst (λ (x : Decided). IsWithinSplits schema query budgets.splits x) (sym told) (record {
         node = whole.is.node;
         on_run = whole.is.reached.on_run;
+        propagated = whole.is.reached.propagated;
         lead = leads-renamed schema query whole.store 0 budgets.splits [] whole.is.node 0 [] whole.is.reached.lead (names-none 0);
         next = whole.is.next;
       })

@@ -23,7 +23,7 @@ use Rattle.tree_search.specs.declared.outcome.Budgets.{Budgets}
 use Rattle.tree_search.specs.declared.outcome.Decided.{Decided}
 use Rattle.tree_search.specs.declared.outcome.Decided.TheVariants.{Refuted, Met, OutOfSplits, OutOfStates}
 use Rattle.tree_search.specs.declared.outcome.Wide.{Wide}
-use Rattle.tree_search.specs.Nodes.{IsToBeSplit, LeadTo}
+use Rattle.tree_search.specs.Nodes.{IsPropagatedNode, IsToBeSplit, LeadTo}
 
 -- the refutation closes the query; it has at most so many splits, a shared one counted as often as it stands; its splits and labels
 -- nest at most twice as deep as there are tests; and it is trimmed
@@ -44,10 +44,11 @@ pub record IsFewSplitsAway (schema : Schema) (query : Query) (before : Before) (
   pub lead : LeadTo schema query before count path node
   pub few : count ≤ most
 
--- the kept path is a node of the plain run from the path, to which no more splits than so many lead, and at which the query
--- isn't no; it answers a test of the slot, and the kept texts show the patterns of the slot there wider than the states
+-- the kept path is a node of both runs from the path, to which no more splits than so many lead, and at which the query isn't no; it
+-- answers a test of the slot, and the kept texts show the patterns of the slot there wider than the states
 pub record IsWide (schema : Schema) (query : Query) (before : Before) (most states : ℕ) (path : Answers) (w : Wide) : Type 0 where
   pub node : IsNode (IsPossible schema query.tests) (asked_tree query) path w.path
+  pub propagated : IsPropagatedNode schema query path w.path
   pub near : IsFewSplitsAway schema query before most path w.path
   pub not_no : value w.path (asked_tree query) ≢ No
   pub asked : HasTest query.tests w.path w.slot
@@ -59,25 +60,27 @@ pub record NeedMore (schema : Schema) (query : Query) (path : Answers) (most : �
   pub propagated : PropagatedNeedsMore schema query.tests (asked_tree query) path most
 
 -- what is decided of a query: a refutation within the budget of splits; a request; that both runs need more splits than there
--- may be; or that a slot needs more states at a node of the plain run
+-- may be; or that a slot needs more states at a node of both runs
 abbrev pub IsDecision : Schema → Query → Budgets → Decided → Type 0
 IsDecision schema query budgets (Refuted r) = IsRefutation schema query budgets.splits (proof_of r.value)
 IsDecision schema query budgets (Met q) = MeetsQuery schema query q
 IsDecision schema query budgets OutOfSplits = NeedMore schema query [] budgets.splits
 IsDecision schema query budgets (OutOfStates w) = IsWide schema query at_first budgets.splits budgets.states [] w
 
--- the request answers the path of a node of the plain run, at which the query is yes and to which no more splits than so many lead
+-- the request answers the path of a node of both runs, at which the query is yes and to which no more splits than so many lead
 pub record IsMetNear (schema : Schema) (query : Query) (before : Before) (most : ℕ) (path : Answers) (q : Request) : Type 0 where
   pub node : Answers
   pub on_run : IsNode (IsPossible schema query.tests) (asked_tree query) path node
+  pub propagated : IsPropagatedNode schema query path node
   pub near : IsFewSplitsAway schema query before most path node
   pub answers : AnswersPath query.tests node q
   pub is_yes : value node (asked_tree query) ≡ Yes
 
--- a node of the plain run is to be split, and exactly so many splits lead to it
+-- a node of both runs is to be split, and exactly so many splits lead to it
 pub record IsStoppedAfter (schema : Schema) (query : Query) (before : Before) (made : ℕ) (path : Answers) : Type 0 where
   pub node : Answers
   pub on_run : IsNode (IsPossible schema query.tests) (asked_tree query) path node
+  pub propagated : IsPropagatedNode schema query path node
   pub lead : LeadTo schema query before made path node
   pub next : IsToBeSplit schema query node
 

@@ -9,7 +9,7 @@ use Rattle.policy_compile.specs.Queries.{asked_tree}
 use Rattle.refute_check.specs.Proofs.{Proof, labels, splits}
 use Rattle.search_parts.specs.Parts.{ClosesByStore, EndInOrder}
 use Rattle.slot_theory.specs.Possible.{IsPossible}
-use Rattle.tree_search.specs.Nodes.{IsCounted}
+use Rattle.tree_search.specs.Nodes.{IsCounted, IsPropagatedNode}
 
 -- The path is closed by so many splits, by what is stored, while labels are numbered in the order of learning. Of the stored lists so
 -- many had ended before.
@@ -31,7 +31,8 @@ pub data LeadBy (schema : Schema) (query : Query) (store : List Answers) : ℕ �
       LeadBy schema query store (ended + labels passed) k (path_with path n false) node → all ≡ made + k + 1 →
       LeadBy schema query store ended all path node
 
--- to a node of the plain run from the first
+-- to a node of both runs from the first
 pub record IsReachedBy (schema : Schema) (query : Query) (store : List Answers) (ended made : ℕ) (path node : Answers) : Type 0 where
   pub on_run : IsNode (IsPossible schema query.tests) (asked_tree query) path node
+  pub propagated : IsPropagatedNode schema query path node
   pub lead : LeadBy schema query store ended made path node

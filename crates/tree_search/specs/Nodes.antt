@@ -1,4 +1,4 @@
--- How many splits a search makes on its way to a node of the run.
+-- The nodes of both runs, and how many splits a search makes on its way to one.
 use Rattle.std.specs.Prelude.{◌≡◌, ◌≤◌, ◌+◌, ℕ, Bool, true, false, Some}
 use Rattle.formula_tree.specs.Answers.{Answers}
 use Rattle.formula_tree.specs.Runs.{Run, path_with}
@@ -44,3 +44,13 @@ pub record IsToBeSplit (schema : Schema) (query : Query) (path : Answers) : Type
   pub test : ℕ
   pub picks : pick path (asked_tree query) ≡ Some test
   pub quiet : ¬ MeetsConflict query.tests (asked_tree query) path
+
+-- The second path is a node of the propagated run from the first: where both runs split, it goes on to the yes side, and to the no side
+-- where it ends with no request from the yes side
+pub data IsPropagatedNode (schema : Schema) (query : Query) : Answers → Answers → Type 0 where
+  at_start : (path : Answers) → IsPropagatedNode schema query path path
+  in_yes : (path node : Answers) (split : IsToBeSplit schema query path) →
+      IsPropagatedNode schema query (path_with path split.test true) node → IsPropagatedNode schema query path node
+  in_no : (path node : Answers) (split : IsToBeSplit schema query path) →
+      ((k : ℕ) → ¬ PropagatedRun schema query.tests (asked_tree query) (path_with path split.test true) true k) →
+      IsPropagatedNode schema query (path_with path split.test false) node → IsPropagatedNode schema query path node

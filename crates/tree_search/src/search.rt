@@ -1,6 +1,6 @@
 //! The search. A node is closed by the tree's value, by a conflict of clauses, by what was learned, by a kept core or
-//! by its slot, in this order, and else split. What clauses derive isn't put into the path, so each node is one of the
-//! plain run.
+//! by its slot, in this order, and else split. What clauses derive isn't put into the path, so each node is one of
+//! both runs.
 ghost use Rattle.std.specs.Prelude.{◌≡◌, ◌≢◌, ◌<◌, [], None, IfOk, OnOk, length};
 ghost use Rattle.formula_tree.specs.Answers.{answer_of};
 ghost use Rattle.formula_tree.specs.Values.{value};

@@ -32,7 +32,7 @@ use Rattle.trust_zones.specs.declared.zone.Zone.{Zone}
 
 -- ---- statements for lists that aren't empty
 
-some-each : {X : Type 0} (P : Statement → Type 0) (xs : List X) (s : Statement) → (xs ≢ [] → P s) → Each P (where_some xs s)
+pub some-each : {X : Type 0} (P : Statement → Type 0) (xs : List X) (s : Statement) → (xs ≢ [] → P s) → Each P (where_some xs s)
 some-each P [] s is = All-nil P
 some-each P (x ∷ xs) s is = All-cons P s [] (is (λ e. cc)) (All-nil P)
 

@@ -1,7 +1,9 @@
 mod Denying
 mod Files
+mod Inferring
 mod Items
 mod Keeping
 mod Leaving
 mod Listing
+mod Numbering
 mod Steps

@@ -14,7 +14,7 @@ mod zone;
 
 pub use fault::{ZoneAnswer, ZoneCode, ZoneFault};
 pub use file::read_zone;
-pub use laws::{zone_limits, zones_leave_the_outside};
+pub use laws::{zone_limits, zones_keep_schemas, zones_leave_the_outside};
 pub use list::MOST_LISTED;
 pub use outside_set::outside;
 pub use zone::{BlockList, Zone};

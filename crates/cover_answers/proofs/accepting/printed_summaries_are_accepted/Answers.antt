@@ -6,7 +6,6 @@ returns c = printed_summaries_are_accepted (record {
   within = c.queries_are_within_limits.ensures;
   determined = c.strata_are_determined.ensures;
   apart = c.findings_are_written_apart.ensures;
-  again = c.printed_requests_are_read_again.ensures;
   none = c.closing_proofs_have_no_fault_behind.ensures;
   sizes = c.closing_proofs_are_small.ensures;
   law = c.one_proof_for_each_text.ensures;

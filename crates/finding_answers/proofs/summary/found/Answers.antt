@@ -37,7 +37,7 @@ returns c =
     let known = c.in_ok-slots.ensures.slots.0 in
     let askable = names-askable names c.requires.dimensions one.schema c.requires.fits.sound known c.in_ok-slots.ensures.texts in
     let finds : (f : Found) → IsFoundIn outcome f → IsFoundOf names c.args.limits one f = λ f v.
-    found-of names c.args.limits one outcome came known c.requires.fits (c.sound_schemas_have_requests.ensures one.schema c.requires.fits.sound) askable f v in
+    found-of c.written_requests_are_read_again.ensures names c.args.limits one outcome came known c.requires.fits (c.sound_schemas_have_requests.ensures one.schema c.requires.fits.sound) askable f v in
     let tells : (p : Printed) → PrintsUnfound names c.args.limits outcome p → IsNotFound names c.args.limits one p =
     λ p v. inr (known, inr (record { came = outcome; is = came; prints = v })) in
     or_answered_weaker c.found_in.result (IsFoundIn outcome) (IsFoundOf names c.args.limits one) (PrintsUnfound names c.args.limits outcome) (IsNotFound names c.args.limits one) finds tells c.found_in.ensures

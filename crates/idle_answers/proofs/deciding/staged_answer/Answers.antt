@@ -12,5 +12,5 @@ decide_in_stages-requires-clause-below c = (smaller_askable c.smaller_questions_
 
 pub returns : goal.returns
 returns c =
-    staged_if_verdict c.smaller_questions_tell.ensures c.args.budgets c.args.one.now c.args.name c.args.query.now c.requires.smaller
+    staged_if_verdict c.smaller_questions_tell.ensures c.written_requests_are_read_again.ensures c.args.budgets c.args.one.now c.args.name c.args.query.now c.requires.smaller
     c.in_ok-verdict.verdict c.in_ok-verdict.ensures c.answer_by.result c.answer_by.ensures
