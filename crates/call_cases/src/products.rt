@@ -3,7 +3,6 @@
 ghost use Rattle.std.specs.Prelude.{◌≡◌, ◌≤◌, ◌+◌, ◌∷◌, [], IfOk, OnOk, length};
 ghost use Rattle.pattern_automata.specs.Closed.{InRange};
 
-use crate::made::push_made;
 use pattern_automata::{
     ClauseList, Closed, Literal, LiteralList, PlaceLists, Product, State, Wants, is_closed, product,
 };
@@ -20,7 +19,7 @@ fn read(alloc: Global, text: &str) -> io::Result<Pattern> {
 }
 
 /// The clause of one literal.
-pub(crate) fn clause(alloc: Global, pattern: u32, holds: bool) -> io::Result<LiteralList>
+fn clause(alloc: Global, pattern: u32, holds: bool) -> io::Result<LiteralList>
     ensures { IfOk result (λ k. k ≡ record { pattern = pattern; holds = holds } ∷ []) }
 {
     let mut clause = LiteralList::new(alloc);
@@ -214,17 +213,9 @@ fn write_of_words(alloc: Global, words: &str, line: &mut String) -> io::Result<(
     }
 }
 
-// Writes the answer to a line.
-fn write_of_line(rt: &HostRuntime, asked: &str, timed: bool, line: &mut String) -> io::Result<()> {
-    match asked.strip_prefix("states ") {
-        Some(words) => push_made(rt, line, words, timed),
-        None => write_of_words(rt.alloc(), asked, line),
-    }
-}
-
-/// The answer to `LIMIT YES NO OTHER` or `states LIMIT FORM NAME`.
-pub(crate) fn product_answer(rt: &HostRuntime, asked: &str, timed: bool) -> io::Result<String> {
-    let mut line = String::new(rt.alloc());
-    write_of_line(rt, asked, timed, &mut line)?;
+/// The answer to `LIMIT YES NO OTHER`.
+pub(crate) fn product_answer(alloc: Global, asked: &str) -> io::Result<String> {
+    let mut line = String::new(alloc);
+    write_of_words(alloc, asked, &mut line)?;
     Ok(line)
 }

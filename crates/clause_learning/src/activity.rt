@@ -1,10 +1,7 @@
-//! How much part each variable had in the last conflicts. The most active undecided one is decided next, or in turn
-//! the first one of an order.
+//! How much part each variable had in the last conflicts. The most active undecided one is decided next.
 use crate::assignment::Assignment;
-use crate::gain::Gain;
 use plain_lists::NoMemory;
 use std::alloc::Global;
-use std::mem::replace;
 
 // What the first conflict adds.
 const FIRST_BUMP: u64 = 1 << 20;
@@ -18,11 +15,6 @@ const MOST_BUMP: u64 = 1 << 40;
 // A heap of so many levels has room for every variable.
 const MOST_DEPTH: u32 = 64;
 
-// How many times longer variables are decided in an order that wasn't tried, and in the one by which more was gained.
-const UNTRIED: u32 = 2;
-
-const BETTER: u32 = 16;
-
 #[derive(Drop)]
 pub(crate) struct Activity {
     scores: Vec<u64>,
@@ -31,18 +23,6 @@ pub(crate) struct Activity {
     heap: Vec<u32>,
     // By variable its place in the heap.
     places: Vec<Option<usize>>,
-    // Whether variables are decided in the order below. Where much is alike in turn, as in lists of statements, that
-    // takes far fewer conflicts.
-    in_order: bool,
-    // The variables in that order: at first by number, as the formula has them.
-    order: Vec<u32>,
-    // By variable its place there.
-    ranks: Vec<usize>,
-    // What was gained since variables are decided in this order, and in the other one where they were last.
-    gained: Gain,
-    gained_before: Gain,
-    // All variables before this place of the order are decided or left out.
-    least: usize,
     // By variable whether it is in no clause, and never decided.
     left_out: Vec<bool>,
 }
@@ -52,24 +32,15 @@ impl Activity {
         let scores = vec![in alloc; 0u64; variables]?;
         let mut heap = Vec::new(alloc);
         let mut places = Vec::new(alloc);
-        let mut ranks = Vec::new(alloc);
         for variable in 0..variables {
             heap.push(variable.min(u32::MAX as usize) as u32)?;
             places.push(Some(variable))?;
-            ranks.push(variable)?;
         }
-        let order = Vec::from_slice(alloc, heap.as_slice())?;
         Ok(Activity {
             scores,
             bump: FIRST_BUMP,
             heap,
             places,
-            in_order: false,
-            order,
-            ranks,
-            gained: Gain::new(),
-            gained_before: Gain::new(),
-            least: 0,
             left_out: vec![in alloc; false; variables]?,
         })
     }
@@ -99,46 +70,6 @@ impl Activity {
         }
     }
 
-    /// A clause of so many levels was learned.
-    pub(crate) fn count(&mut self, levels: u32) {
-        self.gained.add(levels);
-    }
-
-    /// How many times longer than else variables are to be decided in the other order, were it to begin now.
-    pub(crate) fn times(&self) -> u32 {
-        if self.gained_before.is_none() {
-            return UNTRIED;
-        }
-        if self.gained_before.is_more(&self.gained) {
-            return BETTER;
-        }
-        1
-    }
-
-    /// Whether variables are decided in order, and not by activity.
-    pub(crate) fn is_in_order(&self) -> bool {
-        self.in_order
-    }
-
-    /// From now on variables are decided in the other order.
-    pub(crate) fn turn(&mut self) {
-        self.in_order = !self.in_order;
-        self.gained_before = replace(&mut self.gained, Gain::new());
-    }
-
-    /// Variables are decided in this order from now on, where they aren't by activity. Each is there once.
-    pub(crate) fn arrange(&mut self, order: Vec<u32>) {
-        let mut place: usize = 0;
-        for variable in order.as_slice() {
-            if let Some(rank) = self.ranks.get_mut(*variable as usize) {
-                *rank = place;
-            }
-            place = place.saturating_add(1);
-        }
-        self.order = order;
-        self.least = 0;
-    }
-
     /// The variable is in no clause, and needn't be decided.
     pub(crate) fn leave_out(&mut self, variable: u32) {
         if let Some(left_out) = self.left_out.get_mut(variable as usize) {
@@ -155,28 +86,8 @@ impl Activity {
         assignment.value(variable).is_none() && !self.is_left_out(variable)
     }
 
-    /// The variable that is to be decided next.
+    /// The variable that is to be decided next: the most active one that isn't.
     pub(crate) fn next(&mut self, assignment: &Assignment) -> Option<u32> {
-        if self.in_order {
-            return self.first(assignment);
-        }
-        self.best(assignment)
-    }
-
-    // The first undecided variable of the order.
-    fn first(&mut self, assignment: &Assignment) -> Option<u32> {
-        for place in self.least..self.order.len() {
-            let variable = self.order.as_slice().get(place).copied()?;
-            if self.may_be_decided(assignment, variable) {
-                self.least = place;
-                return Some(variable);
-            }
-        }
-        None
-    }
-
-    // The most active variable that isn't decided.
-    fn best(&mut self, assignment: &Assignment) -> Option<u32> {
         for _ in 0..=self.scores.len() {
             let variable = self.take()?;
             if self.may_be_decided(assignment, variable) {
@@ -188,9 +99,6 @@ impl Activity {
 
     /// The variable is undecided again.
     pub(crate) fn put(&mut self, variable: u32) -> Result<(), NoMemory> {
-        if let Some(rank) = self.ranks.as_slice().get(variable as usize).copied() {
-            self.least = self.least.min(rank);
-        }
         if self.place_of(variable).is_some() {
             return Ok(());
         }

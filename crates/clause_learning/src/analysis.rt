@@ -19,8 +19,6 @@ const HINT_WORK: usize = 4;
 pub(crate) struct Learned {
     pub(crate) clause: Vec<Literal>,
     pub(crate) hints: Vec<u32>,
-    /// At how many levels its literals became false.
-    pub(crate) levels: u32,
 }
 
 // How far a conflict was traced.
@@ -278,12 +276,8 @@ impl Solver {
         self.limits.spend(self.assignment.variables() / 8);
         let hints = hints_of(self.alloc, &self.assignment, &trace)?;
         self.limits.spend(hints.len().saturating_mul(HINT_WORK));
-        let Trace { clause, levels, .. } = trace;
-        Ok(Learned {
-            clause,
-            hints,
-            levels: levels.count_ones().saturating_add(1),
-        })
+        let Trace { clause, .. } = trace;
+        Ok(Learned { clause, hints })
     }
 
     fn trace_all(&mut self, trace: &mut Trace, number: u32) -> Result<(), NoMemory> {

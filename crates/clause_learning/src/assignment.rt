@@ -3,7 +3,7 @@ use crate::store::Literal;
 use plain_lists::NoMemory;
 use std::alloc::Global;
 
-// The value that a variable gets where it is decided by activity for the first time. Formulas ask for allowed requests,
+// The value that a variable gets where it is decided for the first time. Formulas ask for allowed requests,
 // and most conflicts come where much of them holds.
 const FIRST_PHASE: bool = true;
 
@@ -19,8 +19,6 @@ struct Entry {
     place: usize,
     // The value that it had last.
     phase: bool,
-    // Whether it is to be yes where it is decided next, and wasn't no since.
-    wanted: bool,
 }
 
 /// The values of variables, and the trail: the literals that are true, in the order in which they became so.
@@ -44,7 +42,6 @@ impl Assignment {
             reason: None,
             place: 0,
             phase: FIRST_PHASE,
-            wanted: false,
         };
         let entries = vec![in alloc; entry; variables]?;
         Ok(Assignment {
@@ -109,15 +106,6 @@ impl Assignment {
     pub fn prefer(&mut self, literal: Literal) {
         if let Some(entry) = self.entries.get_mut(literal.0 as usize) {
             entry.phase = literal.1;
-            entry.wanted = literal.1;
-        }
-    }
-
-    /// Whether the variable is to be yes where it is decided next, and wasn't no since that was said.
-    pub(crate) fn is_wanted(&self, variable: u32) -> bool {
-        match self.entries.as_slice().get(variable as usize) {
-            Some(entry) => entry.wanted,
-            None => false,
         }
     }
 
@@ -185,7 +173,6 @@ impl Assignment {
                 if let Some(entry) = self.entries.get_mut(variable as usize) {
                     entry.value = None;
                     entry.phase = value;
-                    entry.wanted &= value;
                 }
             }
         }

@@ -1,4 +1,4 @@
-//! Clauses that blocks in blocks propose for a key of addresses.
+//! Clauses that blocks propose for a key of addresses where they are together a larger one.
 use crate::asked::Asked;
 use crate::store::{Literal, Store};
 use cidr_bits::{Address, Block, bounds};
@@ -93,22 +93,6 @@ fn parents_of(alloc: Global, spans: &[Span]) -> Result<Vec<Option<usize>>, NoMem
     Ok(parents)
 }
 
-// An address of a block is one of the smallest other block that has it.
-fn add_wider(
-    spans: &[Span],
-    parents: &[Option<usize>],
-    clauses: &mut Store,
-) -> Result<(), NoMemory> {
-    for index in 0..spans.len() {
-        if let (Some(span), Some(Some(parent))) = (spans.get(index), parents.get(index)) {
-            if let Some(wider) = spans.get(*parent) {
-                clauses.push(&[(span.test, false), (wider.test, true)])?;
-            }
-        }
-    }
-    Ok(())
-}
-
 // An address of the block at the index is one of the largest blocks in it, if they have all of its addresses.
 fn add_parts(
     alloc: Global,
@@ -145,19 +129,6 @@ fn add_parts(
     Ok(())
 }
 
-fn add_clauses_of(
-    alloc: Global,
-    spans: &[Span],
-    parents: &[Option<usize>],
-    clauses: &mut Store,
-) -> Result<(), NoMemory> {
-    add_wider(spans, parents, clauses)?;
-    for index in 0..spans.len() {
-        add_parts(alloc, spans, parents, index, clauses)?;
-    }
-    Ok(())
-}
-
 /// Adds clauses that the blocks of the key's tests propose, where they are several.
 pub fn add_block_clauses(
     asked: &Asked<'_>,
@@ -169,5 +140,14 @@ pub fn add_block_clauses(
         return Ok(());
     }
     let parents = parents_of(asked.alloc, spans.as_slice())?;
-    add_clauses_of(asked.alloc, spans.as_slice(), parents.as_slice(), clauses)
+    for index in 0..spans.len() {
+        add_parts(
+            asked.alloc,
+            spans.as_slice(),
+            parents.as_slice(),
+            index,
+            clauses,
+        )?;
+    }
+    Ok(())
 }

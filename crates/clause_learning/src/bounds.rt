@@ -1,5 +1,4 @@
-//! Clauses that the order of bounds proposes for a key of numbers. Few of them are enough: by those of neighbours a
-//! narrower bound leads to each wider one.
+//! Clauses that the bounds of a key propose where they have all numbers together.
 use crate::asked::Asked;
 use crate::store::{Literal, Store};
 use intervals::Compare;
@@ -139,93 +138,12 @@ fn test_with(bounds: &[Bound], limit: i128) -> Option<u32> {
     }
 }
 
-// The first bound that is above the limit.
-fn first_above(bounds: &[Bound], limit: i128) -> Option<u32> {
-    Some(bounds.get(count_to(bounds, limit))?.test)
-}
-
-// The one test leads to the other one.
-fn add_implication(
-    clauses: &mut Store,
-    from: Option<u32>,
-    to: Option<u32>,
-) -> Result<(), NoMemory> {
-    if let (Some(from), Some(to)) = (from, to) {
-        clauses.push(&[(from, false), (to, true)])?;
-    }
-    Ok(())
-}
-
-// The two tests exclude one another.
-fn add_exclusion(
-    clauses: &mut Store,
-    one: Option<u32>,
-    other: Option<u32>,
-) -> Result<(), NoMemory> {
-    if let (Some(one), Some(other)) = (one, other) {
-        clauses.push(&[(one, false), (other, false)])?;
-    }
-    Ok(())
-}
-
 fn test_at(bounds: &[Bound], index: usize) -> Option<u32> {
     Some(bounds.get(index)?.test)
 }
 
 fn last_of(bounds: &[Bound]) -> Option<u32> {
     test_at(bounds, bounds.len().checked_sub(1)?)
-}
-
-// Each bound leads to the next wider one.
-fn add_neighbours(bounds: &Bounds, clauses: &mut Store) -> Result<(), NoMemory> {
-    let lower = bounds.lower.as_slice();
-    for index in 1..lower.len() {
-        add_implication(clauses, test_at(lower, index), test_at(lower, index - 1))?;
-    }
-    let upper = bounds.upper.as_slice();
-    for index in 1..upper.len() {
-        add_implication(clauses, test_at(upper, index - 1), test_at(upper, index))?;
-    }
-    Ok(())
-}
-
-// Each number is on the sides on which it is, and on no other ones.
-fn add_numbers(bounds: &Bounds, clauses: &mut Store) -> Result<(), NoMemory> {
-    let mut previous = None;
-    for bound in bounds.equal.as_slice() {
-        let test = Some(bound.test);
-        let below = bound.limit.saturating_sub(1);
-        add_implication(clauses, test, last_to(bounds.lower.as_slice(), bound.limit))?;
-        add_implication(clauses, test, first_above(bounds.upper.as_slice(), below))?;
-        add_exclusion(
-            clauses,
-            test,
-            first_above(bounds.lower.as_slice(), bound.limit),
-        )?;
-        add_exclusion(clauses, test, last_to(bounds.upper.as_slice(), below))?;
-        add_exclusion(clauses, test, previous)?;
-        previous = test;
-    }
-    Ok(())
-}
-
-// Each upper bound excludes the nearest lower one above it.
-fn add_gaps(bounds: &Bounds, clauses: &mut Store) -> Result<(), NoMemory> {
-    for bound in bounds.upper.as_slice() {
-        let above = first_above(bounds.lower.as_slice(), bound.limit);
-        add_exclusion(clauses, Some(bound.test), above)?;
-    }
-    Ok(())
-}
-
-// What leads to the key's having a value.
-fn add_presence(bounds: &Bounds, clauses: &mut Store) -> Result<(), NoMemory> {
-    add_implication(clauses, test_at(bounds.lower.as_slice(), 0), bounds.present)?;
-    add_implication(clauses, last_of(bounds.upper.as_slice()), bounds.present)?;
-    for bound in bounds.equal.as_slice() {
-        add_implication(clauses, Some(bound.test), bounds.present)?;
-    }
-    Ok(())
 }
 
 // A key that has a value as this test says is on one of the sides.
@@ -302,12 +220,8 @@ fn add_points(bounds: &Bounds, required: bool, clauses: &mut Store) -> Result<()
 }
 
 fn add_clauses_of(bounds: &Bounds, required: bool, clauses: &mut Store) -> Result<(), NoMemory> {
-    add_neighbours(bounds, clauses)?;
-    add_presence(bounds, clauses)?;
-    add_gaps(bounds, clauses)?;
     add_covers(bounds, required, clauses)?;
-    add_points(bounds, required, clauses)?;
-    add_numbers(bounds, clauses)
+    add_points(bounds, required, clauses)
 }
 
 /// Adds clauses that the bounds of the key's tests propose, where they are several.

@@ -225,7 +225,6 @@ impl Solver {
         }
         self.eliminate_all(kept)?;
         kept.add_numbers(&mut self.essential)?;
-        self.arrange()?;
         for number in formula..learned {
             self.keep_learned(kept, number)?;
         }

@@ -44,12 +44,7 @@ pub struct KnownConflicts {
     numbers: Vec<u32>,
     // By number among all that of the search, where it has the test.
     places: Vec<Option<u32>>,
-    // By number among all the last search that learned the relations of its tests, and how many there were.
-    groups: Vec<u32>,
-    group: u32,
     conflicts: Vec<Orders>,
-    // Pairs of answers that slots were asked about.
-    asked: IndexSet<u64>,
     // How many lists of places there may still be.
     room: usize,
 }
@@ -195,10 +190,7 @@ impl KnownConflicts {
             tests: IndexSet::new(alloc),
             numbers: Vec::new(alloc),
             places: Vec::new(alloc),
-            groups: Vec::new(alloc),
-            group: 0,
             conflicts: Vec::new(alloc),
-            asked: IndexSet::new(alloc),
             room: MOST_LISTS,
         }
     }
@@ -230,7 +222,6 @@ impl KnownConflicts {
         }
         let number = self.tests.len().min(u32::MAX as usize) as u32;
         self.tests.insert(test.copy()?)?;
-        self.groups.push(0)?;
         Ok(number)
     }
 
@@ -312,51 +303,6 @@ impl KnownConflicts {
         self.conflicts.push(Orders { known, has_places })?;
         Ok(())
     }
-
-    /// Whether the answers are a pair that a slot wasn't asked about by an earlier search, as it is now.
-    pub fn is_new(&mut self, answers: &[(u32, bool)]) -> Result<bool, NoMemory> {
-        if !self.is_kept || self.is_full() {
-            return Ok(true);
-        }
-        let all = self.numbered(answers)?;
-        let [one, other] = all.as_slice() else {
-            return Ok(true);
-        };
-        let (first, second) = (code_of(*one), code_of(*other));
-        let pair = (first.min(second) << 32) | first.max(second);
-        let new = self.asked.insert(pair)?;
-        Ok(new)
-    }
-
-    /// Whether an earlier search had all tests of this one and learned their relations.
-    pub fn are_related(&self) -> bool {
-        if !self.is_kept {
-            return false;
-        }
-        let mut group = None;
-        for number in self.numbers.as_slice() {
-            let own = self.groups.as_slice().get(*number as usize);
-            if own == Some(&0) || (group.is_some() && own != group) {
-                return false;
-            }
-            group = own;
-        }
-        true
-    }
-
-    /// The search has learned the relations of its tests.
-    pub fn relate(&mut self) {
-        self.group = self.group.saturating_add(1);
-        for number in self.numbers.as_slice() {
-            if let Some(group) = self.groups.get_mut(*number as usize) {
-                *group = self.group;
-            }
-        }
-    }
-}
-
-fn code_of(answer: (u32, bool)) -> u64 {
-    (u64::from(answer.0) << 1) | u64::from(answer.1)
 }
 
 impl Orders {

@@ -18,13 +18,8 @@ impl Solver {
     /// the level at which the learned clause makes its first literal true. Whether it is empty, so that the lines end.
     pub fn learn(&mut self, number: u32) -> Result<bool, NoMemory> {
         self.fix()?;
-        let Learned {
-            clause,
-            hints,
-            levels,
-        } = self.analyse(number)?;
+        let Learned { clause, hints } = self.analyse(number)?;
         self.activity.decay();
-        self.activity.count(levels);
         self.limits
             .count_conflict(clause.len().saturating_add(hints.len()));
         let number = self.push_derived(clause.as_slice(), hints)?;
@@ -32,7 +27,6 @@ impl Solver {
             self.trim()?;
             return Ok(true);
         }
-        self.remember(number, levels)?;
         self.draw_latest(number, 1);
         self.assert(number)?;
         Ok(false)
@@ -164,9 +158,9 @@ impl Solver {
         }
     }
 
-    // Takes in a clause of the store at any level. Where all of its literals are false the search goes back to the
-    // latest of their levels and learns from the conflict there. Whether the lines end.
-    fn take_in(&mut self, number: u32) -> Result<bool, NoMemory> {
+    /// Takes in a clause of the store at any level. Where all of its literals are false the search goes back to the
+    /// latest of their levels and learns from the conflict there. Whether the lines end.
+    pub(crate) fn take_in(&mut self, number: u32) -> Result<bool, NoMemory> {
         self.draw_latest(number, 0);
         self.draw_latest(number, 1);
         if !self.is_refuted_from(number, 1) {

@@ -70,13 +70,13 @@ impl Limits {
         self.work == 0 || self.learned == 0 || self.wide_rounds == 0
     }
 
-    /// Whether the search is to restart now. Then it goes on so many times longer than else before the next restart.
-    pub(crate) fn restarts(&mut self, times: u32) -> bool {
+    /// Whether the search is to restart now.
+    pub(crate) fn restarts(&mut self) -> bool {
         if self.left > 0 {
             return false;
         }
         self.interval = self.interval.saturating_add(self.interval / RESTART_GROWTH);
-        self.left = self.interval.saturating_mul(times);
+        self.left = self.interval;
         true
     }
 }

@@ -6,13 +6,11 @@ use plain_lists::NoMemory;
 // What a decision or a conflict takes at least.
 const STEP_WORK: usize = 40;
 
-// The restart at which the clauses are made simpler, and from which on variables are decided in the other order in
-// turn. It comes after some 200 conflicts, and few queries come to it.
-const TURN_RESTART: u32 = 1;
+// The restart at which the clauses are made simpler. It comes after some 200 conflicts, and few queries come to it.
+const SIMPLE_RESTART: u32 = 1;
 
-// The restart at which an assignment is looked for without learning. It comes after some 6,000 conflicts where one
-// order stays the better one.
-const WALK_RESTART: u32 = 6;
+// The restart at which an assignment is looked for without learning. It comes after some 6,000 conflicts.
+const WALK_RESTART: u32 = 17;
 
 /// How the search for an assignment ends.
 #[derive(Clone, Copy)]
@@ -46,8 +44,7 @@ impl Solver {
             if self.learn(number)? {
                 return Ok(Some(Ending::Refuted));
             }
-            let times = self.times();
-            if self.limits.restarts(times) {
+            if self.limits.restarts() {
                 return self.restart();
             }
             return Ok(None);
@@ -55,46 +52,20 @@ impl Solver {
         let Some(variable) = self.activity.next(&self.assignment) else {
             return Ok(Some(Ending::Satisfied));
         };
-        let value = self.value_for(variable);
+        let value = self.assignment.phase_of(variable);
         self.assignment.decide((variable, value))?;
         Ok(None)
-    }
-
-    // The value at which the variable is decided. In order it is no, unless yes is wanted: then what is learned names
-    // the variables of a clause that are left, and holds whichever of the others is yes.
-    fn value_for(&self, variable: u32) -> bool {
-        if self.activity.is_in_order() {
-            return self.assignment.is_wanted(variable);
-        }
-        self.assignment.phase_of(variable)
-    }
-
-    // Whether variables are decided in the other order from the next restart on.
-    fn turns(&self) -> bool {
-        self.restarts >= TURN_RESTART
-    }
-
-    // How many times longer than else the search is to go on after a restart that comes now.
-    fn times(&self) -> u32 {
-        if self.turns() {
-            return self.activity.times();
-        }
-        1
     }
 
     // Goes back to level 0. There clauses are left out and made shorter.
     fn restart(&mut self) -> Result<Option<Ending>, NoMemory> {
         self.back_to(0)?;
-        if self.turns() {
-            self.activity.turn();
-        }
         let restart = self.restarts;
         self.restarts = restart.saturating_add(1);
-        self.forget()?;
         if restart == WALK_RESTART {
             self.walk()?;
         }
-        if restart == TURN_RESTART {
+        if restart == SIMPLE_RESTART {
             if let Some(number) = self.simplify()? {
                 if self.learn(number)? {
                     return Ok(Some(Ending::Refuted));

@@ -1,7 +1,6 @@
 //! What is known at a point of the search.
 use crate::activity::Activity;
 use crate::assignment::Assignment;
-use crate::forgetting::Candidate;
 use crate::limits::Limits;
 use crate::store::{Literal, Store};
 use crate::watches::{Watch, Watches};
@@ -29,11 +28,9 @@ pub struct Solver {
     pub limits: Limits,
     /// How many restarts there were.
     pub(crate) restarts: u32,
-    /// The clauses that slots exclude, and once they were made simpler those of the formula. All others follow from
-    /// them.
+    /// The clauses of slots and related tests, and once they were made simpler those of the formula. All others follow
+    /// from them.
     pub(crate) essential: Vec<u32>,
-    /// The learned clauses that may be forgotten.
-    pub(crate) candidates: Vec<Candidate>,
     /// How many clauses the formula has.
     pub(crate) formula: usize,
     /// How many literals of level 0 are clauses by themselves, from the first on.
@@ -54,7 +51,6 @@ impl Solver {
             limits: Limits::new(),
             restarts: 0,
             essential: Vec::new(alloc),
-            candidates: Vec::new(alloc),
             formula: 0,
             fixed: 0,
         })

@@ -24,17 +24,6 @@ pub(crate) fn index_of(literal: Literal) -> usize {
         .saturating_add(usize::from(literal.1))
 }
 
-// Leaves the forgotten clauses out of a list.
-fn leave_out_of(watches: &mut Vec<Watch>, forgotten: &[bool]) {
-    for place in (0..watches.len()).rev() {
-        if let Some(watch) = watches.as_slice().get(place).copied() {
-            if forgotten.get(watch.number as usize) == Some(&true) && place < watches.len() {
-                watches.swap_remove(place);
-            }
-        }
-    }
-}
-
 impl Watches {
     pub(crate) fn new(alloc: Global, variables: usize) -> Result<Watches, NoMemory> {
         let lists = vec![in alloc; Vec::new(alloc); variables.saturating_mul(2)]?;
@@ -61,16 +50,6 @@ impl Watches {
             watches.push(watch)?;
         }
         Ok(())
-    }
-
-    /// Watches no longer the clauses of which it is said that they are forgotten. How many watches were looked at.
-    pub(crate) fn leave_out(&mut self, forgotten: &[bool]) -> usize {
-        let mut looked: usize = 0;
-        for watches in self.lists.as_mut_slice() {
-            looked = looked.saturating_add(watches.len());
-            leave_out_of(watches, forgotten);
-        }
-        looked
     }
 
     /// Watches the literal no longer in the clause at the place, which the last one of the list takes.

@@ -10,11 +10,9 @@ ghost use Rattle.clause_search.specs.Outcomes.{IsSearchOutcome};
 use crate::choosing::choose;
 use crate::meeting::meet;
 use crate::outcome::Outcome;
-use crate::relations::{learn_pairs, relate};
+use crate::relations::relate_keys;
 use crate::slots::{Failing, ask_levels};
-use clause_learning::{
-    Asked, Ending, Exclusions, Guesses, KnownConflicts, MOST_WORK, Solver, size_of,
-};
+use clause_learning::{Asked, Ending, Guesses, KnownConflicts, MOST_WORK, Solver, size_of};
 use clause_proofs::refutes;
 use cnf_clauses::{Clauses, clauses_of};
 use formula_tree::Path;
@@ -29,9 +27,9 @@ use std::mem::replace;
 // Formulas whose clauses have more literals are left open at once.
 const MOST_LITERALS: usize = 200_000;
 
-// The round before which it is learned which tests of a slot are wider than others. Formulas that are refuted without
-// the slots don't come to it.
-const ORDER_ROUND: usize = 1;
+// The round before which it is learned which tests of a slot are related. Formulas that are refuted without the slots
+// don't come to it.
+const RELATING_ROUND: usize = 1;
 
 // What the choice of answers takes for each literal of the formula's clauses, in units of work.
 const CHOICE_WORK: usize = 4;
@@ -78,7 +76,6 @@ pub fn search(
 struct Theory {
     failing: Failing,
     guesses: Guesses,
-    exclusions: Exclusions,
     // How many literals the formula's clauses have.
     size: usize,
 }
@@ -90,12 +87,10 @@ fn theory_of(
     known: &mut KnownConflicts,
 ) -> Result<Theory, NoMemory> {
     let guesses = Guesses::new(asked.alloc, asked.query.tests.as_slice())?;
-    let exclusions = Exclusions::new(asked.alloc, asked.query.tests.len())?;
     let known = replace(known, KnownConflicts::none(asked.alloc));
     Ok(Theory {
         failing: Failing::new(asked.alloc, known),
         guesses,
-        exclusions,
         size,
     })
 }
@@ -138,7 +133,7 @@ fn search_with(
         return Ok(outcome);
     }
     'rounds: for number in 0..MOST_WORK {
-        if relate_at(asked, solver, &mut theory.failing, number)? {
+        if number == RELATING_ROUND && relate(asked, solver, theory)? {
             return checked(asked, solver);
         }
         if let Some(outcome) = round(asked, solver, theory)? {
@@ -172,20 +167,19 @@ fn begin(
     Ok(None)
 }
 
-// Learns what is due before the round. Whether the lines end.
-fn relate_at(
-    asked: &Asked<'_>,
-    solver: &mut Solver,
-    failing: &mut Failing,
-    number: usize,
-) -> Result<bool, NoMemory>
+// Learns which tests of a slot are related, and what else their order tells where no earlier search did. Whether the
+// lines end.
+fn relate(asked: &Asked<'_>, solver: &mut Solver, theory: &mut Theory) -> Result<bool, NoMemory>
     requires ready { IsSearchAsked asked.now }
 {
-    if number != ORDER_ROUND {
+    solver.back_to(0)?;
+    if solver.relate(asked, &theory.guesses)? {
+        return Ok(true);
+    }
+    if theory.failing.known.len() > 0 {
         return Ok(false);
     }
-    solver.back_to(0)?;
-    relate(asked, solver, failing)
+    relate_keys(asked, solver, &mut theory.failing)
 }
 
 // Goes on to the next assignment. None where there is one.
@@ -297,19 +291,10 @@ fn exclude(
     ensures { IfOk result (λ o.
         IfSome o (IsSearchOutcome asked.now.schema.now asked.now.query.now)) }
 {
-    theory.propose(asked, path)?;
-    if learn_cores(asked, solver, path, theory)? || learn_exclusions(asked, solver, theory)? {
+    if learn_cores(asked, solver, path, theory)? {
         return Ok(Some(checked(asked, solver)?));
     }
     Ok(None)
-}
-
-impl Theory {
-    // Proposes what slots exclude that exclude two answers yes.
-    fn propose(&mut self, asked: &Asked<'_>, path: &Path) -> Result<(), NoMemory> {
-        let cores = self.failing.cores.as_slice();
-        self.exclusions.propose(asked, &self.guesses, path, cores)
-    }
 }
 
 // Learns the cores. Where there is none other answers are looked for. Whether the lines end.
@@ -331,17 +316,6 @@ fn learn_cores(
         }
     }
     Ok(false)
-}
-
-// Learns what was proposed. Whether the lines end.
-fn learn_exclusions(
-    asked: &Asked<'_>,
-    solver: &mut Solver,
-    theory: &mut Theory,
-) -> Result<bool, NoMemory>
-    requires ready { IsSearchAsked asked.now }
-{
-    learn_pairs(asked, solver, &mut theory.failing, &theory.exclusions.pairs)
 }
 
 // Begins anew where tests of the slots that ran out of states rather have the other answers.

@@ -34,9 +34,6 @@ const QUESTION_WORK: usize = 500;
 // What a product state takes, in units of work.
 const STATE_WORK: usize = 100;
 
-// What one of a conflict takes that was told without a question.
-const TOLD_STATE_WORK: usize = 30;
-
 // What one of a closed set takes that is like the last: such a set needn't be searched for again, but is checked twice.
 const KNOWN_STATE_WORK: usize = 50;
 
@@ -86,15 +83,6 @@ impl Failing {
     /// How many units of work the questions took since this was asked last.
     pub(crate) fn take_work(&mut self) -> usize {
         replace(&mut self.work, 0)
-    }
-
-    /// Takes in a conflict that was told without a question.
-    pub(crate) fn take_told(&mut self, core: Core, proof: SlotProof) -> Result<(), NoMemory> {
-        let looked = states_of(&proof).saturating_mul(TOLD_STATE_WORK);
-        let work = looked.saturating_add(QUESTION_WORK);
-        self.work = self.work.saturating_add(work);
-        self.cores.push((core, proof))?;
-        Ok(())
     }
 
     // Counts the questions of a level. Where a slot has no value the product states are known that it took, and else

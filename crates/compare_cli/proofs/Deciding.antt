@@ -4,23 +4,23 @@ use Rattle.command_words.specs.Asked.{Asked, Summarising, CheckCommand, CompareC
 use Rattle.command_words.specs.Asked.{IdleCommand, EmitCommand, EvalCommand}
 use Rattle.pol_outside.specs.Faults.{Rose}
 use Rattle.pol_outside.specs.Folder.{Files}
-use Rattle.run_files.specs.declared.printed.Printed.{Printed}
-use Rattle.run_files.specs.declared.status.Status.{Status}
-use Rattle.run_files.specs.declared.status.Status.TheVariants as status
-use Rattle.run_files.specs.Printing.{IsOfText}
-use Rattle.run_files.specs.Readings.{AreRead, FileName, FilesFail, OfReadFiles, Reading, if_given}
-use Rattle.run_files.proofs.Laws.{none_fails, same_read}
-use Rattle.run_sets.specs.Pairs.{Contents, contents}
-use Rattle.pair_answers.proofs.Laws.{check_of_text, checks_decide, comparison_of_text, comparisons_decide}
-use Rattle.statement_answers.specs.Evaluated.{EvaluationContents, evaluation_contents}
-use Rattle.statement_answers.proofs.Laws.{evaluation_of_text, evaluations_decide}
-use Rattle.run_sets.specs.OneSets.{SetContents, set_contents}
-use Rattle.finding_answers.proofs.Laws.{summaries_decide, summary_of_text}
+use Rattle.run_inputs.specs.declared.printed.Printed.{Printed}
+use Rattle.run_inputs.specs.declared.status.Status.{Status}
+use Rattle.run_inputs.specs.declared.status.Status.TheVariants as status
+use Rattle.run_inputs.specs.Printing.{IsOfText}
+use Rattle.run_inputs.specs.Readings.{AreRead, FileName, FilesFail, OfReadFiles, Reading, if_given}
+use Rattle.run_inputs.proofs.FileLaws.{none_fails, same_read}
+use Rattle.run_inputs.specs.Pairs.{Contents, contents}
+use Rattle.compare_answers.proofs.Laws.{check_of_text, checks_decide, comparison_of_text, comparisons_decide}
+use Rattle.eval_answers.specs.Evaluated.{EvaluationContents, evaluation_contents}
+use Rattle.eval_answers.proofs.Laws.{evaluation_of_text, evaluations_decide}
+use Rattle.run_inputs.specs.OneSets.{SetContents, set_contents}
+use Rattle.summary_answers.proofs.Laws.{summaries_decide, summary_of_text}
 use Rattle.idle_answers.proofs.Laws.{idle_of_text, uses_decide}
 use Rattle.reach_answers.specs.ReachPrinted.{ReachContents, reach_contents}
 use Rattle.reach_answers.proofs.Laws.{reach_of_text, reaches_decide}
 use Rattle.emit_answers.proofs.Laws.{emit_of_text, emits_decide}
-use Rattle.cover_answers.proofs.Laws.{certified_summaries_decide, certified_summary_of_text, summary_check_of_text, summary_checks_decide}
+use Rattle.certified_summaries.proofs.Laws.{certified_summaries_decide, certified_summary_of_text, summary_check_of_text, summary_checks_decide}
 use Rattle.compare_cli.specs.Commands.{CheckContents, IsSummaryPrintedFrom, MayPrint, IsPrinted, checked_bytes, compared_bytes, evaluated_bytes}
 use Rattle.compare_cli.specs.Commands.{SummaryCheckContents, one_set_bytes, named_files, reached_bytes, summary_checked_bytes}
 use Rattle.compare_cli.specs.Complete.{IsAccepted, IsAcceptedBy, IsDecided, IsSummaryFor}

@@ -1,4 +1,3 @@
 mod Deciding
-mod Lines
 mod Reading
 mod Writing

@@ -3,11 +3,11 @@ use Rattle.std.proofs.Common.{◌≡◌, ℕ, List, [], ◌∷◌, Option, Some,
 use Rattle.std.specs.declared.alloc.AllocError.{AllocError}
 use Rattle.command_words.specs.Asked.{Asked}
 use Rattle.pol_outside.specs.Folder.{Files}
-use Rattle.run_files.specs.declared.printed.EarlyEnd.{EarlyEnd}
-use Rattle.run_files.specs.declared.printed.EarlyEnd.TheVariants.{Answered, NoMemory}
-use Rattle.run_files.specs.declared.printed.Printed.{Printed}
-use Rattle.run_files.specs.Printing.{IfPrinted, IsPrintedOf}
-use Rattle.run_files.specs.Readings.{AreFilesRead, AreRead, FileName, FilesFail, IsCalm, IsStopped, Reading, if_given}
+use Rattle.run_inputs.specs.declared.printed.EarlyEnd.{EarlyEnd}
+use Rattle.run_inputs.specs.declared.printed.EarlyEnd.TheVariants.{Answered, NoMemory}
+use Rattle.run_inputs.specs.declared.printed.Printed.{Printed}
+use Rattle.run_inputs.specs.Printing.{IfPrinted, IsPrintedOf}
+use Rattle.run_inputs.specs.Readings.{AreFilesRead, AreRead, FileName, FilesFail, IsCalm, IsStopped, Reading, if_given}
 use Rattle.compare_cli.specs.declared.files.LastFiles.{LastFiles}
 use Rattle.compare_cli.specs.Commands.{IsCommandEnd, MayPrint, IsPrinted, files_named, named_files}
 use Rattle.compare_cli.specs.LastFiles.{last_bytes}

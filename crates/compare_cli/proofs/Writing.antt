@@ -5,12 +5,12 @@ use Rattle.command_words.specs.Asked.{Asked, CheckCommand, CompareCommand, LoadC
 use Rattle.command_words.specs.Asked.{EmitCommand, EvalCommand}
 use Rattle.pol_outside.specs.Faults.{Rose}
 use Rattle.pol_outside.specs.Sink.{Appends}
-use Rattle.run_files.specs.declared.printed.Printed.{Printed}
-use Rattle.run_files.specs.declared.status.Status.{Status}
-use Rattle.run_files.specs.declared.status.Status.TheVariants.{Holds, Fails, Refused, Undecided, Usage, ReadFault, WriteFault}
-use Rattle.run_files.specs.declared.status.Status.TheVariants.{NoMemory, BadProof}
-use Rattle.run_files.specs.Printing.{IsOfText}
-use Rattle.run_files.specs.Readings.{Reading}
+use Rattle.run_inputs.specs.declared.printed.Printed.{Printed}
+use Rattle.run_inputs.specs.declared.status.Status.{Status}
+use Rattle.run_inputs.specs.declared.status.Status.TheVariants.{Holds, Fails, Refused, Undecided, Usage, ReadFault, WriteFault}
+use Rattle.run_inputs.specs.declared.status.Status.TheVariants.{NoMemory, BadProof}
+use Rattle.run_inputs.specs.Printing.{IsOfText}
+use Rattle.run_inputs.specs.Readings.{Reading}
 use Rattle.compare_cli.specs.Commands.{IsPrinted}
 use Rattle.compare_cli.specs.Complete.{IsAccepted, IsDecided}
 use Rattle.compare_cli.specs.Promises.{IsUsageOrFault, IsWritten, Promises, Writing}

@@ -2,25 +2,25 @@
 use Rattle.std.specs.Prelude.{◌⊎◌, ℕ, List, [], ◌∷◌, ◌++◌, Bool, true, false, Option, Some, None, Result, Ok, Err, ⊤, codes}
 use Rattle.command_words.specs.Asked.{Asked, Summarising, CheckCommand, CompareCommand, LoadCommand, ReachCommand, SummaryCommand, CheckSummaryCommand}
 use Rattle.command_words.specs.Asked.{IdleCommand, EmitCommand, EvalCommand}
-use Rattle.run_files.specs.declared.printed.EarlyEnd.{EarlyEnd}
-use Rattle.run_files.specs.declared.printed.EarlyEnd.TheVariants.{Answered, NoMemory}
-use Rattle.run_files.specs.declared.printed.Printed.{Printed}
-use Rattle.run_files.specs.declared.role.Role.TheVariants.{First, Second, Proof, Zone}
-use Rattle.run_files.specs.declared.role.Role.TheVariants.{Set as set_file, Schema as schema_file, Request as request_file}
-use Rattle.run_files.specs.declared.status.Status.TheVariants.{Usage}
-use Rattle.run_files.specs.Printing.{PrintsText}
-use Rattle.run_files.specs.Readings.{FileName, FilesFail, IsCalm, IsStopped, OfReadFiles, Reading, file, if_given, if_named}
-use Rattle.run_sets.specs.Pairs.{Contents}
-use Rattle.pair_answers.specs.Printed.{IsCheckPrinted, IsComparisonPrinted}
-use Rattle.statement_answers.specs.Evaluated.{EvaluationContents, IsEvaluationPrinted}
-use Rattle.finding_answers.specs.Printed.{IsSummaryPrinted}
-use Rattle.run_sets.specs.OneSets.{SetContents}
+use Rattle.run_inputs.specs.declared.printed.EarlyEnd.{EarlyEnd}
+use Rattle.run_inputs.specs.declared.printed.EarlyEnd.TheVariants.{Answered, NoMemory}
+use Rattle.run_inputs.specs.declared.printed.Printed.{Printed}
+use Rattle.run_inputs.specs.declared.role.Role.TheVariants.{First, Second, Proof, Zone}
+use Rattle.run_inputs.specs.declared.role.Role.TheVariants.{Set as set_file, Schema as schema_file, Request as request_file}
+use Rattle.run_inputs.specs.declared.status.Status.TheVariants.{Usage}
+use Rattle.run_inputs.specs.Printing.{PrintsText}
+use Rattle.run_inputs.specs.Readings.{FileName, FilesFail, IsCalm, IsStopped, OfReadFiles, Reading, file, if_given, if_named}
+use Rattle.run_inputs.specs.Pairs.{Contents}
+use Rattle.compare_answers.specs.Printed.{IsCheckPrinted, IsComparisonPrinted}
+use Rattle.eval_answers.specs.Evaluated.{EvaluationContents, IsEvaluationPrinted}
+use Rattle.summary_answers.specs.Printed.{IsSummaryPrinted}
+use Rattle.run_inputs.specs.OneSets.{SetContents}
 use Rattle.reach_answers.specs.ReachPrinted.{IsReachPrinted, ReachContents}
 use Rattle.emit_answers.specs.EmitPrinted.{IsEmitPrinted}
 use Rattle.idle_answers.specs.UsesPrinted.{IsIdlePrinted}
-use Rattle.cover_answers.specs.Certified.{IsCertifiedSummaryPrinted}
-use Rattle.cover_answers.specs.Judged.{IsSummaryCheckPrinted}
-use Rattle.compare_cli.specs.Loaded.{IsLoadPrinted}
+use Rattle.certified_summaries.specs.Certified.{IsCertifiedSummaryPrinted}
+use Rattle.certified_summaries.specs.Judged.{IsSummaryCheckPrinted}
+use Rattle.load_answers.specs.Loaded.{IsLoadPrinted}
 
 -- ---- the files of a command
 

@@ -3,33 +3,33 @@ use Rattle.std.specs.Prelude.{Bool, true, false, Option, Some, None, ⊤}
 use Rattle.command_words.specs.Asked.{Asked, Summarising, CheckCommand, CompareCommand, LoadCommand, ReachCommand, SummaryCommand, CheckSummaryCommand}
 use Rattle.command_words.specs.Asked.{IdleCommand, EmitCommand, EvalCommand}
 use Rattle.pol_outside.specs.Folder.{Files}
-use Rattle.run_files.specs.declared.status.Status.{Status}
-use Rattle.run_files.specs.declared.status.Status.TheVariants.{Holds, Fails, NoMemory, BadProof}
-use Rattle.run_files.specs.Readings.{OfReadFiles}
-use Rattle.run_sets.specs.OneSets.{OfOneSet, SetContents}
-use Rattle.run_sets.specs.Pairs.{OfPair}
-use Rattle.pair_answers.specs.Complete.{IsDecidable, IsQueriable}
-use Rattle.pair_answers.specs.Printed.{budgets_of}
-use Rattle.statement_answers.specs.Evaluated.{IsEvaluable}
-use Rattle.finding_answers.specs.Complete.{IsSummaryAccepted}
-use Rattle.finding_answers.specs.Printed.{limits_in}
+use Rattle.run_inputs.specs.declared.status.Status.{Status}
+use Rattle.run_inputs.specs.declared.status.Status.TheVariants.{Holds, Fails, NoMemory, BadProof}
+use Rattle.run_inputs.specs.Readings.{OfReadFiles}
+use Rattle.run_inputs.specs.OneSets.{SomeOneSet, SetContents}
+use Rattle.run_inputs.specs.Pairs.{SomePair}
+use Rattle.compare_answers.specs.Complete.{IsDecidable, IsQueriable}
+use Rattle.compare_answers.specs.Printed.{budgets_of}
+use Rattle.eval_answers.specs.Evaluated.{IsEvaluable}
+use Rattle.summary_answers.specs.Complete.{IsSummaryAccepted}
+use Rattle.summary_answers.specs.Printed.{limits_in}
 use Rattle.reach_answers.specs.ReachComplete.{IsReachAccepted}
 use Rattle.emit_answers.specs.EmitComplete.{IsEmitAccepted}
 use Rattle.idle_answers.specs.UsesComplete.{IsIdleAccepted}
-use Rattle.cover_answers.specs.Decides.{IsCertifiable, IsJudgeable}
+use Rattle.certified_summaries.specs.Decides.{IsCertifiable, IsJudgeable}
 use Rattle.compare_cli.specs.Commands.{checked_bytes, compared_bytes, evaluated_bytes, one_set_bytes, named_files, reached_bytes}
 use Rattle.compare_cli.specs.Commands.{summary_checked_bytes}
 
 -- the files of a summary are accepted, and where a certificate is asked for, its search is within the budgets too
 abbrev pub IsSummaryFor : Summarising → Bool → SetContents → Type 0
-IsSummaryFor s true c = OfOneSet c.set c.schema (IsCertifiable s.dimensions (limits_in s))
+IsSummaryFor s true c = SomeOneSet c.set c.schema (IsCertifiable s.dimensions (limits_in s))
 IsSummaryFor s false c = IsSummaryAccepted s c
 
 -- the names are those of files that are accepted
 abbrev pub IsAcceptedBy : Option Files → Asked → Type 0
 IsAcceptedBy held (CompareCommand c) =
-    OfReadFiles held (named_files (CompareCommand c)) compared_bytes (λ f. OfPair f (IsDecidable (budgets_of c)))
-IsAcceptedBy held (CheckCommand c) = OfReadFiles held (named_files (CheckCommand c)) checked_bytes (λ f. OfPair f.sets IsQueriable)
+    OfReadFiles held (named_files (CompareCommand c)) compared_bytes (λ f. SomePair f (IsDecidable (budgets_of c)))
+IsAcceptedBy held (CheckCommand c) = OfReadFiles held (named_files (CheckCommand c)) checked_bytes (λ f. SomePair f.sets IsQueriable)
 IsAcceptedBy held (SummaryCommand s certified) =
     OfReadFiles held (named_files (SummaryCommand s certified)) one_set_bytes (IsSummaryFor s certified)
 IsAcceptedBy held (EvalCommand e) = OfReadFiles held (named_files (EvalCommand e)) evaluated_bytes IsEvaluable
@@ -38,7 +38,7 @@ IsAcceptedBy held (IdleCommand u) = OfReadFiles held (named_files (IdleCommand u
 IsAcceptedBy held (ReachCommand s zone) = OfReadFiles held (named_files (ReachCommand s zone)) reached_bytes (IsReachAccepted s)
 IsAcceptedBy held (EmitCommand s) = OfReadFiles held (named_files (EmitCommand s)) one_set_bytes (IsEmitAccepted s)
 IsAcceptedBy held (CheckSummaryCommand k) =
-    OfReadFiles held (named_files (CheckSummaryCommand k)) summary_checked_bytes (λ f. OfOneSet f.set.set f.set.schema (IsJudgeable k.dimensions k.states f.proof))
+    OfReadFiles held (named_files (CheckSummaryCommand k)) summary_checked_bytes (λ f. SomeOneSet f.set.set f.set.schema (IsJudgeable k.dimensions k.states f.proof))
 
 -- the folder tells what it holds, and the arguments name files that are accepted
 abbrev pub IsAccepted : Option Files → Option Asked → Type 0

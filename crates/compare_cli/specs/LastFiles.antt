@@ -1,8 +1,8 @@
 -- The last file that a command's line has to name, and behind it that of a schema where one is named.
 use Rattle.std.specs.Prelude.{ℕ, List, ◌∷◌, Option, option_map}
-use Rattle.run_files.specs.declared.role.Role.{Role}
-use Rattle.run_files.specs.declared.role.Role.TheVariants.{Schema as schema_file}
-use Rattle.run_files.specs.Readings.{FileName, file, if_given, if_named}
+use Rattle.run_inputs.specs.declared.role.Role.{Role}
+use Rattle.run_inputs.specs.declared.role.Role.TheVariants.{Schema as schema_file}
+use Rattle.run_inputs.specs.Readings.{FileName, file, if_given, if_named}
 use Rattle.compare_cli.specs.declared.files.LastFiles.{LastFiles}
 
 -- the files, by their names

@@ -1,5 +1,4 @@
 pub mod Commands
 pub mod Complete
 pub mod LastFiles
-pub mod Loaded
 pub mod Promises

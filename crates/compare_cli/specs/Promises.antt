@@ -3,13 +3,13 @@ use Rattle.std.specs.Prelude.{◌≡◌, ◌<◌, ℕ, List, length, take, Optio
 use Rattle.command_words.specs.Asked.{Asked}
 use Rattle.pol_outside.specs.Faults.{Rose}
 use Rattle.pol_outside.specs.Sink.{Appends}
-use Rattle.run_files.specs.declared.printed.Printed.{Printed}
-use Rattle.run_files.specs.declared.status.Status.{Status}
-use Rattle.run_files.specs.declared.status.Status.TheVariants.{Usage, WriteFault, NoMemory}
-use Rattle.run_files.specs.Readings.{IsStopped, Reading}
+use Rattle.run_inputs.specs.declared.printed.Printed.{Printed}
+use Rattle.run_inputs.specs.declared.status.Status.{Status}
+use Rattle.run_inputs.specs.declared.status.Status.TheVariants.{Usage, WriteFault, NoMemory}
+use Rattle.run_inputs.specs.Readings.{IsStopped, Reading}
 use Rattle.compare_cli.specs.Commands.{IsPrinted, files_named}
 
--- the sink of a run: how many faults it had and, where it tells that, what was written, before the run and now
+-- the sink of a run: how many faults it had and what was written, if it tells, before the run and now
 pub record Writing : Type 0 where
   pub faults_before : ℕ
   pub faults : ℕ

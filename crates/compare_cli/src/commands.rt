@@ -3,25 +3,25 @@ ghost use Rattle.std.specs.Prelude.{◌≡◌, ◌≤◌, Some, string_bytes};
 ghost use Rattle.command_words.specs.Asked.{AreFindingsInRange, HasUseNumbersInRange, IsInRange, IsSummaryCheckInRange};
 ghost use Rattle.command_words.specs.Asked.{CheckCommand, CompareCommand, ReachCommand, SummaryCommand, CheckSummaryCommand, IdleCommand, EmitCommand, EvalCommand};
 ghost use Rattle.command_words.specs.Asked.{asked_in, checking_in, comparing_in, evaluating_in, summarising_in, summary_check_in, use_question_in};
-ghost use Rattle.run_files.specs.Readings.{reading_of};
+ghost use Rattle.run_inputs.specs.Readings.{reading_of};
 ghost use Rattle.compare_cli.specs.Commands.{IsCommandEnd, NameNoFile};
 
 use crate::files::{read_last, read_named};
-use crate::loading::print_load;
+use certified_summaries::{print_certified_summary, print_summary_check};
 use command_words::{
     CheckArguments, CheckSummaryArguments, Command, CompareArguments, EvalArguments,
     FindingArguments, IdleArguments, ReachArguments, SummaryArguments,
 };
-use cover_answers::{print_certified_summary, print_summary_check};
+use compare_answers::{print_check, print_comparison};
 use emit_answers::print_emit;
-use finding_answers::print_summary;
+use eval_answers::print_evaluation;
 use idle_answers::print_idle;
-use pair_answers::{print_check, print_comparison};
+use load_answers::print_load;
 use pol_outside::Folder;
 use reach_answers::print_reach;
-use run_files::{EarlyEnd, Printed, Role, bytes_of};
-use statement_answers::print_evaluation;
+use run_inputs::{EarlyEnd, Printed, Role, bytes_of};
 use std::alloc::Global;
+use summary_answers::print_summary;
 
 // What is printed to a comparison.
 fn comparison<F: Folder>(

@@ -1,10 +1,10 @@
 //! Reads the files of a command, in the order of its line.
 ghost use Rattle.std.specs.Prelude.{◌≡◌, ◌≤◌, ◌∷◌, [], option_map, string_bytes};
-ghost use Rattle.run_files.specs.Readings.{AreFilesRead, file, one_content, reading_of};
+ghost use Rattle.run_inputs.specs.Readings.{AreFilesRead, file, one_content, reading_of};
 ghost use Rattle.compare_cli.specs.LastFiles.{last_bytes, last_names};
 
 use pol_outside::Folder;
-use run_files::{EarlyEnd, Role, read_file, read_if_named};
+use run_inputs::{EarlyEnd, Role, read_file, read_if_named};
 use std::alloc::Global;
 
 /// The bytes of the last file that a command's line has to name, and of a schema where one is named.

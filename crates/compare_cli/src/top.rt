@@ -2,8 +2,8 @@
 ghost use Rattle.std.specs.Prelude.{◌≡◌, ◌≤◌, None};
 ghost use Rattle.pol_outside.specs.Faults.{Rose};
 ghost use Rattle.command_words.specs.Asked.{asked_by};
-ghost use Rattle.run_files.specs.Printing.{IsOfText};
-ghost use Rattle.run_files.specs.Readings.{reading_of};
+ghost use Rattle.run_inputs.specs.Printing.{IsOfText};
+ghost use Rattle.run_inputs.specs.Readings.{reading_of};
 ghost use Rattle.compare_cli.specs.Commands.{IsCommandEnd, NameNoFile};
 ghost use Rattle.compare_cli.specs.Complete.{IsAccepted, IsDecided};
 ghost use Rattle.compare_cli.specs.Promises.{IsUsageOrFault, IsWritten, Promises};
@@ -11,7 +11,7 @@ ghost use Rattle.compare_cli.specs.Promises.{IsUsageOrFault, IsWritten, Promises
 use crate::commands::print_command;
 use command_words::read_words;
 use pol_outside::{Folder, Sink, put_all};
-use run_files::{EarlyEnd, Printed, Status, printed_of};
+use run_inputs::{EarlyEnd, Printed, Status, printed_of};
 use std::alloc::Global;
 
 /// The line that says how the program is called: the form of each command, without options.
@@ -88,10 +88,10 @@ fn write<S: Sink>(printed: &Printed, out: &mut S) -> Status
 ///   or a fault of the sink.
 /// - `untouched`: where they ask for nothing, or for a load, the folder is as before.
 /// - `held`, `reads`, `writes`: what the folder holds stays as it is, and no count of faults falls.
-/// - `complete`: accepted files whose sets have a schema, dimensions that it has, budgets that aren't below
-///   the need of the plain runs, of the predicates and of the findings that must be looked at, and no fault
-///   give an answer of the command, unless memory is wanting; with a certificate of a summary where the query of
-///   its cover is within them too, and of `emit` where the findings are no more than statements of a set.
+/// - `complete`: an answer of the command comes under these conditions: files are accepted, the sets have a schema, it
+///   has the dimensions, there is no fault, and memory isn't wanting. Budgets aren't below the need of the plain runs,
+///   of the predicates and of the findings that must be looked at. With the certificate of a summary the query of its
+///   cover is within them too; with `emit` there are no more findings than statements of a set.
 pub fn run<F: Folder, S: Sink>(
     alloc: Global,
     arguments: &[String],

@@ -9,8 +9,8 @@ use Rattle.std.specs.declared.vec.IntoIter.{IntoIter}
 use Rattle.std.proofs.lemmas.Iterator.{items_from_drains}
 use Rattle.std.proofs.lemmas.Iterator.Adapters.{YieldsList-from_vec}
 use Rattle.std.proofs.lemmas.List.{map-id}
-use Rattle.run_files.specs.declared.status.Status.TheVariants.{NoMemory}
-use Rattle.run_files.specs.Readings.{Reading}
+use Rattle.run_inputs.specs.declared.status.Status.TheVariants.{NoMemory}
+use Rattle.run_inputs.specs.Readings.{Reading}
 use Rattle.compare_cli.specs.Promises.{Writing}
 use Rattle.compare_program.specs.Numbers.{End, IsEndNumber}
 use Rattle.compare_program.specs.Runs.{IsProgramEnd}

@@ -3,9 +3,9 @@ use Rattle.std.specs.Prelude.{◌≡◌, ◌≢◌, ◌⊎◌, ℕ, Bool}
 use Rattle.std.specs.IoError.{error_kind}
 use Rattle.std.specs.declared.io.Error.{Error}
 use Rattle.std.specs.declared.io.ErrorKind.TheVariants.{OutOfMemory}
-use Rattle.run_files.specs.Statuses.{exit_number}
-use Rattle.run_files.specs.declared.status.Status.{Status}
-use Rattle.run_files.specs.declared.status.Status.TheVariants.{NoMemory}
+use Rattle.run_inputs.specs.Statuses.{exit_number}
+use Rattle.run_inputs.specs.declared.status.Status.{Status}
+use Rattle.run_inputs.specs.declared.status.Status.TheVariants.{NoMemory}
 use Rattle.compare_program.specs.declared.ending.TheConstants.{NO_ARGUMENTS}
 
 -- the program's exit number, and whether it ended by a run

@@ -8,9 +8,9 @@ use Rattle.std.specs.declared.vec.IntoIter.{IntoIter}
 use Rattle.std.specs.Vec.Iter.{into_iter_items}
 use Rattle.command_words.specs.Asked.{asked_by}
 use Rattle.pol_outside.specs.Faults.{Rose}
-use Rattle.run_files.specs.Readings.{Reading}
-use Rattle.run_files.specs.Statuses.{exit_number}
-use Rattle.run_files.specs.declared.status.Status.{Status}
+use Rattle.run_inputs.specs.Readings.{Reading}
+use Rattle.run_inputs.specs.Statuses.{exit_number}
+use Rattle.run_inputs.specs.declared.status.Status.{Status}
 use Rattle.compare_cli.specs.Commands.{NameNoFile}
 use Rattle.compare_cli.specs.Complete.{IsAccepted, IsDecided}
 use Rattle.compare_cli.specs.Promises.{IsUsageOrFault, Promises, Writing}

@@ -1,7 +1,7 @@
 //! How the program ends: by a run, or without one.
 ghost use Rattle.std.specs.Prelude.{◌≡◌, ℕ, true, false};
 ghost use Rattle.std.specs.Process.{exit_status};
-ghost use Rattle.run_files.specs.Statuses.{exit_number};
+ghost use Rattle.run_inputs.specs.Statuses.{exit_number};
 ghost use Rattle.compare_program.specs.Numbers.{EndNumbers, IsRefusedNumber};
 
 use crate::running::Ran;

@@ -12,9 +12,9 @@ pub use over::{arguments_of, program_over};
 use pol_outside::{DiskFolder, StdSink};
 use std::{env, io};
 
-/// One run over the real files and standard output, with the words that the system gives. What it reads
-/// and writes is the system's, of which no contract can speak: that the run is right is what
-/// `program_over` promises of every folder and sink.
+/// One run over the real files and standard output, with the words that the system gives. No contract can speak
+/// of what it reads and writes, since that is the system's. That the run is right is what `program_over` promises
+/// of every folder and sink.
 pub fn program(rt: HostRuntime) -> Ended
     ensures { IsEndNumber result.number }
 {

@@ -1,6 +1,6 @@
 //! The program over a folder and a sink.
 ghost use Rattle.std.specs.Prelude.{◌≡◌, IfOk};
-ghost use Rattle.run_files.specs.Readings.{reading_of};
+ghost use Rattle.run_inputs.specs.Readings.{reading_of};
 ghost use Rattle.compare_program.specs.Runs.{HasArguments, IsProgramEnd, NamesNoFile, arguments_of};
 
 use crate::ending::Ended;

@@ -1,8 +1,8 @@
 //! One run of the arguments, and the token that it was made.
 ghost use Rattle.std.specs.Prelude.{◌≡◌};
 ghost use Rattle.command_words.specs.Asked.{asked_by};
-ghost use Rattle.run_files.specs.Readings.{reading_of};
-ghost use Rattle.run_files.specs.Statuses.{exit_number};
+ghost use Rattle.run_inputs.specs.Readings.{reading_of};
+ghost use Rattle.run_inputs.specs.Statuses.{exit_number};
 ghost use Rattle.compare_cli.specs.Commands.{NameNoFile};
 ghost use Rattle.compare_program.specs.Runs.{KeepsPromises};
 
@@ -18,7 +18,7 @@ pub(crate) struct Ran {
 }
 
 impl Model for Ran {
-    ghost use Rattle.run_files.specs.declared.status.Status.{Status};
+    ghost use Rattle.run_inputs.specs.declared.status.Status.{Status};
 
     ghost Value = { Status };
 

@@ -1,15 +1,13 @@
-//! The set of a condition, what evaluation says of it, and what its tree says.
+//! The set of a condition, and what evaluation says of it.
 ghost use Rattle.std.specs.Prelude.{IfOk};
 ghost use Rattle.policy_model.specs.Soundness.{IsSound, SchemaFits};
 
 use crate::asked::KEY;
 use crate::definition::Case;
 use crate::row::part_of;
-use formula_tree::{Path, Three, value3};
-use policy_compile::{Query, QueryFault, set_query};
 use policy_eval::allows;
 use policy_json::{PolicyAnswer, read_set};
-use policy_model::{PolicySet, Request, Schema, test_holds, valid};
+use policy_model::{PolicySet, Request, Schema, valid};
 use request_schema::{InferAnswer, infer};
 use std::alloc::{AllocError, Global};
 use std::io;
@@ -73,15 +71,6 @@ pub(crate) fn schema_of(alloc: Global, named: &Schema, set: &PolicySet) -> io::R
     }
 }
 
-/// The tree of the set.
-pub(crate) fn query_of(alloc: Global, schema: &Schema, set: &PolicySet) -> io::Result<Query> {
-    match set_query(alloc, schema, set) {
-        Ok(query) => Ok(query),
-        Err(QueryFault::NoMemory) => Err(ErrorKind::OutOfMemory.into()),
-        Err(_) => Err(ErrorKind::InvalidData.into()),
-    }
-}
-
 /// Whether evaluation allows the request, which has to be valid.
 pub(crate) fn evaluated(schema: &Schema, set: &PolicySet, request: &Request) -> io::Result<bool>
     requires { SchemaFits schema.now set.now }
@@ -91,16 +80,4 @@ pub(crate) fn evaluated(schema: &Schema, set: &PolicySet, request: &Request) -> 
     } else {
         Err(ErrorKind::InvalidData.into())
     }
-}
-
-/// The value of the tree where each test is answered as the request answers it.
-pub(crate) fn compiled(alloc: Global, query: &Query, request: &Request) -> io::Result<Three> {
-    let mut path = Path::new(alloc);
-    for (i, test) in query.tests.as_slice().iter().enumerate() {
-        let number = i.min(u32::MAX as usize) as u32;
-        if path.answer(number).is_none() {
-            path.push(number, test_holds(test, request))?;
-        }
-    }
-    Ok(value3(&query.formula, &path))
 }

@@ -1,6 +1,7 @@
 //! Which parts of the tree of a set are one formula.
-use crate::sets::{query_of, set_read};
+use crate::sets::set_read;
 use formula_tree::Formula;
+use policy_compile::{QueryFault, set_query};
 use policy_model::{PolicySet, Schema};
 use std::alloc::Global;
 use std::io;
@@ -8,8 +9,11 @@ use std::io::{ErrorKind, Write};
 use std::rc::Rc;
 
 fn tree_under(alloc: Global, schema: &Schema, set: &PolicySet) -> io::Result<Rc<Formula>> {
-    let query = query_of(alloc, schema, set)?;
-    Ok(query.formula)
+    match set_query(alloc, schema, set) {
+        Ok(query) => Ok(query.formula),
+        Err(QueryFault::NoMemory) => Err(ErrorKind::OutOfMemory.into()),
+        Err(_) => Err(ErrorKind::InvalidData.into()),
+    }
 }
 
 /// The tree of the set of a file, which has no conditions on keys of other kinds than texts.

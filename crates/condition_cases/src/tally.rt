@@ -1,22 +1,18 @@
 //! Answers, and how many of them there are.
-use formula_tree::Three;
 use std::fmt;
 
-/// The three answers to whether a condition holds of a request.
+/// The two answers to whether a condition holds of a request.
 #[derive(Clone, Copy)]
 pub(crate) struct Answers {
     /// By the definition.
     pub(crate) defined: bool,
     /// By evaluation.
     pub(crate) evaluated: bool,
-    /// By the tree.
-    pub(crate) compiled: Three,
 }
 
 impl Answers {
     pub(crate) fn agree(&self) -> bool {
-        let wanted = if self.defined { Three::Yes } else { Three::No };
-        self.evaluated == self.defined && self.compiled == wanted
+        self.evaluated == self.defined
     }
 }
 

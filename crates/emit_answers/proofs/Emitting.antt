@@ -14,13 +14,13 @@ use Rattle.policy_model.specs.declared.request.Request.{Request}
 use Rattle.policy_model.specs.declared.schema.Schema.{Schema}
 use Rattle.summary_search.specs.declared.outcome.Limits.{Limits}
 use Rattle.read_predicates.specs.Laws.{AreMadeFromFile}
-use Rattle.run_files.specs.declared.printed.Printed.{Printed}
-use Rattle.run_files.specs.declared.status.Status.TheVariants.{Holds, Refused}
-use Rattle.run_files.specs.Printing.{PrintsText}
-use Rattle.run_sets.specs.declared.one_set.OneSet.{OneSet}
-use Rattle.run_sets.specs.OneSets.{IsOneSetOf, OfSet, OfSetRun, one_of}
-use Rattle.finding_answers.specs.declared.answer.Found.{Found}
-use Rattle.finding_answers.specs.Found.{IsFoundOf}
+use Rattle.run_inputs.specs.declared.printed.Printed.{Printed}
+use Rattle.run_inputs.specs.declared.status.Status.TheVariants.{Holds, Refused}
+use Rattle.run_inputs.specs.Printing.{PrintsText}
+use Rattle.run_inputs.specs.declared.one_set.OneSet.{OneSet}
+use Rattle.run_inputs.specs.OneSets.{IsOneSetOf, SomeSet, SomeSetRun, one_of}
+use Rattle.summary_answers.specs.declared.answer.Found.{Found}
+use Rattle.summary_answers.specs.Found.{IsFoundOf}
 use Rattle.emit_answers.specs.EmitPrinted.{HasNoPolicy, HasPolicy, IsOfFile, IsPolicyPrinted, SaysFindings, many_findings_line, policy_of}
 
 -- ---- what is printed of what was found
@@ -75,7 +75,7 @@ of-file set schema one of =
     subst (IsOfFile of.named) of.holds.holds there
 
 -- and what holds of it under the named keys holds of the files
-pub of-named : (set : List ℕ) (schema : Option (List ℕ)) (one : OneSet) (P : Schema → OneSet → Type 0) → (of : IsOneSetOf set schema one) → P of.named one → OfSet set schema (λ named s. OfSetRun named s (P named))
+pub of-named : (set : List ℕ) (schema : Option (List ℕ)) (one : OneSet) (P : Schema → OneSet → Type 0) → (of : IsOneSetOf set schema one) → P of.named one → SomeSet set schema (λ named s. SomeSetRun named s (P named))
 of-named set schema one P of here = record {
   named = of.named;
   set = of.set;

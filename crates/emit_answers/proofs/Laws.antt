@@ -4,18 +4,18 @@ use Rattle.command_words.specs.Asked.{Summarising}
 use Rattle.policy_json.specs.declared.statement.TheConstants.{MOST_STATEMENTS}
 use Rattle.policy_model.specs.declared.schema.Schema.{Schema}
 use Rattle.summary_search.specs.declared.outcome.Limits.{Limits}
-use Rattle.run_files.specs.declared.printed.Printed.{Printed}
-use Rattle.run_files.specs.declared.status.Status.{Status}
-use Rattle.run_files.specs.declared.status.Status.TheVariants as status
-use Rattle.run_files.specs.Printing.{IsOfText}
-use Rattle.run_sets.specs.declared.one_set.OneSet.{OneSet}
-use Rattle.run_sets.specs.declared.refusal.Refusal.{Refusal}
-use Rattle.run_sets.specs.OneSets.{one_of, SetContents}
-use Rattle.run_sets.specs.Refusals.{IsRefusedBy}
-use Rattle.run_sets.proofs.Laws.{no_one_fails, of_same_set}
-use Rattle.finding_answers.specs.declared.answer.Found.{Found}
-use Rattle.finding_answers.specs.Printed.{limits_in}
-use Rattle.finding_answers.proofs.Laws.{not_found_of_text, summarisable_sets_are_found}
+use Rattle.run_inputs.specs.declared.printed.Printed.{Printed}
+use Rattle.run_inputs.specs.declared.status.Status.{Status}
+use Rattle.run_inputs.specs.declared.status.Status.TheVariants as status
+use Rattle.run_inputs.specs.Printing.{IsOfText}
+use Rattle.run_inputs.specs.declared.one_set.OneSet.{OneSet}
+use Rattle.run_inputs.specs.declared.refusal.Refusal.{Refusal}
+use Rattle.run_inputs.specs.OneSets.{one_of, SetContents}
+use Rattle.run_inputs.specs.Refusals.{IsRefusedBy}
+use Rattle.run_inputs.proofs.Laws.{no_one_fails, of_same_set}
+use Rattle.summary_answers.specs.declared.answer.Found.{Found}
+use Rattle.summary_answers.specs.Printed.{limits_in}
+use Rattle.summary_answers.proofs.Laws.{not_found_of_text, summarisable_sets_are_found}
 use Rattle.emit_answers.specs.EmitComplete.{EmitsDecide, IsEmittable}
 use Rattle.emit_answers.specs.EmitPrinted.{HasNoPolicy, HasPolicy, IsEmitPrinted, IsSetEmitted}
 

@@ -3,14 +3,14 @@ use Rattle.std.specs.Prelude.{◌≡◌, ◌≤◌, ℕ, List, length}
 use Rattle.command_words.specs.Asked.{Summarising}
 use Rattle.policy_json.specs.declared.statement.TheConstants.{MOST_STATEMENTS}
 use Rattle.summary_search.specs.declared.outcome.Limits.{Limits}
-use Rattle.run_files.specs.declared.printed.Printed.{Printed}
-use Rattle.run_files.specs.declared.status.Status.TheVariants.{Holds}
-use Rattle.run_sets.specs.declared.one_set.OneSet.{OneSet}
-use Rattle.run_sets.specs.OneSets.{OfOneSet, SetContents}
-use Rattle.finding_answers.specs.declared.answer.Found.{Found}
-use Rattle.finding_answers.specs.Complete.{IsSummarisable}
-use Rattle.finding_answers.specs.Found.{IsFoundOf}
-use Rattle.finding_answers.specs.Printed.{limits_in}
+use Rattle.run_inputs.specs.declared.printed.Printed.{Printed}
+use Rattle.run_inputs.specs.declared.status.Status.TheVariants.{Holds}
+use Rattle.run_inputs.specs.declared.one_set.OneSet.{OneSet}
+use Rattle.run_inputs.specs.OneSets.{SomeOneSet, SetContents}
+use Rattle.summary_answers.specs.declared.answer.Found.{Found}
+use Rattle.summary_answers.specs.Complete.{IsSummarisable}
+use Rattle.summary_answers.specs.Found.{IsFoundOf}
+use Rattle.summary_answers.specs.Printed.{limits_in}
 use Rattle.emit_answers.specs.EmitPrinted.{IsEmitPrinted}
 
 -- the set is summarised, and its findings are no more than statements may stand in a set
@@ -20,7 +20,7 @@ pub record IsEmittable (names : List (List ℕ)) (limits : Limits) (one : OneSet
 
 -- the files stand for such a set
 abbrev pub IsEmitAccepted : Summarising → SetContents → Type 0
-IsEmitAccepted e c = OfOneSet c.set c.schema (IsEmittable e.dimensions (limits_in e))
+IsEmitAccepted e c = SomeOneSet c.set c.schema (IsEmittable e.dimensions (limits_in e))
 
 -- of such files the policy is printed
 abbrev pub EmitsDecide : Type 0

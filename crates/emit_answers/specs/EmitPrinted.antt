@@ -14,17 +14,17 @@ use Rattle.policy_model.specs.Sets.{Allows}
 use Rattle.read_predicates.specs.KnownKeys.{IsInferredOfBoth}
 use Rattle.request_schema.specs.RunSchemas.{IsInferred}
 use Rattle.summary_search.specs.declared.outcome.Limits.{Limits}
-use Rattle.run_files.specs.declared.printed.EarlyEnd.{EarlyEnd}
-use Rattle.run_files.specs.declared.printed.Printed.{Printed}
-use Rattle.run_files.specs.declared.status.Status.TheVariants.{Holds, Refused}
-use Rattle.run_files.specs.Printing.{IfPrinted, PrintsText}
-use Rattle.run_sets.specs.declared.one_set.OneSet.{OneSet}
-use Rattle.run_sets.specs.OneSets.{IsNoOneSet, OfSet, OfSetRun, SetContents}
-use Rattle.run_sets.specs.Refusals.{IsRefusedBy}
-use Rattle.run_sets.specs.Standing.{StandsFor}
-use Rattle.finding_answers.specs.declared.answer.Found.{Found}
-use Rattle.finding_answers.specs.Found.{IsFoundOf, IsNotFound}
-use Rattle.finding_answers.specs.Printed.{limits_in}
+use Rattle.run_inputs.specs.declared.printed.EarlyEnd.{EarlyEnd}
+use Rattle.run_inputs.specs.declared.printed.Printed.{Printed}
+use Rattle.run_inputs.specs.declared.status.Status.TheVariants.{Holds, Refused}
+use Rattle.run_inputs.specs.Printing.{IfPrinted, PrintsText}
+use Rattle.run_inputs.specs.declared.one_set.OneSet.{OneSet}
+use Rattle.run_inputs.specs.OneSets.{IsOneSetRefusal, SomeSet, SomeSetRun, SetContents}
+use Rattle.run_inputs.specs.Refusals.{IsRefusedBy}
+use Rattle.run_inputs.specs.Standing.{StandsFor}
+use Rattle.summary_answers.specs.declared.answer.Found.{Found}
+use Rattle.summary_answers.specs.Found.{IsFoundOf, IsNotFound}
+use Rattle.summary_answers.specs.Printed.{limits_in}
 
 -- ---- what a policy says
 
@@ -76,8 +76,8 @@ IsSetEmitted names limits named one p = IsNotFound names limits one p ⊎ IsFoun
 -- of files: why they stand for no set, or what is printed of the set that they stand for
 abbrev pub IsEmitPrinted : Summarising → SetContents → Printed → Type 0
 IsEmitPrinted e c p =
-    IsRefusedBy (IsNoOneSet c.set c.schema) p
-    ⊎ OfSet c.set c.schema (λ named set. OfSetRun named set (λ one. IsSetEmitted e.dimensions (limits_in e) named one p))
+    IsRefusedBy (IsOneSetRefusal c.set c.schema) p
+    ⊎ SomeSet c.set c.schema (λ named set. SomeSetRun named set (λ one. IsSetEmitted e.dimensions (limits_in e) named one p))
 
 -- ---- parts
 
@@ -97,7 +97,7 @@ pub record IsOfFile (named : Schema) (one : OneSet) : Type 0 where
   pub stands : StandsFor bytes one.set
   pub run : IsInferred named one.set None (Ok one.schema)
 
--- the same of whichever keys were named
+-- as above, whichever keys were named
 abbrev pub EmitsOf : List (List ℕ) → Limits → OneSet → Result Printed EarlyEnd → Type 0
 EmitsOf names limits one result =
     (named : Schema) → IsOfFile named one → IfPrinted result (IsSetEmitted names limits named one)

@@ -1,19 +1,18 @@
 //! What is printed to a file of a set that is asked for a policy.
 ghost use Rattle.std.specs.Prelude.{◌≡◌, true, option_map};
 ghost use Rattle.command_words.specs.Asked.{AreFindingsInRange, are_dimensions, summarising_in, texts_in};
-ghost use Rattle.run_files.specs.Printing.{IfPrinted};
-ghost use Rattle.run_sets.specs.OneSets.{FitsItsSchema, set_contents};
+ghost use Rattle.run_inputs.specs.Printing.{IfPrinted};
+ghost use Rattle.run_inputs.specs.OneSets.{FitsItsSchema, set_contents};
 ghost use Rattle.summary_search.specs.Outcomes.{AreInRange};
 ghost use Rattle.emit_answers.specs.EmitPrinted.{EmitsOf, IsEmitPrinted};
 
 use crate::writing::print_policy;
 use command_words::FindingArguments;
-use finding_answers::{found, limits_of};
 use findings::summaries_cover;
 use policy_emit::{emitted_keys_are_known, emitted_sets_allow_findings};
-use run_files::{EarlyEnd, Printed};
-use run_sets::{OneSet, read_one};
+use run_inputs::{EarlyEnd, OneSet, Printed, read_one};
 use std::alloc::Global;
+use summary_answers::{found, limits_of};
 use summary_search::Limits;
 
 // What is printed of a set by the dimensions of these names, whose policy says what its findings say.
@@ -35,9 +34,9 @@ fn print_set_policy(
     print_policy(alloc, &one.schema, &found)
 }
 
-/// What is printed to files that were read, that of a set and that of a schema where one is named, of which a
-/// policy is asked for: a policy document of the set's findings by the dimensions; or why there is no summary of
-/// them; or that the findings are more than a set may have statements.
+/// What `emit` prints for files that were read, that of a set and that of a schema where one is named: a policy
+/// document of the set's findings by the dimensions; or why there is no summary; or that there are more findings than
+/// a set may have statements.
 pub fn print_emit(
     alloc: Global,
     set: &[u8],

@@ -1,14 +1,14 @@
 //! What is printed of what was found.
 ghost use Rattle.std.specs.Prelude.{◌≡◌, IfOk, string_bytes};
-ghost use Rattle.run_files.specs.Printing.{IfPrinted};
-ghost use Rattle.finding_answers.specs.Found.{HaveFindings};
+ghost use Rattle.run_inputs.specs.Printing.{IfPrinted};
+ghost use Rattle.summary_answers.specs.Found.{HaveFindings};
 ghost use Rattle.emit_answers.specs.EmitPrinted.{IsPolicyPrinted, many_findings_line};
 
-use finding_answers::{Found, ended};
 use policy_emit::{EmitFault, emit};
 use policy_model::Schema;
-use run_files::{EarlyEnd, Printed, Status};
+use run_inputs::{EarlyEnd, Printed, Status};
 use std::alloc::{AllocError, Global};
+use summary_answers::{Found, ended};
 
 // The line on more findings than statements may stand in a set.
 fn many_findings_line(alloc: Global) -> Result<String, AllocError>

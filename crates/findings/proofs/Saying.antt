@@ -1,8 +1,7 @@
 -- What the predicates say, as the table grows and as answers are joined.
-use Rattle.std.proofs.Common.{◌≡◌, ◌≢◌, ◌↔◌, ℕ, zero, suc, ◌<◌, Bool, true, false, List, [], ◌∷◌, ◌++◌, Option, Some, None, length, get_or, inl, inr, refl, sym, ap, subst, ◌∙◌}
-use Rattle.std.specs.Prelude.{Contains, IsTrue, MatchBool, MatchOption, slice_get}
+use Rattle.std.proofs.Common.{◌≡◌, ◌≢◌, ◌↔◌, ℕ, zero, suc, ◌<◌, Bool, true, false, List, [], ◌∷◌, ◌++◌, Option, Some, None, Ok, Err, IfOk, length, get_or, inl, inr, refl, sym, ap, subst, ◌∙◌}
+use Rattle.std.specs.Prelude.{Contains, MatchBool, MatchOption, Result, slice_get}
 use Rattle.std.proofs.lemmas.Bool.{cases_eq}
-use Rattle.std.proofs.lemmas.List.Elements.{All-nil, All-push}
 use Rattle.std.proofs.lemmas.Option.{slice_get-get_or}
 use Rattle.formula_tree.specs.Answers.{Answers, answer_of}
 use Rattle.formula_tree.proofs.Laws.{answer_of-besides, answer_of-last}
@@ -11,20 +10,17 @@ use Rattle.policy_model.specs.declared.schema.Schema.{Schema}
 use Rattle.policy_model.specs.declared.test.Slot.{Slot}
 use Rattle.policy_model.specs.declared.test.Slot.TheVariants as slot
 use Rattle.policy_model.specs.declared.test.Test.{Test}
-use Rattle.policy_model.specs.Requests.{IsValid}
-use Rattle.policy_model.specs.Soundness.{IsSingleSlot}
 use Rattle.policy_model.specs.Tests.{TestHolds}
-use Rattle.policy_model.proofs.Laws.{one-value-permitted}
+use Rattle.slot_theory.specs.Possible.{AnswersPath}
 use Rattle.strata.specs.declared.predicate.Predicate.{Predicate}
 use Rattle.strata.specs.declared.predicate.Predicate.TheVariants.{Every, Principal, Word, Meets}
 use Rattle.strata.specs.declared.stratum.Stratum.{Stratum}
 use Rattle.strata.specs.Covers.{predicate_at}
-use Rattle.strata.specs.Plain.{HasOneValueAtMost}
 use Rattle.strata.specs.Predicates.{MeetsPredicate, test_of}
 use Rattle.findings.specs.declared.known.KnownAnswers.{KnownAnswers}
 use Rattle.findings.specs.Queries.{numbers_below}
 use Rattle.findings.specs.Steps.{predicate_number_at}
-use Rattle.findings.specs.KnownAnswers.{AddsFinerAt, AddsTestAnswer, AreOwnAnswers, AreInsideAnswers, ArePassedWhereMet, IsPassedWhereMet, JoinsAnswers, AreGivenByEach, AreGivenForNamed, AreGivenInDimension, DecidesOther, IsAnswerTable, answers_in}
+use Rattle.findings.specs.KnownAnswers.{AddsFinerAt, AddsTestAnswer, AnswersOther, AnswersTests, AreOwnAnswers, AreInsideAnswers, JoinsAnswers, AreGivenByEach, AreGivenInDimension, IsAnswerTable, PassesOrFails, answers_in}
 
 -- ---- lists that grow
 
@@ -66,56 +62,49 @@ turned : (b : Bool) {P Q : Type 0} → (P ↔ Q) → MatchBool b P (¬ P) → Ma
 turned true same h = same.0 h
 turned false same h = λ q. h (same.1 q)
 
-pub named-none : (s : Slot) (tests : List Test) (named : List (ℕ × Predicate)) → named ≡ [] → ArePassedWhereMet s tests named
-named-none s tests named empty = subst (ArePassedWhereMet s tests) (sym empty) (All-nil (IsPassedWhereMet s tests))
+-- nothing is answered
+no-answers : (tests : List Test) (r : Request) → AnswersPath tests [] r
+no-answers tests r n b t at is = absurd (cc)
 
-pub named-next : (s : Slot) (tests : List Test) (old new : List (ℕ × Predicate)) (i n : ℕ) (p : Predicate) (t : Test) → ArePassedWhereMet s tests old → i < length tests → t ≡ get_or tests i t → n ≡ i → test_of s p ≡ Some t → new ≡ old ++ (n, p) ∷ [] → ArePassedWhereMet s tests new
-named-next s tests old new i n p t before within at number is grows =
-    let there : slice_get tests i ≡ Some t = slice_get-get_or tests i t within ∙ ap Some (sym at) in
-    subst (ArePassedWhereMet s tests) (sym grows) (All-push (IsPassedWhereMet s tests) old (n, p) before (λ u read. (
-    let own : slice_get tests i ≡ Some u = subst (λ (k : ℕ). slice_get tests k ≡ Some u) number read in
-    is ∙ sym there ∙ own)))
+pub tests-none : (schema : Schema) (met : Bool) (one : Test) (tests : List Test) (path : Answers) → path ≡ [] → AnswersTests schema one met tests path
+tests-none schema met one tests path empty = subst (AnswersTests schema one met tests) (sym empty) (λ r valid stands. no-answers tests r)
 
-pub no-answers : (Of : Request → Type 0) (met : Bool) (s : Slot) (p : Predicate) (tests : List Test) → AreGivenByEach Of met s p tests []
-no-answers Of met s p tests r of stands n b t at is = absurd (cc)
-
-pub says-none : (single : Bool) (named : List (ℕ × Predicate)) (met : Bool) (p : Predicate) (path : Answers) → path ≡ [] → AreGivenForNamed single named met p path
-says-none single named met p path empty =
-    subst (AreGivenForNamed single named met p) (sym empty) (λ s tests are. no-answers (λ r. IsTrue single → HasOneValueAtMost s r) met s p tests)
-
-pub says-next : (single : Bool) (named : List (ℕ × Predicate)) (met : Bool) (p : Predicate) (old new : Answers) (i : ℕ) (q : ℕ × Predicate) (b : Bool) → AreGivenForNamed single named met p old → i < length named → q ≡ get_or named i q →
-    DecidesOther single p met q.1 b → AddsTestAnswer old q.0 b new → AreGivenForNamed single named met p new
-says-next single named met p old new i q b before within at says adds s tests are r few stands n c t answered there = elim (adds n c answered) [
-  | inl was ↦ before s tests are r few stands n c t was there
+pub tests-next : (schema : Schema) (met : Bool) (one : Test) (tests : List Test) (old new : Answers) (i n : ℕ) (t : Test) (b : Bool) → AnswersTests schema one met tests old → i < length tests → t ≡ get_or tests i t → n ≡ i →
+    AnswersOther schema one met t b → AddsTestAnswer old n b new → AnswersTests schema one met tests new
+tests-next schema met one tests old new i n t b before within at number says adds r valid stands k c u answered there = elim (adds k c answered) [
+  | inl was ↦ before r valid stands k c u was there
   | inr this ↦ (
-      let passed : IsPassedWhereMet s tests q = subst (IsPassedWhereMet s tests) (sym at) (are i q within) in
-      let own : slice_get tests q.0 ≡ Some t = subst (λ (k : ℕ). slice_get tests k ≡ Some t) this.0 there in
-      subst (λ (x : Bool). MatchBool x (TestHolds r t) (¬ TestHolds r t)) (sym this.1) (turned b (test-meets s q.1 t r (passed t own)) (says s r few stands)))
+      let here : slice_get tests i ≡ Some t = slice_get-get_or tests i t within ∙ ap Some (sym at) in
+      let own : slice_get tests i ≡ Some u = subst (λ (j : ℕ). slice_get tests j ≡ Some u) (this.0 ∙ number) there in
+      let same : t ≡ u = cc in
+      subst (λ (x : Test). PassesOrFails c x r) same (subst (λ (x : Bool). PassesOrFails x t r) (sym this.1) (says r valid stands)))
 ]
 
--- a valid request has one value in a slot that is a single one
-single-value : (schema : Schema) (s : Slot) (r : Request) → IsSingleSlot schema s → IsValid schema r → HasOneValueAtMost s r
-single-value schema slot.Principal r single valid = tt
-single-value schema slot.Action r single valid = tt
-single-value schema slot.Resource r single valid = tt
-single-value schema (slot.Key key) r single valid = one-value-permitted schema r key (λ rule. rule.many ≡ false) (λ rule once. once) valid single
+none-given : (schema : Schema) (met : Bool) (s : Slot) (p : Predicate) (tests : List Test) → AreGivenByEach schema met s p tests []
+none-given schema met s p tests r valid stands = no-answers tests r
 
-pub given-by-valid : (schema : Schema) (single met : Bool) (s : Slot) (p : Predicate) (tests : List Test) (path : Answers) → (IsTrue single ↔ IsSingleSlot schema s) → AreGivenByEach (λ r. IsTrue single → HasOneValueAtMost s r) met s p tests path →
-    AreGivenByEach (IsValid schema) met s p tests path
-given-by-valid schema single met s p tests path is says r valid stands = says r (λ set. single-value schema s r (is.0 set) valid) stands
+pub says-none : (schema : Schema) (met : Bool) (s : Slot) (p : Predicate) (tests : List Test) (path : Answers) → path ≡ [] → AreGivenByEach schema met s p tests path
+says-none schema met s p tests path empty = subst (AreGivenByEach schema met s p tests) (sym empty) (none-given schema met s p tests)
+
+pub says-test : (schema : Schema) (met : Bool) (s : Slot) (p : Predicate) (tests : List Test) (path : Answers) (t : Test) → test_of s p ≡ Some t → AnswersTests schema t met tests path → AreGivenByEach schema met s p tests path
+says-test schema met s p tests path t is says r valid stands = says r valid (turned met (test-meets s p t r is) stands)
+
+pub says-read : {E : Type 0} (schema : Schema) (met : Bool) (s : Slot) (p : Predicate) (tests : List Test) (r : Result Answers E) (t : Test) → test_of s p ≡ Some t → IfOk r (AnswersTests schema t met tests) → IfOk r (AreGivenByEach schema met s p tests)
+says-read schema met s p tests (Ok path) t is says = says-test schema met s p tests path t is says
+says-read schema met s p tests (Err e) t is says = says
 
 -- ---- the table
 
 pub none-say : (schema : Schema) (met : Bool) (d : Stratum) (tests : List Test) (paths : List Answers) → paths ≡ [] → AreGivenInDimension schema met d tests paths
-none-say schema met d tests paths empty = subst (AreGivenInDimension schema met d tests) (sym empty) (λ n. no-answers (IsValid schema) met d.slot (predicate_at d.predicates n) tests)
+none-say schema met d tests paths empty = subst (AreGivenInDimension schema met d tests) (sym empty) (λ n. none-given schema met d.slot (predicate_at d.predicates n) tests)
 
 pub paths-say : (schema : Schema) (met : Bool) (d : Stratum) (tests : List Test) (old new : List Answers) (path : Answers) (n : ℕ) → length old ≡ n → new ≡ old ++ path ∷ [] → AreGivenInDimension schema met d tests old →
-    AreGivenByEach (IsValid schema) met d.slot (predicate_at d.predicates n) tests path → AreGivenInDimension schema met d tests new
+    AreGivenByEach schema met d.slot (predicate_at d.predicates n) tests path → AreGivenInDimension schema met d tests new
 paths-say schema met d tests old new path n count grows before here =
-    each-pushed (λ k p. AreGivenByEach (IsValid schema) met d.slot (predicate_at d.predicates k) tests p) [] old new path n count grows before here
+    each-pushed (λ k p. AreGivenByEach schema met d.slot (predicate_at d.predicates k) tests p) [] old new path n count grows before here
 
 pub table-none : (schema : Schema) (met : Bool) (ds : List Stratum) (tests : List Test) (table : List (List Answers)) → table ≡ [] → IsAnswerTable schema met ds tests table
-table-none schema met ds tests table empty = subst (IsAnswerTable schema met ds tests) (sym empty) (λ i d at n. no-answers (IsValid schema) met d.slot (predicate_at d.predicates n) tests)
+table-none schema met ds tests table empty = subst (IsAnswerTable schema met ds tests) (sym empty) (λ i d at n. none-given schema met d.slot (predicate_at d.predicates n) tests)
 
 pub table-says : (schema : Schema) (met : Bool) (ds : List Stratum) (tests : List Test) (old new : List (List Answers)) (paths : List Answers) (n : ℕ) (d : Stratum) → length old ≡ n → new ≡ old ++ paths ∷ [] → IsAnswerTable schema met ds tests old →
     slice_get ds n ≡ Some d → AreGivenInDimension schema met d tests paths → IsAnswerTable schema met ds tests new

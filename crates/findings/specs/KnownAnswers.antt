@@ -1,19 +1,19 @@
 -- What predicates plainly say of the tests of a set: answers that each request gives that meets a predicate, or misses it.
-use Rattle.std.specs.Prelude.{◌≡◌, ◌⊎◌, ◌<◌, ℕ, Bool, true, false, IsTrue, List, [], All, Contains, MatchBool, Some, length, slice_get, slice_index_or}
+use Rattle.std.specs.Prelude.{◌≡◌, ◌⊎◌, ◌<◌, ℕ, Bool, true, false, List, [], Contains, MatchBool, Some, length, slice_get, slice_index_or}
 use Rattle.formula_tree.specs.Answers.{Answers, answer_of}
 use Rattle.policy_model.specs.declared.request.Request.{Request}
 use Rattle.policy_model.specs.declared.schema.Schema.{Schema}
 use Rattle.policy_model.specs.declared.test.Slot.{Slot}
 use Rattle.policy_model.specs.declared.test.Test.{Test}
 use Rattle.policy_model.specs.Requests.{IsValid}
+use Rattle.policy_model.specs.Tests.{TestHolds}
 use Rattle.policy_compile.specs.declared.outcome.Query.{Query}
 use Rattle.slot_theory.specs.Possible.{AnswersPath}
 use Rattle.strata.specs.declared.predicate.Predicate.{Predicate}
 use Rattle.strata.specs.declared.stratum.Strata.{Strata}
 use Rattle.strata.specs.declared.stratum.Stratum.{Stratum}
 use Rattle.strata.specs.Covers.{predicate_at}
-use Rattle.strata.specs.Plain.{HasOneValueAtMost}
-use Rattle.strata.specs.Predicates.{MeetsPredicate, test_of}
+use Rattle.strata.specs.Predicates.{MeetsPredicate}
 use Rattle.findings.specs.declared.known.KnownAnswers.{KnownAnswers}
 use Rattle.findings.specs.Queries.{numbers_below}
 use Rattle.findings.specs.Steps.{predicate_number_at}
@@ -22,34 +22,29 @@ use Rattle.findings.specs.Steps.{predicate_number_at}
 abbrev pub MeetsOrMisses : Bool → Slot → Predicate → Request → Type 0
 MeetsOrMisses met s p r = MatchBool met (MeetsPredicate s p r) (¬ MeetsPredicate s p r)
 
--- each request that meets the one predicate, or misses it, meets or misses the other in the same slot, as the answer says; of
--- those that have one value there at most, where that is given
-abbrev pub DecidesOther : Bool → Predicate → Bool → Predicate → Bool → Type 0
-DecidesOther single one met other answer =
-    (s : Slot) (r : Request) → (IsTrue single → HasOneValueAtMost s r) → MeetsOrMisses met s one r → MeetsOrMisses answer s other r
+-- the request passes the test, or fails it
+abbrev pub PassesOrFails : Bool → Test → Request → Type 0
+PassesOrFails passed t r = MatchBool passed (TestHolds r t) (¬ TestHolds r t)
 
--- the test of this number is passed where the predicate is met
-abbrev pub IsPassedWhereMet : Slot → List Test → ℕ × Predicate → Type 0
-IsPassedWhereMet s tests p = (t : Test) → slice_get tests p.0 ≡ Some t → test_of s p.1 ≡ Some t
+-- each valid request that passes the one test, or fails it, passes or fails the other, as the answer says
+abbrev pub AnswersOther : Schema → Test → Bool → Test → Bool → Type 0
+AnswersOther schema one passed other answer =
+    (r : Request) → IsValid schema r → PassesOrFails passed one r → PassesOrFails answer other r
 
--- the same of several
-abbrev pub ArePassedWhereMet : Slot → List Test → List (ℕ × Predicate) → Type 0
-ArePassedWhereMet s tests named = All (IsPassedWhereMet s tests) named
+-- each valid request that passes the test, or fails it, answers the path
+abbrev pub AnswersTests : Schema → Test → Bool → List Test → Answers → Type 0
+AnswersTests schema one passed tests path =
+    (r : Request) → IsValid schema r → PassesOrFails passed one r → AnswersPath tests path r
 
--- each request of these that stands so to the predicate answers the path
-abbrev pub AreGivenByEach : (Request → Type 0) → Bool → Slot → Predicate → List Test → Answers → Type 0
-AreGivenByEach Of met s p tests path = (r : Request) → Of r → MeetsOrMisses met s p r → AnswersPath tests path r
+-- each valid request that meets the predicate, or misses it, answers the path
+abbrev pub AreGivenByEach : Schema → Bool → Slot → Predicate → List Test → Answers → Type 0
+AreGivenByEach schema met s p tests path =
+    (r : Request) → IsValid schema r → MeetsOrMisses met s p r → AnswersPath tests path r
 
--- of whichever slot and tests these are
-abbrev pub AreGivenForNamed : Bool → List (ℕ × Predicate) → Bool → Predicate → Answers → Type 0
-AreGivenForNamed single named met p path =
-    (s : Slot) (tests : List Test) → ArePassedWhereMet s tests named →
-    AreGivenByEach (λ r. IsTrue single → HasOneValueAtMost s r) met s p tests path
-
--- for each predicate of a dimension such answers, of valid requests
+-- for each predicate of a dimension such answers
 abbrev pub AreGivenInDimension : Schema → Bool → Stratum → List Test → List Answers → Type 0
 AreGivenInDimension schema met d tests paths =
-    (n : ℕ) → AreGivenByEach (IsValid schema) met d.slot (predicate_at d.predicates n) tests (slice_index_or paths n [])
+    (n : ℕ) → AreGivenByEach schema met d.slot (predicate_at d.predicates n) tests (slice_index_or paths n [])
 
 -- for each dimension
 abbrev pub IsAnswerTable : Schema → Bool → List Stratum → List Test → List (List Answers) → Type 0

@@ -1,13 +1,12 @@
 //! Who decides queries.
-ghost use Rattle.std.specs.Prelude.{◌≡◌, ◌↔◌, ℕ, IfOk, IsTrue};
+ghost use Rattle.std.specs.Prelude.{◌≡◌, ℕ, IfOk};
 ghost use Rattle.policy_model.specs.declared.schema.Schema.{Schema};
 ghost use Rattle.findings.specs.Answers.{AnswersQuery, QueryIsAskable};
-ghost use Rattle.policy_model.specs.Soundness.{IsSingleSlot};
 
 use formula_tree::Path;
 use plain_lists::NoMemory;
 use policy_compile::Query;
-use policy_model::{Request, Slot};
+use policy_model::{Request, Schema, Slot};
 use std::alloc::Global;
 use wildcard_lang::TextList;
 
@@ -45,10 +44,9 @@ pub trait Decide {
     /// The most product states of a slot's patterns that it looks at. The number never changes.
     ghost states: { Self → ℕ };
 
-    /// Whether a valid request has one value in the slot at most: it is no key, or a key of the schema that
-    /// isn't given several values.
-    fn is_single(&self, slot: &Slot) -> bool
-        ensures { IsTrue result ↔ IsSingleSlot (schema self.now) slot.now };
+    /// The schema itself.
+    fn its_schema(&self) -> &Schema
+        ensures { result.now ≡ schema self.now };
 
     /// Whether some valid request makes the query yes. `OutOfSplits` comes only where the plain run of
     /// the query needs more splits than it makes, and `OutOfStates` only where a slot needs more states

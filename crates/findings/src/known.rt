@@ -1,27 +1,23 @@
-//! What the predicates of findings plainly say of the tests of a set: a table, made once for a summary, by
-//! which much is known of a finding without a search.
-ghost use Rattle.std.specs.Prelude.{◌≡◌, ◌<◌, ◌^◌, Bool, IfOk, IfSome, OnOk, Some, false, length, true};
-ghost use Rattle.strata.specs.Predicates.{test_of};
+//! What the predicates of findings say of the tests of a set by themselves: a table, made once for a summary,
+//! by which much is known of a finding without a search.
+ghost use Rattle.std.specs.Prelude.{◌≡◌, ◌<◌, ◌^◌, IfOk, IfSome, OnOk, false, length, true};
 ghost use Rattle.findings.specs.Findings.{IsFinding};
-ghost use Rattle.findings.specs.KnownAnswers.{AddsFinerAt, AddsTestAnswer, AreGivenForNamed, AreGivenInDimension, AreInsideAnswers, AreKnownAnswers, AreOwnAnswers, ArePassedWhereMet, DecidesOther, IsAnswerTable, JoinsAnswers, answers_in};
+ghost use Rattle.findings.specs.KnownAnswers.{AddsFinerAt, AddsTestAnswer, AnswersOther, AnswersTests, AreGivenByEach, AreGivenInDimension, AreInsideAnswers, AreKnownAnswers, AreOwnAnswers, IsAnswerTable, JoinsAnswers, answers_in};
 
-use crate::decide::Decide;
 use crate::outcome::Finding;
 use crate::reading::{dimension_at, predicate_number_at};
 use formula_tree::Path;
-use plain_lists::{EqualClone, List, NoMemory};
+use plain_lists::{List, NoMemory};
 use policy_compile::Query;
-use policy_model::{Slot, Test};
+use policy_model::{Schema, Slot, Test};
 use std::alloc::Global;
-use strata::{Predicate, Strata, Stratum, are_plainly_apart, is_plainly_below};
+use strata::{Predicate, Strata, Stratum, test_of};
+use test_relations::{excludes, leads};
 
 /// For each predicate of a dimension, answers to tests of the set.
 type PathList = List<Path>;
 
-/// Tests of a slot by their numbers, each with the predicate that a request meets where it passes the test.
-type NamedTests = List<(u32, Predicate)>;
-
-/// What the predicates of each dimension plainly say of the tests of a set.
+/// What the predicates of each dimension say of the tests of a set.
 #[derive(Drop)]
 pub(crate) struct KnownAnswers {
     /// By dimensions and numbers of predicates: what each request answers that meets the predicate.
@@ -30,36 +26,36 @@ pub(crate) struct KnownAnswers {
     pub(crate) missed: List<PathList>,
 }
 
-// Whether a request meets the other predicate, where that is plain of each that meets the one.
-fn answer_where_met(one: &Predicate, other: &Predicate, single: bool) -> Option<bool>
-    ensures { IfSome result (DecidesOther single one.now true other.now) }
+// What each valid request answers to the other test that passes the one.
+fn answer_where_passed(schema: &Schema, one: &Test, other: &Test) -> Option<bool>
+    ensures { IfSome result (AnswersOther schema.now one.now true other.now) }
 {
-    if is_plainly_below(one, other) {
+    if leads(schema, one, other) {
         return Some(true);
     }
-    if are_plainly_apart(one, other, single) {
+    if excludes(schema, one, other) {
         return Some(false);
     }
     None
 }
 
-// The same of each that misses the one.
-fn answer_where_missed(one: &Predicate, other: &Predicate) -> Option<bool>
-    ensures { (single : Bool) → IfSome result (DecidesOther single one.now false other.now) }
+// What each answers that fails the one.
+fn answer_where_failed(schema: &Schema, one: &Test, other: &Test) -> Option<bool>
+    ensures { IfSome result (AnswersOther schema.now one.now false other.now) }
 {
-    if is_plainly_below(other, one) {
+    if leads(schema, other, one) {
         return Some(false);
     }
     None
 }
 
-fn answer_where(met: bool, one: &Predicate, other: &Predicate, single: bool) -> Option<bool>
-    ensures { IfSome result (DecidesOther single one.now met other.now) }
+fn answer_where(schema: &Schema, met: bool, one: &Test, other: &Test) -> Option<bool>
+    ensures { IfSome result (AnswersOther schema.now one.now met other.now) }
 {
     if met {
-        return answer_where_met(one, other, single);
+        return answer_where_passed(schema, one, other);
     }
-    answer_where_missed(one, other)
+    answer_where_failed(schema, one, other)
 }
 
 // The answer is added to the path, where the test has none yet.
@@ -75,106 +71,79 @@ fn add_answer(path: &mut Path, test: u32, answer: bool) -> Result<(), NoMemory>
     }
 }
 
-// The predicate that a request meets in the slot where it passes the test. There is none for a test of
-// another slot, nor for one that isn't whether some value meets something.
-fn predicate_of(slot: &Slot, test: &Test) -> Result<Option<Predicate>, NoMemory>
-    ensures { IfOk result (λ o. IfSome o (λ p. test_of slot.now p ≡ Some test.now)) }
-{
-    match (slot, test) {
-        (Slot::Principal, Test::Principal(entry)) => {
-            Ok(Some(Predicate::Principal(entry.copy()?)))
-        }
-        (Slot::Action, Test::Action(pattern)) => Ok(Some(Predicate::Word(pattern.copy()?))),
-        (Slot::Resource, Test::Resource(pattern)) => Ok(Some(Predicate::Word(pattern.copy()?))),
-        (Slot::Key(key), Test::SomeMeets(name, cond)) => {
-            if key == name {
-                Ok(Some(Predicate::Meets(cond.copy()?)))
-            } else {
-                Ok(None)
-            }
-        }
-        _ => Ok(None),
-    }
-}
-
-// The tests of the slot that are passed where a predicate is met.
-fn named_tests(alloc: Global, slot: &Slot, tests: &[Test]) -> Result<NamedTests, NoMemory>
-    requires few { length tests.now < 2 ^ 32 }
-    ensures { IfOk result (ArePassedWhereMet slot.now tests.now) }
-{
-    let mut named = List::new(alloc);
-    'tests: for i in 0..tests.len() {
-        let Some(predicate) = predicate_of(slot, &tests[i])? else {
-            continue;
-        };
-        named.push((i as u32, predicate))?;
-    }
-    Ok(named)
-}
-
-// What the predicate says of these tests, on a slot that is a single one or not.
+// What the one test, passed or failed, says of the tests.
 fn path_of(
     alloc: Global,
+    schema: &Schema,
     met: bool,
-    one: &Predicate,
-    named: &NamedTests,
-    single: bool,
+    one: &Test,
+    tests: &[Test],
 ) -> Result<Path, NoMemory>
-    ensures { IfOk result (AreGivenForNamed single named.now met one.now) }
+    requires few { length tests.now < 2 ^ 32 }
+    ensures { IfOk result (AnswersTests schema.now one.now met tests.now) }
 {
     let mut path = Path::new(alloc);
-    'others: for i in 0..named.len() {
-        let other = &named.as_slice()[i];
-        let Some(answer) = answer_where(met, one, &other.1, single) else {
+    'tests: for i in 0..tests.len() {
+        let Some(answer) = answer_where(schema, met, one, &tests[i]) else {
             continue;
         };
-        add_answer(&mut path, other.0, answer)?;
+        add_answer(&mut path, i as u32, answer)?;
     }
     Ok(path)
 }
 
-// What each predicate of the dimension says.
-fn paths_in<D: Decide>(
+// What the predicate of the slot, met or missed, says of them. `Every` says nothing.
+fn answers_where(
     alloc: Global,
+    schema: &Schema,
+    met: bool,
+    slot: &Slot,
+    one: &Predicate,
+    tests: &[Test],
+) -> Result<Path, NoMemory>
+    requires few { length tests.now < 2 ^ 32 }
+    ensures { IfOk result (AreGivenByEach schema.now met slot.now one.now tests.now) }
+{
+    let Some(test) = test_of(slot, one)? else {
+        return Ok(Path::new(alloc));
+    };
+    path_of(alloc, schema, met, &test, tests)
+}
+
+// What each predicate of the dimension says.
+fn paths_in(
+    alloc: Global,
+    schema: &Schema,
     met: bool,
     stratum: &Stratum,
     tests: &[Test],
-    asks: &D,
 ) -> Result<PathList, NoMemory>
     requires few { length tests.now < 2 ^ 32 }
-    ensures { IfOk result (AreGivenInDimension (D.schema asks.now) met stratum.now tests.now) }
+    ensures { IfOk result (AreGivenInDimension schema.now met stratum.now tests.now) }
 {
-    let single = asks.is_single(&stratum.slot);
-    let named = named_tests(alloc, &stratum.slot, tests)?;
     let mut paths = List::new(alloc);
     'numbers: for number in 0..stratum.predicates.len() {
-        let path = path_of(
-            alloc,
-            met,
-            &stratum.predicates.as_slice()[number],
-            &named,
-            single,
-        )?;
+        let one = &stratum.predicates.as_slice()[number];
+        let path = answers_where(alloc, schema, met, &stratum.slot, one, tests)?;
         paths.push(path)?;
     }
     Ok(paths)
 }
 
 // What those of each dimension say.
-fn table_of<D: Decide>(
+fn table_of(
     alloc: Global,
+    schema: &Schema,
     met: bool,
     strata: &Strata,
     tests: &[Test],
-    asks: &D,
 ) -> Result<List<PathList>, NoMemory>
     requires few { length tests.now < 2 ^ 32 }
-    ensures { IfOk result
-        (IsAnswerTable (D.schema asks.now) met strata.now.dimensions tests.now) }
+    ensures { IfOk result (IsAnswerTable schema.now met strata.now.dimensions tests.now) }
 {
     let mut table = List::new(alloc);
     'dimensions: for i in 0..strata.dimensions.len() {
-        let paths = paths_in(alloc, met, dimension_at(strata, i), tests, asks)?;
+        let paths = paths_in(alloc, schema, met, dimension_at(strata, i), tests)?;
         table.push(paths)?;
     }
     Ok(table)
@@ -215,18 +184,18 @@ fn join_at(path: &mut Path, table: &List<PathList>, i: usize, number: usize) -> 
 
 impl KnownAnswers {
     /// The table for the set whose query is `base`.
-    pub(crate) fn new<D: Decide>(
+    pub(crate) fn new(
         alloc: Global,
+        schema: &Schema,
         strata: &Strata,
         base: &Query,
-        asks: &D,
     ) -> Result<KnownAnswers, NoMemory>
         requires few { length base.now.tests < 2 ^ 32 }
-        ensures { IfOk result (AreKnownAnswers (D.schema asks.now) base.now strata.now) }
+        ensures { IfOk result (AreKnownAnswers schema.now base.now strata.now) }
     {
         let tests = base.tests.as_slice();
-        let met = table_of(alloc, true, strata, tests, asks)?;
-        let missed = table_of(alloc, false, strata, tests, asks)?;
+        let met = table_of(alloc, schema, true, strata, tests)?;
+        let missed = table_of(alloc, schema, false, strata, tests)?;
         Ok(KnownAnswers { met, missed })
     }
 

@@ -102,7 +102,7 @@ pub fn summarise<D: Decide>(
     ensures splits { D.splits asks.new ≡ D.splits asks.old }
     ensures states { D.states asks.new ≡ D.states asks.old }
 {
-    let known = KnownAnswers::new(alloc, strata, base, &*asks)?;
+    let known = KnownAnswers::new(alloc, asks.its_schema(), strata, base)?;
     let mut walk = Walk::start(alloc, strata)?;
     look_at_each(&mut walk, strata, base, &known, asks, findings)?;
     Ok(found_in(alloc, walk)?)

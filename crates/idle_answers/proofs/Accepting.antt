@@ -9,11 +9,12 @@ use Rattle.policy_compile.specs.declared.outcome.Query.{Query}
 use Rattle.policy_compile.specs.Queries.{IsQuery}
 use Rattle.policy_compile.specs.Sets.{query_plan}
 use Rattle.proof_text.specs.declared.limits.TheConstants.{MOST_PROOF_BYTES}
-use Rattle.run_sets.specs.Pairs.{pair_of_sets}
-use Rattle.set_questions.specs.Idle.{IsIdle, without_statement}
-use Rattle.pair_answers.specs.declared.answer.CheckAnswer.TheVariants.{Accepted}
-use Rattle.pair_answers.specs.Certified.{ClosesBy}
-use Rattle.pair_answers.specs.Decided.{IsChecked}
+use Rattle.run_inputs.specs.Pairs.{pair_of_sets}
+use Rattle.set_questions.specs.Idle.{IsIdle}
+use Rattle.set_questions.specs.Removal.{without_statement}
+use Rattle.compare_answers.specs.declared.answer.CheckAnswer.TheVariants.{Accepted}
+use Rattle.compare_answers.specs.Certified.{ClosesBy}
+use Rattle.compare_answers.specs.Decided.{IsChecked}
 use Rattle.idle_answers.specs.IdleProofs.{IdleProofsAreAccepted}
 use Rattle.idle_answers.specs.UseAnswers.{CertifiesChange}
 

@@ -4,17 +4,17 @@ use Rattle.std.specs.Prelude.{if◌then◌else◌}
 use Rattle.std.specs.List.{AllZip, list_any}
 use Rattle.command_words.specs.Asked.{UseQuestion}
 use Rattle.policy_model.specs.StatementNames.{Named, named_set}
-use Rattle.run_files.specs.declared.printed.Printed.{Printed}
-use Rattle.run_files.specs.declared.status.Status.{Status}
-use Rattle.run_files.specs.declared.status.Status.TheVariants as status
-use Rattle.run_files.specs.Printing.{IsOfText}
-use Rattle.run_sets.specs.declared.one_set.OneSet.{OneSet}
-use Rattle.run_sets.specs.declared.refusal.Refusal.{Refusal}
-use Rattle.run_sets.specs.declared.refusal.Refusal.TheVariants as refusal
-use Rattle.run_sets.specs.declared.shortage.Shortage.TheVariants as shortage
-use Rattle.run_sets.specs.OneSets.{one_of, SetContents}
-use Rattle.run_sets.specs.Refusals.{IsRefusedBy}
-use Rattle.run_sets.proofs.Laws.{no_one_fails, of_same_set}
+use Rattle.run_inputs.specs.declared.printed.Printed.{Printed}
+use Rattle.run_inputs.specs.declared.status.Status.{Status}
+use Rattle.run_inputs.specs.declared.status.Status.TheVariants as status
+use Rattle.run_inputs.specs.Printing.{IsOfText}
+use Rattle.run_inputs.specs.declared.one_set.OneSet.{OneSet}
+use Rattle.run_inputs.specs.declared.refusal.Refusal.{Refusal}
+use Rattle.run_inputs.specs.declared.refusal.Refusal.TheVariants as refusal
+use Rattle.run_inputs.specs.declared.shortage.Shortage.TheVariants as shortage
+use Rattle.run_inputs.specs.OneSets.{one_of, SetContents}
+use Rattle.run_inputs.specs.Refusals.{IsRefusedBy}
+use Rattle.run_inputs.proofs.Laws.{no_one_fails, of_same_set}
 use Rattle.set_questions.specs.Settling.{BothRunsFail}
 use Rattle.set_questions.specs.Uses.{OfChange}
 use Rattle.tree_search.specs.declared.outcome.Budgets.{Budgets}
@@ -22,7 +22,7 @@ use Rattle.idle_answers.specs.declared.answer.UseAnswer.{UseAnswer}
 use Rattle.idle_answers.specs.declared.answer.UseAnswer.TheVariants as answer
 use Rattle.idle_answers.specs.UseAnswers.{IsShortAt, IsUseAnswer}
 use Rattle.idle_answers.specs.UsesComplete.{FitsBudgets, IsAnswerable, UsesDecide}
-use Rattle.run_sets.specs.PastLimits.{IsSetPastLimit}
+use Rattle.run_inputs.specs.PastLimits.{IsSetPastLimit}
 use Rattle.idle_answers.specs.UsesPrinted.{AreUsesPrinted, IsIdlePrinted, use_budgets}
 use Rattle.idle_answers.specs.UseTexts.{is_idle, is_undecided, uses_status}
 

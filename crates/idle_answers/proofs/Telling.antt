@@ -8,7 +8,7 @@ use Rattle.std.proofs.lemmas.List.Folds.{list_any-append}
 use Rattle.policy_model.specs.declared.set.PolicySet.{PolicySet}
 use Rattle.policy_model.specs.declared.set.StatementName.{StatementName}
 use Rattle.policy_model.specs.StatementNames.{Named, named_set}
-use Rattle.run_sets.specs.declared.one_set.OneSet.{OneSet}
+use Rattle.run_inputs.specs.declared.one_set.OneSet.{OneSet}
 use Rattle.set_questions.specs.Idle.{IsNameIn}
 use Rattle.tree_search.specs.declared.outcome.Budgets.{Budgets}
 use Rattle.idle_answers.specs.declared.answer.UseAnswer.{UseAnswer}

@@ -1,24 +1,21 @@
 -- The answers to what a search decides.
-use Rattle.std.specs.Prelude.{◌≡◌, ◌≤◌, ℕ, Bool, true, false, Contains, string_bytes}
+use Rattle.std.specs.Prelude.{◌≡◌, ◌≤◌, ℕ, Bool, true, false, string_bytes}
 use Rattle.policy_compile.specs.declared.outcome.Query.{Query}
-use Rattle.policy_model.specs.declared.set.PolicySet.{PolicySet}
-use Rattle.policy_model.specs.declared.set.Statement.{Statement}
+use Rattle.policy_compile.specs.Limits.{IsWithinLimits}
+use Rattle.policy_compile.specs.Queries.{IsQuery}
+use Rattle.policy_compile.specs.Sets.{set_plan}
 use Rattle.policy_model.specs.declared.set.StatementName.{StatementName}
 use Rattle.policy_model.specs.Requests.{IsWellKept}
-use Rattle.policy_model.specs.StatementNames.{named_set}
-use Rattle.policy_difference.specs.Apartness.{MayBeWithoutApart}
-use Rattle.policy_difference.specs.Differences.{IsDifference}
 use Rattle.proof_text.specs.Laws.{HoldsSmallNumbers}
 use Rattle.proof_text.specs.Spelling.{certificate_text}
 use Rattle.proof_text.specs.declared.limits.TheConstants.{MOST_NUMBER}
 use Rattle.refute_check.specs.Proofs.{Proof, proof_of}
 use Rattle.request_json.specs.Laws.{RequestIsReadAgain}
-use Rattle.run_sets.specs.declared.one_set.OneSet.{OneSet}
-use Rattle.run_sets.specs.declared.shortage.Shortage.TheVariants.{Splits, States}
-use Rattle.set_questions.specs.Idle.{IsIdle, IsUsedBy, without_statement}
-use Rattle.set_questions.specs.Laws.{AsksTheChange, IsSmallerQuestion}
+use Rattle.run_inputs.specs.declared.one_set.OneSet.{OneSet}
+use Rattle.run_inputs.specs.declared.shortage.Shortage.TheVariants.{Splits, States}
+use Rattle.set_questions.specs.Changes.{SchemaSet}
+use Rattle.set_questions.specs.Idle.{IsIdle, IsUsedBy}
 use Rattle.set_questions.specs.Settling.{BothRunsFail}
-use Rattle.policy_difference.specs.declared.beside.AskedPair.{AskedPair}
 use Rattle.set_questions.specs.declared.outcome.Use.{Use}
 use Rattle.set_questions.specs.declared.outcome.Use.TheVariants as use_of
 use Rattle.set_questions.specs.declared.settling.Settled.{Settled}
@@ -53,25 +50,14 @@ IsAnswerToUse certified version budgets (use_of.Idle r) answer = IsIdleAnswer ce
 IsAnswerToUse certified version budgets use_of.OutOfSplits answer = answer ≡ Undecided (Splits budgets.splits)
 IsAnswerToUse certified version budgets (use_of.OutOfStates w) answer = answer ≡ Undecided (States budgets.states w.slot)
 
--- what is left of a first set and the second, both maybe without what is apart from the Allow statements that are left
-abbrev pub IsPairWithoutApart : PolicySet → PolicySet → AskedPair → Type 0
-IsPairWithoutApart left second asked = MayBeWithoutApart left left asked.less × MayBeWithoutApart left second asked.rest
+-- the query of the set, which is within its limits
+pub record IsSetQuery (one : OneSet) (query : Query) : Type 0 where
+  pub is : IsQuery (set_plan one.schema one.set) query
+  pub within : IsWithinLimits (set_plan one.schema one.set)
 
--- so of what is left of the set beside the set without the statement of this name, and of that
-abbrev pub IsPairBeside : PolicySet → StatementName → AskedPair → Type 0
-IsPairBeside set name asked =
-    (left : PolicySet) × IsDifference set (without_statement set name) left ×
-    IsPairWithoutApart left (without_statement set name) asked
-
--- the same is asked of the two sets as of the set and the set without the statement of this name
-abbrev pub IsAskedWithout : OneSet → StatementName → AskedPair → Type 0
-IsAskedWithout one name asked =
-    (s : Statement) × Contains (named_set one.set) (name, s) × AsksTheChange one.schema one.set name s asked
-
--- the query is that of two such sets
-abbrev pub IsSmallerFor : OneSet → StatementName → Query → Type 0
-IsSmallerFor one name query =
-    (s : Statement) × (asked : AskedPair) × IsSmallerQuestion one.schema one.set (name, s) asked query
+-- the changes are those of the set under its schema
+abbrev pub AreChangesOf : OneSet → SchemaSet → Type 0
+AreChangesOf one of = (of.schema ≡ one.schema) × (of.set ≡ one.set)
 
 -- the answer by the verdict on a query
 abbrev pub IsAnswerByVerdict : Budgets → Verdict → UseAnswer → Type 0

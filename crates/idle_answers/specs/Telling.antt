@@ -3,9 +3,9 @@ use Rattle.std.specs.Prelude.{◌≡◌, ◌||◌, ℕ, List, ◌++◌, length, 
 use Rattle.std.specs.List.{AllZip, list_any}
 use Rattle.policy_model.specs.declared.set.StatementName.{StatementName}
 use Rattle.policy_model.specs.StatementNames.{Named, named_set}
-use Rattle.run_files.specs.declared.status.Status.{Status}
-use Rattle.run_files.specs.declared.status.Status.TheVariants as status
-use Rattle.run_sets.specs.declared.one_set.OneSet.{OneSet}
+use Rattle.run_inputs.specs.declared.status.Status.{Status}
+use Rattle.run_inputs.specs.declared.status.Status.TheVariants as status
+use Rattle.run_inputs.specs.declared.one_set.OneSet.{OneSet}
 use Rattle.tree_search.specs.declared.outcome.Budgets.{Budgets}
 use Rattle.idle_answers.specs.declared.answer.UseAnswer.{UseAnswer}
 use Rattle.idle_answers.specs.declared.printing.Told.{Told}

@@ -13,9 +13,9 @@ use Rattle.proof_text.specs.Spelling.{certificate_text}
 use Rattle.proof_text.specs.declared.limits.TheConstants.{MOST_PROOF_BYTES}
 use Rattle.refute_check.specs.Proofs.{Proof}
 use Rattle.request_json.specs.Laws.{RequestIsReadAgain}
-use Rattle.run_sets.specs.declared.one_set.OneSet.{OneSet}
-use Rattle.run_sets.specs.declared.shortage.Shortage.TheVariants.{Splits, States}
-use Rattle.set_questions.specs.Idle.{IsIdle, IsUsedBy, OfNamed}
+use Rattle.run_inputs.specs.declared.one_set.OneSet.{OneSet}
+use Rattle.run_inputs.specs.declared.shortage.Shortage.TheVariants.{Splits, States}
+use Rattle.set_questions.specs.Idle.{IsIdle, IsUsedBy, EachNamed}
 use Rattle.set_questions.specs.Settling.{BothRunsFail, IsQueryClosedBy}
 use Rattle.set_questions.specs.Uses.{OfChange}
 use Rattle.tree_search.specs.declared.outcome.Budgets.{Budgets}
@@ -59,4 +59,4 @@ IsUseAnswer certified budgets one named (Undecided (States n s)) =
 -- the same by the statement's name
 abbrev pub IsUseAnswerAt : Bool → Budgets → OneSet → StatementName → UseAnswer → Type 0
 IsUseAnswerAt certified budgets one name answer =
-    OfNamed one.set name (λ s. IsUseAnswer certified budgets one (name, s) answer)
+    EachNamed one.set name (λ s. IsUseAnswer certified budgets one (name, s) answer)

@@ -4,9 +4,9 @@ use Rattle.std.specs.List.{list_any}
 use Rattle.policy_model.specs.declared.set.StatementName.{StatementName}
 use Rattle.policy_model.specs.StatementNames.{Named}
 use Rattle.request_json.specs.RequestTexts.{request_text}
-use Rattle.run_files.specs.declared.status.Status.{Status}
-use Rattle.run_files.specs.declared.status.Status.TheVariants as status
-use Rattle.run_sets.specs.Parts.{shortage_text}
+use Rattle.run_inputs.specs.declared.status.Status.{Status}
+use Rattle.run_inputs.specs.declared.status.Status.TheVariants as status
+use Rattle.run_inputs.specs.Parts.{shortage_text}
 use Rattle.idle_answers.specs.declared.answer.UseAnswer.{UseAnswer}
 use Rattle.idle_answers.specs.declared.answer.UseAnswer.TheVariants.{Used, Idle, Proved, Undecided}
 

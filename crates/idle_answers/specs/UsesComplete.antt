@@ -5,10 +5,10 @@ use Rattle.policy_model.specs.declared.test.Slot.{Slot}
 use Rattle.policy_model.specs.StatementNames.{Named, named_set}
 use Rattle.policy_compile.specs.Limits.{IsWithinLimits}
 use Rattle.policy_compile.specs.Sets.{set_plan}
-use Rattle.run_files.specs.declared.printed.Printed.{Printed}
-use Rattle.run_files.specs.declared.status.Status.TheVariants.{Holds, Fails}
-use Rattle.run_sets.specs.declared.one_set.OneSet.{OneSet}
-use Rattle.run_sets.specs.OneSets.{OfOneSet, SetContents}
+use Rattle.run_inputs.specs.declared.printed.Printed.{Printed}
+use Rattle.run_inputs.specs.declared.status.Status.TheVariants.{Holds, Fails}
+use Rattle.run_inputs.specs.declared.one_set.OneSet.{OneSet}
+use Rattle.run_inputs.specs.OneSets.{SomeOneSet, SetContents}
 use Rattle.set_questions.specs.Settling.{BothRunsFail}
 use Rattle.set_questions.specs.Uses.{OfChange}
 use Rattle.tree_search.specs.declared.outcome.Budgets.{Budgets}
@@ -27,7 +27,7 @@ pub record IsAnswerable (budgets : Budgets) (one : OneSet) : Type 0 where
 
 -- the files stand for such a set
 abbrev pub IsIdleAccepted : UseQuestion → SetContents → Type 0
-IsIdleAccepted u c = OfOneSet c.set c.schema (IsAnswerable (use_budgets u))
+IsIdleAccepted u c = SomeOneSet c.set c.schema (IsAnswerable (use_budgets u))
 
 -- and then each statement is decided
 abbrev pub UsesDecide : Type 0

@@ -6,12 +6,12 @@ use Rattle.policy_model.specs.Requests.{HasValidRequest}
 use Rattle.policy_model.specs.StatementNames.{named_set}
 use Rattle.policy_compile.specs.Limits.{IsWithinLimits}
 use Rattle.policy_compile.specs.Sets.{set_plan}
-use Rattle.run_files.specs.declared.printed.Printed.{Printed}
-use Rattle.run_files.specs.Printing.{PrintsText}
-use Rattle.run_sets.specs.declared.one_set.OneSet.{OneSet}
-use Rattle.run_sets.specs.OneSets.{IsNoOneSet, OfOneSet, SetContents}
-use Rattle.run_sets.specs.PastLimits.{IsSetPastLimit}
-use Rattle.run_sets.specs.Refusals.{IsRefusedBy}
+use Rattle.run_inputs.specs.declared.printed.Printed.{Printed}
+use Rattle.run_inputs.specs.Printing.{PrintsText}
+use Rattle.run_inputs.specs.declared.one_set.OneSet.{OneSet}
+use Rattle.run_inputs.specs.OneSets.{IsOneSetRefusal, SomeOneSet, SetContents}
+use Rattle.run_inputs.specs.PastLimits.{IsSetPastLimit}
+use Rattle.run_inputs.specs.Refusals.{IsRefusedBy}
 use Rattle.tree_search.specs.declared.outcome.Budgets.{Budgets}
 use Rattle.idle_answers.specs.declared.answer.UseAnswer.{UseAnswer}
 use Rattle.idle_answers.specs.UseAnswers.{IsUseAnswer}
@@ -37,4 +37,4 @@ use_budgets u = record { splits = u.splits; states = u.states }
 -- of files: why they stand for no set, or what is printed of the set that they stand for
 abbrev pub IsIdlePrinted : UseQuestion → SetContents → Printed → Type 0
 IsIdlePrinted u c p =
-    IsRefusedBy (IsNoOneSet c.set c.schema) p ⊎ OfOneSet c.set c.schema (λ one. AreUsesPrinted u.certified (use_budgets u) one p)
+    IsRefusedBy (IsOneSetRefusal c.set c.schema) p ⊎ SomeOneSet c.set c.schema (λ one. AreUsesPrinted u.certified (use_budgets u) one p)

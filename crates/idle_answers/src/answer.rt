@@ -3,7 +3,7 @@ ghost use Rattle.std.specs.Prelude.{◌≡◌};
 ghost use Rattle.idle_answers.specs.UseTexts.{is_idle, is_undecided};
 
 use policy_model::Request;
-use run_sets::Shortage;
+use run_inputs::Shortage;
 
 /// Whether a set needs one of its statements.
 #[derive(Drop)]

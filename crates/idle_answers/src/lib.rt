@@ -2,14 +2,11 @@
 //! that shows it.
 #![tactic(auto)]
 
-mod allows;
 mod answer;
-mod beside;
 mod certificates;
 mod deciding;
 mod printing;
 mod settling;
-mod sizes;
 mod text;
 
 pub use answer::UseAnswer;

@@ -4,23 +4,23 @@ ghost use Rattle.command_words.specs.Asked.{use_question_in};
 ghost use Rattle.policy_compile.specs.Limits.{IsWithinLimits};
 ghost use Rattle.policy_compile.specs.Sets.{set_plan};
 ghost use Rattle.policy_model.specs.StatementNames.{named_set};
-ghost use Rattle.run_files.specs.Printing.{IfPrinted, OrAnswered};
-ghost use Rattle.run_sets.specs.OneSets.{FitsItsSchema, set_contents};
-ghost use Rattle.run_sets.specs.Refusals.{IsRefusedBy};
+ghost use Rattle.run_inputs.specs.Printing.{IfPrinted, OrAnswered};
+ghost use Rattle.run_inputs.specs.OneSets.{FitsItsSchema, set_contents};
+ghost use Rattle.run_inputs.specs.Refusals.{IsRefusedBy};
+ghost use Rattle.idle_answers.specs.Deciding.{AreChangesOf, IsSetQuery};
 ghost use Rattle.idle_answers.specs.Telling.{AddsUse, AreUsesWritten, IsStarted, told_status};
-ghost use Rattle.run_sets.specs.PastLimits.{IsSetPastLimit};
+ghost use Rattle.run_inputs.specs.PastLimits.{IsSetPastLimit};
 ghost use Rattle.idle_answers.specs.UsesPrinted.{AreUsesPrinted, IsIdlePrinted};
 
 use crate::answer::{UseAnswer, is_idle, is_undecided};
 use crate::deciding::use_answer;
 use crate::text::{statement_start, statements_line, use_text};
 use command_words::IdleArguments;
+use policy_compile::{Query, QueryFault, queries_are_within_limits, set_query};
 use policy_model::StatementName;
 use request_build::sound_schemas_have_requests;
-use run_files::{EarlyEnd, Printed, Status};
-use run_sets::{OneSet, Refusal, read_one, refused};
-use set_questions::{UseFault, meet_limits, names_of};
-use statement_cover::{MarkedSet, SetMarks};
+use run_inputs::{EarlyEnd, OneSet, Printed, Refusal, Status, read_one, refused};
+use set_questions::{Changes, names_of};
 use std::alloc::{AllocError, Global};
 use tree_search::Budgets;
 
@@ -78,13 +78,13 @@ fn told_status(told: &Told) -> Status
 fn uses_told(
     alloc: Global,
     one: &OneSet,
-    marked: &MarkedSet<'_>,
+    changes: &mut Changes<'_>,
     names: &[StatementName],
     budgets: Budgets,
     certified: bool,
 ) -> Result<Told, AllocError>
     requires fitting { FitsItsSchema one.now }
-    requires marked { marked.now ≡ one.now.set }
+    requires changes { AreChangesOf one.now changes.old }
     requires names { names.now ≡ map (λ n. n.0) (named_set one.now.set) }
     requires within { IsWithinLimits (set_plan one.now.schema one.now.set) }
     requires splits { 1 ≤ budgets.splits }
@@ -93,64 +93,44 @@ fn uses_told(
 {
     let mut told = started(alloc, names.len())?;
     'names: for name in names {
-        let answer = use_answer(alloc, one, marked, *name, budgets, certified)?;
+        let answer = use_answer(alloc, one, changes, *name, budgets, certified)?;
         add_use(alloc, &mut told, *name, &answer)?;
     }
     Ok(told)
 }
 
-// The same over the set's marks.
-fn told_by_marks(
-    alloc: Global,
-    one: &OneSet,
-    marks: &SetMarks<'_>,
-    names: &[StatementName],
-    budgets: Budgets,
-    certified: bool,
-) -> Result<Told, AllocError>
-    requires fitting { FitsItsSchema one.now }
-    requires marks { marks.now ≡ one.now.set }
-    requires names { names.now ≡ map (λ n. n.0) (named_set one.now.set) }
-    requires within { IsWithinLimits (set_plan one.now.schema one.now.set) }
-    requires splits { 1 ≤ budgets.splits }
-    requires states { 1 ≤ budgets.states }
-    ensures { IfOk result (AreUsesWritten certified budgets one.now (named_set one.now.set)) }
-{
-    let marked = MarkedSet::of(alloc, marks)?;
-    let told = uses_told(alloc, one, &marked, names, budgets, certified)?;
-    Ok(told)
-}
-
-// The same of the set, which is marked once for all of its statements.
+// The same of the set, whose query is numbered once for all of its statements.
 fn told_of_set(
     alloc: Global,
     one: &OneSet,
+    query: &Query,
     names: &[StatementName],
     budgets: Budgets,
     certified: bool,
 ) -> Result<Told, AllocError>
     requires fitting { FitsItsSchema one.now }
+    requires query { IsSetQuery one.now query.now }
     requires names { names.now ≡ map (λ n. n.0) (named_set one.now.set) }
-    requires within { IsWithinLimits (set_plan one.now.schema one.now.set) }
     requires splits { 1 ≤ budgets.splits }
     requires states { 1 ≤ budgets.states }
     ensures { IfOk result (AreUsesWritten certified budgets one.now (named_set one.now.set)) }
 {
-    let marks = SetMarks::numbered(alloc, &one.set)?;
-    let told = told_by_marks(alloc, one, &marks, names, budgets, certified)?;
+    let mut changes = Changes::new(alloc, &one.schema, &one.set, query)?;
+    let told = uses_told(alloc, one, &mut changes, names, budgets, certified)?;
     Ok(told)
 }
 
-// That the query of the set is within its limits, or the line on the limit that it is past.
-fn meets_limits(alloc: Global, one: &OneSet) -> Result<(), EarlyEnd>
-    ensures { OrAnswered result (λ done. IsWithinLimits (set_plan one.now.schema one.now.set))
+// The query of the set, or the line on the limit that it is past.
+fn query_of_set(alloc: Global, one: &OneSet) -> Result<Query, EarlyEnd>
+    ensures { OrAnswered result (IsSetQuery one.now)
         (IsRefusedBy (IsSetPastLimit one.now.schema one.now.set)) }
 {
-    match meet_limits(alloc, &one.schema, &one.set) {
-        Ok(()) => Ok(()),
-        Err(UseFault::TooManyTests) => Err(refused(alloc, Refusal::TooManyTests)),
-        Err(UseFault::TooManyPieces) => Err(refused(alloc, Refusal::TooManyPieces)),
-        Err(UseFault::NoMemory) => Err(EarlyEnd::NoMemory),
+    queries_are_within_limits();
+    match set_query(alloc, &one.schema, &one.set) {
+        Ok(query) => Ok(query),
+        Err(QueryFault::TooManyTests) => Err(refused(alloc, Refusal::TooManyTests)),
+        Err(QueryFault::TooManyPieces) => Err(refused(alloc, Refusal::TooManyPieces)),
+        Err(QueryFault::NoMemory) => Err(EarlyEnd::NoMemory),
     }
 }
 
@@ -166,10 +146,10 @@ fn print_uses(
     requires states { 1 ≤ budgets.states }
     ensures { IfPrinted result (AreUsesPrinted certified budgets one.now) }
 {
-    meets_limits(alloc, one)?;
+    let query = query_of_set(alloc, one)?;
     sound_schemas_have_requests();
     let names = names_of(alloc, &one.set)?;
-    let told = told_of_set(alloc, one, names.as_slice(), budgets, certified)?;
+    let told = told_of_set(alloc, one, &query, names.as_slice(), budgets, certified)?;
     let status = told_status(&told);
     Ok(Printed {
         text: told.text,

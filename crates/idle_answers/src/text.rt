@@ -5,7 +5,7 @@ ghost use Rattle.idle_answers.specs.UseTexts.{name_end, statement_start, stateme
 use crate::answer::UseAnswer;
 use policy_model::StatementName;
 use request_json::write_request;
-use run_sets::{number_text, shortage_text};
+use run_inputs::{number_text, shortage_text};
 use std::alloc::{AllocError, Global};
 
 /// The line on how many statements there are.

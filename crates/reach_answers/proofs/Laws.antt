@@ -6,18 +6,18 @@ use Rattle.policy_model.specs.declared.schema.Schema.{Schema}
 use Rattle.summary_search.specs.declared.outcome.Limits.{Limits}
 use Rattle.trust_zones.specs.declared.zone.Zone.{Zone}
 use Rattle.trust_zones.specs.ZoneFiles.{zone_from}
-use Rattle.run_files.specs.declared.printed.Printed.{Printed}
-use Rattle.run_files.specs.declared.status.Status.{Status}
-use Rattle.run_files.specs.declared.status.Status.TheVariants as status
-use Rattle.run_files.specs.Printing.{IsOfText}
-use Rattle.run_sets.specs.declared.one_set.OneSet.{OneSet}
-use Rattle.run_sets.specs.declared.refusal.Refusal.{Refusal}
-use Rattle.run_sets.specs.OneSets.{one_of}
-use Rattle.run_sets.specs.Refusals.{IsRefusedBy}
-use Rattle.run_sets.proofs.Laws.{no_one_fails, of_same_set}
-use Rattle.finding_answers.specs.Complete.{IsSummarisable}
-use Rattle.finding_answers.specs.Printed.{limits_in}
-use Rattle.finding_answers.proofs.Laws.{not_found_of_text, summarisable_sets_are_found}
+use Rattle.run_inputs.specs.declared.printed.Printed.{Printed}
+use Rattle.run_inputs.specs.declared.status.Status.{Status}
+use Rattle.run_inputs.specs.declared.status.Status.TheVariants as status
+use Rattle.run_inputs.specs.Printing.{IsOfText}
+use Rattle.run_inputs.specs.declared.one_set.OneSet.{OneSet}
+use Rattle.run_inputs.specs.declared.refusal.Refusal.{Refusal}
+use Rattle.run_inputs.specs.OneSets.{one_of}
+use Rattle.run_inputs.specs.Refusals.{IsRefusedBy}
+use Rattle.run_inputs.proofs.Laws.{no_one_fails, of_same_set}
+use Rattle.summary_answers.specs.Complete.{IsSummarisable}
+use Rattle.summary_answers.specs.Printed.{limits_in}
+use Rattle.summary_answers.proofs.Laws.{not_found_of_text, summarisable_sets_are_found}
 use Rattle.reach_answers.specs.ReachComplete.{IsReachable, ReachesDecide}
 use Rattle.reach_answers.specs.ReachPrinted.{IsReachOfSet, IsReachPrinted, IsZonePrinted, ReachContents, left_outside, status_by}
 use Rattle.reach_answers.specs.ZoneRefusals.{IsZoneRefused}

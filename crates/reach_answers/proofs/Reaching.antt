@@ -14,11 +14,11 @@ use Rattle.trust_zones.specs.declared.zone.Zone.{Zone}
 use Rattle.trust_zones.specs.ZoneFiles.{zone_from}
 use Rattle.trust_zones.specs.ZoneRuns.{ZonesKeepSchemas}
 use Rattle.trust_zones.specs.Zones.{HasFreeNumber, TakesZone, ZonesLeaveTheOutside, outside}
-use Rattle.run_files.specs.declared.printed.Printed.{Printed}
-use Rattle.run_sets.specs.declared.one_set.OneSet.{OneSet}
-use Rattle.run_sets.specs.OneSets.{IsOneSetOf}
-use Rattle.finding_answers.specs.declared.answer.Found.{Found}
-use Rattle.finding_answers.specs.Found.{IsFoundOf, IsNotFound}
+use Rattle.run_inputs.specs.declared.printed.Printed.{Printed}
+use Rattle.run_inputs.specs.declared.one_set.OneSet.{OneSet}
+use Rattle.run_inputs.specs.OneSets.{IsOneSetOf}
+use Rattle.summary_answers.specs.declared.answer.Found.{Found}
+use Rattle.summary_answers.specs.Found.{IsFoundOf, IsNotFound}
 use Rattle.reach_answers.specs.ReachPrinted.{IsOutsidePrinted, IsReachOfSet, IsZonePrinted, ReachesFromOutside, SaysWhoReaches, left_outside}
 
 -- ---- what is found

@@ -2,12 +2,12 @@
 use Rattle.std.specs.Prelude.{◌≡◌, ◌⊎◌, ℕ, List}
 use Rattle.command_words.specs.Asked.{Summarising}
 use Rattle.summary_search.specs.declared.outcome.Limits.{Limits}
-use Rattle.run_files.specs.declared.printed.Printed.{Printed}
-use Rattle.run_files.specs.declared.status.Status.TheVariants.{Holds, Fails}
-use Rattle.run_sets.specs.declared.one_set.OneSet.{OneSet}
-use Rattle.run_sets.specs.OneSets.{OfOneSet}
-use Rattle.finding_answers.specs.Complete.{IsSummarisable}
-use Rattle.finding_answers.specs.Printed.{limits_in}
+use Rattle.run_inputs.specs.declared.printed.Printed.{Printed}
+use Rattle.run_inputs.specs.declared.status.Status.TheVariants.{Holds, Fails}
+use Rattle.run_inputs.specs.declared.one_set.OneSet.{OneSet}
+use Rattle.run_inputs.specs.OneSets.{SomeOneSet}
+use Rattle.summary_answers.specs.Complete.{IsSummarisable}
+use Rattle.summary_answers.specs.Printed.{limits_in}
 use Rattle.reach_answers.specs.ReachPrinted.{IsReachPrinted, ReachContents, left_outside}
 use Rattle.reach_answers.specs.ZoneRefusals.{OfZone}
 
@@ -18,7 +18,7 @@ IsReachable names limits bytes one =
 
 -- the files stand for a set and such a zone
 abbrev pub IsReachAccepted : Summarising → ReachContents → Type 0
-IsReachAccepted s c = OfOneSet c.set c.schema (IsReachable s.dimensions (limits_in s) c.zone)
+IsReachAccepted s c = SomeOneSet c.set c.schema (IsReachable s.dimensions (limits_in s) c.zone)
 
 -- of such files it is found
 abbrev pub ReachesDecide : Type 0

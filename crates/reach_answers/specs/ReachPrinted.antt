@@ -11,17 +11,17 @@ use Rattle.request_schema.specs.RunSchemas.{IsInferred}
 use Rattle.summary_search.specs.declared.outcome.Limits.{Limits}
 use Rattle.trust_zones.specs.declared.zone.Zone.{Zone}
 use Rattle.trust_zones.specs.Zones.{IsInside, outside}
-use Rattle.run_files.specs.declared.printed.Printed.{Printed}
-use Rattle.run_files.specs.declared.status.Status.{Status}
-use Rattle.run_files.specs.declared.status.Status.TheVariants.{Holds, Fails}
-use Rattle.run_files.specs.Printing.{PrintsText}
-use Rattle.run_sets.specs.declared.one_set.OneSet.{OneSet}
-use Rattle.run_sets.specs.OneSets.{IsNoOneSet, OfOneSet}
-use Rattle.run_sets.specs.Refusals.{IsRefusedBy}
-use Rattle.finding_answers.specs.declared.answer.Found.{Found}
-use Rattle.finding_answers.specs.FindingTexts.{found_text}
-use Rattle.finding_answers.specs.Found.{IsFoundOf, IsNotFound}
-use Rattle.finding_answers.specs.Printed.{limits_in}
+use Rattle.run_inputs.specs.declared.printed.Printed.{Printed}
+use Rattle.run_inputs.specs.declared.status.Status.{Status}
+use Rattle.run_inputs.specs.declared.status.Status.TheVariants.{Holds, Fails}
+use Rattle.run_inputs.specs.Printing.{PrintsText}
+use Rattle.run_inputs.specs.declared.one_set.OneSet.{OneSet}
+use Rattle.run_inputs.specs.OneSets.{IsOneSetRefusal, SomeOneSet}
+use Rattle.run_inputs.specs.Refusals.{IsRefusedBy}
+use Rattle.summary_answers.specs.declared.answer.Found.{Found}
+use Rattle.summary_answers.specs.FindingTexts.{found_text}
+use Rattle.summary_answers.specs.Found.{IsFoundOf, IsNotFound}
+use Rattle.summary_answers.specs.Printed.{limits_in}
 use Rattle.reach_answers.specs.ZoneRefusals.{IsZoneRefused, OfZone}
 
 -- ---- who reaches
@@ -90,5 +90,5 @@ reach_contents set zone schema = record { set = set; zone = zone; schema = schem
 -- of files: why they stand for no set, or what is printed of the set that they stand for
 abbrev pub IsReachPrinted : Summarising → ReachContents → Printed → Type 0
 IsReachPrinted s c p =
-    IsRefusedBy (IsNoOneSet c.set c.schema) p
-    ⊎ OfOneSet c.set c.schema (λ one. IsReachOfSet s.dimensions (limits_in s) c.zone one p)
+    IsRefusedBy (IsOneSetRefusal c.set c.schema) p
+    ⊎ SomeOneSet c.set c.schema (λ one. IsReachOfSet s.dimensions (limits_in s) c.zone one p)

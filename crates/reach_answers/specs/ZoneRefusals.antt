@@ -1,10 +1,10 @@
 -- What is printed of a zone file that stands for no zone.
 use Rattle.std.specs.Prelude.{◌≡◌, ℕ, List, ◌++◌, codes, Ok, Err}
 use Rattle.policy_model.specs.declared.schema.Schema.{Schema}
-use Rattle.run_files.specs.declared.printed.Printed.{Printed}
-use Rattle.run_files.specs.declared.status.Status.TheVariants.{Refused}
-use Rattle.run_files.specs.Printing.{PrintsText}
-use Rattle.run_sets.specs.Parts.{element_text}
+use Rattle.run_inputs.specs.declared.printed.Printed.{Printed}
+use Rattle.run_inputs.specs.declared.status.Status.TheVariants.{Refused}
+use Rattle.run_inputs.specs.Printing.{PrintsText}
+use Rattle.run_inputs.specs.Parts.{element_text}
 use Rattle.trust_zones.specs.declared.fault.ZoneCode.{ZoneCode}
 use Rattle.trust_zones.specs.declared.fault.ZoneCode.TheVariants.{Z1NotJson, Z2Shape, Z3BadValue, Z4KeyKind, Z5Limit}
 use Rattle.trust_zones.specs.declared.fault.ZoneFault.{ZoneFault}
@@ -32,7 +32,7 @@ pub record IsZoneRefused (schema : Schema) (bytes : List ℕ) (p : Printed) : Ty
   pub first : zone_from schema bytes ≡ Err fault
   pub prints : PrintsText (zone_line fault) Refused p
 
--- the file stands for a zone, under the schema of the run, of which this holds
+-- under the schema of the run the file stands for a zone that satisfies P
 pub record OfZone (schema : Schema) (bytes : List ℕ) (P : Zone → Type 0) : Type 0 where
   pub zone : Zone
   pub stands : zone_from schema bytes ≡ Ok zone

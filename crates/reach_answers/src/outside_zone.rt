@@ -1,23 +1,22 @@
 //! What is found of what a set allows from outside a zone.
 ghost use Rattle.std.specs.Prelude.{◌≡◌, ◌⊎◌, IfOk, true};
 ghost use Rattle.command_words.specs.Asked.{are_dimensions, texts_in};
-ghost use Rattle.run_files.specs.Printing.{IfPrinted};
-ghost use Rattle.run_sets.specs.OneSets.{FitsItsSchema};
+ghost use Rattle.run_inputs.specs.Printing.{IfPrinted};
+ghost use Rattle.run_inputs.specs.OneSets.{FitsItsSchema};
 ghost use Rattle.summary_search.specs.Outcomes.{AreInRange};
-ghost use Rattle.finding_answers.specs.Found.{IsNotFound};
+ghost use Rattle.summary_answers.specs.Found.{IsNotFound};
 ghost use Rattle.trust_zones.specs.Zones.{HasFreeNumber, TakesZone, ZoneIsSound};
 ghost use Rattle.reach_answers.specs.ReachPrinted.{IsOutsidePrinted, IsZonePrinted, left_outside, status_by};
 
-use finding_answers::{Found, found, found_text};
 use findings::{Finding, summaries_cover};
 use policy_model::{EqualClone, NoMemory, Request};
-use run_files::{EarlyEnd, Printed, Status};
-use run_sets::OneSet;
+use run_inputs::{EarlyEnd, OneSet, Printed, Status};
 use std::alloc::Global;
+use summary_answers::{Found, found, found_text};
 use summary_search::Limits;
 use trust_zones::{Zone, outside, zones_keep_schemas, zones_leave_the_outside};
 
-// The set of what is outside the zone, under the same schema.
+// The set of what is outside the zone, under the set's schema.
 fn left_outside(alloc: Global, one: &OneSet, zone: &Zone) -> Result<OneSet, NoMemory>
     requires fits { FitsItsSchema one.now }
     requires free { HasFreeNumber one.now.set }

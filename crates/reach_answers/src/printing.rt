@@ -1,8 +1,8 @@
 //! What is printed to files of a set and of a zone.
 ghost use Rattle.std.specs.Prelude.{◌≡◌, true, option_map};
 ghost use Rattle.command_words.specs.Asked.{AreFindingsInRange, are_dimensions, summarising_in, texts_in};
-ghost use Rattle.run_files.specs.Printing.{IfPrinted};
-ghost use Rattle.run_sets.specs.OneSets.{FitsItsSchema};
+ghost use Rattle.run_inputs.specs.Printing.{IfPrinted};
+ghost use Rattle.run_inputs.specs.OneSets.{FitsItsSchema};
 ghost use Rattle.summary_search.specs.Outcomes.{AreInRange};
 ghost use Rattle.trust_zones.specs.Zones.{HasFreeNumber};
 ghost use Rattle.reach_answers.specs.ReachPrinted.{IsReachOfSet, IsReachPrinted, reach_contents};
@@ -10,11 +10,10 @@ ghost use Rattle.reach_answers.specs.ReachPrinted.{IsReachOfSet, IsReachPrinted,
 use crate::outside_zone::print_outside;
 use crate::zone_file::zone_of;
 use command_words::ReachArguments;
-use finding_answers::limits_of;
 use policy_json::{read_sets_are_of_forms, set_limits};
-use run_files::{EarlyEnd, Printed};
-use run_sets::{OneSet, read_one};
+use run_inputs::{EarlyEnd, OneSet, Printed, read_one};
 use std::alloc::Global;
+use summary_answers::limits_of;
 use summary_search::Limits;
 
 // What is printed of a set, under the schema of its run, and the file of a zone, by the dimensions of these
@@ -36,9 +35,9 @@ fn print_set_reach(
     print_outside(alloc, one, &zone, names, limits)
 }
 
-/// What is printed to files that were read, those of a set and of a zone and that of a schema where one is named:
-/// who is allowed anything from outside the zone, by the dimensions; or the first fault of the files; or why there
-/// is no summary of what is outside. A finding makes the status `Fails`, and none at all `Holds`.
+/// What `reach` prints for files that were read, those of a set and of a zone and that of a schema where one is
+/// named: who is allowed anything from outside the zone, by the dimensions; or the first fault of the files; or why
+/// there is no summary of what is outside. A finding makes the status `Fails`, and none at all `Holds`.
 pub fn print_reach(
     alloc: Global,
     set: &[u8],

@@ -1,16 +1,15 @@
 //! The zone that a file stands for, or what is printed of its first fault.
 ghost use Rattle.std.specs.Prelude.{◌≡◌, IfOk, Ok, codes, string_bytes};
-ghost use Rattle.run_files.specs.Printing.{IfAnswered, OrAnswered, PrintsText};
-ghost use Rattle.run_files.specs.declared.status.Status.TheVariants.{Refused};
+ghost use Rattle.run_inputs.specs.Printing.{IfAnswered, OrAnswered, PrintsText};
+ghost use Rattle.run_inputs.specs.declared.status.Status.TheVariants.{Refused};
 ghost use Rattle.trust_zones.specs.ZoneFiles.{zone_from};
 ghost use Rattle.trust_zones.specs.Zones.{TakesZone, ZoneIsSound};
 ghost use Rattle.reach_answers.specs.ZoneRefusals.{IsZoneRefused, zone_line, zone_text, zone_word};
 
-use finding_answers::ended;
 use policy_model::Schema;
-use run_files::{EarlyEnd, Status};
-use run_sets::{element_text, refused_line};
+use run_inputs::{EarlyEnd, Status, element_text, refused_line};
 use std::alloc::{AllocError, Global};
+use summary_answers::ended;
 use trust_zones::{Zone, ZoneAnswer, ZoneCode, ZoneFault, read_zone};
 
 fn zone_word(code: ZoneCode) -> &'static str

@@ -7,13 +7,10 @@ mod Equals
 mod Existing
 mod Extending
 mod Failing
-mod Knowing
 mod Labelling
 pub mod Laws
 mod Meeting
-mod NoValue
 mod Picking
 mod Ranges
-mod Showing
 mod Walking
 pub mod RunLaws

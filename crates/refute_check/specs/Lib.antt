@@ -5,8 +5,6 @@ pub mod Laws
 pub mod Verdicts
 pub mod Labels
 pub mod Accepted
-pub mod Beside
-pub mod Noes
 pub mod Walks
 pub mod Propagated
 pub mod RunLaws

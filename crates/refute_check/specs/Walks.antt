@@ -6,12 +6,11 @@ use Rattle.formula_tree.specs.Trees.{tree_of}
 use Rattle.policy_compile.specs.declared.outcome.Query.{Query}
 use Rattle.policy_model.specs.declared.schema.Schema.{Schema}
 use Rattle.policy_model.specs.Soundness.{SchemaIsSound, TestSuits}
+use Rattle.refute_check.specs.declared.accepted.AcceptedCores.{AcceptedCores}
 use Rattle.refute_check.specs.declared.verdict.Checking.{Checking}
 use Rattle.refute_check.specs.declared.verdict.Walked.{Walked}
 use Rattle.refute_check.specs.declared.verdict.Walked.TheVariants.{Closed, Failed}
-use Rattle.refute_check.specs.declared.verdict.Known.{Known}
 use Rattle.refute_check.specs.Accepted.{AreAcceptedCores}
-use Rattle.refute_check.specs.Noes.{AreNoes}
 use Rattle.refute_check.specs.Closing.{Before, Closes, FailsAt, IsLabel, after_part, at_first}
 use Rattle.refute_check.specs.Proofs.{Proof, label, size}
 
@@ -22,10 +21,9 @@ pub record IsCheckable (c : Checking) : Type 0 where
   pub count : length c.query.now.tests < 2 ^ 32
   pub clauses : c.clauses ≡ clauses_of (length c.query.now.tests) (tree_of c.query.now.formula.value)
 
--- each of the cores is accepted, and under each list of the answers the query's formula is no
-pub record KnowsRight (c : Checking) (known : Known) : Type 0 where
-  pub cores : AreAcceptedCores c.schema.now c.query.now.tests known.cores
-  pub noes : AreNoes (tree_of c.query.now.formula.value) known.noes
+-- each of the cores is accepted by what is checked
+abbrev pub KnowsCores : Checking → AcceptedCores → Type 0
+KnowsCores c cores = AreAcceptedCores c.schema.now c.query.now.tests cores
 
 -- a number as 32 bits count it, up to the greatest
 abbrev pub capped_count : ℕ → ℕ

@@ -4,7 +4,6 @@ ghost use Rattle.refute_check.specs.Accepted.{AnswersFor, IsAcceptedBeside, IsAc
 
 use crate::labels::are_answered;
 use crate::refutation::AnswerList;
-use crate::shapes::Shapes;
 use crate::sharing::{are_equal, mixed};
 use formula_tree::Path;
 use indexmap::IndexMap;
@@ -32,8 +31,6 @@ pub(crate) struct AcceptedCores {
     indices: IndexMap<u64, usize>,
     /// How much more may be kept.
     room: usize,
-    /// By which parts of other cores are guessed.
-    pub(crate) shapes: Shapes,
 }
 
 impl AcceptedCores {
@@ -45,7 +42,6 @@ impl AcceptedCores {
             cores: Vec::new(alloc),
             indices: IndexMap::new(alloc),
             room: MOST_CORE_ROOM,
-            shapes: Shapes::new(alloc),
         }
     }
 
@@ -138,8 +134,8 @@ fn again(proof: &Rc<SlotProof>) -> Result<Rc<SlotProof>, NoMemory>
     Ok(proof.clone()?)
 }
 
-/// The path's answers to tests.
-pub(crate) fn answers_for(alloc: Global, path: &Path, tests: &[u32]) -> Result<AnswerList, NoMemory>
+// The path's answers to tests.
+fn answers_for(alloc: Global, path: &Path, tests: &[u32]) -> Result<AnswerList, NoMemory>
     ensures { IfOk result (AnswersFor path.now tests.now) }
 {
     let mut answers = AnswerList::new(alloc);

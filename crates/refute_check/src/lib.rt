@@ -2,17 +2,12 @@
 #![tactic(auto)]
 
 mod accepted;
-mod beside;
 mod closing;
 mod labels;
-mod no_value;
-mod noes;
 mod refutation;
 mod runs;
-mod shapes;
 mod sharing;
 mod verdict;
-mod yes_parts;
 
 pub use closing::{closed_paths_are_no, closed_queries_are_no, verdicts_are_equal};
 pub use refutation::{AnswerList, Refutation};

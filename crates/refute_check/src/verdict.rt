@@ -2,8 +2,6 @@
 ghost use Rattle.std.specs.Prelude.{◌≡◌, ◌<◌, ◌^◌, ◌↔◌, All, IfOk, IsTrue, OnOk, length};
 ghost use Rattle.formula_tree.specs.Runs.{path_with};
 ghost use Rattle.formula_tree.specs.Trees.{tree_of};
-ghost use Rattle.formula_tree.specs.Values.{value};
-ghost use Rattle.formula_tree.specs.declared.value.Three.TheVariants.{No};
 ghost use Rattle.policy_model.specs.Soundness.{SchemaIsSound, TestSuits};
 ghost use Rattle.slot_theory.specs.Possible.{PathInRange};
 ghost use Rattle.slot_theory.specs.Cores.{Accepts};
@@ -12,20 +10,17 @@ ghost use Rattle.refute_check.specs.Laws.{TreeInRange};
 ghost use Rattle.refute_check.specs.Proofs.{proof_of, size, split};
 ghost use Rattle.refute_check.specs.Queries.{ClosesQuery, HoldsHere};
 ghost use Rattle.refute_check.specs.Verdicts.{IsVerdict};
-ghost use Rattle.refute_check.specs.Walks.{IsCheckable, IsLabelWalked, IsOpenTest, IsWalked, IsWholeWalk, KnowsRight, raised_walk};
+ghost use Rattle.refute_check.specs.Walks.{IsCheckable, IsLabelWalked, IsOpenTest, IsWalked, IsWholeWalk, KnowsCores, raised_walk};
 
 use crate::accepted::AcceptedCores;
-use crate::beside::{CoreCheck, accepts_core};
 use crate::labels::{Labels, empty_path, path_of, set_aside};
-use crate::no_value::LastYes;
-use crate::noes::KnownNoes;
 use crate::refutation::{AnswerList, Refutation};
 use cnf_clauses::{Clauses, clauses_of, replay};
-use formula_tree::Path;
+use formula_tree::{Path, Three, value3};
 use plain_lists::{List, NoMemory};
 use policy_compile::Query;
 use policy_model::Schema;
-use slot_theory::{Core, SlotProof};
+use slot_theory::{Core, SlotProof, accepts};
 use std::alloc::Global;
 use std::rc::Rc;
 
@@ -48,22 +43,11 @@ enum Walked {
     Failed(u32),
 }
 
-/// What a walk came to know of the schema and the query.
-#[derive(Drop)]
-struct Known {
-    /// Cores that were accepted.
-    cores: AcceptedCores,
-    /// Answers under which the query's formula is no.
-    noes: KnownNoes,
-    /// By which branch the value was no last.
-    last_yes: LastYes,
-}
-
-/// What a walk has passed: labels, and what it came to know.
+/// What a walk has passed: labels, and cores that were accepted.
 #[derive(Drop)]
 struct Passed {
     labels: Labels,
-    known: Known,
+    cores: AcceptedCores,
     /// Paths that are free for the labels that follow.
     spare: Vec<Path>,
 }
@@ -85,19 +69,19 @@ impl<'a> Checking<'a> {
         node: &Refutation,
         path: &Path,
         labels: &Labels,
-        known: &mut Known,
+        cores: &mut AcceptedCores,
     ) -> Result<bool, NoMemory>
         requires ready { IsCheckable self.now }
         requires range { PathInRange self.now.query.now.tests path.now }
-        requires known { KnowsRight self.now known.old }
+        requires known { KnowsCores self.now cores.old }
         ensures holds { IfOk result (λ yes. IsTrue yes ↔
             HoldsHere self.now.schema.now self.now.query.now labels.now node.now path.now) }
-        ensures known { OnOk result (KnowsRight self.now known.new) }
+        ensures known { OnOk result (KnowsCores self.now cores.new) }
     {
         let tests = &self.query.tests;
         match node {
-            Refutation::ByValue => self.is_no(path, known),
-            Refutation::BySlot { core, proof } => self.accepts_core(path, core, proof, known),
+            Refutation::ByValue => Ok(value3(&self.query.formula, path) == Three::No),
+            Refutation::BySlot { core, proof } => self.accepts_core(path, core, proof, cores),
             Refutation::ByClauses { hints } => replay(self.alloc, &self.clauses, path, hints),
             Refutation::Split { test, .. } => {
                 Ok((*test as usize) < tests.len() && path.answer(*test).is_none())
@@ -111,47 +95,35 @@ impl<'a> Checking<'a> {
         }
     }
 
-    /// Whether the core and its proof are accepted under the path.
+    /// Whether the core and its proof are accepted under the path. One that was isn't looked at again.
     fn accepts_core(
         &self,
         path: &Path,
         core: &Core,
         proof: &Rc<SlotProof>,
-        known: &mut Known,
+        cores: &mut AcceptedCores,
     ) -> Result<bool, NoMemory>
         requires ready { IsCheckable self.now }
         requires range { PathInRange self.now.query.now.tests path.now }
-        requires known { KnowsRight self.now known.old }
+        requires known { KnowsCores self.now cores.old }
         ensures accepted { IfOk result (λ yes. IsTrue yes ↔ Accepts
             self.now.schema.now self.now.query.now.tests path.now core.now proof.now.value) }
-        ensures known { OnOk result (KnowsRight self.now known.new) }
+        ensures known { OnOk result (KnowsCores self.now cores.new) }
     {
-        let check = CoreCheck {
-            alloc: self.alloc,
-            schema: self.schema,
-            tests: &self.query.tests,
-        };
-        accepts_core(&check, &mut known.cores, path, core, proof)
-    }
-
-    /// Whether the query's formula is no under the path.
-    fn is_no(&self, path: &Path, known: &mut Known) -> Result<bool, NoMemory>
-        requires known { KnowsRight self.now known.old }
-        ensures no { IfOk result (λ yes. IsTrue yes ↔
-            (value path.now (tree_of self.now.query.now.formula.value) ≡ No)) }
-        ensures known { OnOk result (KnowsRight self.now known.new) }
-    {
-        let formula = &self.query.formula;
-        if known.last_yes.is_soon_no(formula, path) {
+        if cores.has(path, core, proof) {
             return Ok(true);
         }
-        if known.noes.is_known_no(self.alloc, formula, path)? {
-            return Ok(true);
-        }
-        if !known.last_yes.is_no(formula, path) {
+        if !accepts(
+            self.alloc,
+            self.schema,
+            &self.query.tests,
+            path,
+            core,
+            proof,
+        )? {
             return Ok(false);
         }
-        known.noes.note(self.alloc, path)?;
+        cores.keep(self.alloc, path, core, proof)?;
         Ok(true)
     }
 
@@ -166,13 +138,13 @@ impl<'a> Checking<'a> {
     ) -> Result<Walked, NoMemory>
         requires ready { IsCheckable self.now }
         requires range { PathInRange self.now.query.now.tests path.old }
-        requires known { KnowsRight self.now passed.old.known }
+        requires known { KnowsCores self.now passed.old.cores }
         ensures walked { IfOk result (IsWalked self.now.schema.now self.now.query.now
             passed.old.labels (proof_of part.now) path.old passed.new.labels) }
         ensures path { OnOk result (path.new ≡ path.old) }
-        ensures known { OnOk result (KnowsRight self.now passed.new.known) }
+        ensures known { OnOk result (KnowsCores self.now passed.new.cores) }
     {
-        if !self.holds_here(part, path, &passed.labels, &mut passed.known)? {
+        if !self.holds_here(part, path, &passed.labels, &mut passed.cores)? {
             return Ok(Walked::Failed(0));
         }
         match part {
@@ -201,13 +173,13 @@ impl<'a> Checking<'a> {
     ) -> Result<Walked, NoMemory>
         requires ready { IsCheckable self.now }
         requires range { PathInRange self.now.query.now.tests path.old }
-        requires known { KnowsRight self.now passed.old.known }
+        requires known { KnowsCores self.now passed.old.cores }
         requires open { IsOpenTest self.now.query.now test path.old }
         ensures walked { IfOk result (IsWalked self.now.schema.now self.now.query.now
             passed.old.labels (split test (proof_of yes.now) (proof_of no.now))
             path.old passed.new.labels) }
         ensures path { OnOk result (path.new ≡ path.old) }
-        ensures known { OnOk result (KnowsRight self.now passed.new.known) }
+        ensures known { OnOk result (KnowsCores self.now passed.new.cores) }
     {
         let first = self.walk_side(test, true, yes, path, passed)?;
         match first {
@@ -231,13 +203,13 @@ impl<'a> Checking<'a> {
     ) -> Result<Walked, NoMemory>
         requires ready { IsCheckable self.now }
         requires range { PathInRange self.now.query.now.tests path.old }
-        requires known { KnowsRight self.now passed.old.known }
+        requires known { KnowsCores self.now passed.old.cores }
         requires open { IsOpenTest self.now.query.now test path.old }
         ensures walked { IfOk result (IsWalked self.now.schema.now self.now.query.now
             passed.old.labels (proof_of side.now)
             (path_with path.old test answer) passed.new.labels) }
         ensures path { OnOk result (path.new ≡ path.old) }
-        ensures known { OnOk result (KnowsRight self.now passed.new.known) }
+        ensures known { OnOk result (KnowsCores self.now passed.new.cores) }
     {
         path.push(test, answer)?;
         let walked = self.walk(side, path, passed)?;
@@ -256,12 +228,12 @@ impl<'a> Checking<'a> {
     ) -> Result<Walked, NoMemory>
         requires ready { IsCheckable self.now }
         requires range { PathInRange self.now.query.now.tests answers.now }
-        requires known { KnowsRight self.now passed.old.known }
+        requires known { KnowsCores self.now passed.old.cores }
         requires next { number ≡ passed.old.labels.begun }
         requires rise { Rise answers.now }
         ensures walked { IfOk result (IsLabelWalked self.now.schema.now self.now.query.now
             passed.old.labels number answers.now (proof_of inner.now) passed.new.labels) }
-        ensures known { OnOk result (KnowsRight self.now passed.new.known) }
+        ensures known { OnOk result (KnowsCores self.now passed.new.cores) }
     {
         passed.labels.begin()?;
         let empty = empty_path(self.alloc, &mut passed.spare);
@@ -317,11 +289,7 @@ fn walk_whole(
     };
     let mut passed = Passed {
         labels: Labels::new(alloc),
-        known: Known {
-            cores: AcceptedCores::new(alloc),
-            noes: KnownNoes::new(alloc),
-            last_yes: LastYes::new(alloc, &query.formula, query.tests.len())?,
-        },
+        cores: AcceptedCores::new(alloc),
         spare: Vec::new(alloc),
     };
     checking.walk(refutation, path, &mut passed)

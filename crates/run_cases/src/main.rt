@@ -1,4 +1,8 @@
-//! Runs the comparer as the cases of standard input say, and prints how each run ends and what it wrote.
+//! Prints what the libraries of tests answer to the parts of standard input. A part begins with a line `== WORD`,
+//! which is printed too: `calls`, `readings` and `conditions` are lines of the crates `call_cases`, `reading_cases`
+//! and `condition_cases`.
+//!
+//! The part `runs` runs the comparer as its cases say, and prints how each run ends and what it wrote.
 //!
 //! A case is the lines up to an empty one: its name, and then lines that begin with a word. Folders and sinks
 //! are in memory, but of `real ARGUMENTS`, which runs over real files and standard output: these are the
@@ -25,6 +29,9 @@
 //! damage the answers to all certificates that it makes: each line left out, doubled, swapped with the
 //! next, each number of each line one more, and one less where it isn't 0. These answers are printed without
 //! the words `bad proof` and `line`.
+//!
+//! At its end it is the program, by its own words. In the file `args` these have a byte that no UTF-8 has, so it ends with
+//! 9, and writes nothing more.
 #![tactic(auto)]
 
 mod commands;
@@ -35,11 +42,15 @@ mod memory;
 mod real;
 mod rows;
 
+use call_cases::print_calls;
 use commands::print_command;
+use compare_program::{Ended, program};
+use condition_cases::print_conditions;
+use reading_cases::print_readings;
 use real::print_real;
 use rows::{print_faulty, print_file, print_row, print_words};
 use std::io;
-use std::io::Write;
+use std::io::{ErrorKind, Write};
 
 fn print_line(rt: &HostRuntime, out: &mut impl Write, case: &str, line: &str) -> io::Result<()> {
     let alloc = rt.alloc();
@@ -78,15 +89,42 @@ fn print_case(rt: &HostRuntime, out: &mut impl Write, case: &str) -> io::Result<
     Ok(())
 }
 
-fn print_cases(rt: &HostRuntime, input: &str) -> io::Result<()> {
-    let mut out = io::writer(rt);
-    for case in input.split("\n\n") {
-        print_case(rt, &mut out, case)?;
+fn print_runs(rt: &HostRuntime, out: &mut impl Write, text: &str) -> io::Result<()> {
+    for case in text.split("\n\n") {
+        print_case(rt, out, case)?;
     }
     Ok(())
 }
 
-fn main(rt: HostRuntime) -> io::Result<()> {
+/// Prints the word of a part, and what its library answers to the lines behind it.
+fn print_part(rt: &HostRuntime, out: &mut impl Write, part: &str) -> io::Result<()> {
+    let (word, text) = part.split_once('\n').unwrap_or((part, ""));
+    writeln!(out, "== {word}")?;
+    match word {
+        "calls" => print_calls(rt, out, text),
+        "readings" => print_readings(rt.alloc(), out, text),
+        "conditions" => print_conditions(rt.alloc(), out, text),
+        "runs" => print_runs(rt, out, text),
+        _ => Err(ErrorKind::InvalidData.into()),
+    }
+}
+
+fn print_parts(rt: &HostRuntime, input: &str) -> io::Result<()> {
+    let mut out = io::writer(rt);
+    for part in input.strip_prefix("== ").unwrap_or(input).split("\n== ") {
+        print_part(rt, &mut out, part)?;
+    }
+    Ok(())
+}
+
+fn print_input(rt: &HostRuntime) -> io::Result<()> {
     let input = io::read_to_string(rt.alloc(), rt.reader())?;
-    print_cases(&rt, input.as_str())
+    print_parts(rt, input.as_str())
+}
+
+fn main(rt: HostRuntime) -> Ended {
+    if let Err(error) = print_input(&rt) {
+        let _ = eprintln!(rt; "{error}");
+    }
+    program(rt)
 }

@@ -41,14 +41,14 @@ fn most_of(faults: &str) -> io::Result<usize>
     }
 }
 
-// Puts a file into the folder, of which the text is expanded.
+// Puts a file into the folder, with its text expanded.
 fn hold(alloc: Global, folder: &mut MemoryFolder, name: &str, text: &str) -> io::Result<()> {
     let file = expand(alloc, text)?;
     folder.hold(name, file.as_bytes())?;
     Ok(())
 }
 
-// Puts a certificate into the folder, of which the text is expanded before `/` stands for a line feed.
+// Puts a certificate into the folder. Its text is expanded first; then `/` stands for a line feed.
 fn hold_proof(alloc: Global, folder: &mut MemoryFolder, text: &str) -> io::Result<()> {
     let packed = expand(alloc, text)?;
     folder.hold("proof", unpacked(alloc, packed.as_str())?.as_bytes())?;
@@ -116,7 +116,7 @@ fn print_run(
 }
 
 // Prints the end of a run over the folder, which gets the files of a case, with faults of its own; and
-// behind the word `again` that of a second run over the same folder and a sink that never fails.
+// behind the word `again` that of a second run, over this folder again and a sink that never fails.
 fn print_faulty_over(
     alloc: Global,
     out: &mut impl Write,

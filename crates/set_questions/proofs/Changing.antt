@@ -13,7 +13,7 @@ use Rattle.policy_model.specs.declared.set.StatementName.{StatementName}
 use Rattle.policy_model.specs.Sets.{Allows, Decides, SomeDecides}
 use Rattle.policy_model.specs.Soundness.{ConditionFits, DocumentFits, DocumentIsSound, IsSound, SchemaFits, StatementIsSound}
 use Rattle.policy_compile.specs.Asked.{HasStatementsOf, SomeStatementIn}
-use Rattle.set_questions.specs.Idle.{change_item, document_without, documents_without, guards_without, without_statement, without_item}
+use Rattle.set_questions.specs.Removal.{change_item, document_without, documents_without, guards_without, without_statement, without_item}
 use Rattle.set_questions.proofs.Losing.{EachLoses, SetLoses, some-less, some-more, zip-all, zip-all-back, zip-any, zip-any-back}
 
 -- ---- what is allowed

@@ -6,5 +6,13 @@ mod Using
 mod Taking
 mod Twins
 mod Listing
-mod NarrowedPairs
-pub mod Laws
+mod Removing
+mod Placed
+mod Zipped
+mod Effects
+mod Numbered
+mod Differing
+mod UseClaims
+mod Cut
+mod Excluded
+mod Making

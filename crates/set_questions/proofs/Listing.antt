@@ -12,6 +12,7 @@ use Rattle.set_questions.specs.declared.outcome.Use.{Use}
 use Rattle.set_questions.specs.Idle.{IsNameIn}
 use Rattle.set_questions.specs.Uses.{IsUseAt, IsUseOf}
 use Rattle.set_questions.proofs.Counting.{names_in}
+use Rattle.set_questions.proofs.Zipped.{zip-next}
 
 -- the named statement at an index
 pub name-at : (ns : List Named) (i : ℕ) (d : StatementName) → i < length (names_in ns) → (s : Statement) × (slice_get ns i ≡ Some (get_or (names_in ns) i d, s))
@@ -24,16 +25,6 @@ there-at ns i n e = (i, slice_get_within ns i n e, get_or_from_slice_get ns i n 
 
 pub name-there : (set : PolicySet) (i : ℕ) (x : StatementName) (s : Statement) → slice_get (named_set set) i ≡ Some (x, s) → IsNameIn set x
 name-there set i x s e = (i, (x, s), slice_get_within (named_set set) i (x, s) e, get_or_from_slice_get (named_set set) i (x, s) (x, s) e, refl)
-
--- one more
-pub zip-next : {S T : Type 0} (R : S → T → Type 0) (i : ℕ) (xs : List S) (ys : List T) (x : S) (y : T) → slice_get xs i ≡ Some x → R x y → AllZip R (take i xs) ys → AllZip R (take (i + 1) xs) (ys ++ y ∷ [])
-zip-next R i [] ys x y at r both = absurd (cc)
-zip-next R zero (z ∷ xs) [] x y at r both = (subst (λ w. R w y) (sym (same_Some z x at)) r, tt)
-zip-next R zero (z ∷ xs) (w ∷ ys) x y at r both = absurd both
-zip-next R (suc i) (z ∷ xs) [] x y at r both = absurd both
-zip-next R (suc i) (z ∷ xs) (w ∷ ys) x y at r both =
-    let e : suc i + 1 ≡ suc (i + 1) = omega arith in
-    rw e (both.0, zip-next R i xs ys x y at r both.1)
 
 -- ---- names in a list that is the names of the set
 

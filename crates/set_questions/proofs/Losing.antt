@@ -11,9 +11,9 @@ use Rattle.policy_model.specs.declared.set.PolicySet.{PolicySet}
 use Rattle.policy_model.specs.declared.set.Statement.{Statement}
 use Rattle.policy_model.specs.declared.set.StatementName.{StatementName}
 use Rattle.policy_model.specs.StatementNames.{named_set}
-use Rattle.set_questions.specs.Idle.{document_without, documents_without, guards_without, without_statement, without_item}
+use Rattle.set_questions.specs.Removal.{document_without, documents_without, guards_without, without_statement, without_item}
 use Rattle.set_questions.specs.SetDocuments.{guard_documents, set_documents}
-use Rattle.statement_cover.proofs.Laws.{change-none}
+use Rattle.set_questions.proofs.Removing.{change-none}
 use Rattle.set_questions.proofs.Counting.{slice_get-behind}
 use Rattle.set_questions.proofs.Placing.{place-of}
 

@@ -9,9 +9,8 @@ use Rattle.policy_model.specs.declared.set.PolicySet.{PolicySet}
 use Rattle.policy_model.specs.declared.set.Statement.{Statement}
 use Rattle.policy_model.specs.declared.set.StatementName.{StatementName}
 use Rattle.policy_model.specs.StatementNames.{Named, named_documents, named_grants, named_guards, named_set, named_statements}
-use Rattle.policy_difference.specs.Removal.{HasAllowNamed}
-use Rattle.policy_difference.proofs.Placed.{Place, document-found, document-from-one, document-within, in-documents, statement-found, statement-from-one}
-use Rattle.set_questions.specs.Idle.{IsNameIn, OfNamed}
+use Rattle.set_questions.proofs.Placed.{Place, document-found, document-from-one, document-within, in-documents, statement-found, statement-from-one}
+use Rattle.set_questions.specs.Idle.{IsNameIn, EachNamed}
 use Rattle.set_questions.specs.SetDocuments.{guard_documents, set_documents}
 
 -- ---- documents one after another
@@ -43,31 +42,9 @@ place-of set name s at = in-documents 1 (set_documents set) name s (subst (λ (n
 pub named-there : (set : PolicySet) (name : StatementName) → IsNameIn set name → (s : Statement) × Contains (named_set set) (name, s)
 named-there set name (k, n, h, e, is) = (n.1, subst (λ (m : StatementName). Contains (named_set set) (m, n.1)) is (k, h, e))
 
--- the statements of the grants are those whose documents have the first numbers
-of-grants : (set : PolicySet) (name : StatementName) (s : Statement) → Contains (named_set set) (name, s) → name.document ≤ length set.grants → Contains (named_grants set) (name, s)
-of-grants set name s at low = elim (Contains-append_cases (named_grants set) (named_guards (1 + length set.grants) set.guards) (name, s) at) [
-  | inl granted ↦ granted
-  | inr guarded ↦
-      let p = in-documents (1 + length set.grants) (guard_documents set.guards) name s (subst (λ (ns : List Named). Contains ns (name, s)) (named-guards (1 + length set.grants) set.guards) guarded) in
-      let number : name.document ≡ 1 + length set.grants + p.i = p.document_number in
-      absurd (omega (arith, number, low))
-]
-
+-- the statements of the grants are statements of the set
 pub granted-there : (set : PolicySet) (name : StatementName) (s : Statement) → Contains (named_grants set) (name, s) → Contains (named_set set) (name, s)
 granted-there set name s at = Contains-append_left (named_grants set) (named_guards (1 + length set.grants) set.guards) (name, s) at
-
-pub allow-there : (set : PolicySet) (name : StatementName) → HasAllowNamed set name → IsNameIn set name
-allow-there set name has = let at = granted-there set name has.0 has.1.named in (at.0, (name, has.0), at.1, at.2, refl)
-
--- an Allow of the grants has such a number, and each that has is one where it is an Allow
-pub allow-low : (set : PolicySet) (name : StatementName) → HasAllowNamed set name → name.document ≤ length set.grants
-allow-low set name has = omega (arith, document-within set.grants name has.0 (in-documents 1 set.grants name has.0 has.1.named))
-
-pub allow-grants : (set : PolicySet) (name : StatementName) (allows : Bool) → IsNameIn set name → name.document ≤ length set.grants → OfNamed set name (λ s. allows ≡ s.allow) → (IsTrue allows ↔ HasAllowNamed set name)
-allow-grants set name allows is low effect = (
-  λ so. (let there = named-there set name is in (there.0, record { named = of-grants set name there.0 there.1 low; allow = sym (effect there.0 there.1) ∙ so })),
-  λ has. effect has.0 (granted-there set name has.0 has.1.named) ∙ has.1.allow,
-)
 
 pub placed : (set : PolicySet) (name : StatementName) → IsNameIn set name → (s : Statement) × Place 1 (set_documents set) name s
 placed set name is = let there = named-there set name is in (there.0, place-of set name there.0 there.1)
@@ -89,7 +66,7 @@ statement-there set name x is found none =
     none-some p.0 (sym none ∙ subst (λ (d : Document). slice_get d.statements (name.statement - 1) ≡ Some p.0) same (statement-found (set_documents set) name p.0 p.1))
 
 -- the statement that is found there is the named one
-pub statement-is : (set : PolicySet) (name : StatementName) (x : Document) (t : Statement) → slice_get (set_documents set) (name.document - 1) ≡ Some x → slice_get x.statements (name.statement - 1) ≡ Some t → OfNamed set name (λ s. t ≡ s)
+pub statement-is : (set : PolicySet) (name : StatementName) (x : Document) (t : Statement) → slice_get (set_documents set) (name.document - 1) ≡ Some x → slice_get x.statements (name.statement - 1) ≡ Some t → EachNamed set name (λ s. t ≡ s)
 statement-is set name x t found here s at =
     let p = place-of set name s at in
     let same : p.document ≡ x = same_Some _ _ (sym (document-found (set_documents set) name s p) ∙ found) in

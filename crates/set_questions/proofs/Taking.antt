@@ -7,12 +7,12 @@ use Rattle.policy_model.specs.declared.set.PolicySet.{PolicySet}
 use Rattle.policy_model.specs.declared.set.Statement.{Statement}
 use Rattle.policy_model.specs.declared.set.StatementName.{StatementName}
 use Rattle.policy_model.specs.StatementNames.{Named, name_of, named_documents, named_statements}
-use Rattle.set_questions.specs.Idle.{change_item, document_without, documents_without, guards_without, without_statement, without_item}
+use Rattle.set_questions.specs.Removal.{change_item, document_without, documents_without, guards_without, without_statement, without_item}
 use Rattle.set_questions.specs.Laws.{WithoutTakesOne, statements_named}
 use Rattle.set_questions.specs.SetDocuments.{guard_documents, set_documents}
 use Rattle.set_questions.proofs.Changing.{as-many, same-lengths}
 use Rattle.set_questions.proofs.Placing.{named-all}
-use Rattle.statement_cover.proofs.Laws.{change-none}
+use Rattle.set_questions.proofs.Removing.{change-none}
 
 -- ---- the statements of documents, without their names
 

@@ -13,10 +13,11 @@ use Rattle.policy_model.specs.declared.set.Statement.{Statement}
 use Rattle.policy_model.specs.declared.set.StatementName.{StatementName}
 use Rattle.policy_model.specs.Sets.{Allows, Decides, SomeDecides}
 use Rattle.policy_model.specs.StatementNames.{Named, named_grants}
-use Rattle.set_questions.specs.Idle.{IsIdle, change_item, document_without, without_statement}
+use Rattle.set_questions.specs.Idle.{IsIdle}
+use Rattle.set_questions.specs.Removal.{change_item, document_without, without_statement}
 use Rattle.set_questions.specs.Laws.{HasSilentGuard, LastAllowsOfGuards, TwinsAreIdle, statements_named}
 use Rattle.set_questions.proofs.Losing.{guards-none}
-use Rattle.policy_difference.proofs.Placed.{in-documents, there-cases}
+use Rattle.set_questions.proofs.Placed.{in-documents, there-cases}
 use Rattle.set_questions.proofs.Taking.{document_statements, goes-of-documents, unnamed-documents}
 
 -- ---- some of lists

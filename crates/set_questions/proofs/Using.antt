@@ -1,5 +1,5 @@
 -- What is settled of the change query of a statement tells whether the statement is used.
-use Rattle.std.proofs.Common.{◌≡◌, ◌↔◌, ◌≤◌, ℕ, [], length, Bool, true, false, All, if◌then◌else◌, MatchBool, Result, Ok, Err, inl, inr, refl, ap, sym, ◌∙◌, subst, arith}
+use Rattle.std.proofs.Common.{◌≡◌, ◌↔◌, ◌≤◌, ℕ, List, [], length, Bool, true, false, All, if◌then◌else◌, Result, Ok, Err, inl, inr, refl, ap, sym, ◌∙◌, subst, arith}
 use Rattle.std.specs.Prelude.{Contains}
 use Rattle.std.proofs.lemmas.Bool.{cases_Bool}
 use Rattle.std.proofs.lemmas.List.Elements.{All-nil}
@@ -17,24 +17,25 @@ use Rattle.policy_model.specs.StatementNames.{Named, named_set}
 use Rattle.policy_compile.specs.declared.outcome.Query.{Query}
 use Rattle.policy_compile.specs.declared.outcome.QueryFault.{QueryFault}
 use Rattle.policy_compile.specs.declared.outcome.QueryFault.TheVariants as query_fault
-use Rattle.policy_compile.specs.Laws.{AsksPair}
+use Rattle.policy_model.specs.declared.test.Test.{Test}
+use Rattle.policy_compile.specs.Laws.{AsksPair, TestsOfSetQueriesSuit}
 use Rattle.policy_compile.specs.Limits.{AskTheSameTests, IsWithinLimits, MeetLimitsAlike}
 use Rattle.policy_compile.specs.Meaning.{AnswersAs}
 use Rattle.policy_compile.specs.Plans.{Plan, tests_in}
 use Rattle.policy_compile.specs.Queries.{IsQuery, IsQueryOf, asked_tree}
 use Rattle.policy_compile.specs.Sets.{query_plan, set_plan}
 use Rattle.policy_compile.proofs.Laws.{All-collects, below-numbered, holds-numbered, part-asks, query-covers, query-holds, query-within, same-limits, suit-query}
-use Rattle.policy_difference.specs.Apartness.{AskTheSamePair}
 use Rattle.refute_check.specs.Laws.{IsMetBy, MakesYes, NoneMeets}
 use Rattle.refute_check.specs.Proofs.{Proof, proof_of}
 use Rattle.refute_check.proofs.Laws.{queries_are_no}
 use Rattle.refute_check.proofs.RunLaws.{makes-yes}
 use Rattle.findings.specs.Answers.{QueryIsAskable}
-use Rattle.policy_difference.specs.declared.beside.AskedPair.{AskedPair}
 use Rattle.set_questions.specs.declared.settling.Settled.{Settled}
 use Rattle.set_questions.specs.declared.settling.Settled.TheVariants as settled
-use Rattle.set_questions.specs.Idle.{Differ, IsNameIn, OfNamed, without_statement}
-use Rattle.set_questions.specs.Laws.{AsksAsTheSet, IsSmallerQuestion, DecidesUse}
+use Rattle.set_questions.specs.Idle.{Differ, IsNameIn, EachNamed}
+use Rattle.set_questions.specs.Removal.{without_statement}
+use Rattle.set_questions.specs.Changes.{IsUseTree}
+use Rattle.set_questions.specs.Laws.{AsksAsTheSet, ChangeQueriesTell, DecidesUse}
 use Rattle.set_questions.specs.Settling.{IsQueryClosedBy, SettlesQuery}
 use Rattle.set_questions.specs.Uses.{AreLimitsMet, IsUseOf, change_plan, limits_told, use_told}
 use Rattle.set_questions.proofs.Changing.{allow-adds, deny-takes, part-among, stays-fit}
@@ -73,9 +74,9 @@ module _ (schema : Schema) (first second : PolicySet) (first_fits : SchemaFits s
         | inr e ↦ query-covers schema first second r (asked_tree q) total asks e allowed
       ]
 
-  -- as where a refutation closes it
-  pub closed-covers : (p : Proof) → IsQueryClosedBy schema q p → (r : Request) → IsValid schema r → Allows schema first r → Allows schema second r
-  closed-covers p closes = unmet-covers (λ r met. queries_are_no schema q.tests (asked_tree q) p below closes r met.valid met.meets)
+-- where a refutation closes a query, none makes it yes
+closed-unmet : (schema : Schema) (plan : Plan) (q : Query) → IsQuery plan q → (p : Proof) → IsQueryClosedBy schema q p → NoneMeets schema q.tests (asked_tree q) []
+closed-unmet schema plan q is p closes r met = queries_are_no schema q.tests (asked_tree q) p (below-numbered q.tests plan (asked_tree q) is.tree) closes r met.valid met.meets
 
 -- ---- change queries
 
@@ -100,14 +101,14 @@ module _ (schema : Schema) (s : Statement) (set part : PolicySet) (lose : SetLos
     directed-met true is r met = inl (met-only schema set part set_fits part_fits q is r met)
     directed-met false is r met = inr (met-only schema part set part_fits set_fits q is r met)
 
-    directed-closed : (allow : Bool) → s.allow ≡ allow → IsQuery (directed_plan allow schema set part) q → (p : Proof) → IsQueryClosedBy schema q p → (r : Request) → IsValid schema r → (Allows schema set r ↔ Allows schema part r)
-    directed-closed true effect is p closes r valid = (
-      λ h. closed-covers schema set part set_fits part_fits q is p closes r valid h,
+    directed-unmet : (allow : Bool) → s.allow ≡ allow → IsQuery (directed_plan allow schema set part) q → NoneMeets schema q.tests (asked_tree q) [] → (r : Request) → IsValid schema r → (Allows schema set r ↔ Allows schema part r)
+    directed-unmet true effect is none r valid = (
+      λ h. unmet-covers schema set part set_fits part_fits q is none r valid h,
       λ h. allow-adds schema s set part lose r effect h,
     )
-    directed-closed false effect is p closes r valid = (
+    directed-unmet false effect is none r valid = (
       λ h. deny-takes schema s set part lose r effect h,
-      λ h. closed-covers schema part set part_fits set_fits q is p closes r valid h,
+      λ h. unmet-covers schema part set part_fits set_fits q is none r valid h,
     )
 
 -- the change query of a statement of the set
@@ -125,7 +126,7 @@ pub use-settled : (schema : Schema) (splits states : ℕ) (set : PolicySet) (nam
 use-settled schema splits states set name s q fits at is (settled.Met r) met =
     record { valid = met.valid; differ = directed-met schema s set (without_statement set name) (set-loses set name s at) fits (stays-fit schema set name fits) q s.allow is r met }
 use-settled schema splits states set name s q fits at is (settled.Nobody r) h = (
-  directed-closed schema s set (without_statement set name) (set-loses set name s at) fits (stays-fit schema set name fits) q s.allow refl is (proof_of r.value) h.closes,
+  directed-unmet schema s set (without_statement set name) (set-loses set name s at) fits (stays-fit schema set name fits) q s.allow refl is (closed-unmet schema (change_plan schema set (name, s)) q is (proof_of r.value) h.closes),
   record { query = q; is = is; holds = h },
 )
 use-settled schema splits states set name s q fits at is settled.OutOfSplits h = record { query = q; is = is; holds = h }
@@ -141,7 +142,7 @@ change-within schema set named at within =
 pub directed-change : (schema : Schema) (set : PolicySet) (name : StatementName) (s : Statement) (part : PolicySet) (allow : Bool) → part ≡ without_statement set name → allow ≡ s.allow → directed_plan allow schema set part ≡ change_plan schema set (name, s)
 directed-change schema set name s part allow same effect = ap (λ (p : PolicySet). directed_plan allow schema set p) same ∙ ap (λ (b : Bool). directed_plan b schema set (without_statement set name)) effect
 
-pub directed-within : (schema : Schema) (set : PolicySet) (name : StatementName) (part : PolicySet) (allow : Bool) → IsNameIn set name → part ≡ without_statement set name → OfNamed set name (λ s. allow ≡ s.allow) → IsWithinLimits (set_plan schema set) → IsWithinLimits (directed_plan allow schema set part)
+pub directed-within : (schema : Schema) (set : PolicySet) (name : StatementName) (part : PolicySet) (allow : Bool) → IsNameIn set name → part ≡ without_statement set name → EachNamed set name (λ s. allow ≡ s.allow) → IsWithinLimits (set_plan schema set) → IsWithinLimits (directed_plan allow schema set part)
 directed-within schema set name part allow is same effect within =
     let there = named-there set name is in
     subst IsWithinLimits (sym (directed-change schema set name there.0 part allow same (effect there.0 there.1))) (change-within schema set (name, there.0) there.1 within)
@@ -153,33 +154,36 @@ limits-met plan (Err query_fault.TooManyTests) is = is
 limits-met plan (Err query_fault.TooManyPieces) is = is
 limits-met plan (Err query_fault.NoMemory) is = tt
 
--- ---- smaller questions
+-- ---- what queries tell
 
--- a request that only `less` allows is one on which the sets differ, and that there is none shows them the same
-module _ (schema : Schema) (set : PolicySet) (named : Named) (asked : AskedPair) (q : Query) (question : IsSmallerQuestion schema set named asked q) where
-  abbrev part : PolicySet
-  part = without_statement set named.0
+pub change-tells : ChangeQueriesTell
+change-tells schema set (name, s) q fits at is =
+    let lose = set-loses set name s at in
+    let part_fits = stays-fit schema set name fits in
+    record {
+      askable = λ sound. directed-askable schema s set (without_statement set name) lose fits part_fits q s.allow is sound;
+      used = λ r met. record { valid = met.valid; differ = directed-met schema s set (without_statement set name) lose fits part_fits q s.allow is r met };
+      idle = λ none. directed-unmet schema s set (without_statement set name) lose fits part_fits q s.allow refl is none;
+    }
 
-  lose : SetLoses named.1 set part
-  lose = set-loses set named.0 named.1 question.named_there
+-- a query whose tree tells of the use at each valid request
+tree-decides : (schema : Schema) (set : PolicySet) (name : StatementName) (q : Query) → All (TestSuits schema) q.tests → length q.tests ≤ 1000 → IsUseTree schema set name q.tests (asked_tree q) → DecidesUse schema set name q
+tree-decides schema set name q suit few tree_tells = record {
+  askable = λ sound. record { sound = sound; suit = suit; count = omega (arith, few); below = tree_tells.below };
+  used = λ r met. record { valid = met.valid; differ = (tree_tells.tells r met.meets.0 met.valid met.meets.1).used met.meets.2 };
+  idle = λ none r valid.
+      (let some_yes : MakesYes q.tests tree.yes r = makes-yes q.tests tree.yes [] r (λ n b e. absurd (cc)) (λ n b t e at. absurd (cc)) refl in
+      let total : ℕ → Bool = some_yes.0 in
+      let say : AnswersAs total r q.tests = some_yes.1 in
+      elim (cases_Bool (holds total (asked_tree q))) [
+        | inl e ↦ absurd (none r (record { valid = valid; answers = λ n b t e at. absurd (cc); meets = (total, say, e) }))
+        | inr e ↦ (tree_tells.tells r total valid say).idle e
+      ]);
+}
 
-  pair-tells : (first second : PolicySet) → AskTheSamePair first second asked.less asked.rest →
-      ((r : Request) → Allows schema first r × ¬ Allows schema second r → Differ schema set part r) →
-      ((r : Request) → (Allows schema first r → Allows schema second r) → (Allows schema set r ↔ Allows schema part r)) → DecidesUse schema set named.0 q
-  pair-tells first second asks differ alike = record {
-    askable = query-askable schema asked.less asked.rest question.pair.less_fits question.pair.rest_fits q question.is;
-    used = λ r met.
-        (let only = met-only schema asked.less asked.rest question.pair.less_fits question.pair.rest_fits q question.is r met in
-        record { valid = met.valid; differ = differ r (asks.only schema r only.0 only.1) });
-    idle = λ none r valid.
-        alike r (λ allows. asks.covers schema r allows (λ few. unmet-covers schema asked.less asked.rest question.pair.less_fits question.pair.rest_fits q question.is none r valid few));
-  }
-
-  tells-by : (allow : Bool) → named.1.allow ≡ allow → MatchBool allow (AskTheSamePair set part asked.less asked.rest) (AskTheSamePair part set asked.less asked.rest) → DecidesUse schema set named.0 q
-  tells-by true effect asks =
-      pair-tells set part asks (λ r only. inl only) (λ r covers. (covers, λ h. allow-adds schema named.1 set part lose r effect h))
-  tells-by false effect asks =
-      pair-tells part set asks (λ r only. inr only) (λ r covers. (λ h. deny-takes schema named.1 set part lose r effect h, covers))
-
-pub smaller-tells : (schema : Schema) (set : PolicySet) (named : Named) (asked : AskedPair) (query : Query) → IsSmallerQuestion schema set named asked query → DecidesUse schema set named.0 query
-smaller-tells schema set named asked query question = tells-by schema set named asked query question named.1.allow refl question.pair.asks
+-- over the tests of a set's query
+pub asked-decides : TestsOfSetQueriesSuit → (schema : Schema) (set : PolicySet) (asked : Query) → IsQuery (set_plan schema set) asked → SchemaFits schema set → (name : StatementName) (q : Query) → q.tests ≡ asked.tests →
+    IsUseTree schema set name q.tests (asked_tree q) → DecidesUse schema set name q
+asked-decides law schema set asked is fits name q same tells =
+    let few : length asked.tests ≤ 1000 = is.few in
+    tree-decides schema set name q (subst (All (TestSuits schema)) (sym same) (law schema set asked.tests fits is.tests)) (subst (λ (ts : List Test). length ts ≤ 1000) (sym same) few) tells

@@ -1,5 +1,4 @@
--- Sets without one of their statements, and whether the statement matters to what the set allows.
-pub use Rattle.statement_cover.specs.Removal.{without_item, change_item, document_without, documents_without, guards_without, without_statement}
+-- Whether the statement matters to what the set allows.
 use Rattle.std.specs.Prelude.{◌≡◌, ◌⊎◌, ◌↔◌, Any, Contains}
 use Rattle.policy_model.specs.declared.request.Request.{Request}
 use Rattle.policy_model.specs.declared.schema.Schema.{Schema}
@@ -9,6 +8,7 @@ use Rattle.policy_model.specs.declared.set.StatementName.{StatementName}
 use Rattle.policy_model.specs.Requests.{IsValid}
 use Rattle.policy_model.specs.Sets.{Allows}
 use Rattle.policy_model.specs.StatementNames.{named_set}
+use Rattle.set_questions.specs.Removal.{without_statement}
 
 -- ---- names
 
@@ -17,8 +17,8 @@ abbrev pub IsNameIn : PolicySet → StatementName → Type 0
 IsNameIn set name = Any (λ n. n.0 ≡ name) (named_set set)
 
 -- P holds of the statement that has the name
-abbrev pub OfNamed : PolicySet → StatementName → (Statement → Type 0) → Type 0
-OfNamed set name P = (s : Statement) → Contains (named_set set) (name, s) → P s
+abbrev pub EachNamed : PolicySet → StatementName → (Statement → Type 0) → Type 0
+EachNamed set name P = (s : Statement) → Contains (named_set set) (name, s) → P s
 
 -- ---- what a statement does
 

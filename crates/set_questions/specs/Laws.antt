@@ -1,5 +1,5 @@
--- What follows from the definitions: sets without a statement, change queries, and what a smaller question tells.
-use Rattle.std.specs.Prelude.{◌≡◌, ◌≢◌, ◌↔◌, List, [], ◌∷◌, ◌++◌, length, map, false, All, Any, Contains, MatchBool}
+-- What follows from the definitions: sets without a statement, and change queries.
+use Rattle.std.specs.Prelude.{◌≡◌, ◌≢◌, ◌↔◌, List, [], ◌∷◌, ◌++◌, length, map, false, All, Any, Contains}
 use Rattle.policy_model.specs.declared.request.Request.{Request}
 use Rattle.policy_model.specs.declared.schema.Schema.{Schema}
 use Rattle.policy_model.specs.declared.set.PolicySet.{PolicySet}
@@ -12,12 +12,11 @@ use Rattle.policy_model.specs.StatementNames.{Named, named_grants, named_set}
 use Rattle.policy_compile.specs.declared.outcome.Query.{Query}
 use Rattle.policy_compile.specs.Limits.{AskTheSameTests, MeetLimitsAlike}
 use Rattle.policy_compile.specs.Queries.{IsQuery, asked_tree}
-use Rattle.policy_compile.specs.Sets.{query_plan, set_plan}
-use Rattle.policy_difference.specs.Apartness.{AskTheSamePair}
+use Rattle.policy_compile.specs.Sets.{set_plan}
 use Rattle.refute_check.specs.Laws.{IsMetBy, NoneMeets}
 use Rattle.findings.specs.Answers.{QueryIsAskable}
-use Rattle.policy_difference.specs.declared.beside.AskedPair.{AskedPair}
-use Rattle.set_questions.specs.Idle.{IsIdle, IsUsedBy, without_statement}
+use Rattle.set_questions.specs.Idle.{IsIdle, IsUsedBy}
+use Rattle.set_questions.specs.Removal.{without_statement}
 use Rattle.set_questions.specs.Uses.{change_plan}
 
 -- ---- sets without a statement
@@ -56,32 +55,17 @@ abbrev pub ChangesAskAsTheSet : Type 0
 ChangesAskAsTheSet =
     (schema : Schema) (set : PolicySet) (named : Named) → Contains (named_set set) named → AsksAsTheSet schema set named
 
--- ---- smaller questions
-
--- of two sets the same is asked as of the set and the set without the statement, these in the order of the change query
-pub record AsksTheChange (schema : Schema) (set : PolicySet) (name : StatementName) (s : Statement) (asked : AskedPair) : Type 0 where
-  pub asks : MatchBool s.allow (AskTheSamePair set (without_statement set name) asked.less asked.rest)
-      (AskTheSamePair (without_statement set name) set asked.less asked.rest)
-  pub less_fits : SchemaFits schema asked.less
-  pub rest_fits : SchemaFits schema asked.rest
-
--- the query whether the first of such two sets allows a request that the second doesn't
-pub record IsSmallerQuestion (schema : Schema) (set : PolicySet) (named : Named) (asked : AskedPair) (query : Query) : Type 0 where
-  pub fits : SchemaFits schema set
-  pub named_there : Contains (named_set set) named
-  pub pair : AsksTheChange schema set named.0 named.1 asked
-  pub is : IsQuery (query_plan schema asked.less asked.rest) query
-
--- a request that meets it shows the statement used, and that none meets it shows the statement idle
+-- a request that meets the query shows the statement used, and that none meets it shows the statement idle
 pub record DecidesUse (schema : Schema) (set : PolicySet) (name : StatementName) (query : Query) : Type 0 where
   pub askable : SchemaIsSound schema → QueryIsAskable schema query
   pub used : (r : Request) → IsMetBy schema query.tests (asked_tree query) [] r → IsUsedBy schema set name r
   pub idle : NoneMeets schema query.tests (asked_tree query) [] → IsIdle schema set name
 
-abbrev pub SmallerQuestionsTell : Type 0
-SmallerQuestionsTell =
-    (schema : Schema) (set : PolicySet) (named : Named) (asked : AskedPair) (query : Query) →
-    IsSmallerQuestion schema set named asked query → DecidesUse schema set named.0 query
+-- so does the change query
+abbrev pub ChangeQueriesTell : Type 0
+ChangeQueriesTell =
+    (schema : Schema) (set : PolicySet) (named : Named) (query : Query) → SchemaFits schema set → Contains (named_set set) named →
+    IsQuery (change_plan schema set named) query → DecidesUse schema set named.0 query
 
 -- ---- single cases
 

@@ -1,6 +1,11 @@
 pub mod SetDocuments
+pub mod Removal
 pub mod Idle
+pub mod Requirements
+pub mod Numbering
+pub mod Changes
+pub mod Cutting
+pub mod Excluding
 pub mod Settling
 pub mod Uses
 pub mod Laws
-pub mod Narrowing

@@ -21,7 +21,8 @@ use Rattle.set_questions.specs.declared.outcome.UseFault.{UseFault}
 use Rattle.set_questions.specs.declared.outcome.UseFault.TheVariants.{TooManyTests, TooManyPieces, NoMemory}
 use Rattle.set_questions.specs.declared.settling.Settled.{Settled}
 use Rattle.set_questions.specs.declared.settling.Settled.TheVariants as settled
-use Rattle.set_questions.specs.Idle.{IsIdle, IsUsedBy, OfNamed, without_statement}
+use Rattle.set_questions.specs.Idle.{IsIdle, IsUsedBy, EachNamed}
+use Rattle.set_questions.specs.Removal.{without_statement}
 use Rattle.set_questions.specs.Settling.{BothRunsFail, RefutesQuery}
 
 -- ---- change queries
@@ -54,7 +55,7 @@ IsUseOf schema splits states set named (OutOfStates w) = OfChange schema set nam
 
 -- the same by the statement's name
 abbrev pub IsUseAt : Schema → ℕ → ℕ → PolicySet → StatementName → Use → Type 0
-IsUseAt schema splits states set name use_there = OfNamed set name (λ s. IsUseOf schema splits states set (name, s) use_there)
+IsUseAt schema splits states set name use_there = EachNamed set name (λ s. IsUseOf schema splits states set (name, s) use_there)
 
 -- what was settled of the change query, as the use of its statement
 abbrev pub use_told : Settled → Use

@@ -4,7 +4,7 @@ ghost use Rattle.policy_model.specs.Soundness.{SchemaFits, SchemaIsSound};
 ghost use Rattle.policy_compile.specs.Limits.{IsWithinLimits};
 ghost use Rattle.policy_compile.specs.Queries.{IsQuery, IsQueryOf};
 ghost use Rattle.policy_compile.specs.Sets.{query_plan, set_plan};
-ghost use Rattle.set_questions.specs.Idle.{IsNameIn, OfNamed};
+ghost use Rattle.set_questions.specs.Idle.{IsNameIn, EachNamed};
 ghost use Rattle.set_questions.specs.Uses.{AreLimitsMet, AreUsesWithin, IsUseAt, change_plan, limits_told, use_told};
 
 use crate::names::{is_allow, names_of};
@@ -28,9 +28,9 @@ fn limits_told(query: &Result<Query, QueryFault>) -> Result<(), UseFault>
     }
 }
 
-/// Whether the set's query is within its limits, and so each change query of a statement of the set. A set that
-/// is past one is told which, as by `set_query`.
-pub fn meet_limits(alloc: Global, schema: &Schema, set: &PolicySet) -> Result<(), UseFault>
+// Whether the set's query is within its limits, and so each change query of a statement of the set; else the limit that
+// it is past, as by `set_query`.
+fn meet_limits(alloc: Global, schema: &Schema, set: &PolicySet) -> Result<(), UseFault>
     ensures { AreLimitsMet (set_plan schema.now set.now) result }
 {
     let query = set_query(alloc, schema, set);
@@ -67,7 +67,7 @@ pub fn change_query(
 ) -> Result<Query, NoMemory>
     requires named { IsNameIn set.now name }
     requires within { IsWithinLimits (set_plan schema.now set.now) }
-    ensures { IfOk result (λ query. OfNamed set.now name
+    ensures { IfOk result (λ query. EachNamed set.now name
         (λ s. IsQuery (change_plan schema.now set.now (name, s)) query)) }
 {
     let part = without(alloc, set, name)?;
@@ -120,7 +120,7 @@ pub fn use_of<S: Settle>(
 
 /// Of each statement of the set whether it is used or idle, in reading order, one at a time: of two equal
 /// statements of the grants each is idle, since the other stays. The schema is sound and fits the set, and it is
-/// that of `by`. There are none where the set's query is past a limit, and then it is told which.
+/// that of `by`. There are none where the set's query is past a limit, and then it says which.
 pub fn uses<S: Settle>(
     alloc: Global,
     schema: &Schema,

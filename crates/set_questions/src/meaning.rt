@@ -1,8 +1,5 @@
 //! What the answers rest on. Each law is a function that does nothing, and whose contract states it.
-ghost use Rattle.set_questions.specs.Laws.{ChangesAskAsTheSet, LastAllowsOfGuards, SmallerQuestionsTell, TwinsAreIdle, WithoutStaysSound, WithoutTakesOne};
-ghost use Rattle.set_questions.specs.Narrowing.{NarrowedPairsAskTheSame};
-
-use policy_difference::without_apart_says_no_less;
+ghost use Rattle.set_questions.specs.Laws.{ChangeQueriesTell, ChangesAskAsTheSet, LastAllowsOfGuards, TwinsAreIdle, WithoutStaysSound, WithoutTakesOne};
 
 /// `without` takes just the statement of its name away; documents and guards stay.
 pub fn without_takes_one()
@@ -19,18 +16,11 @@ pub fn changes_ask_as_the_set()
     ensures { ChangesAskAsTheSet }
 {}
 
-/// Where two sets ask the same as the set and the set without a statement, a request that meets their query
-/// shows the statement used, and that no valid request does shows the statement idle.
-pub fn smaller_questions_tell()
-    ensures { SmallerQuestionsTell }
+/// A request that meets the change query of a statement shows the statement used, and that no valid request does
+/// shows the statement idle.
+pub fn change_queries_tell()
+    ensures { ChangeQueriesTell }
 {}
-
-/// Two sets that are narrowed to a statement of a set are asked the same as the set and the set without it.
-pub fn narrowed_pairs_ask_the_same()
-    ensures { NarrowedPairsAskTheSame }
-{
-    without_apart_says_no_less();
-}
 
 /// Of two equal statements of the grants each is idle by itself, since the other stays.
 pub fn twins_are_idle()

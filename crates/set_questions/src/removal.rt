@@ -1,6 +1,7 @@
 //! A set without one of its statements.
 ghost use Rattle.std.specs.Prelude.{◌≡◌, ◌++◌, ◌∷◌, [], IfOk, OnOk, if◌then◌else◌, nat_eq};
-ghost use Rattle.set_questions.specs.Idle.{IsNameIn, document_without, documents_without, guards_without, without_statement, without_item};
+ghost use Rattle.set_questions.specs.Idle.{IsNameIn};
+ghost use Rattle.set_questions.specs.Removal.{document_without, documents_without, guards_without, without_statement, without_item};
 
 use plain_lists::{EqualClone, List, NoMemory};
 use policy_model::{

@@ -6,7 +6,6 @@ mod Contradicted
 mod Impossible
 mod Keyed
 pub mod Laws
-mod Monotone
 mod Naming
 mod Products
 mod Rising

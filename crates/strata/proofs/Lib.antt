@@ -1,5 +1,4 @@
 mod Answering
-mod Comparing
 mod Determined
 mod Equal
 mod Gathering

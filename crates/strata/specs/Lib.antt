@@ -1,7 +1,6 @@
 pub mod Predicates
 pub mod Below
 pub mod Covers
-pub mod Plain
 pub mod Strata
 pub mod Dimensions
 pub mod Asking

@@ -1,5 +1,6 @@
 -- What paths of one test or two tell of predicates.
 use Rattle.std.proofs.Common.{◌≡◌, ℕ, List, [], ◌∷◌, true, false, Option, Some, None, sym, subst}
+use Rattle.std.specs.Prelude.{MatchOption}
 use Rattle.wildcard_lang.specs.declared.piece.Piece.{Piece}
 use Rattle.wildcard_lang.specs.Places.{ShowWider}
 use Rattle.policy_model.specs.declared.schema.Schema.{Schema}
@@ -13,7 +14,7 @@ use Rattle.strata.specs.declared.predicate.Predicate.{Predicate}
 use Rattle.strata.specs.declared.predicate.Predicate.TheVariants.{Every}
 use Rattle.strata.specs.Asking.{AnswersMet, AnswersWithin}
 use Rattle.strata.specs.Predicates.{SuitsSlot, test_of}
-use Rattle.strata.specs.Plain.{IsPlainlyBelow}
+use Rattle.test_relations.specs.Relations.{TestLeads}
 use Rattle.summary_search.specs.Questions.{DecidesEscape, DecidesPossible, opposite_answer}
 use Rattle.summary_search.proofs.Answering.{by-test, no-test, not-not, of-test, one-answered, one-possible, two-no, two-possible, two-yes, test-on}
 use Rattle.summary_search.proofs.Patterns.{asked-both, asked-met, asked-missed}
@@ -39,8 +40,12 @@ module _ (schema : Schema) (states : ℕ) (s : Slot) where
 
   -- ---- what lies below what
 
-  pub plainly : (p q : Predicate) → IsPlainlyBelow p q → AnswersWithin schema states s p q within.Yes
-  plainly p q below r valid meets = below s r meets
+  led : (p q : Predicate) (u : Test) → test_of s q ≡ Some u → (t : Test) → test_of s p ≡ Some t → TestLeads schema t u → AnswersWithin schema states s p q within.Yes
+  led p q u f t e leads r valid meets = by-test (TestHolds r) s q u f (leads r valid (of-test (TestHolds r) s p t e meets))
+
+  pub below-led : (p q : Predicate) (u : Test) → test_of s q ≡ Some u → (one : Option Test) → one ≡ test_of s p → MatchOption one ⊥ (λ t. TestLeads schema t u) → AnswersWithin schema states s p q within.Yes
+  below-led p q u f None e leads = absurd leads
+  below-led p q u f (Some t) e leads = led p q u f t (sym e) leads
 
   pub below-every : (p q : Predicate) → q ≡ Every → AnswersWithin schema states s p q within.Yes
   below-every p q is = subst (λ (x : Predicate). AnswersWithin schema states s p x within.Yes) (sym is) (λ r valid meets. tt)

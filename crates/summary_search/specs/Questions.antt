@@ -1,4 +1,4 @@
--- What is told of a path of tests of one slot.
+-- What is decided of a path of tests of one slot.
 use Rattle.std.specs.Prelude.{◌≡◌, ℕ, List, [], ◌∷◌, true, false, Option, Some, None}
 use Rattle.formula_tree.specs.Answers.{Answers}
 use Rattle.wildcard_lang.specs.Places.{ShowWider}

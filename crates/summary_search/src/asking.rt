@@ -1,16 +1,14 @@
 //! Whose a finding is, by the search.
-ghost use Rattle.std.specs.Prelude.{◌≡◌, ◌≤◌, ◌↔◌, IsTrue, false};
-ghost use Rattle.policy_model.specs.Soundness.{IsKeyWith};
+ghost use Rattle.std.specs.Prelude.{◌≡◌, ◌≤◌};
 ghost use Rattle.summary_search.specs.Deciding.{answer_to};
 
 use findings::{Asked, Decide, Wide};
 use plain_lists::NoMemory;
 use policy_compile::Query;
-use policy_model::{Schema, Slot};
+use policy_model::Schema;
 use staged_search::{Earlier, Verdict, decide_after};
 use std::alloc::Global;
 use tree_search::Budgets;
-use wildcard_lang::Text;
 
 /// Answers the queries of findings by the search in stages, within budgets. No certificate comes from it.
 #[derive(Drop)]
@@ -18,7 +16,7 @@ pub struct BySearch<'a> {
     schema: &'a Schema,
     splits: u32,
     states: u32,
-    // What the queries before have told.
+    // What earlier queries showed.
     earlier: Earlier,
     ghost some_splits: { 1 ≤ splits },
     ghost some_states: { 1 ≤ states },
@@ -58,16 +56,6 @@ fn answer_to(verdict: Verdict) -> Asked
     }
 }
 
-// Whether the key is one of the schema that isn't given several values.
-fn is_given_once(schema: &Schema, key: &Text) -> bool
-    ensures { IsTrue result ↔ IsKeyWith schema.now (λ rule. rule.many ≡ false) key.now }
-{
-    match schema.get(key) {
-        Some(rule) => !rule.many,
-        None => false,
-    }
-}
-
 impl<'a> Decide for BySearch<'a> {
     ghost schema = { λ by. by.schema.now };
 
@@ -75,11 +63,8 @@ impl<'a> Decide for BySearch<'a> {
 
     ghost states = { λ by. by.states };
 
-    fn is_single(&self, slot: &Slot) -> bool {
-        match slot {
-            Slot::Key(key) => is_given_once(self.schema, key),
-            _ => true,
-        }
+    fn its_schema(&self) -> &Schema {
+        self.schema
     }
 
     fn ask(&mut self, alloc: Global, query: &Query) -> Result<Asked, NoMemory> {

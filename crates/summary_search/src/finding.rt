@@ -50,8 +50,8 @@ pub fn strata_are_made()
     sound_schemas_have_requests();
 }
 
-/// The strata of a set, whose query this is, by the slots, where products of at most so many states tell
-/// which predicates lie below which. `TooManyPredicates` comes exactly where more than 128 predicates are
+/// The strata of a set, whose query this is, by the slots. Products of at most so many states decide which
+/// predicates lie below which. `TooManyPredicates` comes exactly where more than 128 predicates are
 /// named in a slot, and `Wide` only where two predicates of a slot take more states.
 ///
 /// The conditions are those of `find_summary`.

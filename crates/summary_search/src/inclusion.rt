@@ -1,8 +1,9 @@
-//! Which predicates some valid request meets, and which lie below which: plainly, by a sample, or by a
-//! product.
-ghost use Rattle.std.specs.Prelude.{◌≡◌, ◌≤◌, IfOk, IfSome};
+//! Which predicates some valid request meets, and which lie below which: by the relation of their tests, by a
+//! sample, or by a product.
+ghost use Rattle.std.specs.Prelude.{◌≡◌, ◌≤◌, IfOk, IfSome, IsTrue, MatchOption};
 ghost use Rattle.policy_model.specs.Soundness.{SchemaIsSound};
 ghost use Rattle.slot_theory.specs.Slots.{SlotIsIn};
+ghost use Rattle.test_relations.specs.Relations.{TestLeads};
 ghost use Rattle.summary_search.specs.Questions.{IsTestOnSlot, DecidesEscape, opposite_answer};
 
 use crate::questions::{ask_escape, ask_missed, ask_passed};
@@ -10,10 +11,11 @@ use plain_lists::NoMemory;
 use policy_model::{Schema, Slot, Test};
 use request_build::sound_schemas_have_requests;
 use std::alloc::Global;
-use strata::{Inclusion, Predicate, Within, is_plainly_below, test_of};
+use strata::{Inclusion, Predicate, Within, test_of};
+use test_relations::leads;
 
-/// Answers questions on predicates, where nothing else tells by products of patterns, of so many states at
-/// most.
+/// Answers questions on predicates: by products of patterns with at most so many states, where nothing else
+/// decides.
 #[derive(Drop)]
 pub struct ByProducts<'a> {
     schema: &'a Schema,
@@ -40,6 +42,16 @@ fn opposite_answer(answer: Within) -> Within
         Within::Yes => Within::No,
         Within::No => Within::Yes,
         Within::TooMany(texts) => Within::TooMany(texts),
+    }
+}
+
+// Whether each valid request that passes the one test, where one is given, passes the other by their relation.
+fn is_led_to(schema: &Schema, one: &Option<Test>, other: &Test) -> bool
+    ensures { IsTrue result → MatchOption one.now ⊥ (λ t. TestLeads schema.now t other.now) }
+{
+    match one {
+        Some(test) => leads(schema, test, other),
+        None => false,
     }
 }
 
@@ -85,13 +97,13 @@ impl<'a> Inclusion for ByProducts<'a> {
         one: &Predicate,
         other: &Predicate,
     ) -> Result<Within, NoMemory> {
-        if is_plainly_below(one, other) {
-            return Ok(Within::Yes);
-        }
         let Some(test) = test_of(slot, other)? else {
             return Ok(Within::Yes);
         };
         let first = test_of(slot, one)?;
+        if is_led_to(self.schema, &first, &test) {
+            return Ok(Within::Yes);
+        }
         let escaped = escapes(alloc, self.schema, slot, first, test, self.states)?;
         Ok(opposite_answer(escaped))
     }

@@ -93,7 +93,7 @@ fn sample_of(alloc: Global, schema: &Schema, test: &Test) -> Result<Option<SlotV
     }
 }
 
-// Whether a valid request may have these values, of which there is one, at a key of the rule.
+// Whether a valid request may have these values, at least one, at a key of the rule.
 fn may_be_values(rule: &KeyRule, values: &ValueList) -> bool
     ensures { IsTrue result → AreValuesOf rule.now values.now }
 {
@@ -133,7 +133,7 @@ pub fn sample_passes(
         IsPossible schema.now (test.now ∷ []) ((0, true) ∷ [])) }
 {
     // The schema's keys are in order, so a value that it permits is part of a valid request.
-    // `len` tells that the keys are in order: the proof that the sample's request is valid rests on it.
+    // `len` shows that the keys are in order: the proof that the sample's request is valid rests on it.
     let _keys = schema.len();
     let Some(value) = sample_of(alloc, schema, test)? else {
         return Ok(false);
@@ -154,7 +154,7 @@ pub fn stated_misses(
     ensures { IfOk result (λ is. IsTrue is →
         IsPossible schema.now (test.now ∷ []) ((0, false) ∷ [])) }
 {
-    // `len` tells that the keys are in order: the proof that the sample's request is valid rests on it.
+    // `len` shows that the keys are in order: the proof that the sample's request is valid rests on it.
     let _keys = schema.len();
     let value = stated_value(alloc, schema, slot)?;
     Ok(!meets(&value, test))
@@ -174,7 +174,7 @@ pub fn sample_escapes(
     ensures { IfOk result (λ is. IsTrue is → IsPossible schema.now
         (yes.now ∷ no.now ∷ []) ((0, true) ∷ (1, false) ∷ [])) }
 {
-    // `len` tells that the keys are in order: the proof that the sample's request is valid rests on it.
+    // `len` shows that the keys are in order: the proof that the sample's request is valid rests on it.
     let _keys = schema.len();
     let Some(value) = sample_of(alloc, schema, yes)? else {
         return Ok(false);

@@ -2,10 +2,10 @@ use Rattle.std.proofs.Common.{◌∷◌, ℕ, List, Option, Some, option_map, re
 use Rattle.std.specs.Prelude.{string_bytes}
 use Rattle.std.proofs.lemmas.Result.{err_from_is_err_and}
 use Rattle.command_words.specs.Asked.{Asked, EmitCommand, summarising_in}
-use Rattle.run_files.specs.declared.printed.Printed.{Printed}
-use Rattle.run_files.specs.declared.role.Role.TheVariants as role
-use Rattle.run_files.specs.Readings.{AreRead, FileName, Reading, if_given, reading_of}
-use Rattle.run_sets.specs.OneSets.{set_contents}
+use Rattle.run_inputs.specs.declared.printed.Printed.{Printed}
+use Rattle.run_inputs.specs.declared.role.Role.TheVariants as role
+use Rattle.run_inputs.specs.Readings.{AreRead, FileName, Reading, if_given, reading_of}
+use Rattle.run_inputs.specs.OneSets.{set_contents}
 use Rattle.emit_answers.specs.EmitPrinted.{IsEmitPrinted}
 use Rattle.compare_cli.specs.Commands.{IsPrinted}
 use Rattle.compare_cli.specs.LastFiles.{last_bytes, last_names}

@@ -2,12 +2,12 @@ use Rattle.std.proofs.Common.{◌≤◌, ◌∷◌, ℕ, List, [], Option, Some,
 use Rattle.std.specs.Prelude.{string_bytes}
 use Rattle.std.proofs.lemmas.Result.{err_from_is_err_and}
 use Rattle.command_words.specs.Asked.{Asked, EvalCommand, evaluating_in}
-use Rattle.run_files.specs.declared.printed.Printed.{Printed}
-use Rattle.run_files.specs.declared.role.Role.TheVariants as role
-use Rattle.run_files.specs.Files.{IsShort}
-use Rattle.run_files.specs.Readings.{AreRead, FileName, IsCalm, Reading, file, if_given, one_content, reading_of}
-use Rattle.run_files.proofs.Laws.{calm_more, failed_first, failed_later}
-use Rattle.statement_answers.specs.Evaluated.{IsEvaluationPrinted, evaluation_contents}
+use Rattle.run_inputs.specs.declared.printed.Printed.{Printed}
+use Rattle.run_inputs.specs.declared.role.Role.TheVariants as role
+use Rattle.run_inputs.specs.Files.{IsShort}
+use Rattle.run_inputs.specs.Readings.{AreRead, FileName, IsCalm, Reading, file, if_given, one_content, reading_of}
+use Rattle.run_inputs.proofs.FileLaws.{calm_more, failed_first, failed_later}
+use Rattle.eval_answers.specs.Evaluated.{IsEvaluationPrinted, evaluation_contents}
 use Rattle.compare_cli.specs.Commands.{IsPrinted}
 use Rattle.compare_cli.specs.LastFiles.{last_bytes, last_names}
 use Rattle.compare_cli.proofs.Reading.{failed_end, last_read, may_print, printed_end, rest_read}

@@ -1,8 +1,8 @@
 use Rattle.std.proofs.Common.{Some, subst, sym}
 use Rattle.command_words.specs.Asked.{LoadCommand, asked_in}
 use Rattle.command_words.specs.declared.asked.Command.{Command}
-use Rattle.run_files.specs.Readings.{Reading, reading_of}
-use Rattle.run_files.proofs.Laws.{calm_still}
+use Rattle.run_inputs.specs.Readings.{Reading, reading_of}
+use Rattle.run_inputs.proofs.FileLaws.{calm_still}
 use Rattle.compare_cli.specs.Commands.{IsCommandEnd}
 use Rattle.compare_cli.proofs.Reading.{may_print, printed_end}
 use Rattle.compare_cli.proofs.commands.print_command.Goals as goal

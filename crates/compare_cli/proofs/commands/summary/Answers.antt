@@ -2,12 +2,12 @@ use Rattle.std.proofs.Common.{◌∷◌, ℕ, List, Bool, Option, Some, option_m
 use Rattle.std.specs.Prelude.{string_bytes}
 use Rattle.std.proofs.lemmas.Result.{err_from_is_err_and}
 use Rattle.command_words.specs.Asked.{Asked, SummaryCommand, summarising_in}
-use Rattle.run_files.specs.declared.printed.Printed.{Printed}
-use Rattle.run_files.specs.declared.role.Role.TheVariants as role
-use Rattle.run_files.specs.Readings.{AreRead, FileName, Reading, if_given, reading_of}
-use Rattle.run_sets.specs.OneSets.{set_contents}
-use Rattle.finding_answers.specs.Printed.{IsSummaryPrinted}
-use Rattle.cover_answers.specs.Certified.{IsCertifiedSummaryPrinted}
+use Rattle.run_inputs.specs.declared.printed.Printed.{Printed}
+use Rattle.run_inputs.specs.declared.role.Role.TheVariants as role
+use Rattle.run_inputs.specs.Readings.{AreRead, FileName, Reading, if_given, reading_of}
+use Rattle.run_inputs.specs.OneSets.{set_contents}
+use Rattle.summary_answers.specs.Printed.{IsSummaryPrinted}
+use Rattle.certified_summaries.specs.Certified.{IsCertifiedSummaryPrinted}
 use Rattle.compare_cli.specs.Commands.{IsPrinted, IsSummaryPrintedFrom}
 use Rattle.compare_cli.specs.LastFiles.{last_bytes, last_names}
 use Rattle.compare_cli.proofs.Reading.{failed_end, last_read, may_print, printed_end}

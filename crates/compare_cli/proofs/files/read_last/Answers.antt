@@ -1,9 +1,9 @@
 use Rattle.std.proofs.Common.{◌≤◌, ◌∷◌, ℕ, List, [], Option, arith, option_map}
 use Rattle.std.specs.Prelude.{string_bytes}
 use Rattle.std.proofs.lemmas.Result.{err_from_is_err_and}
-use Rattle.run_files.specs.declared.role.Role.TheVariants as role
-use Rattle.run_files.specs.Readings.{FileName, Reading, content_if_given, file, if_named, one_content, reading_of}
-use Rattle.run_files.proofs.Laws.{calm_more, failed_first, failed_later, read_more}
+use Rattle.run_inputs.specs.declared.role.Role.TheVariants as role
+use Rattle.run_inputs.specs.Readings.{FileName, Reading, content_if_given, file, if_named, one_content, reading_of}
+use Rattle.run_inputs.proofs.FileLaws.{calm_more, failed_first, failed_later, read_more}
 use Rattle.compare_cli.specs.LastFiles.{last_bytes}
 use Rattle.compare_cli.proofs.files.read_last.Goals as goal
 

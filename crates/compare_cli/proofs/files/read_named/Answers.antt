@@ -1,5 +1,5 @@
 use Rattle.std.proofs.Common.{◌∷◌, ℕ, List, [], subst}
-use Rattle.run_files.specs.Readings.{AreFilesRead, Reading, file, one_content, reading_of}
+use Rattle.run_inputs.specs.Readings.{AreFilesRead, Reading, file, one_content, reading_of}
 use Rattle.compare_cli.proofs.files.read_named.Goals as goal
 
 pub returns-clause-reads : goal.returns-clause-reads

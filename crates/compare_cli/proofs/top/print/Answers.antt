@@ -2,10 +2,10 @@ use Rattle.std.proofs.Common.{◌≡◌, ◌∙◌, Option, None, Some, ap, opti
 use Rattle.std.specs.Prelude.{string_bytes}
 use Rattle.std.proofs.lemmas.Result.{err_from_is_err_and}
 use Rattle.command_words.specs.Asked.{Asked, asked_by, asked_in}
-use Rattle.run_files.specs.declared.printed.Printed.{Printed}
-use Rattle.run_files.specs.declared.status.Status.TheVariants as status
-use Rattle.run_files.specs.Readings.{Reading, reading_of}
-use Rattle.run_files.proofs.Laws.{calm_still, stopped_still}
+use Rattle.run_inputs.specs.declared.printed.Printed.{Printed}
+use Rattle.run_inputs.specs.declared.status.Status.TheVariants as status
+use Rattle.run_inputs.specs.Readings.{Reading, reading_of}
+use Rattle.run_inputs.proofs.FileLaws.{calm_still, stopped_still}
 use Rattle.compare_cli.specs.Commands.{IsCommandEnd, IsPrinted, files_named, usage_line}
 use Rattle.compare_cli.proofs.top.print.Goals as goal
 

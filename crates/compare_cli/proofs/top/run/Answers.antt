@@ -1,7 +1,7 @@
 use Rattle.std.proofs.Common.{Ok, refl}
 use Rattle.command_words.specs.Asked.{asked_by}
-use Rattle.run_files.specs.Readings.{Reading, reading_of}
-use Rattle.run_files.proofs.Laws.{printed_so}
+use Rattle.run_inputs.specs.Readings.{Reading, reading_of}
+use Rattle.run_inputs.proofs.FileLaws.{printed_so}
 use Rattle.compare_cli.specs.Commands.{IsPrinted}
 use Rattle.compare_cli.proofs.Deciding.{printed_of_text}
 use Rattle.compare_cli.proofs.Reading.{prints_end, stopped_end}

@@ -3,12 +3,12 @@ use Rattle.std.proofs.lemmas.Result.{err_from_is_err_and}
 use Rattle.command_words.specs.Asked.{Summarising, summarising_in, texts_in}
 use Rattle.policy_model.specs.declared.schema.Schema.{Schema}
 use Rattle.summary_search.specs.declared.outcome.Limits.{Limits}
-use Rattle.run_files.specs.declared.printed.Printed.{Printed}
-use Rattle.run_files.proofs.Laws.{if_answered_weaker, or_answered_weaker}
-use Rattle.run_sets.specs.declared.one_set.OneSet.{OneSet}
-use Rattle.run_sets.specs.OneSets.{IsNoOneSet, SetContents, set_contents}
-use Rattle.run_sets.specs.Refusals.{IsRefusedBy}
-use Rattle.finding_answers.specs.Printed.{limits_in}
+use Rattle.run_inputs.specs.declared.printed.Printed.{Printed}
+use Rattle.run_inputs.proofs.FileLaws.{if_answered_weaker, or_answered_weaker}
+use Rattle.run_inputs.specs.declared.one_set.OneSet.{OneSet}
+use Rattle.run_inputs.specs.OneSets.{IsOneSetRefusal, SetContents, set_contents}
+use Rattle.run_inputs.specs.Refusals.{IsRefusedBy}
+use Rattle.summary_answers.specs.Printed.{limits_in}
 use Rattle.emit_answers.specs.EmitPrinted.{IsEmitPrinted, IsSetEmitted}
 use Rattle.emit_answers.proofs.Emitting.{of-file, of-named}
 use Rattle.emit_answers.proofs.printing.print_emit.Goals as goal
@@ -19,7 +19,7 @@ returns-in_err-one c =
     let file : Option (List ℕ) = option_map (λ f. f.now) c.args.schema in
     let files : SetContents = set_contents c.args.set.now file in
     let p = err_from_is_err_and c.from_residual.result c.from_residual.ensures.1 in
-    rw (p.1, p.2) (if_answered_weaker _ (IsRefusedBy (IsNoOneSet c.args.set.now file)) (IsEmitPrinted e files) (λ p v. inl v) c.in_err-one.ensures.read)
+    rw (p.1, p.2) (if_answered_weaker _ (IsRefusedBy (IsOneSetRefusal c.args.set.now file)) (IsEmitPrinted e files) (λ p v. inl v) c.in_err-one.ensures.read)
 
 pub returns : goal.returns
 returns c =

@@ -1,10 +1,10 @@
 use Rattle.std.proofs.Common.{inl, inr}
 use Rattle.std.proofs.lemmas.Result.{err_from_is_err_and}
 use Rattle.command_words.specs.Asked.{texts_in}
-use Rattle.run_files.specs.declared.printed.Printed.{Printed}
-use Rattle.run_files.proofs.Laws.{if_answered_weaker, or_answered_weaker}
-use Rattle.finding_answers.specs.Found.{IsNotFound}
-use Rattle.finding_answers.proofs.Laws.{found_have_findings}
+use Rattle.run_inputs.specs.declared.printed.Printed.{Printed}
+use Rattle.run_inputs.proofs.FileLaws.{if_answered_weaker, or_answered_weaker}
+use Rattle.summary_answers.specs.Found.{IsNotFound}
+use Rattle.summary_answers.proofs.Laws.{found_have_findings}
 use Rattle.emit_answers.specs.EmitPrinted.{IsPolicyPrinted, IsSetEmitted}
 use Rattle.emit_answers.proofs.Emitting.{has-policy}
 use Rattle.emit_answers.proofs.printing.print_set_policy.Goals as goal

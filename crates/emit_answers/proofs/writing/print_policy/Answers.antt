@@ -6,9 +6,9 @@ use Rattle.policy_emit.specs.declared.fault.EmitFault.{EmitFault}
 use Rattle.policy_emit.specs.declared.fault.EmitFault.TheVariants.{TooManyStatements}
 use Rattle.policy_emit.specs.Emitted.{IsEmitted}
 use Rattle.policy_emit.specs.Laws.{IsReadAsEmitted}
-use Rattle.run_files.specs.declared.status.Status.TheVariants.{Refused}
-use Rattle.run_files.specs.Printing.{PrintsText}
-use Rattle.run_files.proofs.Laws.{if_answered_weaker}
+use Rattle.run_inputs.specs.declared.status.Status.TheVariants.{Refused}
+use Rattle.run_inputs.specs.Printing.{PrintsText}
+use Rattle.run_inputs.proofs.FileLaws.{if_answered_weaker}
 use Rattle.emit_answers.specs.EmitPrinted.{IsPolicyPrinted, many_findings_line}
 use Rattle.emit_answers.proofs.Emitting.{none-printed, policy-printed}
 use Rattle.emit_answers.proofs.writing.print_policy.Goals as goal

@@ -1,5 +1,5 @@
-use Rattle.findings.specs.KnownAnswers.{AreGivenForNamed}
+use Rattle.findings.specs.KnownAnswers.{AnswersTests}
 use Rattle.findings.proofs.known.path_of.Given as goal
 
-abbrev pub invariant-others : goal.invariant-others
-invariant-others l = AreGivenForNamed l.single l.named l.met l.one l.path
+abbrev pub invariant-tests : goal.invariant-tests
+invariant-tests l = AnswersTests l.schema l.one l.met l.tests l.path

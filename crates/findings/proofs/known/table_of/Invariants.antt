@@ -3,7 +3,7 @@ use Rattle.findings.specs.KnownAnswers.{IsAnswerTable}
 use Rattle.findings.proofs.known.table_of.Given as goal
 
 abbrev pub invariant-dimensions : goal.invariant-dimensions
-invariant-dimensions g l = record {
+invariant-dimensions l = record {
   count : length l.table ≡ l.i;
-  each : IsAnswerTable (g.D.Decide.schema l.asks) l.met l.strata.dimensions l.tests l.table;
+  each : IsAnswerTable l.schema l.met l.strata.dimensions l.tests l.table;
 }

@@ -1,10 +1,10 @@
 use Rattle.std.proofs.lemmas.Result.{IfOk-weaker}
-use Rattle.idle_answers.proofs.Verdicts.{answer_if_itself, is_itself}
+use Rattle.idle_answers.proofs.Verdicts.{answer_if_itself, itself_decides}
 use Rattle.idle_answers.proofs.deciding.change_answer.Goals as goal
 
-pub staged_answer-requires-clause-smaller : goal.staged_answer-requires-clause-smaller
-staged_answer-requires-clause-smaller c =
-    is_itself c.without_stays_sound.ensures c.args.one.now c.args.name c.in_ok-query.query c.requires.fitting c.requires.named c.in_ok-query.ensures
+pub staged_answer-requires-clause-decides : goal.staged_answer-requires-clause-decides
+staged_answer-requires-clause-decides c =
+    itself_decides c.change_queries_tell.ensures c.args.one.now c.args.name c.in_ok-query.query c.requires.fitting c.requires.named c.in_ok-query.ensures
 
 pub returns : goal.returns
 returns c =

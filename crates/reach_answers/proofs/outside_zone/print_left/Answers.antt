@@ -1,9 +1,9 @@
 use Rattle.std.proofs.Common.{◌⊎◌, inl, inr, rules}
 use Rattle.std.proofs.lemmas.Result.{err_from_is_err_and}
 use Rattle.command_words.specs.Asked.{texts_in}
-use Rattle.run_files.proofs.Laws.{if_answered_weaker}
-use Rattle.finding_answers.specs.Found.{IsNotFound}
-use Rattle.finding_answers.proofs.Laws.{found_have_findings}
+use Rattle.run_inputs.proofs.FileLaws.{if_answered_weaker}
+use Rattle.summary_answers.specs.Found.{IsNotFound}
+use Rattle.summary_answers.proofs.Laws.{found_have_findings}
 use Rattle.reach_answers.specs.ReachPrinted.{IsOutsidePrinted}
 use Rattle.reach_answers.proofs.outside_zone.print_left.Goals as goal
 

@@ -1,5 +1,5 @@
 use Rattle.command_words.specs.Asked.{texts_in}
-use Rattle.run_files.proofs.Laws.{or_answered_weaker}
+use Rattle.run_inputs.proofs.FileLaws.{or_answered_weaker}
 use Rattle.reach_answers.proofs.Reaching.{outside-printed}
 use Rattle.reach_answers.proofs.outside_zone.print_outside.Goals as goal
 

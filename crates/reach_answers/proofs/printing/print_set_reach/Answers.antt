@@ -1,7 +1,7 @@
 use Rattle.std.proofs.Common.{inl}
 use Rattle.std.proofs.lemmas.Result.{err_from_is_err_and}
 use Rattle.command_words.specs.Asked.{texts_in}
-use Rattle.run_files.proofs.Laws.{if_answered_weaker, or_answered_weaker}
+use Rattle.run_inputs.proofs.FileLaws.{if_answered_weaker, or_answered_weaker}
 use Rattle.reach_answers.specs.ReachPrinted.{IsReachOfSet}
 use Rattle.reach_answers.specs.ZoneRefusals.{IsZoneRefused}
 use Rattle.reach_answers.proofs.Reaching.{zone-printed}

@@ -1,7 +1,7 @@
 use Rattle.std.proofs.Common.{◌≡◌, Err}
-use Rattle.run_files.specs.declared.status.Status.TheVariants.{Refused}
-use Rattle.run_files.specs.Printing.{PrintsText}
-use Rattle.run_files.proofs.Laws.{if_answered_weaker}
+use Rattle.run_inputs.specs.declared.status.Status.TheVariants.{Refused}
+use Rattle.run_inputs.specs.Printing.{PrintsText}
+use Rattle.run_inputs.proofs.FileLaws.{if_answered_weaker}
 use Rattle.trust_zones.specs.ZoneFiles.{zone_from}
 use Rattle.reach_answers.specs.ZoneRefusals.{IsZoneRefused, zone_line}
 use Rattle.reach_answers.proofs.zone_file.zone_of.Goals as goal

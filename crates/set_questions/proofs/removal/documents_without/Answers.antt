@@ -1,8 +1,8 @@
 use Rattle.std.proofs.Common.{◌≡◌, ◌++◌, ◌-◌, [], ◌∷◌, get_or, if◌then◌else◌, nat_eq, ap, ◌∙◌}
 use Rattle.std.proofs.lemmas.Bool.{eq-eqb, eqb-true}
 use Rattle.policy_model.specs.declared.set.Document.{Document}
-use Rattle.set_questions.specs.Idle.{document_without, documents_without}
-use Rattle.statement_cover.proofs.Laws.{change-next}
+use Rattle.set_questions.specs.Removal.{document_without, documents_without}
+use Rattle.set_questions.proofs.Removing.{change-next}
 use Rattle.set_questions.proofs.removal.documents_without.Goals as goal
 
 pub loop-one-preserved : goal.loop-one-preserved

@@ -1,5 +1,5 @@
 use Rattle.std.proofs.Common.{◌≡◌, ◌++◌, drop}
-use Rattle.set_questions.specs.Idle.{documents_without}
+use Rattle.set_questions.specs.Removal.{documents_without}
 use Rattle.set_questions.proofs.removal.documents_without.Given as goal
 
 -- what is kept, and what is left of the other documents, is the whole

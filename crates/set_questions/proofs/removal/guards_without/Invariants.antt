@@ -1,5 +1,5 @@
 use Rattle.std.proofs.Common.{◌≡◌, ◌++◌, drop}
-use Rattle.set_questions.specs.Idle.{guards_without}
+use Rattle.set_questions.specs.Removal.{guards_without}
 use Rattle.set_questions.proofs.removal.guards_without.Given as goal
 
 -- what is kept, and what is left of the other guards, is the whole

@@ -1,8 +1,8 @@
 use Rattle.std.proofs.Common.{◌≡◌, ◌++◌, ◌-◌, [], ◌∷◌, get_or, if◌then◌else◌, nat_eq, ap, ◌∙◌}
 use Rattle.std.proofs.lemmas.Bool.{eq-eqb, eqb-true}
 use Rattle.policy_model.specs.declared.set.Statement.{Statement}
-use Rattle.set_questions.specs.Idle.{without_item}
-use Rattle.statement_cover.proofs.Laws.{without-next}
+use Rattle.set_questions.specs.Removal.{without_item}
+use Rattle.set_questions.proofs.Removing.{without-next}
 use Rattle.set_questions.proofs.removal.statements_without.Goals as goal
 
 pub loop-statement-preserved : goal.loop-statement-preserved

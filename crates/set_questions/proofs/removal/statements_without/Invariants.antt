@@ -1,5 +1,5 @@
 use Rattle.std.proofs.Common.{◌≡◌, ◌++◌, drop}
-use Rattle.set_questions.specs.Idle.{without_item}
+use Rattle.set_questions.specs.Removal.{without_item}
 use Rattle.set_questions.proofs.removal.statements_without.Given as goal
 
 -- what is kept, and what is left of the other statements, is the whole

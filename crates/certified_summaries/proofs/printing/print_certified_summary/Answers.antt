@@ -1,0 +1,43 @@
+use Rattle.std.proofs.Common.{◌≡◌, ◌≤◌, ℕ, List, Option, inl, inr, option_map, rules, subst}
+use Rattle.std.proofs.lemmas.Result.{err_from_is_err_and}
+use Rattle.command_words.specs.Asked.{Summarising, summarising_in, texts_in}
+use Rattle.command_words.specs.declared.limits.TheConstants.{MOST_FINDINGS}
+use Rattle.summary_search.specs.declared.outcome.Limits.{Limits}
+use Rattle.run_inputs.specs.declared.printed.Printed.{Printed}
+use Rattle.run_inputs.proofs.FileLaws.{if_answered_weaker, or_answered_weaker}
+use Rattle.run_inputs.proofs.Laws.{of_one}
+use Rattle.run_inputs.specs.OneSets.{IsOneSetRefusal, SetContents, set_contents}
+use Rattle.run_inputs.specs.Refusals.{IsRefusedBy}
+use Rattle.summary_answers.specs.Printed.{limits_in}
+use Rattle.certified_summaries.specs.Certified.{IsCertifiedSummaryPrinted, IsSetCertified, IsSummaryCertified}
+use Rattle.certified_summaries.specs.Decides.{PrintedSummariesAreAccepted}
+use Rattle.certified_summaries.proofs.printing.print_certified_summary.Goals as goal
+
+-- a check accepts what is printed
+with-acceptance : PrintedSummariesAreAccepted → (s : Summarising) (c : SetContents) (p : Printed) → s.findings ≤ MOST_FINDINGS → IsSummaryCertified s c p → IsCertifiedSummaryPrinted s c p
+with-acceptance law s c p few printed = record { printed = printed; accepted = law s c p few printed }
+
+pub returns-in_err-one : goal.returns-in_err-one
+returns-in_err-one c =
+    let s : Summarising = summarising_in c.args.arguments.now in
+    let file : Option (List ℕ) = option_map (λ f. f.now) c.args.schema in
+    let files : SetContents = set_contents c.args.set.now file in
+    let told : (p : Printed) → IsRefusedBy (IsOneSetRefusal c.args.set.now file) p → IsCertifiedSummaryPrinted s files p =
+    λ p v. with-acceptance c.printed_summaries_are_accepted.ensures s files p c.requires.budgets.5 (inl v) in
+    let p = err_from_is_err_and c.from_residual.result c.from_residual.ensures.1 in
+    rw (p.1, p.2) (if_answered_weaker _ (IsRefusedBy (IsOneSetRefusal c.args.set.now file)) (IsCertifiedSummaryPrinted s files) told c.in_err-one.ensures.read)
+
+pub returns : goal.returns
+returns c =
+    let s : Summarising = summarising_in c.args.arguments.now in
+    let file : Option (List ℕ) = option_map (λ f. f.now) c.args.schema in
+    let files : SetContents = set_contents c.args.set.now file in
+    let one = c.in_ok-one.one in
+    let names = texts_in c.as_slice.result.now in
+    let same : names ≡ s.dimensions = search rules in
+    let of_files : (p : Printed) → IsSetCertified names c.limits_of.result one p → IsCertifiedSummaryPrinted s files p =
+    λ p v. with-acceptance c.printed_summaries_are_accepted.ensures s files p c.requires.budgets.5
+    (inr (of_one c.args.set.now file one (λ o. IsSetCertified s.dimensions (limits_in s) o p) c.in_ok-one.ensures.read
+    (subst (λ (ws : List (List ℕ)). IsSetCertified ws (limits_in s) one p) same
+    (subst (λ (limits : Limits). IsSetCertified names limits one p) c.limits_of.ensures.value v)))) in
+    or_answered_weaker c.print_set_certified.result _ _ _ _ of_files of_files c.print_set_certified.ensures

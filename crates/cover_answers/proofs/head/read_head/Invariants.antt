@@ -1,7 +1,0 @@
-use Rattle.cover_answers.specs.Reading.{AreTextsOf}
-use Rattle.cover_answers.proofs.Heading.{IsHeadSoFar}
-use Rattle.cover_answers.proofs.head.read_head.Given as goal
-
-abbrev pub invariant-pairs : goal.invariant-pairs
-invariant-pairs l =
-    AreTextsOf l.strata.dimensions l.table-inside.items.items × IsHeadSoFar l.reader l.strata.dimensions l.fn.bytes l.count l.place l.pairs l.rest

@@ -1,0 +1,7 @@
+mod Adding
+mod Joining
+pub mod Laws
+mod Same
+mod Standing
+mod Valuing
+mod Walking

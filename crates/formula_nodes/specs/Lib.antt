@@ -1,0 +1,4 @@
+pub mod Claims
+pub mod Parts
+pub mod Standing
+pub mod Steps

@@ -1,6 +1,0 @@
-use Rattle.policy_difference.specs.Rivals.{IsLetThrough, item_alone}
-use Rattle.policy_difference.proofs.Told.{LeavesBehind}
-use Rattle.policy_difference.proofs.left.left_actions.Given as goal
-
-abbrev pub invariant-actions : goal.invariant-actions
-invariant-actions l = LeavesBehind (λ x. IsLetThrough l.rivals (item_alone x)) l.actions l.action-index l.left

@@ -1,0 +1,3 @@
+mod Related
+mod Replacing
+mod Truth

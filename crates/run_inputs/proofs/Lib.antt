@@ -1,0 +1,3 @@
+mod Chains
+pub mod FileLaws
+pub mod Laws

@@ -1,0 +1,14 @@
+pub mod CertificateLines
+pub mod ClosedQueries
+pub mod FileLines
+pub mod Files
+pub mod Limits
+pub mod OneSets
+pub mod Pairs
+pub mod Parts
+pub mod PastLimits
+pub mod Printing
+pub mod Readings
+pub mod Refusals
+pub mod Standing
+pub mod Statuses

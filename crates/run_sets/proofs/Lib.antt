@@ -1,2 +1,0 @@
-mod Chains
-pub mod Laws

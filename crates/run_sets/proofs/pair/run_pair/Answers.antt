@@ -1,8 +1,0 @@
-use Rattle.run_sets.specs.Pairs.{IsNoRun}
-use Rattle.run_sets.specs.declared.refusal.Refusal.TheVariants as refusal
-use Rattle.run_sets.proofs.Laws.{refused_by}
-use Rattle.run_sets.proofs.pair.run_pair.Goals as goal
-
-pub returns-in-Err-Refused-clause-run : goal.returns-in-Err-Refused-clause-run
-returns-in-Err-Refused-clause-run c =
-    refused_by c.refused.result (refusal.NoRun c.infer_role.result c.in-Err-Refused.fault) (IsNoRun c.args.named.now c.args.first c.args.second) (c.infer_role.ensures, rw c.in-Err-Refused.fault-is (rw c.in-Err-Refused.field-0-is at c.in-Err-Refused.ensures.value)) c.refused.ensures

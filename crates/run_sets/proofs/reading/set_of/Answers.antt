@@ -1,9 +1,0 @@
-use Rattle.std.proofs.Common.{refl}
-use Rattle.run_sets.specs.Standing.{IsNoSet}
-use Rattle.run_sets.specs.declared.refusal.Refusal.TheVariants as refusal
-use Rattle.run_sets.proofs.Laws.{refused_by}
-use Rattle.run_sets.proofs.reading.set_of.Goals as goal
-
-pub returns-in-Err-Refused-clause-value : goal.returns-in-Err-Refused-clause-value
-returns-in-Err-Refused-clause-value c =
-    refused_by c.refused.result (refusal.NoSet c.args.role c.in-Err-Refused.fault) (IsNoSet c.args.role c.args.bytes.now) (refl, rw c.in-Err-Refused.fault-is (rw c.in-Err-Refused.field-0-is at c.in-Err-Refused.ensures.value)) c.refused.ensures

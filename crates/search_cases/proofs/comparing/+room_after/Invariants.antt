@@ -1,4 +1,0 @@
-use Rattle.search_cases.proofs.comparing.+room_after.Given as goal
-
-abbrev pub decreases-room_after : goal.decreases-room_after
-decreases-room_after l = l.room

@@ -1,4 +1,0 @@
-use Rattle.search_cases.proofs.runs.+run_from.Given as goal
-
-abbrev pub decreases-run_from : goal.decreases-run_from
-decreases-run_from l = l.open_tests

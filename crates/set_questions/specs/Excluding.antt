@@ -1,0 +1,45 @@
+-- What a claim excludes by the tests that it denies.
+use Rattle.std.specs.Prelude.{◌≡◌, ◌↔◌, ℕ, Bool, List, All, Any, IsTrue, Some, false, slice_get, true}
+use Rattle.formula_tree.specs.Trees.{Tree}
+use Rattle.formula_nodes.specs.Claims.{EachClaimHolds, claim_holds}
+use Rattle.formula_nodes.specs.declared.claim.Claim.{Claim}
+use Rattle.policy_compile.specs.Meaning.{AnswersAs}
+use Rattle.policy_model.specs.Requests.{IsValid}
+use Rattle.policy_model.specs.declared.request.Request.{Request}
+use Rattle.test_relations.specs.Relations.{SchemaTests}
+
+-- on the answers of a valid request that make the one claim true the other is true
+abbrev pub IsImplied : SchemaTests → List Tree → Claim → Claim → Type 0
+IsImplied of trees one claim =
+    (r : Request) (answers : ℕ → Bool) → IsValid of.schema r → AnswersAs answers r of.tests → IsTrue (claim_holds answers trees one) →
+    IsTrue (claim_holds answers trees claim)
+
+-- the node doesn't hold there, if this says so
+abbrev pub IsDeniedNode : SchemaTests → List Tree → Claim → ℕ → Bool → Type 0
+IsDeniedNode of trees one n denied = IsTrue denied → IsImplied of trees one (record { node = n; holds = false })
+
+abbrev pub AreDenied : SchemaTests → List Tree → Claim → List Bool → Type 0
+AreDenied of trees one denied = (n : ℕ) → slice_get denied n ≡ Some true → IsImplied of trees one (record { node = n; holds = false })
+
+-- the claim is that a denied node doesn't hold
+pub record IsDeniedClaim (denied : List Bool) (claim : Claim) : Type 0 where
+  pub fails : claim.holds ≡ false
+  pub there : slice_get denied claim.node ≡ Some true
+
+-- the denied nodes don't hold
+abbrev pub DeniedFail : (ℕ → Bool) → List Tree → List Bool → Type 0
+DeniedFail answers trees denied = (n : ℕ) → slice_get denied n ≡ Some true → IsTrue (claim_holds answers trees (record { node = n; holds = false }))
+
+-- where they don't, the claim fails; one of these does; the claim is true; or each is where those that are left are
+abbrev pub IsExcludedElement : List Tree → List Bool → Claim → Type 0
+IsExcludedElement trees denied claim = (answers : ℕ → Bool) → DeniedFail answers trees denied → claim_holds answers trees claim ≡ false
+
+abbrev pub HasExcludedElement : List Tree → List Bool → List Claim → Type 0
+HasExcludedElement trees denied claims = Any (IsExcludedElement trees denied) claims
+
+abbrev pub IsExcludedOther : List Tree → List Bool → Claim → Type 0
+IsExcludedOther trees denied claim = (answers : ℕ → Bool) → DeniedFail answers trees denied → IsTrue (claim_holds answers trees claim)
+
+abbrev pub AreLeftOf : List Tree → List Bool → List Claim → List Claim → Type 0
+AreLeftOf trees denied others left =
+    (answers : ℕ → Bool) → DeniedFail answers trees denied → (EachClaimHolds answers trees others ↔ EachClaimHolds answers trees left)

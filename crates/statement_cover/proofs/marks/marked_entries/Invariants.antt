@@ -1,5 +1,0 @@
-use Rattle.std.proofs.Common.{◌≡◌, take}
-use Rattle.statement_cover.proofs.marks.marked_entries.Given as goal
-
-abbrev pub invariant-items : goal.invariant-items
-invariant-items l = l.marked ≡ take l.entry-index l.items

@@ -1,9 +1,0 @@
-pub mod Entries
-pub mod Elements
-pub mod Implications
-pub mod Statements
-pub mod Sharing
-pub mod Bounding
-pub mod Places
-pub mod Removal
-pub mod Repeats

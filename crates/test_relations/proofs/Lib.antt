@@ -1,0 +1,5 @@
+mod Asking
+mod Fitting
+mod Holding
+mod Known
+mod Nested
