@@ -23,8 +23,6 @@ pub(crate) struct Activity {
     heap: Vec<u32>,
     // By variable its place in the heap.
     places: Vec<Option<usize>>,
-    // By variable whether it is in no clause, and never decided.
-    left_out: Vec<bool>,
 }
 
 impl Activity {
@@ -41,7 +39,6 @@ impl Activity {
             bump: FIRST_BUMP,
             heap,
             places,
-            left_out: vec![in alloc; false; variables]?,
         })
     }
 
@@ -70,27 +67,11 @@ impl Activity {
         }
     }
 
-    /// The variable is in no clause, and needn't be decided.
-    pub(crate) fn leave_out(&mut self, variable: u32) {
-        if let Some(left_out) = self.left_out.get_mut(variable as usize) {
-            *left_out = true;
-        }
-    }
-
-    /// Whether it was left out.
-    pub(crate) fn is_left_out(&self, variable: u32) -> bool {
-        self.left_out.as_slice().get(variable as usize) == Some(&true)
-    }
-
-    fn may_be_decided(&self, assignment: &Assignment, variable: u32) -> bool {
-        assignment.value(variable).is_none() && !self.is_left_out(variable)
-    }
-
     /// The variable that is to be decided next: the most active one that isn't.
     pub(crate) fn next(&mut self, assignment: &Assignment) -> Option<u32> {
         for _ in 0..=self.scores.len() {
             let variable = self.take()?;
-            if self.may_be_decided(assignment, variable) {
+            if assignment.value(variable).is_none() {
                 return Some(variable);
             }
         }

@@ -64,11 +64,6 @@ impl Guesses {
         }
     }
 
-    /// Whether the two tests are on one slot.
-    pub(crate) fn are_mates(&self, one: u32, other: u32) -> bool {
-        self.number_at(one) == self.number_at(other)
-    }
-
     // Whether the last value of the test's slot gives the test the answer.
     fn gives(&self, tests: &[Test], test: u32, answer: bool) -> bool {
         let Some(Some(value)) = self.values.as_slice().get(self.number_at(test)) else {

@@ -1,6 +1,5 @@
 //! Clauses that are learned from conflicts and from slots, each with its line.
 use crate::analysis::Learned;
-use crate::known::{Conflict, KnownConflicts};
 use crate::solver::Solver;
 use crate::store::Literal;
 use clause_proofs::Line;
@@ -9,9 +8,6 @@ use plain_lists::{List, NoMemory};
 use refute_check::SharedProof;
 use slot_theory::SlotProof;
 use std::rc::Rc;
-
-// What a known conflict takes, in units of work.
-const KNOWN_WORK: usize = 40;
 
 impl Solver {
     /// Learns from the conflict of a clause all of whose literals are false, some at the last level, and goes back to
@@ -183,7 +179,6 @@ impl Solver {
         path: &Path,
         core: &[u32],
         proof: SlotProof,
-        known: &mut KnownConflicts,
     ) -> Result<bool, NoMemory> {
         let SharedProof { proof, kept } = self.proofs.share(self.alloc, proof)?;
         if !kept {
@@ -195,22 +190,7 @@ impl Solver {
                 answers.push((*test, answer))?;
             }
         }
-        known.keep(answers.as_slice(), &proof)?;
         self.exclude(answers, proof)
-    }
-
-    /// Learns the known conflicts of the search's tests. No decision stands. Whether the lines end.
-    pub fn take_known(&mut self, known: &mut KnownConflicts) -> Result<bool, NoMemory> {
-        for index in 0..known.len() {
-            let Some(Conflict { answers, proof }) = known.get(index)? else {
-                continue;
-            };
-            self.limits.spend(KNOWN_WORK);
-            if self.exclude(answers, proof)? {
-                return Ok(true);
-            }
-        }
-        Ok(false)
     }
 
     // Learns that not all of the answers are given, since no value of their slot gives them.
@@ -224,7 +204,6 @@ impl Solver {
             answers: List::from_vec(answers),
             proof,
         })?;
-        self.essential.push(number)?;
         self.take_in(number)
     }
 

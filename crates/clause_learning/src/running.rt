@@ -6,12 +6,6 @@ use plain_lists::NoMemory;
 // What a decision or a conflict takes at least.
 const STEP_WORK: usize = 40;
 
-// The restart at which the clauses are made simpler. It comes after some 200 conflicts, and few queries come to it.
-const SIMPLE_RESTART: u32 = 1;
-
-// The restart at which an assignment is looked for without learning. It comes after some 6,000 conflicts.
-const WALK_RESTART: u32 = 17;
-
 /// How the search for an assignment ends.
 #[derive(Clone, Copy)]
 pub enum Ending {
@@ -45,7 +39,7 @@ impl Solver {
                 return Ok(Some(Ending::Refuted));
             }
             if self.limits.restarts() {
-                return self.restart();
+                self.back_to(0)?;
             }
             return Ok(None);
         }
@@ -54,24 +48,6 @@ impl Solver {
         };
         let value = self.assignment.phase_of(variable);
         self.assignment.decide((variable, value))?;
-        Ok(None)
-    }
-
-    // Goes back to level 0. There clauses are left out and made shorter.
-    fn restart(&mut self) -> Result<Option<Ending>, NoMemory> {
-        self.back_to(0)?;
-        let restart = self.restarts;
-        self.restarts = restart.saturating_add(1);
-        if restart == WALK_RESTART {
-            self.walk()?;
-        }
-        if restart == SIMPLE_RESTART {
-            if let Some(number) = self.simplify()? {
-                if self.learn(number)? {
-                    return Ok(Some(Ending::Refuted));
-                }
-            }
-        }
         Ok(None)
     }
 }

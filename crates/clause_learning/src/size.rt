@@ -1,5 +1,6 @@
-//! How large a formula's clauses are.
+//! How large a formula's clauses are, and the proofs of slots.
 use cnf_clauses::Clauses;
+use slot_theory::{KindProof, SlotProof};
 
 /// How many literals clauses have together, and how many variables up to the greatest one.
 #[derive(Clone, Copy)]
@@ -30,5 +31,26 @@ fn size_with(size: Size, literals: &[(u32, bool)]) -> Size {
     Size {
         literals: size.literals.saturating_add(literals.len()),
         variables,
+    }
+}
+
+/// How many product states a proof has.
+pub fn states_of(proof: &SlotProof) -> usize {
+    match proof {
+        SlotProof::Word(closed) => closed.len(),
+        SlotProof::Member(_, closed) => closed.len(),
+        SlotProof::SomeMember(closed) => closed.len(),
+        SlotProof::Kinds(aws, service, federated, canonical_user) => states_of_kind(aws)
+            .saturating_add(states_of_kind(service))
+            .saturating_add(states_of_kind(federated))
+            .saturating_add(states_of_kind(canonical_user)),
+        _ => 1,
+    }
+}
+
+fn states_of_kind(proof: &KindProof) -> usize {
+    match proof {
+        KindProof::Never => 1,
+        KindProof::Closed(closed) => closed.len(),
     }
 }

@@ -26,11 +26,6 @@ pub struct Solver {
     /// The slots' proofs in the lines, equal ones once.
     pub(crate) proofs: SharedProofs,
     pub limits: Limits,
-    /// How many restarts there were.
-    pub(crate) restarts: u32,
-    /// The clauses of slots and related tests, and once they were made simpler those of the formula. All others follow
-    /// from them.
-    pub(crate) essential: Vec<u32>,
     /// How many clauses the formula has.
     pub(crate) formula: usize,
     /// How many literals of level 0 are clauses by themselves, from the first on.
@@ -49,8 +44,6 @@ impl Solver {
             lines: Vec::new(alloc),
             proofs: SharedProofs::new(alloc),
             limits: Limits::new(),
-            restarts: 0,
-            essential: Vec::new(alloc),
             formula: 0,
             fixed: 0,
         })

@@ -39,27 +39,6 @@ impl Store {
         self.spans.len().min(u32::MAX as usize) as u32
     }
 
-    /// How many literals they have together.
-    pub(crate) fn size(&self) -> usize {
-        self.literals.len()
-    }
-
-    /// Whether a clause has no literal.
-    pub(crate) fn has_empty(&self) -> bool {
-        for span in self.spans.as_slice() {
-            if span.start == span.end {
-                return true;
-            }
-        }
-        false
-    }
-
-    /// Takes all clauses away.
-    pub(crate) fn clear(&mut self) {
-        self.literals.truncate(0);
-        self.spans.truncate(0);
-    }
-
     /// The literals of a clause, and none where there is no clause of the number.
     pub fn get(&self, number: u32) -> &[Literal] {
         match self.spans.as_slice().get(number as usize) {

@@ -83,7 +83,6 @@ impl Rest {
                 hints: self.renumber(hints),
             },
             Line::Excluded { answers, proof } => Line::Excluded { answers, proof },
-            Line::Related { one, other, answer } => Line::Related { one, other, answer },
         }
     }
 }

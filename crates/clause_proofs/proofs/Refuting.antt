@@ -1,6 +1,5 @@
 -- Lines that refute a tree leave no valid request that makes it yes.
-use Rattle.std.proofs.Common.{◌≡◌, ◌↔◌, ◌<◌, ℕ, List, [], ◌∷◌, ◌++◌, length, map, Bool, true, false, Some, slice_get, MatchBool, IsTrue, refl, sym, ◌∙◌, subst, inl, inr}
-use Rattle.std.proofs.lemmas.Bool.{cases_Bool}
+use Rattle.std.proofs.Common.{◌≡◌, ◌↔◌, ◌<◌, ℕ, List, [], ◌∷◌, ◌++◌, length, map, Bool, true, false, MatchBool, IsTrue, refl, sym, ◌∙◌, subst, inl, inr}
 use Rattle.std.proofs.lemmas.Option.{slice_get_within}
 use Rattle.formula_tree.specs.Answers.{Answers, Completes}
 use Rattle.cnf_clauses.specs.Literals.{AreSatisfied, Clause, IsSatisfied, Literal, complement}
@@ -16,17 +15,12 @@ use Rattle.slot_theory.specs.declared.outcome.SlotProof.{SlotProof}
 use Rattle.slot_theory.specs.Cores.{Accepts}
 use Rattle.slot_theory.specs.Possible.{AnswersCore}
 use Rattle.slot_theory.proofs.Laws.{core_impossible}
-use Rattle.test_relations.specs.Relations.{TestExcludes, TestLeads}
 use Rattle.clause_proofs.specs.declared.lines.Line.{Line}
-use Rattle.clause_proofs.specs.declared.lines.Line.TheVariants.{Derived, Excluded, Related}
+use Rattle.clause_proofs.specs.declared.lines.Line.TheVariants.{Derived, Excluded}
 use Rattle.clause_proofs.specs.Laws.{ClausalProofsRefute}
-use Rattle.clause_proofs.specs.Refuting.{AreRelated, IsRightLine, RefuteClauses, clause_of}
+use Rattle.clause_proofs.specs.Refuting.{IsRightLine, RefuteClauses, clause_of}
 use Rattle.clause_proofs.proofs.Falsifying.{twice}
-use Rattle.clause_proofs.proofs.Satisfying.{either-satisfied, empty-unsatisfied, more-satisfied, satisfied-or-false}
-
-not-told : (b : Bool) → ¬ IsTrue b → b ≡ false
-not-told true none = absurd (none refl)
-not-told false none = refl
+use Rattle.clause_proofs.proofs.Satisfying.{empty-unsatisfied, more-satisfied, satisfied-or-false}
 
 by-answer : (b : Bool) (A : Type 0) → IsTrue b ↔ A → MatchBool b A (¬ A)
 by-answer true A says = says.0 refl
@@ -45,26 +39,6 @@ module _ (schema : Schema) (tests : List Test) (r : Request) (valid : IsValid sc
       let core = map (λ (a : Literal). a.0) answers in
       core_impossible schema tests answers core proof accepted r valid (core-answered answers core full)
 
-  -- a test has the answer that the request gives it
-  has-answer : (answer : Bool) (n : ℕ) (t : Test) → slice_get tests n ≡ Some t → MatchBool answer (TestHolds r t) (¬ TestHolds r t) → truth n ≡ answer
-  has-answer true n t at holds = agree n (slice_get_within tests n t at) ∙ (given n t at).1 holds
-  has-answer false n t at none = agree n (slice_get_within tests n t at) ∙ not-told (total n) (λ told. none ((given n t at).0 told))
-
-  second-answers : (answer : Bool) (t u : Test) → MatchBool answer (TestLeads schema t u) (TestExcludes schema t u) → TestHolds r t → MatchBool answer (TestHolds r u) (¬ TestHolds r u)
-  second-answers true t u leads holds = leads r valid holds
-  second-answers false t u excludes holds = excludes r valid holds
-
-  related-satisfied : (one other : ℕ) (answer : Bool) → AreRelated schema tests one other answer → IsSatisfied truth ((one, false) ∷ (other, answer) ∷ [])
-  related-satisfied one other answer related =
-      elim (cases_Bool (truth one)) [
-        | inl is ↦
-            let own : total one ≡ true = sym (agree one (slice_get_within tests one related.first related.has_first)) ∙ is in
-            let holds = (given one related.first related.has_first).0 own in
-            either-satisfied truth (one, false) (other, answer)
-            (inr (has-answer answer other related.second related.has_second (second-answers answer related.first related.second related.answers holds)))
-        | inr is ↦ either-satisfied truth (one, false) (other, answer) (inl is)
-      ]
-
   line-satisfied : (clauses : List Clause) (line : Line) → AreSatisfied truth clauses → IsRightLine schema tests clauses line → IsSatisfied truth (clause_of line)
   line-satisfied clauses (Derived clause hints) good right =
       elim (satisfied-or-false truth clause) [
@@ -76,7 +50,6 @@ module _ (schema : Schema) (tests : List Test) (r : Request) (valid : IsValid sc
         | inl satisfied ↦ satisfied
         | inr full ↦ absurd (excluded-misses answers proof.value right.justified (subst (Completes truth) (twice answers) full))
       ]
-  line-satisfied clauses (Related one other answer) good right = related-satisfied one other answer right.justified
 
   none-refute : (lines : List Line) (clauses : List Clause) → AreSatisfied truth clauses → RefuteClauses schema tests clauses lines → ⊥
   none-refute [] clauses good refutes = refutes

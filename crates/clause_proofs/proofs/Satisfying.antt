@@ -36,11 +36,6 @@ satisfied-or-false truth (l ∷ c) =
           ]
     ]
 
--- one of two literals is true
-pub either-satisfied : (truth : ℕ → Bool) (l m : Literal) → (truth l.0 ≡ l.1) ⊎ (truth m.0 ≡ m.1) → IsSatisfied truth (l ∷ m ∷ [])
-either-satisfied truth l m (inl is) = (l, Contains-append_left (l ∷ []) (m ∷ []) l (Contains-push [] l), is)
-either-satisfied truth l m (inr is) = (m, Contains-append_right (l ∷ []) (m ∷ []) m (Contains-push [] m), is)
-
 -- the empty clause is satisfied by nothing
 pub empty-unsatisfied : (truth : ℕ → Bool) (c : Clause) → c ≡ [] → IsSatisfied truth c → ⊥
 empty-unsatisfied truth [] empty (m, (k, small, is), value) = absurd (omega (arith, small))

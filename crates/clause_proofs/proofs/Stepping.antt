@@ -1,7 +1,5 @@
 -- The check of a clausal proof, line by line.
-use Rattle.std.proofs.Common.{◌≡◌, ◌≢◌, ◌↔◌, ◌<◌, ◌≤◌, ◌+◌, ℕ, List, [], ◌∷◌, ◌++◌, length, map, drop, get_or, Bool, true, false, Some, Ok, Err, IfOk, IsTrue, All, sym, ap, ◌∙◌, subst, inl, inr, arith}
-use Rattle.std.specs.Prelude.{Result}
-use Rattle.std.specs.declared.alloc.AllocError.{AllocError}
+use Rattle.std.proofs.Common.{◌≡◌, ◌≢◌, ◌↔◌, ◌<◌, ◌≤◌, ◌+◌, ℕ, List, [], ◌∷◌, ◌++◌, length, map, drop, get_or, Bool, true, false, Some, IsTrue, All, refl, sym, ap, ◌∙◌, subst, inl, inr, arith}
 use Rattle.std.proofs.lemmas.Grind.{common_steps}
 use Rattle.std.proofs.lemmas.List.{drop_all, drop_more}
 use Rattle.std.proofs.lemmas.List.Elements.{All-cons, All-head, All-nil, All-tail}
@@ -14,7 +12,7 @@ use Rattle.slot_theory.specs.declared.outcome.SlotProof.{SlotProof}
 use Rattle.slot_theory.specs.Cores.{Accepts}
 use Rattle.slot_theory.specs.Possible.{PathInRange}
 use Rattle.clause_proofs.specs.declared.lines.Line.{Line}
-use Rattle.clause_proofs.specs.Refuting.{IsPlainLine, IsRightLine, RefuteClauses, clause_of}
+use Rattle.clause_proofs.specs.Refuting.{IsRightLine, RefuteClauses, clause_of}
 
 -- ---- answers in range
 
@@ -55,23 +53,6 @@ pub path-in-range : (tests : List Test) (answers path : Answers) (count : ℕ) �
 path-in-range tests answers path count is same below =
     subst (PathInRange tests) (sym same) (in-range tests answers (subst (λ (n : ℕ). AreBelowNumber n answers) is below))
 
--- what is told of a set of answers that was read, and of the proof that it was shown
-pub told-excluded : (r : Result Bool AllocError) (schema : Schema) (tests : List Test) (read answers : Answers) (shown proof : SlotProof) → read ≡ answers → shown ≡ proof →
-    IfOk r (λ (told : Bool). IsTrue told ↔ Accepts schema tests read (map (λ (a : Literal). a.0) read) shown) →
-    IfOk r (λ (told : Bool). IsTrue told ↔ Accepts schema tests answers (map (λ (a : Literal). a.0) answers) proof)
-told-excluded r schema tests read answers shown proof same is says =
-    let own = subst (λ (x : Answers). IfOk r (λ (told : Bool). IsTrue told ↔ Accepts schema tests x (map (λ (a : Literal). a.0) x) shown)) same says in
-    subst (λ (x : SlotProof). IfOk r (λ (told : Bool). IsTrue told ↔ Accepts schema tests answers (map (λ (a : Literal). a.0) answers) x)) is own
-
--- what is told both ways is told one way
-pub told-right : (r : Result Bool AllocError) (A : Type 0) → IfOk r (λ (told : Bool). IsTrue told ↔ A) → IfOk r (λ (told : Bool). IsTrue told → A)
-told-right (Ok told) A says = says.0
-told-right (Err e) A says = says
-
-pub told-whole : (r : Result Bool AllocError) (P A : Type 0) → IfOk r (λ (told : Bool). IsTrue told ↔ A) → IfOk r (λ (told : Bool). P → A → IsTrue told)
-told-whole (Ok told) P A says = λ p a. says.1 a
-told-whole (Err e) P A says = says
-
 -- ---- lines
 
 module _ (schema : Schema) (tests : List Test) where
@@ -86,18 +67,19 @@ module _ (schema : Schema) (tests : List Test) where
     at-line : RefuteAlike start all clauses (line ∷ drop (k + 1) all)
     at-line = subst (RefuteAlike start all clauses) (drop_more all k line small ∙ ap (λ (x : Line). x ∷ drop (k + 1) all) (sym here)) alike
 
-    -- it is a plain line, and not right
-    pub fails-all : (right : Bool) → (IsPlainLine line → IsRightLine schema tests clauses line → IsTrue right) → right ≡ false → All IsPlainLine all → RefuteClauses schema tests start all → ⊥
-    fails-all right says none plain refutes =
-        let is : right ≡ true = says (subst IsPlainLine (sym here) (plain k line small)) (at-line.0 refutes).0 in
-        absurd (cc)
+    -- the line is not right
+    pub fails-all : (right : Bool) → IsTrue right ↔ IsRightLine schema tests clauses line → right ≡ false → IsTrue false ↔ RefuteClauses schema tests start all
+    fails-all right says none = (
+      λ told. absurd (cc),
+      λ refutes. let is : right ≡ true = says.1 (at-line.0 refutes).0 in cc,
+    )
 
     -- it is right, and its clause is empty
-    pub ends-all : (right : Bool) → (IsTrue right → IsRightLine schema tests clauses line) → right ≡ true → clause_of line ≡ [] → RefuteClauses schema tests start all
-    ends-all right says is empty = at-line.1 (says is, inl empty)
+    pub ends-all : (right : Bool) → IsTrue right ↔ IsRightLine schema tests clauses line → right ≡ true → clause_of line ≡ [] → IsTrue true ↔ RefuteClauses schema tests start all
+    ends-all right says is empty = (λ told. at-line.1 (says.0 is, inl empty), λ refutes. refl)
 
     -- it is right, and its clause isn't empty
-    pub adds-one : (new : List Clause) (right : Bool) → (IsTrue right → IsRightLine schema tests clauses line) → right ≡ true → clause_of line ≢ [] → new ≡ clauses ++ clause_of line ∷ [] → RefuteAlike start all new (drop (k + 1) all)
+    pub adds-one : (new : List Clause) (right : Bool) → IsTrue right ↔ IsRightLine schema tests clauses line → right ≡ true → clause_of line ≢ [] → new ≡ clauses ++ clause_of line ∷ [] → RefuteAlike start all new (drop (k + 1) all)
     adds-one new right says is more added =
         let rest = drop (k + 1) all in (
           λ refutes.
@@ -105,9 +87,12 @@ module _ (schema : Schema) (tests : List Test) where
                 | inl empty ↦ absurd (more empty)
                 | inr behind ↦ subst (λ (x : List Clause). RefuteClauses schema tests x rest) (sym added) behind
               ],
-          λ behind. at-line.1 (says is, inr (subst (λ (x : List Clause). RefuteClauses schema tests x rest) added behind)),
+          λ behind. at-line.1 (says.0 is, inr (subst (λ (x : List Clause). RefuteClauses schema tests x rest) added behind)),
         )
 
   -- no line is left
-  pub none-left : (start clauses : List Clause) (all : List Line) (k : ℕ) → length all ≤ k → RefuteAlike start all clauses (drop k all) → RefuteClauses schema tests start all → ⊥
-  none-left start clauses all k past alike refutes = subst (RefuteClauses schema tests clauses) (drop_all k all past) (alike.0 refutes)
+  pub none-left : (start clauses : List Clause) (all : List Line) (k : ℕ) → length all ≤ k → RefuteAlike start all clauses (drop k all) → IsTrue false ↔ RefuteClauses schema tests start all
+  none-left start clauses all k past alike = (
+    λ told. absurd (cc),
+    λ refutes. absurd (subst (RefuteClauses schema tests clauses) (drop_all k all past) (alike.0 refutes)),
+  )

@@ -1,6 +1,6 @@
 -- Clausal proofs: lines each of which adds a clause that holds wherever those before it do, up to the empty clause, which never
 -- holds.
-use Rattle.std.specs.Prelude.{◌≡◌, ⊤, ◌⊎◌, ◌<◌, ℕ, List, [], ◌∷◌, ◌++◌, length, map, slice_get, Bool, false, Some, MatchBool}
+use Rattle.std.specs.Prelude.{◌≡◌, ◌⊎◌, ◌<◌, List, [], ◌∷◌, ◌++◌, length, map}
 use Rattle.formula_tree.specs.Answers.{IsDistinct}
 use Rattle.formula_tree.specs.Trees.{Tree}
 use Rattle.cnf_clauses.specs.declared.making.TheConstants.{MOST_CLAUSES}
@@ -12,37 +12,19 @@ use Rattle.policy_compile.specs.Queries.{asked_tree}
 use Rattle.policy_model.specs.declared.schema.Schema.{Schema}
 use Rattle.policy_model.specs.declared.test.Test.{Test}
 use Rattle.slot_theory.specs.Cores.{Accepts}
-use Rattle.test_relations.specs.Relations.{TestExcludes, TestLeads}
 use Rattle.clause_proofs.specs.declared.lines.Line.{Line}
-use Rattle.clause_proofs.specs.declared.lines.Line.TheVariants.{Derived, Excluded, Related}
+use Rattle.clause_proofs.specs.declared.lines.Line.TheVariants.{Derived, Excluded}
 
--- the clause that a line adds: a learned one, that one of the answers is otherwise, or that one test is no or another one has the
--- answer
+-- the clause that a line adds: a learned one, or that one of the answers is otherwise
 abbrev pub clause_of : Line → Clause
 clause_of (Derived clause hints) = clause
 clause_of (Excluded answers proof) = map complement answers
-clause_of (Related one other answer) = (one, false) ∷ (other, answer) ∷ []
 
--- these are two tests, and on each valid request that meets the one the other one has the answer
-pub record AreRelated (schema : Schema) (tests : List Test) (one : ℕ) (other : ℕ) (answer : Bool) : Type 0 where
-  pub first : Test
-  pub second : Test
-  pub has_first : slice_get tests one ≡ Some first
-  pub has_second : slice_get tests other ≡ Some second
-  pub answers : MatchBool answer (TestLeads schema first second) (TestExcludes schema first second)
-
--- why the clause holds wherever the others do: by reverse unit propagation from the complements of its literals, since no value
--- of a slot gives the answers, or since the two tests are related so
+-- why the clause holds wherever the others do: by reverse unit propagation from the complements of its literals, or since
+-- no value of a slot gives the answers
 abbrev pub IsJustified : Schema → List Test → List Clause → Line → Type 0
 IsJustified schema tests clauses (Derived clause hints) = Replays clauses (map complement clause) hints
 IsJustified schema tests clauses (Excluded answers proof) = Accepts schema tests answers (map (λ a. a.0) answers) proof.value
-IsJustified schema tests clauses (Related one other answer) = AreRelated schema tests one other answer
-
--- a line of which it is always told whether it is justified
-abbrev pub IsPlainLine : Line → Type 0
-IsPlainLine (Derived clause hints) = ⊤
-IsPlainLine (Excluded answers proof) = ⊤
-IsPlainLine (Related one other answer) = ⊥
 
 -- a line is right behind the clauses: there is a number left for its clause, in which no variable stands twice, and which is
 -- justified

@@ -4,11 +4,10 @@ ghost use Rattle.formula_tree.specs.Answers.{IsDistinct};
 ghost use Rattle.cnf_clauses.specs.Literals.{complement};
 ghost use Rattle.policy_model.specs.Soundness.{SchemaIsSound, TestSuits};
 ghost use Rattle.slot_theory.specs.Cores.{Accepts};
-ghost use Rattle.clause_proofs.specs.Refuting.{IsJustified, IsPlainLine, IsRightLine, LinesRefute, RefuteClauses, clause_of};
+ghost use Rattle.clause_proofs.specs.Refuting.{IsJustified, IsRightLine, LinesRefute, RefuteClauses, clause_of};
 ghost use Rattle.clause_proofs.specs.Checks.{IsSoundSubject};
 
 use crate::lines::{Line, clause_of};
-use crate::relating::are_related;
 use cnf_clauses::{Clauses, MOST_CLAUSES, clauses_of, replay};
 use formula_tree::Path;
 use plain_lists::{List, NoMemory};
@@ -68,8 +67,7 @@ fn excludes(
     accepts(subject.alloc, subject.schema, tests, path, &core, proof)
 }
 
-/// Whether the line's clause holds wherever the clauses do. The path makes each literal of it false. Of related tests
-/// it isn't always told.
+/// Whether the line's clause holds wherever the clauses do. The path makes each literal of it false.
 fn is_justified(
     subject: &Subject<'_>,
     clauses: &Clauses,
@@ -78,18 +76,12 @@ fn is_justified(
 ) -> Result<bool, NoMemory>
     requires ready { IsSoundSubject subject.now }
     requires path { path.now ≡ map complement (clause_of line.now) }
-    ensures right { IfOk result (λ yes. IsTrue yes → IsJustified
+    ensures { IfOk result (λ yes. IsTrue yes ↔ IsJustified
         subject.now.schema.now subject.now.query.now.tests clauses.now line.now) }
-    ensures whole { IfOk result (λ yes. IsPlainLine line.now → IsJustified
-        subject.now.schema.now subject.now.query.now.tests clauses.now line.now → IsTrue yes) }
 {
     match line {
         Line::Derived { hints, .. } => replay(subject.alloc, clauses, path, hints),
         Line::Excluded { answers, proof } => excludes(subject, path, answers.as_slice(), proof),
-        Line::Related { one, other, answer } => {
-            let tests = &subject.query.tests;
-            Ok(are_related(subject.schema, tests, *one, *other, *answer))
-        }
     }
 }
 
@@ -127,10 +119,8 @@ fn is_right(
 ) -> Result<bool, NoMemory>
     requires ready { IsSoundSubject subject.now }
     requires clause { clause.now ≡ clause_of line.now }
-    ensures right { IfOk result (λ yes. IsTrue yes → IsRightLine
+    ensures { IfOk result (λ yes. IsTrue yes ↔ IsRightLine
         subject.now.schema.now subject.now.query.now.tests clauses.now line.now) }
-    ensures whole { IfOk result (λ yes. IsPlainLine line.now → IsRightLine
-        subject.now.schema.now subject.now.query.now.tests clauses.now line.now → IsTrue yes) }
 {
     if clauses.len() >= MOST_CLAUSES {
         return Ok(false);
@@ -149,10 +139,8 @@ fn refute_clauses(
     lines: &[Line],
 ) -> Result<bool, NoMemory>
     requires ready { IsSoundSubject subject.now }
-    ensures right { IfOk result (λ yes. IsTrue yes → RefuteClauses
+    ensures { IfOk result (λ yes. IsTrue yes ↔ RefuteClauses
         subject.now.schema.now subject.now.query.now.tests clauses lines.now) }
-    ensures whole { IfOk result (λ yes. All IsPlainLine lines.now → RefuteClauses
-        subject.now.schema.now subject.now.query.now.tests clauses lines.now → IsTrue yes) }
 {
     let mut clauses = clauses;
     'lines: for line in lines {
@@ -170,7 +158,6 @@ fn refute_clauses(
 
 /// Whether the lines refute the query: each up to one whose clause is empty is right by the clauses before it, which
 /// are those of the query's formula and then those of the lines before. What stands behind that line isn't looked at.
-/// Of tests that are related the answer may be no where they are, since that isn't always told.
 ///
 /// The schema is sound, and the tests suit it and are numbered by 32 bits. Time is that of the hints, of the slot
 /// proofs, and for each line of the greatest variable that it decides; a clause is copied once. The only error is want
@@ -184,9 +171,7 @@ pub fn refutes(
     requires sound { SchemaIsSound schema.now }
     requires suit { All (TestSuits schema.now) query.now.tests }
     requires count { length query.now.tests < 2 ^ 32 }
-    ensures right { IfOk result (λ yes. IsTrue yes → LinesRefute schema.now query.now lines.now) }
-    ensures whole { IfOk result (λ yes. All IsPlainLine lines.now →
-        LinesRefute schema.now query.now lines.now → IsTrue yes) }
+    ensures { IfOk result (λ yes. IsTrue yes ↔ LinesRefute schema.now query.now lines.now) }
 {
     let clauses = clauses_of(alloc, &query.formula, query.tests.len() as u32)?;
     let mut path = Path::new(alloc);

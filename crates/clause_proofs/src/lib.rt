@@ -4,9 +4,7 @@
 mod checking;
 mod laws;
 mod lines;
-mod relating;
 
 pub use checking::refutes;
 pub use laws::clausal_proofs_refute;
 pub use lines::Line;
-pub use relating::are_related;

@@ -27,13 +27,6 @@ pub enum Line {
         /// It may stand in other lines too.
         proof: Rc<SlotProof>,
     },
-    /// Wherever a test of the query is yes another one has the answer, as the two tests tell. The line's clause says
-    /// that the one is no, or the other is so.
-    Related {
-        one: u32,
-        other: u32,
-        answer: bool,
-    },
 }
 
 /// The clause that the line adds.
@@ -46,10 +39,6 @@ pub(crate) fn clause_of(alloc: Global, line: &Line) -> Result<List<(u32, bool)>,
             clause.as_slice(),
         )?)),
         Line::Excluded { answers, .. } => complements(alloc, answers.as_slice()),
-        Line::Related { one, other, answer } => Ok(List::from_vec(Vec::from_slice(
-            alloc,
-            &[(*one, false), (*other, *answer)],
-        )?)),
     }
 }
 

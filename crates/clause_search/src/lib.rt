@@ -5,10 +5,8 @@
 mod choosing;
 mod meeting;
 mod outcome;
-mod relations;
 mod searching;
 mod slots;
 
-pub use clause_learning::KnownConflicts;
 pub use outcome::Outcome;
 pub use searching::search;

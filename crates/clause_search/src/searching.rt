@@ -10,9 +10,8 @@ ghost use Rattle.clause_search.specs.Outcomes.{IsSearchOutcome};
 use crate::choosing::choose;
 use crate::meeting::meet;
 use crate::outcome::Outcome;
-use crate::relations::relate_keys;
 use crate::slots::{Failing, ask_levels};
-use clause_learning::{Asked, Ending, Guesses, KnownConflicts, MOST_WORK, Solver, size_of};
+use clause_learning::{Asked, Ending, Guesses, MOST_WORK, Solver, size_of};
 use clause_proofs::refutes;
 use cnf_clauses::{Clauses, clauses_of};
 use formula_tree::Path;
@@ -26,10 +25,6 @@ use std::mem::replace;
 
 // Formulas whose clauses have more literals are left open at once.
 const MOST_LITERALS: usize = 200_000;
-
-// The round before which it is learned which tests of a slot are related. Formulas that are refuted without the slots
-// don't come to it.
-const RELATING_ROUND: usize = 1;
 
 // What the choice of answers takes for each literal of the formula's clauses, in units of work.
 const CHOICE_WORK: usize = 4;
@@ -50,7 +45,6 @@ pub fn search(
     schema: &Schema,
     query: &Query,
     states: u32,
-    known: &mut KnownConflicts,
 ) -> Result<Outcome, NoMemory>
     requires sound { SchemaIsSound schema.now }
     requires suit { All (TestSuits schema.now) query.now.tests }
@@ -68,7 +62,7 @@ pub fn search(
         states,
     };
     let clauses = clauses_of(alloc, &query.formula, query.tests.len() as u32)?;
-    search_clauses(&asked, &clauses, known)
+    search_clauses(&asked, &clauses)
 }
 
 // What is known of the slots, beside the clauses that they led to.
@@ -81,26 +75,17 @@ struct Theory {
 }
 
 // Nothing is known yet.
-fn theory_of(
-    asked: &Asked<'_>,
-    size: usize,
-    known: &mut KnownConflicts,
-) -> Result<Theory, NoMemory> {
+fn theory_of(asked: &Asked<'_>, size: usize) -> Result<Theory, NoMemory> {
     let guesses = Guesses::new(asked.alloc, asked.query.tests.as_slice())?;
-    let known = replace(known, KnownConflicts::none(asked.alloc));
     Ok(Theory {
-        failing: Failing::new(asked.alloc, known),
+        failing: Failing::new(asked.alloc),
         guesses,
         size,
     })
 }
 
 // The search over the clauses of the query's formula.
-fn search_clauses(
-    asked: &Asked<'_>,
-    clauses: &Clauses,
-    known: &mut KnownConflicts,
-) -> Result<Outcome, NoMemory>
+fn search_clauses(asked: &Asked<'_>, clauses: &Clauses) -> Result<Outcome, NoMemory>
     requires ready { IsSearchAsked asked.now }
     ensures { IfOk result (IsSearchOutcome asked.now.schema.now asked.now.query.now) }
 {
@@ -109,11 +94,8 @@ fn search_clauses(
         return Ok(Outcome::Open);
     }
     let mut solver = Solver::new(asked.alloc, size.variables)?;
-    known.begin(asked.query.tests.as_slice())?;
-    let mut theory = theory_of(asked, size.literals, known)?;
-    let outcome = search_with(asked, clauses, &mut solver, &mut theory)?;
-    *known = replace(&mut theory.failing.known, KnownConflicts::none(asked.alloc));
-    Ok(outcome)
+    let mut theory = theory_of(asked, size.literals)?;
+    search_with(asked, clauses, &mut solver, &mut theory)
 }
 
 fn search_with(
@@ -129,57 +111,12 @@ fn search_with(
         solver.learn(number)?;
         return checked(asked, solver);
     }
-    if let Some(outcome) = begin(asked, solver, &mut theory.failing.known)? {
-        return Ok(outcome);
-    }
-    'rounds: for number in 0..MOST_WORK {
-        if number == RELATING_ROUND && relate(asked, solver, theory)? {
-            return checked(asked, solver);
-        }
+    'rounds: for _ in 0..MOST_WORK {
         if let Some(outcome) = round(asked, solver, theory)? {
             return Ok(outcome);
         }
     }
     Ok(Outcome::Open)
-}
-
-// Learns what slots are known to exclude, unless the formula is refuted without that. None where the search goes on.
-fn begin(
-    asked: &Asked<'_>,
-    solver: &mut Solver,
-    known: &mut KnownConflicts,
-) -> Result<Option<Outcome>, NoMemory>
-    requires ready { IsSearchAsked asked.now }
-    ensures { IfOk result (λ o.
-        IfSome o (IsSearchOutcome asked.now.schema.now asked.now.query.now)) }
-{
-    if known.len() == 0 {
-        return Ok(None);
-    }
-    if let Some(outcome) = assign(asked, solver)? {
-        return Ok(Some(outcome));
-    }
-    solver.back_to(0)?;
-    if solver.take_known(known)? {
-        let outcome = checked(asked, solver)?;
-        return Ok(Some(outcome));
-    }
-    Ok(None)
-}
-
-// Learns which tests of a slot are related, and what else their order tells where no earlier search did. Whether the
-// lines end.
-fn relate(asked: &Asked<'_>, solver: &mut Solver, theory: &mut Theory) -> Result<bool, NoMemory>
-    requires ready { IsSearchAsked asked.now }
-{
-    solver.back_to(0)?;
-    if solver.relate(asked, &theory.guesses)? {
-        return Ok(true);
-    }
-    if theory.failing.known.len() > 0 {
-        return Ok(false);
-    }
-    relate_keys(asked, solver, &mut theory.failing)
 }
 
 // Goes on to the next assignment. None where there is one.
@@ -310,8 +247,7 @@ fn learn_cores(
         turn(asked, solver, path, &theory.failing)?;
     }
     'cores: for (core, proof) in cores {
-        let known = &mut theory.failing.known;
-        if solver.exclude_core(path, core.as_slice(), proof, known)? {
+        if solver.exclude_core(path, core.as_slice(), proof)? {
             return Ok(true);
         }
     }

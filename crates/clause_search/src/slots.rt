@@ -6,7 +6,7 @@ ghost use Rattle.slot_theory.specs.Slots.{slot_of, test_at};
 ghost use Rattle.clause_search.specs.Asked.{IsSearchAsked};
 ghost use Rattle.clause_search.specs.Values.{AreFoundValues, HaveAllSlots};
 
-use clause_learning::{Asked, KnownConflicts, states_of};
+use clause_learning::{Asked, states_of};
 use formula_tree::Path;
 use pattern_automata::LastClosed;
 use plain_lists::{List, NoMemory};
@@ -49,19 +49,16 @@ pub(crate) struct Failing {
     work: usize,
     // How many product states the last closed set had.
     last_states: usize,
-    /// What slots are known to exclude.
-    pub(crate) known: KnownConflicts,
 }
 
 impl Failing {
-    pub(crate) fn new(alloc: Global, known: KnownConflicts) -> Failing {
+    pub(crate) fn new(alloc: Global) -> Failing {
         Failing {
             slots: List::new(alloc),
             cores: Vec::new(alloc),
             last_closed: LastClosed::new(alloc),
             work: 0,
             last_states: 0,
-            known,
         }
     }
 

@@ -30,15 +30,9 @@ contained-all few many every n b h =
     let P : ℕ × Bool → Type 0 = λ p. answer_of many p.0 ≡ Some p.1 in
     subst P (found.2 (n, b)) (every found.0 (n, b) found.1)
 
-pub not_contained : (few many : Answers) (k : ℕ) (d : ℕ × Bool) → IsDistinct few → k < length few → ¬ (answer_of many (get_or few k d).0 ≡ Some (get_or few k d).1) → ¬ Contained few many
-not_contained few many k d distinct lt other = λ contained. other (contained _ _ (answer_of-at few k d distinct lt))
-
 -- the same of a copy of the answers
 pub contained-all-in : (items few many : Answers) (n : ℕ) → items ≡ few → length items ≤ n → ((k : ℕ) (d : ℕ × Bool) → k < n → answer_of many (get_or items k d).0 ≡ Some (get_or items k d).1) → Contained few many
 contained-all-in items few many n e le all = let P : Answers → Type 0 = λ xs. Contained xs many in subst P e (contained-all items many (λ k d lt. all k d (omega (arith, lt, le))))
-
-pub not_contained-in : (items few many : Answers) (k : ℕ) (d : ℕ × Bool) → items ≡ few → IsDistinct few → k < length items → ¬ (answer_of many (get_or items k d).0 ≡ Some (get_or items k d).1) → ¬ Contained few many
-not_contained-in items few many k d e distinct lt other = let P : Answers → Type 0 = λ xs. k < length xs → ¬ (answer_of many (get_or xs k d).0 ≡ Some (get_or xs k d).1) → ¬ Contained few many in subst P (sym e) (λ within differs. not_contained few many k d distinct within differs) lt other
 
 pub answer_of-at-in : (items few : Answers) (k : ℕ) (d : ℕ × Bool) → items ≡ few → IsDistinct few → k < length items → answer_of few (get_or items k d).0 ≡ Some (get_or items k d).1
 answer_of-at-in items few k d e distinct lt = let P : Answers → Type 0 = λ xs. k < length xs → answer_of few (get_or xs k d).0 ≡ Some (get_or xs k d).1 in subst P (sym e) (λ within. answer_of-at few k d distinct within) lt

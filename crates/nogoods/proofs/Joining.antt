@@ -6,9 +6,8 @@ use Rattle.std.proofs.lemmas.Bool.{cases_lt}
 use Rattle.std.specs.Prelude.{Contains, slice_get, drop}
 use Rattle.formula_tree.specs.Answers.{Answers, Contained, answer_of}
 use Rattle.formula_tree.proofs.Laws.{answer_of-besides, answer_of-last, answer_of-more, cases_eq}
-use Rattle.nogoods.specs.Buckets.{bucket_of}
+use Rattle.nogoods.specs.Tracking.{AreWatched, IsHitOf, IsLacking, IsWatch, IsWatched, bucket_of, watchers_in}
 use Rattle.nogoods.specs.Hits.{IsHit, NoHit, answers_at}
-use Rattle.nogoods.specs.Tracking.{AreWatched, IsHitOf, IsLacking, IsWatch, IsWatched, watchers_in}
 use Rattle.nogoods.specs.Turning.{KeepsWatchers, StayAsHits, TurnsOrStays}
 use Rattle.nogoods.specs.Joining.{FindsHit, IsPut, Joins, WatchesOn}
 

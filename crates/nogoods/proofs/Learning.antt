@@ -9,10 +9,8 @@ use Rattle.std.specs.Prelude.{Contains, IsSome, slice_get}
 use Rattle.std.specs.Option.{option_or, option_to_list}
 use Rattle.formula_tree.specs.Answers.{Answers, Contained, IsDistinct, answer_of}
 use Rattle.formula_tree.proofs.Laws.{answer_of-rest}
-use Rattle.nogoods.specs.Choices.{HasAnswer}
+use Rattle.nogoods.specs.Tracking.{AreHits, AreWatched, HasAnswer, IsHitOf, IsTracking, IsWatch, IsWatched, bucket_of, watchers_in}
 use Rattle.nogoods.specs.Hits.{IsHit, NoHit, answers_at}
-use Rattle.nogoods.specs.Buckets.{bucket_of}
-use Rattle.nogoods.specs.Tracking.{AreHits, AreWatched, IsHitOf, IsTracking, IsWatch, IsWatched, watchers_in}
 use Rattle.nogoods.specs.Turning.{KeepsWatchers}
 use Rattle.nogoods.specs.Joining.{AreMarked, FindsHit, IsShortest, IsWatchedAt, Joins, WatchesOn}
 use Rattle.nogoods.proofs.Answering.{answer_of-at, answer_of-found}

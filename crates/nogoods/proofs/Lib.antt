@@ -1,5 +1,4 @@
 mod Answering
-mod Entering
 mod Joining
 mod Learning
 mod Watches

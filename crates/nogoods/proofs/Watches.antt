@@ -1,15 +1,19 @@
 -- Buckets of numbers that change.
-use Rattle.std.proofs.Common.{◌≡◌, ℕ, ◌+◌, ◌<◌, ◌≤◌, List, [], ◌∷◌, ◌++◌, length, get_or, set, Bool, sym, ◌∙◌, subst, inl, inr, arith, get_or-set_same, get_or-set_other, length-append, ◌⊎◌}
-use Rattle.std.proofs.lemmas.List.{get_or_append_left, get_or_default, get_or_push}
+use Rattle.std.proofs.Common.{◌≡◌, ℕ, ◌+◌, ◌<◌, ◌≤◌, List, [], ◌∷◌, ◌++◌, length, get_or, set, Bool, refl, sym, ◌∙◌, subst, inl, inr, arith, get_or-set_same, get_or-set_other, length-append, ◌⊎◌}
+use Rattle.std.proofs.lemmas.List.{get_or_append_left, get_or_default, get_or_push, get_or_read}
 use Rattle.std.proofs.lemmas.Bool.{cases_lt}
 use Rattle.std.specs.Prelude.{Contains}
 use Rattle.formula_tree.specs.Answers.{Answers, Contained}
 use Rattle.formula_tree.proofs.Laws.{cases_eq}
-use Rattle.nogoods.specs.Buckets.{bucket_of}
-use Rattle.nogoods.specs.Hits.{IsHit, answers_at}
 use Rattle.nogoods.specs.Tracking.{IsLacking, watchers_in}
+use Rattle.nogoods.specs.Hits.{IsFirstHit, IsHit, NoneBefore, answers_at}
 use Rattle.nogoods.specs.Turning.{KeepsOthers, KeepsWatchers, StayAsHits, TurnsOrStays}
-use Rattle.nogoods.proofs.Entering.{contains-more, contains-last}
+
+contains-more : {X : Type 0} (xs ys : List X) (x : X) → Contains xs x → Contains (xs ++ ys) x
+contains-more xs ys x (k, lt, is) = (k, omega (arith, lt, length-append xs ys), get_or_append_left xs ys x k lt ∙ is)
+
+contains-last : {X : Type 0} (xs : List X) (x : X) → Contains (xs ++ x ∷ []) x
+contains-last xs x = (length xs, omega (arith, length-append xs (x ∷ [])), get_or_push xs x x (length xs) refl)
 
 pub bucket-set : (ws : List (List ℕ)) (b : ℕ) (xs : List ℕ) → b < length ws → watchers_in (set ws b xs) b ≡ xs
 bucket-set ws b xs lt = get_or-set_same ws b xs [] lt
@@ -29,9 +33,6 @@ keeps-put old mid b xs more same lt is other number held =
           subst (λ (k : ℕ). Contains (watchers_in (set mid b xs) k) number) (sym e) (subst P (sym (bucket-set mid b xs lt)) longer)
       | inr ne ↦ subst P (sym (others-set mid b xs other ne)) here
     ]
-
-pub keeps-same : (old new : List (List ℕ)) → ((n : ℕ) → watchers_in new n ≡ watchers_in old n) → KeepsWatchers old new
-keeps-same old new same b number held = let P : List ℕ → Type 0 = λ xs. Contains xs number in subst P (sym (same b)) held
 
 pub holds-put : (mid : List (List ℕ)) (b : ℕ) (xs before : List ℕ) (number : ℕ) → b < length mid → xs ≡ before ++ number ∷ [] → Contains (watchers_in (set mid b xs) b) number
 holds-put mid b xs before number lt is = let P : List ℕ → Type 0 = λ ys. Contains ys number in subst P (sym (bucket-set mid b xs lt ∙ is)) (contains-last before number)
@@ -97,8 +98,18 @@ stay-hits lists path stay number answers within at contained before n held =
       | inr e ↦ subst Q (sym e) (within, subst P (sym at) contained)
     ]
 
--- and one that it lacks an answer of is watched there
-pub turns : (lists : List Answers) (path : Answers) (watching : List (List ℕ)) (stay : List ℕ) (number : ℕ) (answers : Answers) (test : ℕ) (answer : Bool) → answers_at lists number ≡ answers → IsLacking answers path (test, answer) → Contains (watchers_in watching (bucket_of test answer)) number → TurnsOrStays lists path watching stay number
-turns lists path watching stay number answers test answer at lacking there lt =
-    let P : Answers → Type 0 = λ a. IsLacking a path (test, answer) in
-    inr (record { test = test; answer = answer; lacking = subst P (sym at) lacking; there = there })
+-- ---- the first list that the path contains
+
+pub lacking-none : (answers path : Answers) (p : ℕ × Bool) → IsLacking answers path p → Contained answers path → ⊥
+lacking-none answers path p lacking contained = lacking.lacks (contained p.0 p.1 lacking.own)
+
+module _ (lists : List Answers) (path : Answers) (i : ℕ) (list : Answers) (lt : i < length lists) (is : list ≡ get_or lists i list) where
+  pub none-next : (Contained list path → ⊥) → NoneBefore lists path i → NoneBefore lists path (i + 1)
+  none-next lacks none k within hit =
+      elim (cases_eq i k) [
+        | inl e ↦ absurd (lacks (subst (λ (xs : Answers). Contained xs path) (sym (get_or_read lists i list lt is [])) (subst (λ (n : ℕ). IsHit lists path n) (sym e) hit)))
+        | inr ne ↦ omega (arith, ne, none k within hit)
+      ]
+
+  pub first-here : Contained list path → NoneBefore lists path i → IsFirstHit lists path i
+  first-here contained none = record { there = lt; hit = subst (λ (xs : Answers). Contained xs path) (get_or_read lists i list lt is []) contained; first = none }

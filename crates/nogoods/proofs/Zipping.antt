@@ -1,10 +1,12 @@
 -- Pairs of two lists of one length.
 use Rattle.std.proofs.Common.{◌≡◌, ℕ, ◌<◌, List, [], ◌∷◌, ◌++◌, length, Bool, true, Some, zero, suc, refl, sym, ◌∙◌, ap, subst, arith, zip, slice_get, get_or, length-append}
 use Rattle.std.proofs.lemmas.Grind.{common_steps}
+use Rattle.std.proofs.lemmas.List.{get_or_read}
+use Rattle.std.proofs.lemmas.Option.{slice_get_read}
 use Rattle.std.specs.declared.rc.Rc.{Rc}
 use Rattle.std.specs.Global.{Global}
 use Rattle.formula_tree.specs.Answers.{Answers, Contained}
-use Rattle.nogoods.specs.Hits.{answers_at, IsFirstHit, NoHit}
+use Rattle.nogoods.specs.Hits.{IsFirstHit, NoHit}
 use Rattle.nogoods.specs.Stored.{stored_lists, AllClose, shared_values}
 
 pub zip-push : {A B : Type 0} (xs : List A) (ys : List B) (x : A) (y : B) → length xs ≡ length ys → zip (xs ++ x ∷ []) (ys ++ y ∷ []) ≡ zip xs ys ++ (x, y) ∷ []
@@ -29,11 +31,6 @@ close-push closes [] answers what all one zero a w h = grind (arith, common_step
 close-push closes [] answers what all one (suc i) a w h = absurd (cc)
 close-push closes (p ∷ store) answers what all one zero a w h = all zero a w h
 close-push closes (p ∷ store) answers what all one (suc i) a w h = close-push closes store answers what (λ j b v g. all (suc j) b v g) one i a w h
-
-pub answers_at-get : (lists : List Answers) (i : ℕ) (list : Answers) → slice_get lists i ≡ Some list → answers_at lists i ≡ list
-answers_at-get [] i list h = absurd (cc)
-answers_at-get (a ∷ lists) zero list h = cc
-answers_at-get (a ∷ lists) (suc i) list h = answers_at-get lists i list h
 
 pub shared-length : {T : Type 0} (items : List (Rc T Global)) → length (shared_values items) ≡ length items
 shared-length [] = refl
@@ -65,12 +62,13 @@ pub first-hit-in : {T : Type 0} (lists : List Answers) (items : List (Rc T Globa
 first-hit-in lists items store path i e is first = let P : List Answers → Type 0 = λ xs. IsFirstHit xs path i in subst P (sym (ap stored_lists (sym is) ∙ stored_lists-pairs lists items e)) first
 
 -- the pair at an index
-pub pair-at : {T : Type 0} (lists : List Answers) (items : List (Rc T Global)) (i : ℕ) (list : Answers) (r : Rc T Global) → length lists ≡ length items → i < length lists → slice_get lists i ≡ Some list → r ≡ get_or items i r → slice_get (pairs lists items) i ≡ Some (list, r.value)
-pair-at lists items i list r e lt h is = slice_get-zip lists (shared_values items) i list r.value h (shared-get items i r (omega (arith, lt, e)) is)
+pub pair-at : {T : Type 0} (lists : List Answers) (items : List (Rc T Global)) (i : ℕ) (list : Answers) (r : Rc T Global) → length lists ≡ length items → i < length lists → list ≡ get_or lists i list → r ≡ get_or items i r → slice_get (pairs lists items) i ≡ Some (list, r.value)
+pair-at lists items i list r e lt h is =
+    slice_get-zip lists (shared_values items) i list r.value (slice_get_read lists (length lists) i list refl lt h) (shared-get items i r (omega (arith, lt, e)) is)
 
 -- its answers are contained in the path
-pub contained-at : (lists : List Answers) (path : Answers) (i : ℕ) (list : Answers) → IsFirstHit lists path i → slice_get lists i ≡ Some list → Contained list path
-contained-at lists path i list first h = let P : Answers → Type 0 = λ xs. Contained xs path in subst P (answers_at-get lists i list h) first.hit
+pub contained-at : (lists : List Answers) (path : Answers) (i : ℕ) (list : Answers) → IsFirstHit lists path i → list ≡ get_or lists i list → Contained list path
+contained-at lists path i list first h = subst (λ (xs : Answers). Contained xs path) (sym (get_or_read lists i list first.there h [])) first.hit
 
 -- one pair more
 pub lengths-push : {T : Type 0} (lists longer : List Answers) (items more : List (Rc T Global)) (list : Answers) (r : Rc T Global) → longer ≡ lists ++ list ∷ [] → more ≡ items ++ r ∷ [] → length lists ≡ length items → length longer ≡ length more

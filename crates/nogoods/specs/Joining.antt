@@ -2,9 +2,8 @@
 use Rattle.std.specs.Prelude.{◌≡◌, ◌⊎◌, ◌<◌, ◌≤◌, ℕ, ◌-◌, List, [], ◌∷◌, ◌++◌, length, take, Bool, Option, Some, None, Contains, slice_get, slice_index_or}
 use Rattle.std.specs.Option.{option_or}
 use Rattle.formula_tree.specs.Answers.{Answers, Contained, IsDistinct, answer_of}
-use Rattle.nogoods.specs.Buckets.{bucket_of}
+use Rattle.nogoods.specs.Tracking.{AreWatched, IsHitOf, bucket_of, watchers_in}
 use Rattle.nogoods.specs.Hits.{NoHit}
-use Rattle.nogoods.specs.Tracking.{AreWatched, IsHitOf, watchers_in}
 use Rattle.nogoods.specs.Turning.{KeepsOthers}
 
 -- the path is another with one more answer, to a test that the other leaves open

@@ -1,5 +1,3 @@
-pub mod Buckets
-pub mod Choices
 pub mod Hits
 pub mod Joining
 pub mod Stored

@@ -1,14 +1,21 @@
 -- A store that follows a path: each list is watched at one of its answers, so that an answer that joins the path looks only at the
 -- lists that are watched there.
-use Rattle.std.specs.Prelude.{◌≡◌, ◌⊎◌, ◌<◌, ℕ, ◌+◌, List, [], length, take, Bool, Option, Some, None, MatchOption, Contains, slice_index_or, All}
+use Rattle.std.specs.Prelude.{◌≡◌, ◌⊎◌, ◌<◌, ℕ, ◌+◌, ◌*◌, if◌then◌else◌, List, [], length, take, Bool, Option, Some, None, MatchOption, Contains, slice_index_or, All}
 use Rattle.formula_tree.specs.Answers.{Answers, Contained, IsDistinct, answer_of}
-use Rattle.nogoods.specs.Buckets.{bucket_of}
 use Rattle.nogoods.specs.Hits.{IsHit, NoHit, answers_at}
 
 -- what is kept means this: lists of answers in the order in which they came, and a path
 pub record Tracked : Type 0 where
   pub lists : List Answers
   pub path : Answers
+
+-- the number of the bucket of an answered test
+abbrev pub bucket_of : ℕ → Bool → ℕ
+bucket_of test answer = 2 * test + (if answer then 1 else 0)
+
+-- the answers have this one
+abbrev pub HasAnswer : Answers → ℕ → Bool → Type 0
+HasAnswer answers test answer = answer_of answers test ≡ Some answer
 
 -- one of the answers, which the path lacks
 pub record IsLacking (answers path : Answers) (answered : ℕ × Bool) : Type 0 where

@@ -1,9 +1,8 @@
 -- How lists that are watched at an answer are watched anew, once the answer has joined the path.
 use Rattle.std.specs.Prelude.{◌≡◌, ◌≢◌, ◌⊎◌, ◌<◌, ℕ, List, length, Bool, Contains}
 use Rattle.formula_tree.specs.Answers.{Answers}
-use Rattle.nogoods.specs.Buckets.{bucket_of}
+use Rattle.nogoods.specs.Tracking.{IsLacking, bucket_of, watchers_in}
 use Rattle.nogoods.specs.Hits.{IsHit, answers_at}
-use Rattle.nogoods.specs.Tracking.{IsLacking, watchers_in}
 
 -- what was in a bucket stays in it
 abbrev pub KeepsWatchers : List (List ℕ) → List (List ℕ) → Type 0

@@ -2,8 +2,6 @@
 //! one whose answers a path contains.
 #![tactic(auto)]
 
-mod buckets;
-mod lists;
 mod store;
 mod tracking;
 mod watching;

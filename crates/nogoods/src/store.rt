@@ -3,9 +3,9 @@ ghost use Rattle.std.specs.Prelude.{◌≡◌, ◌++◌, ◌∷◌, [], ℕ, tru
 ghost use Rattle.nogoods.specs.Hits.{NoHit};
 ghost use Rattle.nogoods.specs.Stored.{IsFirstOf, StillCloses, stored_lists};
 
-use crate::lists::Lists;
+use crate::watching::first_contained;
 use formula_tree::Path;
-use plain_lists::NoMemory;
+use plain_lists::{List, NoMemory};
 use std::alloc::Global;
 use std::marker::Model;
 use std::rc::Rc;
@@ -25,11 +25,10 @@ pub trait Closes {
 }
 
 /// Learned refutations: pairs of a list of answers and a value that closes under them, in the order
-/// in which they were learned. It takes memory by the answers that are stored and by the greatest
-/// test number in them.
+/// in which they were learned.
 #[derive(Drop)]
 pub struct Store<T: Closes> {
-    lists: Lists,
+    lists: List<Path>,
     values: Vec<Rc<T>>,
 }
 
@@ -53,7 +52,7 @@ impl<T: Closes> Store<T> {
         ensures { result ≡ [] }
     {
         Store {
-            lists: Lists::new(alloc),
+            lists: List::new(alloc),
             values: Vec::new(alloc),
         }
     }
@@ -65,8 +64,9 @@ impl<T: Closes> Store<T> {
         ensures none { IfNone result (NoHit (stored_lists self.now) path.now) }
         ensures closes { IfSome result (λ p. T.closes p.1.now.value path.now ≡ true) }
     {
-        match self.lists.first(path) {
-            Some(index) => Some((self.lists.at(index), &self.values[index])),
+        let lists = self.lists.as_slice();
+        match first_contained(lists, path) {
+            Some(index) => Some((&lists[index], &self.values[index])),
             None => None,
         }
     }
@@ -81,7 +81,7 @@ impl<T: Closes + Drop> Store<T> {
         ensures err { OnErr result (self.new ≡ self.old) }
     {
         self.values.push(what)?;
-        match self.lists.add(answers) {
+        match self.lists.push(answers) {
             Ok(()) => Ok(()),
             Err(error) => {
                 self.values.pop();

@@ -5,8 +5,7 @@ ghost use Rattle.nogoods.specs.Joining.{AreMarked, IsShortest, IsWatchedAt};
 ghost use Rattle.nogoods.specs.Turning.{KeepsWatchers};
 ghost use Rattle.nogoods.specs.Tracking.{IsHitOf, Tracked};
 
-use crate::lists::has_answer;
-use crate::watching::{Watching, join, watch};
+use crate::watching::{Watching, has_answer, join, watch};
 use formula_tree::Path;
 use plain_lists::{List, NoMemory};
 use std::alloc::Global;

@@ -1,18 +1,47 @@
 //! Lists of answers by the answers at which they are watched.
-ghost use Rattle.std.specs.Prelude.{◌≡◌, ◌∷◌, ◌++◌, ◌<◌, ◌^◌, ℕ, [], Contains, MatchOption, OnErr, OnOk, IfOk, length, slice_get};
+ghost use Rattle.std.specs.Prelude.{◌≡◌, ◌∷◌, ◌++◌, ◌<◌, ◌^◌, ℕ, [], Contains, MatchBool, MatchOption, OnErr, OnOk, IfOk, length, slice_get};
 ghost use Rattle.formula_tree.specs.Answers.{Answers, Contained};
-ghost use Rattle.nogoods.specs.Buckets.{bucket_of};
-ghost use Rattle.nogoods.specs.Tracking.{IsLacking, watchers_in};
+ghost use Rattle.nogoods.specs.Hits.{IsFirstHit, NoHit};
+ghost use Rattle.nogoods.specs.Tracking.{HasAnswer, IsLacking, bucket_of, watchers_in};
 ghost use Rattle.nogoods.specs.Turning.{KeepsWatchers, StayAsHits, TurnsOrStays};
 ghost use Rattle.nogoods.specs.Joining.{FindsHit, IsPut, Joins, WatchesOn};
 
-use crate::buckets::bucket_of;
-use crate::lists::has_answer;
 use formula_tree::Path;
 use plain_lists::{List, NoMemory, fill_to};
 
 /// By the bucket of an answer the numbers of the lists that are watched there. A number may stand twice.
 pub(crate) type Watching = Vec<List<usize>>;
+
+// The number of the bucket of an answered test.
+fn bucket_of(test: u32, answer: bool) -> usize
+    ensures number { result ≡ bucket_of test answer }
+    ensures small { result < 2 ^ 40 }
+{
+    2 * test as usize + if answer { 1 } else { 0 }
+}
+
+/// Whether a path answers the test so.
+pub(crate) fn has_answer(path: &Path, test: u32, answer: bool) -> bool
+    ensures { MatchBool result (HasAnswer path.now test answer) (¬ HasAnswer path.now test answer) }
+{
+    match path.answer(test) {
+        Some(given) => given == answer,
+        None => false,
+    }
+}
+
+/// The index of the first list that the path contains, or none where it contains none.
+pub(crate) fn first_contained(lists: &[Path], path: &Path) -> Option<usize>
+    ensures { MatchOption result (NoHit lists.now path.now) (IsFirstHit lists.now path.now) }
+{
+    'each: for i in 0..lists.len() {
+        match lacking(&lists[i], path) {
+            Some(_) => {}
+            None => return Some(i),
+        }
+    }
+    None
+}
 
 // An answer of the list that the path lacks, or none where the path contains the list.
 fn lacking(answers: &Path, path: &Path) -> Option<(u32, bool)>

@@ -126,10 +126,6 @@ entered-next nodes parents leaves ups asks k node here long up ask before = reco
       ];
 }
 
-empty : (xs : List ℕ) (p : ℕ) → xs ≡ [] → holds_number xs p ≡ true → ⊥
-empty [] p e is = cc
-empty (x ∷ xs) p e is = cc
-
 -- the children of a node that is entered next
 pub children-below : (nodes : List Node) (parents leaves : List (List ℕ)) (k : ℕ) (node : Node) → slice_get nodes k ≡ Some node → k < length nodes → HasEntered nodes parents leaves k → (c : ℕ) → has_child node c ≡ true → c < length parents
 children-below nodes parents leaves k node there within entered c child = omega (arith, entered.ordered k c node there child, within, entered.long)

@@ -7,7 +7,7 @@ use Rattle.std.proofs.lemmas.List.{take_all}
 use Rattle.std.proofs.lemmas.Option.{slice_get_within}
 use Rattle.formula_tree.specs.Trees.{Tree}
 use Rattle.formula_tree.specs.Trees.{not as negation}
-use Rattle.formula_tree.proofs.Laws.{both-assoc, both-yes, either-assoc, either-no}
+use Rattle.formula_tree.proofs.Laws.{both-assoc, either-assoc}
 use Rattle.tree_values.specs.Nodes.{AreAt, AreChildrenIn, AreOrdered, AreSettled, IsAt, IsJointNode, IsPrefix, empty_node, empty_seen, has_child, joint_node, joint_seen, joint_tree, joined_seen, leaf_tree, node_seen, seen_at}
 use Rattle.formula_tree.specs.Looks.{look_of_both, look_of_either, look_of_tree, look_of_not}
 use Rattle.tree_values.specs.declared.node.Node.{Node}
@@ -25,10 +25,6 @@ joint-assoc false = either-assoc
 joint-empty : (every : Bool) (a : Look) → joint_seen every (empty_seen every) a ≡ a
 joint-empty true a = refl
 joint-empty false a = refl
-
-empty-joint : (every : Bool) (a : Look) → joint_seen every a (empty_seen every) ≡ a
-empty-joint true = both-yes
-empty-joint false = either-no
 
 joined-append : (every : Bool) (marks : List Look) (cs ds : List ℕ) → joined_seen every marks (cs ++ ds) ≡ joint_seen every (joined_seen every marks cs) (joined_seen every marks ds)
 joined-append every marks [] ds = sym (joint-empty every (joined_seen every marks ds))
@@ -111,9 +107,6 @@ empty-node false answers marks = refl
 
 pub empty-at : (new : List Node) (every : Bool) (i : ℕ) → slice_get new i ≡ Some (empty_node every) → IsJointNode new every [] i
 empty-at new every i at = (slice_get_within new i (empty_node every) at, λ answers marks settled. settled i (empty_node every) at ∙ empty-node every answers marks)
-
-pub one-at : (nodes : List Node) (every : Bool) (c : ℕ) → c < length nodes → IsJointNode nodes every (c ∷ []) c
-one-at nodes every c lt = (lt, λ answers marks settled. sym (empty-joint every (seen_at marks c)))
 
 pub not-children : (nodes : List Node) (a : ℕ) → a < length nodes → AreChildrenIn nodes (node.Not a)
 not-children nodes a lt c h = let same = same-number a c h in omega arith

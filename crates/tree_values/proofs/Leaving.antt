@@ -38,7 +38,7 @@ none-some b e = cc
 pub same-answer : (a b : Bool) → ◌≡◌ {A = Option Bool} (Some a) (Some b) → a ≡ b
 same-answer a b e = cc
 
-none-of : (o : Option Bool) → ((b : Bool) → o ≡ Some b → ⊥) → o ≡ None
+pub none-of : (o : Option Bool) → ((b : Bool) → o ≡ Some b → ⊥) → o ≡ None
 none-of None h = refl
 none-of (Some b) h = absurd (h b refl)
 
@@ -70,31 +70,7 @@ out-then old mid new needed test sides a b = record {
   still = subst (λ (f : Formula). IsNoGiven (tree_of f) (answer_at new.answers) test sides) a.formula b.still;
 }
 
-not-needed : (needed : Answers) (n : ℕ) (b : Bool) → is_some (answer_of needed n) ≡ false → answer_of needed n ≡ Some b → ⊥
-not-needed needed n b free is = let bad : is_some (Some b) ≡ false = rw is at free in cc
-
 module _ (old mid : Answered) (needed : Answers) (test : ℕ) (sides : Sides) (tried : ℕ) (answer : Bool) (there : answer_in old tried ≡ Some answer) (unneeded : (b : Bool) → answer_of needed tried ≡ Some b → ⊥) (gone : IsSet old mid tried None) where
-  -- without the answer it is still no
-  pub out-gone : IsNoGiven (answered_tree mid) (answer_at mid.answers) test sides → IsLeftOut old mid needed test sides
-  out-gone given = record {
-    formula = gone.formula;
-    tests = gone.tests;
-    fewer = λ n b is.
-        elim (cases_eq n tried) [
-          | inl e ↦ absurd (none-some b (sym gone.at ∙ ap (answer_in mid) (sym e) ∙ is))
-          | inr ne ↦ sym (gone.others n ne) ∙ is
-        ];
-    needed_stay = λ n b need is.
-        elim (cases_eq n tried) [
-          | inl e ↦ absurd (unneeded b (ap (answer_of needed) (sym e) ∙ need))
-          | inr ne ↦ gone.others n ne ∙ is
-        ];
-    still = subst (λ (f : Formula). IsNoGiven (tree_of f) (answer_at mid.answers) test sides) gone.formula given;
-  }
-
-  pub kept-gone : IsKeptFor mid needed test sides tried
-  kept-gone b is = absurd (none-some b (sym gone.at ∙ is))
-
   module _ (new : Answered) (back : IsSet mid new tried (Some answer)) where
     as-before : (n : ℕ) → answer_in new n ≡ answer_in old n
     as-before n =

@@ -1,10 +1,8 @@
 mod Agreeing
-mod Answering
 mod Entering
+mod Giving
 mod Joining
 mod Leaving
-pub mod Laws
 mod Lists
 mod Staying
-mod Supplying
 mod Walking

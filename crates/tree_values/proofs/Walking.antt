@@ -5,21 +5,11 @@ use Rattle.std.proofs.lemmas.Option.{slice_get_within, get_or_from_slice_get, sl
 use Rattle.std.proofs.lemmas.Bool.{cases_lt}
 use Rattle.std.specs.declared.rc.Rc.{Rc}
 use Rattle.formula_tree.specs.declared.formula.Formula.{Formula, the_lemmas}
-use Rattle.formula_tree.specs.declared.formula.Formula.TheVariants.{Test, Not, All, OneOf}
-use Rattle.formula_tree.specs.declared.formula.Branches.{Branches}
-use Rattle.formula_tree.specs.Trees.{Tree, Trees, yes, no, test, not, all, one_of, none, more, of_list, tree_of, trees_of}
-
-pub tree-Test : (n : ℕ) → tree_of (Test n) ≡ test n
-tree-Test n = search (rules, the_lemmas)
+use Rattle.formula_tree.specs.declared.formula.Formula.TheVariants.{Not}
+use Rattle.formula_tree.specs.Trees.{Tree, Trees, yes, no, test, not, all, one_of, none, more, of_list, tree_of}
 
 pub tree-Not : (r : Rc Formula Global) → tree_of (Not r) ≡ not (tree_of r.value)
 tree-Not r = search (rules, the_lemmas)
-
-pub tree-All : (b : Branches) → tree_of (All b) ≡ all (of_list (trees_of b))
-tree-All b = search (rules, the_lemmas)
-
-pub tree-OneOf : (b : Branches) → tree_of (OneOf b) ≡ one_of (of_list (trees_of b))
-tree-OneOf b = search (rules, the_lemmas)
 
 -- ---- how large a tree is, for the walk to end
 
@@ -40,15 +30,6 @@ pub size-at : (ts : List Tree) (i : ℕ) (t : Tree) → Some t ≡ slice_get ts 
 size-at [] i t e = absurd (cc)
 size-at (x ∷ xs) zero t e = let same : t ≡ x = cc in rw same (omega arith)
 size-at (x ∷ xs) (suc i) t e = omega (arith, size-at xs i t e)
-
-pub size-Not : (r : Rc Formula Global) (f : Formula) → f ≡ Not r → size (tree_of r.value) < size (tree_of f)
-size-Not r f e = rw (e, tree-Not r) (omega arith)
-
-pub size-All : (b : Branches) (f : Formula) → f ≡ All b → size_in (of_list (trees_of b)) < size (tree_of f)
-size-All b f e = rw (e, tree-All b) (omega arith)
-
-pub size-OneOf : (b : Branches) (f : Formula) → f ≡ OneOf b → size_in (of_list (trees_of b)) < size (tree_of f)
-size-OneOf b f e = rw (e, tree-OneOf b) (omega arith)
 
 -- ---- branches, one after another
 

@@ -1,14 +1,14 @@
 //! The answers that a value needs.
-ghost use Rattle.std.specs.Prelude.{◌≡◌, ◌<◌, ◌↔◌, ◌++◌, ◌∷◌, ℕ, [], All, None, Some, IfOk, OnOk, IsTrue, length};
+ghost use Rattle.std.specs.Prelude.{◌≡◌, ◌<◌, ◌↔◌, ◌++◌, ◌∷◌, [], None, Some, IfOk, OnOk, IsTrue, length};
 ghost use Rattle.formula_tree.specs.Answers.{Contained, answer_of};
 ghost use Rattle.tree_values.specs.Cuts.{IsLeastCut, IsNoOn};
 ghost use Rattle.tree_values.specs.Leaving.{AreKeptFor, IsKeptFor, IsLeftOut, IsNoGiven, seen_given, still_answered};
-ghost use Rattle.tree_values.specs.Models.{answer_at, answer_in, answered_tree};
-ghost use Rattle.tree_values.specs.Supplying.{AreGiven, IsGivenSome, IsSupplied};
+ghost use Rattle.tree_values.specs.Models.{IsAnsweredBy, answer_at, answer_in, answered_tree};
+ghost use Rattle.tree_values.specs.Giving.{AreGiven, IsGivenSome};
 ghost use Rattle.formula_tree.specs.declared.looks.Look.TheVariants as seen;
 
-use crate::node_values::NodeValues;
 use crate::seen::is_no;
+use crate::tree_values::TreeValues;
 use formula_tree::Path;
 use plain_lists::NoMemory;
 use std::alloc::Global;
@@ -20,56 +20,31 @@ pub struct Sides {
     pub no: bool,
 }
 
-impl NodeValues {
-    /// A least cut of the path, from no answers: those that are likely to be needed are given and tried, and
-    /// only where they don't do, all are. In the end no test is answered, as before.
-    pub(crate) fn cut_down(
+impl TreeValues {
+    /// Answers of the path, the needed ones among them, under which the formula is still no with
+    /// either wanted answer to the test, and no more of them than that takes: without one that
+    /// isn't needed anyway it isn't. Newest answers are left out first. What is kept is answered by the
+    /// path, before and after.
+    pub fn cut(
         &mut self,
+        alloc: Global,
         path: &Path,
-        likely: &[(u32, bool)],
         needed: &Path,
         test: u32,
         sides: Sides,
     ) -> Result<Path, NoMemory>
-        requires blank { (n : ℕ) → answer_in self.old n ≡ None }
+        requires answered { IsAnsweredBy self.old path.now }
         requires there { Contained needed.now path.now }
-        requires room { All (λ p. p.0 < length self.old.answers) path.now }
         requires test { (answer_of path.now test ≡ None) × (test < length self.old.answers) }
         requires no { IsNoOn (answered_tree self.old) path.now test sides }
         ensures cut { IfOk result
             (IsLeastCut (answered_tree self.old) path.now needed.now test sides) }
         ensures restored { self.new ≡ self.old }
     {
-        self.supply(path, likely, needed, test, sides);
         self.leave_out(path, needed, test, sides);
-        let alloc = *self.answers.allocator();
         let answers = self.answers_left(alloc, path);
-        self.give(&Path::new(alloc), path.as_slice());
+        self.give(path);
         answers
-    }
-
-    // Gives the needed answers of the path and the likely ones, or all of them where those aren't enough.
-    fn supply(
-        &mut self,
-        path: &Path,
-        likely: &[(u32, bool)],
-        needed: &Path,
-        test: u32,
-        sides: Sides,
-    )
-        requires blank { (n : ℕ) → answer_in self.old n ≡ None }
-        requires there { Contained needed.now path.now }
-        requires room { All (λ p. p.0 < length self.old.answers) path.now }
-        requires test { (answer_of path.now test ≡ None) × (test < length self.old.answers) }
-        requires no { IsNoOn (answered_tree self.old) path.now test sides }
-        ensures { IsSupplied self.old self.new path.now needed.now test sides }
-    {
-        self.give(path, needed.as_slice());
-        self.give(path, likely);
-        if self.is_no_on(test, sides) {
-            return;
-        }
-        self.give(path, path.as_slice());
     }
 
     // Gives the test the answer that the path has, or none, if there is room for the test.
@@ -84,12 +59,12 @@ impl NodeValues {
         self.set(test, path.answer(test));
     }
 
-    // Gives each of the tests the answer that the path has, or none.
-    fn give(&mut self, path: &Path, items: &[(u32, bool)])
+    // Gives each of the tests of the path the answer that the path has.
+    fn give(&mut self, path: &Path)
         ensures given { IsGivenSome self.old self.new path.now }
-        ensures each { AreGiven self.new path.now items.now }
+        ensures each { AreGiven self.new path.now path.now }
     {
-        'answers: for (test, _) in items {
+        'answers: for (test, _) in path.as_slice() {
             self.give_one(path, *test);
         }
     }

@@ -4,9 +4,7 @@
 
 mod cut;
 mod graph;
-mod newest;
 mod node;
-mod node_values;
 mod seen;
 mod settling;
 mod tree_values;

@@ -1,14 +1,13 @@
 //! The value of a formula under answers that are given and taken back.
 ghost use Rattle.std.specs.Prelude.{◌≡◌, ◌<◌, ◌↔◌, None, IfOk, IfSome, IsSome, length};
-ghost use Rattle.formula_tree.specs.Answers.{Answers, Contained, answer_of};
+ghost use Rattle.formula_tree.specs.Answers.{Answers};
+ghost use Rattle.formula_tree.specs.Looks.{look_of_tree};
 ghost use Rattle.formula_tree.specs.Values.{IsWithin, pick, value};
-ghost use Rattle.tree_values.specs.Cuts.{IsLeastCut, IsNoOn};
-ghost use Rattle.tree_values.specs.Models.{IsAnsweredBy, IsSet, IsStart, answer_in, answered_tree};
+ghost use Rattle.tree_values.specs.Models.{IsAnsweredBy, IsSet, IsStart, IsUnanswered, answer_at, answer_in, answered_tree};
 
-use crate::cut::Sides;
 use crate::graph::Graph;
-use crate::node_values::NodeValues;
-use formula_tree::{Formula, Path, Three, pick_in, value_in};
+use crate::settling::{change_to, first_marks};
+use formula_tree::{Formula, Look, Three, pick_in, value_in};
 use plain_lists::NoMemory;
 use std::alloc::Global;
 use std::marker::Model;
@@ -19,14 +18,16 @@ use std::rc::Rc;
 /// different parts.
 #[derive(Drop)]
 pub struct TreeValues {
-    given: NodeValues,
-    /// The same formula without answers: a cut tries few answers in it, and need not take back the others.
-    trial: NodeValues,
+    formula: Rc<Formula>,
+    graph: Graph,
+    pub(crate) answers: Vec<Option<bool>>,
+    marks: Vec<Look>,
 }
 
 impl Model for TreeValues {
+    ghost use Rattle.formula_tree.specs.Trees.{tree_of};
     ghost use Rattle.tree_values.specs.Models.{Answered};
-    ghost use Rattle.tree_values.specs.Supplying.{IsBlank};
+    ghost use Rattle.tree_values.specs.Nodes.{AreKept};
     ghost use Rattle.formula_tree.specs.contracts.formula.Formula as formula_row;
     ghost use Rattle.std.specs.Coded.{codes};
 
@@ -34,9 +35,10 @@ impl Model for TreeValues {
 
     ghost coded = { Prim.hlevel (codes, formula_row.the_row.coded) };
 
-    ghost view = { λ v. v.given };
+    ghost view = { λ v. record { formula = v.formula.value; answers = v.answers.items } };
 
-    ghost invariant = { λ v. IsBlank v.given v.trial };
+    ghost invariant = { λ v.
+        AreKept (tree_of v.formula.value) v.answers.items v.graph v.marks.items };
 }
 
 impl TreeValues {
@@ -44,10 +46,15 @@ impl TreeValues {
     pub fn of(alloc: Global, formula: &Rc<Formula>, tests: u32) -> Result<TreeValues, NoMemory>
         ensures { IfOk result (IsStart formula.now.value tests) }
     {
-        let graph = Rc::new(alloc, Graph::of(alloc, &**formula)?)?;
-        let given = NodeValues::of(alloc, formula, graph.clone()?, tests)?;
-        let trial = NodeValues::of(alloc, formula, graph, tests)?;
-        Ok(TreeValues { given, trial })
+        let graph = Graph::of(alloc, &**formula)?;
+        let answers = empty_answers(alloc, tests)?;
+        let marks = first_marks(alloc, graph.nodes.as_slice(), answers.as_slice())?;
+        Ok(TreeValues {
+            formula: formula.clone()?,
+            graph,
+            answers,
+            marks,
+        })
     }
 
     /// Gives a test an answer, or takes its answer back. It takes no memory.
@@ -55,7 +62,30 @@ impl TreeValues {
         requires { test < length self.old.answers }
         ensures { IsSet self.old self.new test answer }
     {
-        self.given.set(test, answer);
+        change_to(
+            &self.graph,
+            &mut self.answers,
+            &mut self.marks,
+            test,
+            answer,
+        );
+    }
+
+    /// The formula's value under the answers, and the test that it waits for.
+    pub(crate) fn seen(&self) -> Look
+        ensures { result ≡ look_of_tree (answer_at self.now.answers) (answered_tree self.now) }
+    {
+        self.marks[self.graph.root]
+    }
+
+    /// The answer to a test.
+    pub(crate) fn answer(&self, test: u32) -> Option<bool>
+        ensures { result ≡ answer_in self.now test }
+    {
+        match self.answers.get(test as usize) {
+            Some(answer) => *answer,
+            None => None,
+        }
     }
 
     /// The formula's value under each list of these answers.
@@ -63,7 +93,7 @@ impl TreeValues {
         ensures { (path : Answers) → IsAnsweredBy self.now path →
             result ≡ value path (answered_tree self.now) }
     {
-        value_in(self.given.seen())
+        value_in(self.seen())
     }
 
     /// The test that the formula waits for under each list of these answers: none exactly where its
@@ -76,31 +106,17 @@ impl TreeValues {
         ensures unanswered { IfSome result (λ test. answer_in self.now test ≡ None) }
         ensures within { IfSome result (IsWithin (answered_tree self.now)) }
     {
-        pick_in(self.given.seen())
+        pick_in(self.seen())
     }
+}
 
-    /// Answers of the path, the needed ones among them, under which the formula is still no with
-    /// either wanted answer to the test, and no more of them than that takes: without one that
-    /// isn't needed anyway it isn't. Newest answers are left out first. What is kept is answered by the
-    /// path, before and after. Where a cut keeps few answers it costs about what those change.
-    pub fn cut(
-        &mut self,
-        alloc: Global,
-        path: &Path,
-        needed: &Path,
-        test: u32,
-        sides: Sides,
-    ) -> Result<Path, NoMemory>
-        requires answered { IsAnsweredBy self.old path.now }
-        requires there { Contained needed.now path.now }
-        requires test { (answer_of path.now test ≡ None) × (test < length self.old.answers) }
-        requires no { IsNoOn (answered_tree self.old) path.now test sides }
-        ensures cut { IfOk result
-            (IsLeastCut (answered_tree self.old) path.now needed.now test sides) }
-        ensures restored { self.new ≡ self.old }
-    {
-        let likely = self.given.likely(alloc, path, needed, test, sides)?;
-        self.trial
-            .cut_down(path, likely.as_slice(), needed, test, sides)
+// So many tests without an answer.
+fn empty_answers(alloc: Global, tests: u32) -> Result<Vec<Option<bool>>, NoMemory>
+    ensures { IfOk result (λ answers. IsUnanswered tests answers.items) }
+{
+    let mut answers = Vec::new(alloc);
+    'tests: for _ in 0..tests {
+        answers.push(None)?;
     }
+    Ok(answers)
 }

@@ -1,6 +1,6 @@
 use Rattle.std.proofs.Common.{ℕ, List, subst, sym, ap, ◌∙◌}
 use Rattle.std.specs.Prelude.{Contains, slice_get}
-use Rattle.nogoods.specs.Buckets.{bucket_of}
+use Rattle.nogoods.specs.Tracking.{bucket_of}
 use Rattle.nogoods.specs.Tracking.{watchers_in}
 use Rattle.nogoods.specs.Joining.{IsPut}
 use Rattle.nogoods.proofs.Joining.{finds-hit, watched-join}

@@ -7,13 +7,13 @@ pub invariant_of-self-in-Ok : goal.invariant_of-self-in-Ok
 invariant_of-self-in-Ok g c =
     let lists = c.self.inside.lists in
     let items = c.self.inside.values.items in
-    (lengths-push lists c.add.new.self items c.push.new.self.items c.args.answers c.args.what c.in-Ok.ensures.ok c.in_ok-push.ensures.items c.self.invariant.0, close-more g.T.Closes.closes lists c.add.new.self items c.push.new.self.items c.args.answers c.args.what c.in-Ok.ensures.ok c.in_ok-push.ensures.items c.self.invariant.0 c.self.invariant.1 c.requires)
+    (lengths-push lists c.push-2.new.self items c.push.new.self.items c.args.answers c.args.what c.in-Ok.ensures.ok c.in_ok-push.ensures.items c.self.invariant.0, close-more g.T.Closes.closes lists c.push-2.new.self items c.push.new.self.items c.args.answers c.args.what c.in-Ok.ensures.ok c.in_ok-push.ensures.items c.self.invariant.0 c.self.invariant.1 c.requires)
 
 pub returns-in-Ok-clause-ok : goal.returns-in-Ok-clause-ok
 returns-in-Ok-clause-ok g c =
     let lists = c.self.inside.lists in
     let items = c.self.inside.values.items in
-    pairs-more lists c.add.new.self items c.push.new.self.items c.args.answers c.args.what c.in-Ok.ensures.ok c.in_ok-push.ensures.items c.self.invariant.0 ∙ ap (λ xs. xs ++ (c.args.answers, c.args.what.value) ∷ []) c.self.view_is
+    pairs-more lists c.push-2.new.self items c.push.new.self.items c.args.answers c.args.what c.in-Ok.ensures.ok c.in_ok-push.ensures.items c.self.invariant.0 ∙ ap (λ xs. xs ++ (c.args.answers, c.args.what.value) ∷ []) c.self.view_is
 
 pub invariant_of-self-in-Err : goal.invariant_of-self-in-Err
 invariant_of-self-in-Err g c = grind (arith, common_steps)

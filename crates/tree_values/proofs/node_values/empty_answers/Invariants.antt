@@ -1,6 +1,0 @@
-use Rattle.std.proofs.Common.{◌≡◌, ℕ, None, length}
-use Rattle.tree_values.specs.Models.{answer_at}
-use Rattle.tree_values.proofs.node_values.empty_answers.Given as goal
-
-abbrev pub invariant-tests : goal.invariant-tests
-invariant-tests l = (length l.answers.items ≡ l.counter) × ((n : ℕ) → answer_at l.answers.items n ≡ None)
