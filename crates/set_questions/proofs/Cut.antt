@@ -1,63 +1,34 @@
--- What is cut from others beside a claim.
-use Rattle.std.proofs.Common.{◌≡◌, ◌⊎◌, ◌↔◌, ◌+◌, ◌<◌, ◌≤◌, ◌++◌, ◌∷◌, [], ℕ, zero, suc, Bool, true, false, List, length, get_or, slice_get, take, IsTrue, Some, inl, inr, refl, ap, sym, ◌∙◌, subst, arith}
-use Rattle.std.specs.Prelude.{not as opposite}
-use Rattle.std.specs.List.{AllZip}
-use Rattle.std.proofs.lemmas.Bool.{cases_Bool}
-use Rattle.std.proofs.lemmas.List.Elements.{All-cons, All-head, All-nil, All-tail}
-use Rattle.std.proofs.lemmas.Option.{slice_get-get_or}
-use Rattle.policy_model.proofs.Laws.{Any-here, Any-later, Any-nil, Any-split}
+-- What is left of claims where denied nodes fail.
+use Rattle.std.proofs.Common.{◌≡◌, ◌↔◌, ◌+◌, ◌<◌, ◌≤◌, ◌++◌, ◌∷◌, [], ℕ, zero, suc, Bool, true, false, All, List, length, get_or, take, IsTrue, refl, ap, sym, ◌∙◌, subst, arith}
+use Rattle.std.proofs.lemmas.Grind.{take_at_read}
+use Rattle.std.proofs.lemmas.List.{length-append, take_all}
+use Rattle.std.proofs.lemmas.List.Elements.{All-cons, All-head, All-nil, All-push, All-tail}
+use Rattle.std.proofs.lemmas.Option.{slice_get_within}
 use Rattle.formula_tree.specs.Trees.{Tree}
-use Rattle.formula_nodes.specs.Claims.{AreClaimsOf, EachClaimHolds, Grows, IsClaimOf, IsClaimOfEach, SomeClaimFails, claim_holds, turned_claim}
+use Rattle.formula_nodes.specs.Claims.{AreClaimsOf, Grows, IsClaimOf, IsClaimOfEach, as_claimed, claim_holds, turned_claim}
 use Rattle.formula_nodes.specs.declared.claim.Claim.{Claim}
 use Rattle.formula_nodes.proofs.Laws.{had-values, keep-values, keeps-value, stay-claims, stays-claim}
-use Rattle.policy_compile.specs.Meaning.{AnswersAs}
-use Rattle.policy_model.specs.Requests.{IsValid}
-use Rattle.policy_model.specs.declared.request.Request.{Request}
 use Rattle.query_reduction.specs.Reducers.{AgreeBeside}
 use Rattle.test_relations.specs.Relations.{SchemaTests}
-use Rattle.set_questions.specs.Cutting.{AreAlikeBeside, IsAlikeBeside, IsDenialOf}
-use Rattle.set_questions.proofs.UseClaims.{turned-false}
-use Rattle.set_questions.proofs.Zipped.{zip-next}
-
--- ---- claims that fail
-
-pub each-or-some : (answers : ℕ → Bool) (trees : List Tree) (cs : List Claim) → EachClaimHolds answers trees cs ⊎ SomeClaimFails answers trees cs
-each-or-some answers trees [] = inl (All-nil (λ (c : Claim). IsTrue (claim_holds answers trees c)))
-each-or-some answers trees (c ∷ cs) = elim (cases_Bool (claim_holds answers trees c)) [
-  | inr e ↦ inr (Any-here (λ (x : Claim). claim_holds answers trees x ≡ false) c cs e)
-  | inl e ↦ elim (each-or-some answers trees cs) [
-    | inl each ↦ inl (All-cons (λ (x : Claim). IsTrue (claim_holds answers trees x)) c cs e each)
-    | inr some ↦ inr (Any-later (λ (x : Claim). claim_holds answers trees x ≡ false) c cs some)
-  ]
-]
-
-pub not-both : (answers : ℕ → Bool) (trees : List Tree) (cs : List Claim) → EachClaimHolds answers trees cs → SomeClaimFails answers trees cs → ⊥
-not-both answers trees [] each some = Any-nil (λ (x : Claim). claim_holds answers trees x ≡ false) some
-not-both answers trees (c ∷ cs) each some =
-    let P = λ (x : Claim). IsTrue (claim_holds answers trees x) in
-    elim (Any-split (λ (x : Claim). claim_holds answers trees x ≡ false) c cs some) [
-      | inl e ↦ (let h : claim_holds answers trees c ≡ true = All-head P c cs each in absurd (cc))
-      | inr later ↦ not-both answers trees cs (All-tail P c cs each) later
-    ]
+use Rattle.set_questions.specs.Cutting.{AreLeftOf, IsConjunctionAt, IsLeftOf, node_claim}
+use Rattle.set_questions.specs.Excluding.{AreDenied, DeniedFail, IsTrueThere}
+use Rattle.set_questions.proofs.Excluded.{denied-fail}
+use Rattle.set_questions.proofs.UseClaims.{all-joined, turned-false}
 
 -- ---- more trees
 
-pub alike-later : (of : SchemaTests) (old new : List Tree) (one claim less : Claim) → Grows old new → IsClaimOf old one → IsClaimOf old claim → IsAlikeBeside of old one claim less → IsAlikeBeside of new one claim less
-alike-later of old new one claim less grows one_there there is = (
-  stays-claim old new less grows is.0,
-  λ r answers valid say h.
-      (keeps-value old new claim answers grows there ∙ is.1 r answers valid say (sym (keeps-value old new one answers grows one_there) ∙ h)
-      ∙ sym (keeps-value old new less answers grows is.0)),
-)
+pub no-fewer : (old new : List Tree) (n : ℕ) → Grows old new → n ≤ length old → n ≤ length new
+no-fewer old new n grows count = omega (arith, count, ap (λ (ts : List Tree). length ts) grows.is, length-append old grows.rest)
 
-all-later : (of : SchemaTests) (old new : List Tree) (one : Claim) (claims less : List Claim) → Grows old new → IsClaimOf old one → AreClaimsOf old claims → AreAlikeBeside of old one claims less → AreAlikeBeside of new one claims less
-all-later of old new one [] [] grows one_there there are = tt
-all-later of old new one [] (d ∷ ds) grows one_there there are = absurd are
-all-later of old new one (c ∷ cs) [] grows one_there there are = absurd are
-all-later of old new one (c ∷ cs) (d ∷ ds) grows one_there there are =
-    (alike-later of old new one c d grows one_there (All-head (IsClaimOf old) c cs there) are.0, all-later of old new one cs ds grows one_there (All-tail (IsClaimOf old) c cs there) are.1)
+fail-before : (old new : List Tree) (denied : List Bool) (answers : ℕ → Bool) → Grows old new → length denied ≤ length old → DeniedFail answers new denied → DeniedFail answers old denied
+fail-before old new denied answers grows count fail n at =
+    let here : n < length old = omega (arith, count, slice_get_within denied n true at) in
+    sym (keeps-value old new (record { node = n; holds = false }) answers grows here) ∙ fail n at
 
--- ---- one more
+fail-later : (old new : List Tree) (denied : List Bool) (answers : ℕ → Bool) → Grows old new → length denied ≤ length old → DeniedFail answers old denied → DeniedFail answers new denied
+fail-later old new denied answers grows count fail n at =
+    let here : n < length old = omega (arith, count, slice_get_within denied n true at) in
+    keeps-value old new (record { node = n; holds = false }) answers grows here ∙ fail n at
 
 front-there : (trees : List Tree) (i : ℕ) (cs : List Claim) → AreClaimsOf trees cs → AreClaimsOf trees (take i cs)
 front-there trees zero [] there = there
@@ -65,65 +36,94 @@ front-there trees (suc i) [] there = there
 front-there trees zero (c ∷ cs) there = All-nil (IsClaimOf trees)
 front-there trees (suc i) (c ∷ cs) there = All-cons (IsClaimOf trees) c (take i cs) (All-head (IsClaimOf trees) c cs there) (front-there trees i cs (All-tail (IsClaimOf trees) c cs there))
 
-pub alike-next : (of now : SchemaTests) (first old new : List Tree) (one : Claim) (claims less longer : List Claim) (i : ℕ) (d result : Claim) → now ≡ of → Grows first old → Grows old new → IsClaimOf first one → AreClaimsOf first claims → i < length claims →
-    AreAlikeBeside of old one (take i claims) less → IsAlikeBeside now new one (get_or claims i d) result → longer ≡ less ++ result ∷ [] → AreAlikeBeside of new one (take (i + 1) claims) longer
-alike-next of now first old new one claims less longer i d result same before grows one_there there within are is longer_is =
-    subst (AreAlikeBeside of new one (take (i + 1) claims)) (sym longer_is)
-    (zip-next (IsAlikeBeside of new one) i claims less (get_or claims i d) result (slice_get-get_or claims i d within) (subst (λ (x : SchemaTests). IsAlikeBeside x new one (get_or claims i d) result) same is)
-    (all-later of old new one (take i claims) less grows (stays-claim first old one before one_there) (front-there old i claims (stay-claims first old claims before there)) are))
-
--- ---- all together
-
-pub less-there : (of : SchemaTests) (trees : List Tree) (one : Claim) (claims less : List Claim) → AreAlikeBeside of trees one claims less → AreClaimsOf trees less
-less-there of trees one [] [] are = All-nil (IsClaimOf trees)
-less-there of trees one [] (d ∷ ds) are = absurd are
-less-there of trees one (c ∷ cs) [] are = absurd are
-less-there of trees one (c ∷ cs) (d ∷ ds) are = All-cons (IsClaimOf trees) d ds are.0.0 (less-there of trees one cs ds are.1)
-
-pub alike-each : (of : SchemaTests) (trees : List Tree) (one : Claim) (claims less : List Claim) → AreAlikeBeside of trees one claims less → (r : Request) (answers : ℕ → Bool) → IsValid of.schema r → AnswersAs answers r of.tests →
-    IsTrue (claim_holds answers trees one) → (EachClaimHolds answers trees claims ↔ EachClaimHolds answers trees less)
-alike-each of trees one [] [] are r answers valid say h = (λ each. each, λ each. each)
-alike-each of trees one [] (d ∷ ds) are r answers valid say h = absurd are
-alike-each of trees one (c ∷ cs) [] are r answers valid say h = absurd are
-alike-each of trees one (c ∷ cs) (d ∷ ds) are r answers valid say h =
-    let P = λ (x : Claim). IsTrue (claim_holds answers trees x) in
-    let rest = alike-each of trees one cs ds are.1 r answers valid say h in
-    let same = are.0.1 r answers valid say h in (
-      λ each. All-cons P d ds (sym same ∙ All-head P c cs each) (rest.0 (All-tail P c cs each)),
-      λ each. All-cons P c cs (same ∙ All-head P d ds each) (rest.1 (All-tail P d ds each)),
-    )
-
-fails : (b : Bool) → (b ≡ true → ⊥) → b ≡ false
-fails true no' = absurd (no' refl)
-fails false no' = refl
-
--- where the claims of a disjunction may be others beside the one, so may the disjunction
-pub denial-alike : (of : SchemaTests) (old mid new : List Tree) (one claim whole result : Claim) (inner left : List Claim) → Grows old mid → Grows mid new → IsClaimOf old one → IsClaimOf old claim → IsDenialOf old claim inner → AreClaimsOf mid left →
-    ((r : Request) (answers : ℕ → Bool) → IsValid of.schema r → AnswersAs answers r of.tests → IsTrue (claim_holds answers mid one) → (EachClaimHolds answers mid inner ↔ EachClaimHolds answers mid left)) →
-    IsClaimOfEach left new whole → result ≡ turned_claim false whole → IsAlikeBeside of new one claim result
-denial-alike of old mid new one claim whole result inner left first second one_there there is left_there beside each turned = (
-  subst (IsClaimOf new) (sym turned) each.0,
-  λ r answers valid say h.
-      (let one_mid : IsTrue (claim_holds answers mid one) = sym (keeps-value mid new one answers second (stays-claim old mid one first one_there)) ∙ h in
-      let sides = beside r answers valid say one_mid in
-      let own : claim_holds answers new claim ≡ claim_holds answers old claim = keeps-value mid new claim answers second (stays-claim old mid claim first there) ∙ keeps-value old mid claim answers first there in
-      let less : claim_holds answers new result ≡ opposite (claim_holds answers new whole) = ap (claim_holds answers new) turned ∙ turned-false answers new whole in
-      own ∙ (elim (each-or-some answers old inner) [
-        | inl all ↦
-            let kept : claim_holds answers new whole ≡ true = (each.1 answers).1 (keep-values mid new left answers second left_there (sides.0 (keep-values old mid inner answers first is.0 all))) in
-            fails (claim_holds answers old claim) (λ e. not-both answers old inner all ((is.1 answers).0 e)) ∙ sym (ap opposite kept)
-        | inr some ↦
-            let gone : claim_holds answers new whole ≡ true → ⊥ =
-            λ e. not-both answers old inner (had-values old mid inner answers first is.0 (sides.1 (had-values mid new left answers second left_there ((each.1 answers).0 e)))) some in
-            (is.1 answers).1 some ∙ sym (ap opposite (fails (claim_holds answers new whole) gone))
-      ]) ∙ sym less),
+left-later : (old new : List Tree) (denied : List Bool) (claims left : List Claim) → Grows old new → length denied ≤ length old → AreClaimsOf old claims → AreLeftOf old denied claims left → AreLeftOf new denied claims left
+left-later old new denied claims left grows count there are = (
+  stay-claims old new left grows are.0,
+  λ answers fail.
+      (let both = are.1 answers (fail-before old new denied answers grows count fail) in (
+        λ each. keep-values old new left answers grows are.0 (both.0 (had-values old new claims answers grows there each)),
+        λ each. keep-values old new claims answers grows there (both.1 (had-values old new left answers grows are.0 each)),
+      )),
 )
 
-pub agree-then : (of : SchemaTests) (old mid : List Tree) (one : Claim) (others left kept : List Claim) → Grows old mid → IsClaimOf old one → AreClaimsOf old others → AreClaimsOf old left → AgreeBeside of.schema of.tests old one others left → AreAlikeBeside of mid one left kept →
-    AgreeBeside of.schema of.tests mid one others kept
-agree-then of old mid one others left kept grows one_there others_there left_there agree are r answers valid say h =
-    let sides = agree r answers valid say (sym (keeps-value old mid one answers grows one_there) ∙ h) in
-    let cut = alike-each of mid one left kept are r answers valid say h in (
-      λ each. cut.0 (keep-values old mid left answers grows left_there (sides.0 (had-values old mid others answers grows others_there each))),
-      λ each. keep-values old mid others answers grows others_there (sides.1 (had-values old mid left answers grows left_there (cut.1 each))),
-    )
+-- ---- one more
+
+module _ (trees : List Tree) (denied : List Bool) (claims : List Claim) (i : ℕ) (d : Claim) (left : List Claim) (within : i < length claims) (are : AreLeftOf trees denied (take i claims) left) where
+  step : take (i + 1) claims ≡ take i claims ++ get_or claims i d ∷ []
+  step = (take_at_read claims i d within).1
+
+  more : (less : Claim) (longer : List Claim) → IsLeftOf trees denied (get_or claims i d) less → longer ≡ left ++ less ∷ [] → AreLeftOf trees denied (take (i + 1) claims) longer
+  more less longer is longer_is = (
+    subst (AreClaimsOf trees) (sym longer_is) (All-push (IsClaimOf trees) left less are.0 is.0),
+    λ answers fail.
+        (let P = λ (x : Claim). IsTrue (claim_holds answers trees x) in
+        let c = get_or claims i d in
+        let both = are.1 answers fail in
+        let same = is.1 answers fail in
+        let front = all-joined P (take i claims) (c ∷ []) in
+        let back = all-joined P left (less ∷ []) in (
+          λ each. (let parts = front.0 (subst (All P) step each) in
+              subst (All P) (sym longer_is) (back.1 (both.0 parts.0, All-cons P less [] (sym same ∙ All-head P c [] parts.1) (All-nil P)))),
+          λ each. (let parts = back.0 (subst (All P) longer_is each) in
+              subst (All P) (sym step) (front.1 (both.1 parts.0, All-cons P c [] (same ∙ All-head P less [] parts.1) (All-nil P)))),
+        )),
+  )
+
+  pub left-same : IsTrueThere trees denied (get_or claims i d) → AreLeftOf trees denied (take (i + 1) claims) left
+  left-same known = (
+    are.0,
+    λ answers fail.
+        (let P = λ (x : Claim). IsTrue (claim_holds answers trees x) in
+        let c = get_or claims i d in
+        let both = are.1 answers fail in
+        let front = all-joined P (take i claims) (c ∷ []) in (
+          λ each. both.0 (front.0 (subst (All P) step each)).0,
+          λ each. subst (All P) (sym step) (front.1 (both.1 each, All-cons P c [] (known answers fail) (All-nil P))),
+        )),
+  )
+
+pub left-more : (first old new : List Tree) (denied : List Bool) (claims left longer : List Claim) (i : ℕ) (d less : Claim) → Grows first old → Grows old new → length denied ≤ length first → AreClaimsOf first claims → i < length claims →
+    AreLeftOf old denied (take i claims) left → IsLeftOf new denied (get_or claims i d) less → longer ≡ left ++ less ∷ [] → AreLeftOf new denied (take (i + 1) claims) longer
+left-more first old new denied claims left longer i d less before grows count there within are is =
+    more new denied claims i d left within
+    (left-later old new denied (take i claims) left grows (no-fewer first old (length denied) before count) (front-there old i claims (stay-claims first old claims before there)) are) less longer is
+
+pub left-all : (trees : List Tree) (denied : List Bool) (claims left : List Claim) (i : ℕ) → length claims ≤ i → AreLeftOf trees denied (take i claims) left → AreLeftOf trees denied claims left
+left-all trees denied claims left i past are = subst (λ (cs : List Claim). AreLeftOf trees denied cs left) (take_all i claims past) are
+
+-- ---- a conjunction
+
+same-value : (a b : Bool) → (IsTrue a ↔ IsTrue b) → a ≡ b
+same-value true b both = sym (both.0 refl)
+same-value false true both = both.1 refl
+same-value false false both = refl
+
+turned-value : (answers : ℕ → Bool) (trees : List Tree) (b : Bool) (c : Claim) → claim_holds answers trees (turned_claim b c) ≡ as_claimed b (claim_holds answers trees c)
+turned-value answers trees true c = refl
+turned-value answers trees false c = turned-false answers trees c
+
+turned-there : (trees : List Tree) (b : Bool) (c : Claim) → IsClaimOf trees c → IsClaimOf trees (turned_claim b c)
+turned-there trees true c there = there
+turned-there trees false c there = there
+
+pub cut-left : (old mid new : List Tree) (denied : List Bool) (claim all result : Claim) (inner left : List Claim) → Grows old mid → Grows mid new → length denied ≤ length old → IsClaimOf old claim → IsConjunctionAt old claim.node inner → AreLeftOf mid denied inner left →
+    IsClaimOfEach left new all → result ≡ turned_claim claim.holds all → IsLeftOf new denied claim result
+cut-left old mid new denied claim all result inner left first second count there is are each turned = (
+  subst (IsClaimOf new) (sym turned) (turned-there new claim.holds all each.0),
+  λ answers fail.
+      (let node = node_claim claim.node in
+      let both = are.1 answers (fail-before mid new denied answers second (no-fewer old mid (length denied) first count) fail) in
+      let own : claim_holds answers new node ≡ claim_holds answers old node = keeps-value mid new node answers second (stays-claim old mid node first there) ∙ keeps-value old mid node answers first there in
+      let forth : IsTrue (claim_holds answers new node) → IsTrue (claim_holds answers new all) =
+      λ h. (each.1 answers).1 (keep-values mid new left answers second are.0 (both.0 (keep-values old mid inner answers first is.0.0 ((is.1 answers).0 (sym own ∙ h))))) in
+      let back : IsTrue (claim_holds answers new all) → IsTrue (claim_holds answers new node) =
+      λ h. own ∙ (is.1 answers).1 (had-values old mid inner answers first is.0.0 (both.1 (had-values mid new left answers second are.0 ((each.1 answers).0 h)))) in
+      ap (as_claimed claim.holds) (same-value (claim_holds answers new node) (claim_holds answers new all) (forth, back))
+      ∙ sym (turned-value answers new claim.holds all) ∙ ap (claim_holds answers new) (sym turned)),
+)
+
+-- ---- beside the claim that denies
+
+pub left-agree : (of : SchemaTests) (old new : List Tree) (one : Claim) (denied : List Bool) (others left : List Claim) → Grows old new → IsClaimOf old one → length denied ≤ length old → AreDenied of old one denied → AreLeftOf new denied others left → AgreeBeside of.schema of.tests new one others left
+left-agree of old new one denied others left grows there count are left_are r answers valid say h =
+    left_are.1 answers (fail-later old new denied answers grows count (denied-fail of old one denied are r answers valid say (sym (keeps-value old new one answers grows there) ∙ h)))

@@ -13,6 +13,6 @@ mod Effects
 mod Numbered
 mod Differing
 mod UseClaims
-mod Cut
 mod Excluded
+mod Cut
 mod Making

@@ -1,25 +1,26 @@
--- Claims that a claim makes alike.
-use Rattle.std.specs.Prelude.{◌≡◌, ◌↔◌, ℕ, Bool, List, IsTrue}
-use Rattle.std.specs.List.{AllZip}
+-- What is left of claims where denied nodes fail.
+use Rattle.std.specs.Prelude.{◌≡◌, ◌↔◌, ℕ, Bool, List, IsTrue, true}
 use Rattle.formula_tree.specs.Trees.{Tree}
-use Rattle.formula_nodes.specs.Claims.{AreClaimsOf, IsClaimOf, SomeClaimFails, claim_holds}
+use Rattle.formula_nodes.specs.Claims.{AreClaimsOf, EachClaimHolds, IsClaimOf, claim_holds}
+use Rattle.formula_nodes.specs.Parts.{AreInside}
 use Rattle.formula_nodes.specs.declared.claim.Claim.{Claim}
-use Rattle.policy_compile.specs.Meaning.{AnswersAs}
-use Rattle.policy_model.specs.Requests.{IsValid}
-use Rattle.policy_model.specs.declared.request.Request.{Request}
-use Rattle.test_relations.specs.Relations.{SchemaTests}
+use Rattle.set_questions.specs.Excluding.{DeniedFail}
 
--- on the answers of a valid request that make the one claim true the two others are both true, or neither is
-abbrev pub IsAlikeBeside : SchemaTests → List Tree → Claim → Claim → Claim → Type 0
-IsAlikeBeside of trees one claim less =
-    IsClaimOf trees less × ((r : Request) (answers : ℕ → Bool) → IsValid of.schema r → AnswersAs answers r of.tests →
-    IsTrue (claim_holds answers trees one) → claim_holds answers trees claim ≡ claim_holds answers trees less)
+-- where the denied nodes fail both claims are true, or neither is
+abbrev pub IsLeftOf : List Tree → List Bool → Claim → Claim → Type 0
+IsLeftOf trees denied claim less =
+    IsClaimOf trees less × ((answers : ℕ → Bool) → DeniedFail answers trees denied → claim_holds answers trees claim ≡ claim_holds answers trees less)
 
--- one by one
-abbrev pub AreAlikeBeside : SchemaTests → List Tree → Claim → List Claim → List Claim → Type 0
-AreAlikeBeside of trees one claims less = AllZip (IsAlikeBeside of trees one) claims less
+-- where the denied nodes fail all claims of the one list are true where all of the other are
+abbrev pub AreLeftOf : List Tree → List Bool → List Claim → List Claim → Type 0
+AreLeftOf trees denied claims left =
+    AreClaimsOf trees left × ((answers : ℕ → Bool) → DeniedFail answers trees denied → (EachClaimHolds answers trees claims ↔ EachClaimHolds answers trees left))
 
--- the claim is that one of these fails
-abbrev pub IsDenialOf : List Tree → Claim → List Claim → Type 0
-IsDenialOf trees claim inner =
-    AreClaimsOf trees inner × ((answers : ℕ → Bool) → (IsTrue (claim_holds answers trees claim) ↔ SomeClaimFails answers trees inner))
+-- that the node holds
+abbrev pub node_claim : ℕ → Claim
+node_claim n = record { node = n; holds = true }
+
+-- the node holds where each of these claims on earlier nodes does
+abbrev pub IsConjunctionAt : List Tree → ℕ → List Claim → Type 0
+IsConjunctionAt trees n inner =
+    AreInside trees (node_claim n) inner × ((answers : ℕ → Bool) → (IsTrue (claim_holds answers trees (node_claim n)) ↔ EachClaimHolds answers trees inner))

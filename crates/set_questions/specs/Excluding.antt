@@ -1,7 +1,7 @@
--- What a claim excludes by the tests that it denies.
-use Rattle.std.specs.Prelude.{◌≡◌, ◌↔◌, ℕ, Bool, List, All, Any, IsTrue, Some, false, slice_get, true}
+-- The tests that a claim denies, and what is known where they fail.
+use Rattle.std.specs.Prelude.{◌≡◌, ℕ, Bool, List, IsTrue, Some, false, slice_get, true}
 use Rattle.formula_tree.specs.Trees.{Tree}
-use Rattle.formula_nodes.specs.Claims.{EachClaimHolds, claim_holds}
+use Rattle.formula_nodes.specs.Claims.{EachClaimHolds, SomeClaimFails, claim_holds}
 use Rattle.formula_nodes.specs.declared.claim.Claim.{Claim}
 use Rattle.policy_compile.specs.Meaning.{AnswersAs}
 use Rattle.policy_model.specs.Requests.{IsValid}
@@ -30,16 +30,12 @@ pub record IsDeniedClaim (denied : List Bool) (claim : Claim) : Type 0 where
 abbrev pub DeniedFail : (ℕ → Bool) → List Tree → List Bool → Type 0
 DeniedFail answers trees denied = (n : ℕ) → slice_get denied n ≡ Some true → IsTrue (claim_holds answers trees (record { node = n; holds = false }))
 
--- where they don't, the claim fails; one of these does; the claim is true; or each is where those that are left are
-abbrev pub IsExcludedElement : List Tree → List Bool → Claim → Type 0
-IsExcludedElement trees denied claim = (answers : ℕ → Bool) → DeniedFail answers trees denied → claim_holds answers trees claim ≡ false
+-- where they don't, the claim is true; each of these is; or one of these isn't
+abbrev pub IsTrueThere : List Tree → List Bool → Claim → Type 0
+IsTrueThere trees denied claim = (answers : ℕ → Bool) → DeniedFail answers trees denied → IsTrue (claim_holds answers trees claim)
 
-abbrev pub HasExcludedElement : List Tree → List Bool → List Claim → Type 0
-HasExcludedElement trees denied claims = Any (IsExcludedElement trees denied) claims
+abbrev pub AreTrueThere : List Tree → List Bool → List Claim → Type 0
+AreTrueThere trees denied claims = (answers : ℕ → Bool) → DeniedFail answers trees denied → EachClaimHolds answers trees claims
 
-abbrev pub IsExcludedOther : List Tree → List Bool → Claim → Type 0
-IsExcludedOther trees denied claim = (answers : ℕ → Bool) → DeniedFail answers trees denied → IsTrue (claim_holds answers trees claim)
-
-abbrev pub AreLeftOf : List Tree → List Bool → List Claim → List Claim → Type 0
-AreLeftOf trees denied others left =
-    (answers : ℕ → Bool) → DeniedFail answers trees denied → (EachClaimHolds answers trees others ↔ EachClaimHolds answers trees left)
+abbrev pub HasFalseClaim : List Tree → List Bool → List Claim → Type 0
+HasFalseClaim trees denied claims = (answers : ℕ → Bool) → DeniedFail answers trees denied → SomeClaimFails answers trees claims

@@ -9,8 +9,8 @@ ghost use Rattle.set_questions.specs.Changes.{IsJointClaim, IsListedAt, other_cl
 ghost use Rattle.set_questions.specs.Laws.{DecidesUse};
 ghost use Rattle.set_questions.specs.Removal.{without_item};
 
-use crate::cutting::{cut_others, turned};
-use crate::excluding::{denied_tests, left_of};
+use crate::cutting::{left_of, turned};
+use crate::excluding::denied_tests;
 use crate::names::{NameList, required_names};
 use crate::numbering::{conjuncts, numbered, numbered_inside};
 use formula_nodes::{Claim, ClaimList, Nodes};
@@ -128,10 +128,10 @@ fn joint(
         (IsJointClaim reducer.old (node_trees nodes.new) one others.now) }
 {
     let denied = denied_tests(alloc, nodes, reducer, one, tests)?;
-    let left = left_of(alloc, nodes, denied.as_slice(), others)?;
-    let mut kept = cut_others(alloc, nodes, reducer, one, left.as_slice())?;
-    kept.push(one)?;
-    let whole = nodes.all(kept)?;
+    let end = nodes.len();
+    let mut left = left_of(alloc, nodes, denied.as_slice(), others, end)?;
+    left.push(one)?;
+    let whole = nodes.all(left)?;
     reducer.reduced(nodes, whole)
 }
 

@@ -1,12 +1,12 @@
-//! Other statements without the items that a statement excludes.
-ghost use Rattle.std.specs.Prelude.{◌≡◌, IfOk, IfSome};
+//! What is left of claims where the tests that a claim denies fail.
+ghost use Rattle.std.specs.Prelude.{◌≡◌, ◌≤◌, ◌<◌, All, IfOk, IfSome, length};
 ghost use Rattle.formula_nodes.specs.Claims.{AddsNoTest, AreClaimsOf, Grows, IsClaimOf, turned_claim};
 ghost use Rattle.formula_nodes.specs.Standing.{node_trees};
-ghost use Rattle.set_questions.specs.Cutting.{AreAlikeBeside, IsAlikeBeside, IsDenialOf};
+ghost use Rattle.set_questions.specs.Cutting.{AreLeftOf, IsConjunctionAt, IsLeftOf};
 
+use crate::excluding::is_known;
 use formula_nodes::{Claim, ClaimList, Nodes, Part};
 use plain_lists::{List, NoMemory};
-use query_reduction::Reducer;
 use std::alloc::Global;
 
 /// The claim or, where `holds` is false, its opposite.
@@ -23,110 +23,62 @@ fn listed(alloc: Global, claims: &[Claim]) -> Result<ClaimList, NoMemory>
     Ok(List::from_vec(items))
 }
 
-// Where the claim is a disjunction, the opposites of its branches.
-fn denied(alloc: Global, nodes: &Nodes, claim: Claim) -> Result<Option<ClaimList>, NoMemory>
-    requires { IsClaimOf (node_trees nodes.now) claim }
-    ensures { IfOk result (λ found. IfSome found (IsDenialOf (node_trees nodes.now) claim)) }
+// The claims that all hold where the node does, if it is a conjunction.
+fn conjuncts_at(alloc: Global, nodes: &Nodes, node: u32) -> Result<Option<ClaimList>, NoMemory>
+    requires { node < length (node_trees nodes.now) }
+    ensures { IfOk result (λ found.
+        IfSome found (IsConjunctionAt (node_trees nodes.now) node)) }
 {
-    match nodes.part(claim) {
-        Part::OneOf(inner) => {
+    match nodes.part(Claim { node, holds: true }) {
+        Part::All(inner) => {
             let list = listed(alloc, inner)?;
             Ok(Some(list))
         }
-        Part::All(_) => Ok(None),
+        Part::OneOf(_) => Ok(None),
         Part::Test(_) => Ok(None),
     }
 }
 
-// An element of another statement without the items that the one excludes: where the one is true, both are or neither.
-fn cut_element(
-    alloc: Global,
-    nodes: &mut Nodes,
-    reducer: &mut Reducer<'_>,
-    one: Claim,
-    element: Claim,
-) -> Result<Claim, NoMemory>
-    requires there { IsClaimOf (node_trees nodes.old) one }
-    requires element { IsClaimOf (node_trees nodes.old) element }
-    ensures same { reducer.new ≡ reducer.old }
+// A claim of the same value where these nodes are denied, without those inside of it that are known there.
+#[cycle(cut)]
+fn cut(alloc: Global, nodes: &mut Nodes, denied: &[bool], claim: Claim) -> Result<Claim, NoMemory>
+    requires there { IsClaimOf (node_trees nodes.old) claim }
+    requires count { length denied.now ≤ length (node_trees nodes.old) }
     ensures grows { Grows (node_trees nodes.old) (node_trees nodes.new) }
     ensures tests { AddsNoTest (node_trees nodes.old) (node_trees nodes.new) }
-    ensures alike { IfOk result
-        (IsAlikeBeside reducer.old (node_trees nodes.new) one element) }
+    ensures left { IfOk result (IsLeftOf (node_trees nodes.new) denied.now claim) }
 {
-    let Some(opposites) = denied(alloc, nodes, element)? else {
-        return Ok(element);
+    let Some(inner) = conjuncts_at(alloc, nodes, claim.node)? else {
+        return Ok(claim);
     };
-    let left = reducer.unimplied(nodes, one, opposites.as_slice())?;
+    let left = left_of(alloc, nodes, denied, inner.as_slice(), claim.node as usize)?;
     let all = nodes.all(left)?;
-    Ok(turned(all, false))
+    Ok(turned(all, claim.holds))
 }
 
-// The same of elements.
-fn cut_elements(
+/// Claims that hold where these do, wherever these nodes are denied: each without what is known there. The claims are on
+/// nodes before that number.
+#[cycle(cut)]
+pub(crate) fn left_of(
     alloc: Global,
     nodes: &mut Nodes,
-    reducer: &mut Reducer<'_>,
-    one: Claim,
-    elements: &[Claim],
+    denied: &[bool],
+    claims: &[Claim],
+    end: usize,
 ) -> Result<ClaimList, NoMemory>
-    requires there { IsClaimOf (node_trees nodes.old) one }
-    requires elements { AreClaimsOf (node_trees nodes.old) elements.now }
-    ensures same { reducer.new ≡ reducer.old }
+    requires there { AreClaimsOf (node_trees nodes.old) claims.now }
+    requires earlier { All (λ c. c.node < end) claims.now }
+    requires count { length denied.now ≤ length (node_trees nodes.old) }
     ensures grows { Grows (node_trees nodes.old) (node_trees nodes.new) }
     ensures tests { AddsNoTest (node_trees nodes.old) (node_trees nodes.new) }
-    ensures alike { IfOk result
-        (AreAlikeBeside reducer.old (node_trees nodes.new) one elements.now) }
+    ensures left { IfOk result (AreLeftOf (node_trees nodes.new) denied.now claims.now) }
 {
-    let mut cut = List::new(alloc);
-    'elements: for element in elements {
-        cut.push(cut_element(alloc, nodes, reducer, one, *element)?)?;
+    let mut left = List::new(alloc);
+    'claims: for claim in claims {
+        if is_known(nodes, denied, *claim) {
+            continue;
+        }
+        left.push(cut(alloc, nodes, denied, *claim)?)?;
     }
-    Ok(cut)
-}
-
-// The opposite of another statement without the items of its elements that the one excludes.
-fn cut_other(
-    alloc: Global,
-    nodes: &mut Nodes,
-    reducer: &mut Reducer<'_>,
-    one: Claim,
-    other: Claim,
-) -> Result<Claim, NoMemory>
-    requires there { IsClaimOf (node_trees nodes.old) one }
-    requires other { IsClaimOf (node_trees nodes.old) other }
-    ensures same { reducer.new ≡ reducer.old }
-    ensures grows { Grows (node_trees nodes.old) (node_trees nodes.new) }
-    ensures tests { AddsNoTest (node_trees nodes.old) (node_trees nodes.new) }
-    ensures alike { IfOk result (IsAlikeBeside reducer.old (node_trees nodes.new) one other) }
-{
-    let Some(elements) = denied(alloc, nodes, other)? else {
-        return Ok(other);
-    };
-    let cut = cut_elements(alloc, nodes, reducer, one, elements.as_slice())?;
-    let all = nodes.all(cut)?;
-    Ok(turned(all, false))
-}
-
-/// The same of each of the others.
-pub(crate) fn cut_others(
-    alloc: Global,
-    nodes: &mut Nodes,
-    reducer: &mut Reducer<'_>,
-    one: Claim,
-    others: &[Claim],
-) -> Result<ClaimList, NoMemory>
-    requires there { IsClaimOf (node_trees nodes.old) one }
-    requires others { AreClaimsOf (node_trees nodes.old) others.now }
-    ensures same { reducer.new ≡ reducer.old }
-    ensures grows { Grows (node_trees nodes.old) (node_trees nodes.new) }
-    ensures tests { AddsNoTest (node_trees nodes.old) (node_trees nodes.new) }
-    ensures alike { IfOk result
-        (AreAlikeBeside reducer.old (node_trees nodes.new) one others.now) }
-{
-    let mut cut = List::new(alloc);
-    'others: for other in others {
-        cut.push(cut_other(alloc, nodes, reducer, one, *other)?)?;
-    }
-    Ok(cut)
+    Ok(left)
 }

@@ -1,11 +1,11 @@
-//! Which others a claim excludes: the tests that it denies are found once for all of them.
-ghost use Rattle.std.specs.Prelude.{◌≡◌, ◌<◌, All, IfOk, IsTrue, length};
+//! Which tests a claim denies, and which claims are known to hold where these fail.
+ghost use Rattle.std.specs.Prelude.{◌≡◌, ◌≤◌, ◌<◌, All, IfOk, IsTrue, length};
 ghost use Rattle.formula_nodes.specs.Claims.{AreClaimsOf, IsClaimOf};
 ghost use Rattle.formula_nodes.specs.Standing.{node_trees};
-ghost use Rattle.set_questions.specs.Excluding.{AreDenied, AreLeftOf, IsDeniedNode, IsImplied, IsDeniedClaim, IsExcludedOther, IsExcludedElement, HasExcludedElement};
+ghost use Rattle.set_questions.specs.Excluding.{AreDenied, AreTrueThere, HasFalseClaim, IsDeniedClaim, IsDeniedNode, IsImplied, IsTrueThere};
 
-use formula_nodes::{Claim, ClaimList, Nodes, Part};
-use plain_lists::{List, NoMemory};
+use formula_nodes::{Claim, Nodes, Part};
+use plain_lists::NoMemory;
 use query_reduction::Reducer;
 use std::alloc::Global;
 use std::slice::from_ref;
@@ -62,6 +62,8 @@ pub(crate) fn denied_tests(
     ensures same { reducer.new ≡ reducer.old }
     ensures denied { IfOk result (λ denied.
         AreDenied reducer.old (node_trees nodes.now) one denied.items) }
+    ensures count { IfOk result (λ denied.
+        length denied.items ≤ length (node_trees nodes.now)) }
 {
     let mut denied = Vec::new(alloc);
     let end = count.min(nodes.len());
@@ -72,7 +74,7 @@ pub(crate) fn denied_tests(
 }
 
 // Whether the claim is that a denied node doesn't hold.
-fn is_known(denied: &[bool], claim: Claim) -> bool
+fn is_denied(denied: &[bool], claim: Claim) -> bool
     ensures { IsTrue result → IsDeniedClaim denied.now claim }
 {
     if claim.holds {
@@ -84,70 +86,48 @@ fn is_known(denied: &[bool], claim: Claim) -> bool
     }
 }
 
-fn are_known(denied: &[bool], claims: &[Claim]) -> bool
-    ensures { IsTrue result → All (IsDeniedClaim denied.now) claims.now }
+/// Whether the claim is known to hold where these nodes are denied.
+#[cycle(is_known)]
+pub(crate) fn is_known(nodes: &Nodes, denied: &[bool], claim: Claim) -> bool
+    requires { IsClaimOf (node_trees nodes.now) claim }
+    ensures { IsTrue result → IsTrueThere (node_trees nodes.now) denied.now claim }
+{
+    if is_denied(denied, claim) {
+        return true;
+    }
+    match nodes.part(claim) {
+        Part::Test(_) => false,
+        Part::All(inner) => are_known(nodes, denied, inner, claim.node as usize),
+        Part::OneOf(inner) => some_fails(nodes, denied, inner, claim.node as usize),
+    }
+}
+
+// Whether each of the claims, on nodes before that number, is known to hold there.
+#[cycle(is_known)]
+fn are_known(nodes: &Nodes, denied: &[bool], claims: &[Claim], end: usize) -> bool
+    requires there { AreClaimsOf (node_trees nodes.now) claims.now }
+    requires earlier { All (λ c. c.node < end) claims.now }
+    ensures { IsTrue result → AreTrueThere (node_trees nodes.now) denied.now claims.now }
 {
     'claims: for claim in claims {
-        if !is_known(denied, *claim) {
+        if !is_known(nodes, denied, *claim) {
             return false;
         }
     }
     true
 }
 
-// Whether the element never holds where these nodes are denied.
-fn is_out(nodes: &Nodes, denied: &[bool], element: Claim) -> bool
-    requires { IsClaimOf (node_trees nodes.now) element }
-    ensures { IsTrue result → IsExcludedElement (node_trees nodes.now) denied.now element }
+// Whether one of the claims, on nodes before that number, is known to fail there.
+#[cycle(is_known)]
+fn some_fails(nodes: &Nodes, denied: &[bool], claims: &[Claim], end: usize) -> bool
+    requires there { AreClaimsOf (node_trees nodes.now) claims.now }
+    requires earlier { All (λ c. c.node < end) claims.now }
+    ensures { IsTrue result → HasFalseClaim (node_trees nodes.now) denied.now claims.now }
 {
-    match nodes.part(element) {
-        Part::OneOf(opposites) => are_known(denied, opposites),
-        Part::Test(_) => is_known(denied, element.opposite()),
-        Part::All(_) => false,
-    }
-}
-
-fn some_is_out(nodes: &Nodes, denied: &[bool], elements: &[Claim]) -> bool
-    requires { AreClaimsOf (node_trees nodes.now) elements.now }
-    ensures { IsTrue result → HasExcludedElement (node_trees nodes.now) denied.now elements.now }
-{
-    'elements: for element in elements {
-        if is_out(nodes, denied, *element) {
+    'claims: for claim in claims {
+        if is_known(nodes, denied, claim.opposite()) {
             return true;
         }
     }
     false
-}
-
-// Whether the opposite of another statement always holds there, since an element of the statement never does.
-fn is_needless(nodes: &Nodes, denied: &[bool], other: Claim) -> bool
-    requires { IsClaimOf (node_trees nodes.now) other }
-    ensures { IsTrue result → IsExcludedOther (node_trees nodes.now) denied.now other }
-{
-    match nodes.part(other) {
-        Part::OneOf(elements) => some_is_out(nodes, denied, elements),
-        Part::Test(_) => false,
-        Part::All(_) => false,
-    }
-}
-
-/// The others that may fail where these nodes are denied.
-pub(crate) fn left_of(
-    alloc: Global,
-    nodes: &Nodes,
-    denied: &[bool],
-    others: &[Claim],
-) -> Result<ClaimList, NoMemory>
-    requires { AreClaimsOf (node_trees nodes.now) others.now }
-    ensures there { IfOk result (λ left. AreClaimsOf (node_trees nodes.now) left) }
-    ensures left { IfOk result (AreLeftOf (node_trees nodes.now) denied.now others.now) }
-{
-    let mut left = List::new(alloc);
-    'others: for other in others {
-        if is_needless(nodes, denied, *other) {
-            continue;
-        }
-        left.push(*other)?;
-    }
-    Ok(left)
 }
