@@ -3,9 +3,7 @@ use Rattle.std.proofs.Common.{◌≡◌, ◌<◌, ◌+◌, ◌*◌, ℕ, List, [
 use Rattle.std.proofs.lemmas.List.{length-append}
 use Rattle.std.proofs.lemmas.List.Elements.{All-nil, All-cons}
 use Rattle.std.proofs.lemmas.Option.{slice_get_within}
-use Rattle.std.specs.Prelude.{◌-◌}
 use Rattle.policy_compile.specs.declared.outcome.Query.{Query}
-use Rattle.policy_compile.specs.Sets.{set_plan}
 use Rattle.policy_model.specs.declared.request.Request.{Request}
 use Rattle.policy_model.specs.declared.schema.Schema.{Schema}
 use Rattle.refute_check.specs.Proofs.{proof_of}
@@ -22,13 +20,13 @@ use Rattle.findings.specs.declared.standing.SummaryVerdict.TheVariants.{Stands, 
 use Rattle.proof_text.specs.Faults.{fault_after}
 use Rattle.proof_text.specs.Laws.{limits_of}
 use Rattle.proof_text.specs.LineForms.{lines_before}
-use Rattle.proof_text.specs.declared.fault.ProofAnswer.TheVariants as proof_answer
 use Rattle.proof_text.specs.declared.fault.ProofFault.{ProofFault}
 use Rattle.proof_text.specs.declared.read.ReadProof.{ReadProof}
 use Rattle.run_inputs.specs.declared.printed.Printed.{Printed}
 use Rattle.run_inputs.specs.declared.status.Status.TheVariants.{BadProof}
 use Rattle.run_inputs.specs.Printing.{PrintsText}
-use Rattle.run_inputs.specs.declared.one_set.OneSet.{OneSet}
+use Rattle.summary_answers.specs.declared.subject.Subject.{Subject}
+use Rattle.summary_answers.specs.Subjects.{subject_plan}
 use Rattle.certified_summaries.specs.CoverProofs.{ClosesBehind, FailsBehindAt, LeaveNobodyOut, OfCover, fault_of_cover}
 use Rattle.run_inputs.specs.ClosedQueries.{ClosesAll}
 use Rattle.certified_summaries.specs.CoverTexts.{not_summary_line}
@@ -70,47 +68,47 @@ certificate-bad schema q pairs bytes tests line fault has at count is =
 
 -- ---- covers
 
--- the cover's query, of the set
-pub cover-of : (one : OneSet) (base : Query) (strata : Strata) (fs : List (List ℕ)) (q : Query) (P : Query → Type 0) → AreMadeFor one.schema one.set base strata → IsCoverOf base strata fs q → P q → OfCover one.schema one.set strata.dimensions fs P
-cover-of one base strata fs q P made cover holds = record { query = q; is = cover.plan (set_plan one.schema one.set) made.query; holds = holds }
+-- the cover's query, of the region
+pub cover-of : (subject : Subject) (base : Query) (strata : Strata) (fs : List (List ℕ)) (q : Query) (P : Query → Type 0) → AreMadeFor subject.schema subject.region base strata → IsCoverOf base strata fs q → P q → OfCover subject.schema subject.region strata.dimensions fs P
+cover-of subject base strata fs q P made cover holds = record { query = q; is = cover.plan (subject_plan subject) made.query; holds = holds }
 
 -- where it is closed, the findings leave out nobody
-pub nobody-out : ClosedCoversLeaveNobodyOut → (one : OneSet) (base : Query) (strata : Strata) (fs : List (List ℕ)) (q : Query) (read : ReadProof) → AreMadeFor one.schema one.set base strata → All (IsFinding strata.dimensions) fs → IsCoverOf base strata fs q →
-    ClosesAll one.schema q (proof_of read.refutation.value) → LeaveNobodyOut one.schema one.set strata.dimensions fs
-nobody-out law one base strata fs q read made findings cover closes =
-    law one.schema one.set strata fs (record {
+pub nobody-out : ClosedCoversLeaveNobodyOut → (subject : Subject) (base : Query) (strata : Strata) (fs : List (List ℕ)) (q : Query) (read : ReadProof) → AreMadeFor subject.schema subject.region base strata → All (IsFinding strata.dimensions) fs → IsCoverOf base strata fs q →
+    ClosesAll subject.schema q (proof_of read.refutation.value) → LeaveNobodyOut subject.schema subject.region strata.dimensions fs
+nobody-out law subject base strata fs q read made findings cover closes =
+    law subject.schema subject.region strata fs (record {
       base = base;
       made = made;
       findings = findings;
       query = q;
-      is = cover.plan (set_plan one.schema one.set) made.query;
+      is = cover.plan (subject_plan subject) made.query;
       refutation = read.refutation.value;
       closes = closes;
     })
 
 -- ---- what is printed
 
-module _ (one : OneSet) (base : Query) (strata : Strata) (pairs : List (List ℕ × Request)) (q : Query) (read : ReadProof) (p : Printed) (made : AreMadeFor one.schema one.set base strata) (cover : IsCoverOf base strata (findings_of pairs) q) where
+module _ (subject : Subject) (base : Query) (strata : Strata) (pairs : List (List ℕ × Request)) (q : Query) (read : ReadProof) (p : Printed) (made : AreMadeFor subject.schema subject.region base strata) (cover : IsCoverOf base strata (findings_of pairs) q) where
   -- of a list that doesn't stand
-  pub judged-failing : (place line : ℕ) (verdict : SummaryVerdict) → JudgesSummary one.schema base strata pairs verdict → verdict ≡ Fails place → line ≡ 2 * place + 2 → PrintsText (not_summary_line line) BadProof p → IsReadJudged one strata.dimensions pairs q read p
+  pub judged-failing : (place line : ℕ) (verdict : SummaryVerdict) → JudgesSummary subject.schema base strata pairs verdict → verdict ≡ Fails place → line ≡ 2 * place + 2 → PrintsText (not_summary_line line) BadProof p → IsReadJudged subject strata.dimensions pairs q read p
   judged-failing place line verdict judged fails at told bytes is =
-      let first : IsSummaryVerdict one.schema one.set strata.dimensions pairs (Fails place) = subst (IsSummaryVerdict one.schema one.set strata.dimensions pairs) fails (judged one.set made) in
-      failing_pair (cover-of one base strata (findings_of pairs) q (λ r. fault_of_cover one.schema r (head_lines pairs) bytes ≡ None) made cover is.faultless)
+      let first : IsSummaryVerdict subject.schema subject.region strata.dimensions pairs (Fails place) = subst (IsSummaryVerdict subject.schema subject.region strata.dimensions pairs) fails (judged subject.region made) in
+      failing_pair (cover-of subject base strata (findings_of pairs) q (λ r. fault_of_cover subject.schema r (head_lines pairs) bytes ≡ None) made cover is.faultless)
       first (subst (λ (n : ℕ). PrintsText (not_summary_line n) BadProof p) at told)
 
   -- of one that stands
-  pub judged-standing : ClosedCoversLeaveNobodyOut → All (IsFinding strata.dimensions) (findings_of pairs) → (verdict : SummaryVerdict) → JudgesSummary one.schema base strata pairs verdict → verdict ≡ Stands → IsClosingPrinted one.schema q read p → IsReadJudged one strata.dimensions pairs q read p
+  pub judged-standing : ClosedCoversLeaveNobodyOut → All (IsFinding strata.dimensions) (findings_of pairs) → (verdict : SummaryVerdict) → JudgesSummary subject.schema base strata pairs verdict → verdict ≡ Stands → IsClosingPrinted subject.schema q read p → IsReadJudged subject strata.dimensions pairs q read p
   judged-standing law findings verdict judged stands (inl closed) bytes is =
-      let standing : IsSummaryVerdict one.schema one.set strata.dimensions pairs Stands = subst (IsSummaryVerdict one.schema one.set strata.dimensions pairs) stands (judged one.set made) in
+      let standing : IsSummaryVerdict subject.schema subject.region strata.dimensions pairs Stands = subst (IsSummaryVerdict subject.schema subject.region strata.dimensions pairs) stands (judged subject.region made) in
       all_holds
-      (cover-of one base strata (findings_of pairs) q (λ r. ClosesBehind one.schema r (head_lines pairs) bytes) made cover
+      (cover-of subject base strata (findings_of pairs) q (λ r. ClosesBehind subject.schema r (head_lines pairs) bytes) made cover
       (record { faultless = is.faultless; proof = proof_of read.refutation.value; spelled = is.spelled; small = is.small; closes = closed.0 }))
-      (record { stands = standing; covers = nobody-out law one base strata (findings_of pairs) q read made findings cover closed.0 })
+      (record { stands = standing; covers = nobody-out law subject base strata (findings_of pairs) q read made findings cover closed.0 })
       closed.1
   judged-standing law findings verdict judged stands (inr (node, line, fails, at, told)) bytes is =
-      let standing : IsSummaryVerdict one.schema one.set strata.dimensions pairs Stands = subst (IsSummaryVerdict one.schema one.set strata.dimensions pairs) stands (judged one.set made) in
+      let standing : IsSummaryVerdict subject.schema subject.region strata.dimensions pairs Stands = subst (IsSummaryVerdict subject.schema subject.region strata.dimensions pairs) stands (judged subject.region made) in
       failing_node standing
-      (cover-of one base strata (findings_of pairs) q (λ r. FailsBehindAt one.schema r (head_lines pairs) bytes line) made cover
+      (cover-of subject base strata (findings_of pairs) q (λ r. FailsBehindAt subject.schema r (head_lines pairs) bytes line) made cover
       (record {
         faultless = is.faultless;
         proof = proof_of read.refutation.value;
@@ -123,12 +121,12 @@ module _ (one : OneSet) (base : Query) (strata : Strata) (pairs : List (List ℕ
       told
 
 -- of a certificate with a fault
-pub judged-bad : (one : OneSet) (base : Query) (strata : Strata) (pairs : List (List ℕ × Request)) (q : Query) (p : Printed) → AreMadeFor one.schema one.set base strata → IsCoverOf base strata (findings_of pairs) q → (bytes : List ℕ) → IsBadCertificatePrinted one.schema q pairs bytes p → IsListJudged one strata.dimensions bytes pairs p
-judged-bad one base strata pairs q p made cover bytes bad =
-    bad_certificate {fault = bad.fault} (cover-of one base strata (findings_of pairs) q (λ r. fault_of_cover one.schema r (head_lines pairs) bytes ≡ Some bad.fault) made cover bad.is) bad.prints
+pub judged-bad : (subject : Subject) (base : Query) (strata : Strata) (pairs : List (List ℕ × Request)) (q : Query) (p : Printed) → AreMadeFor subject.schema subject.region base strata → IsCoverOf base strata (findings_of pairs) q → (bytes : List ℕ) → IsBadCertificatePrinted subject.schema q pairs bytes p → IsListJudged subject strata.dimensions bytes pairs p
+judged-bad subject base strata pairs q p made cover bytes bad =
+    bad_certificate {fault = bad.fault} (cover-of subject base strata (findings_of pairs) q (λ r. fault_of_cover subject.schema r (head_lines pairs) bytes ≡ Some bad.fault) made cover bad.is) bad.prints
 
 -- a pair that fails is one of them
-pub failing-within : (one : OneSet) (base : Query) (strata : Strata) (pairs : List (List ℕ × Request)) (place : ℕ) (verdict : SummaryVerdict) → AreMadeFor one.schema one.set base strata → JudgesSummary one.schema base strata pairs verdict → verdict ≡ Fails place → place < length pairs
-failing-within one base strata pairs place verdict made judged fails =
-    let first : IsSummaryVerdict one.schema one.set strata.dimensions pairs (Fails place) = subst (IsSummaryVerdict one.schema one.set strata.dimensions pairs) fails (judged one.set made) in
+pub failing-within : (subject : Subject) (base : Query) (strata : Strata) (pairs : List (List ℕ × Request)) (place : ℕ) (verdict : SummaryVerdict) → AreMadeFor subject.schema subject.region base strata → JudgesSummary subject.schema base strata pairs verdict → verdict ≡ Fails place → place < length pairs
+failing-within subject base strata pairs place verdict made judged fails =
+    let first : IsSummaryVerdict subject.schema subject.region strata.dimensions pairs (Fails place) = subst (IsSummaryVerdict subject.schema subject.region strata.dimensions pairs) fails (judged subject.region made) in
     slice_get_within pairs place first.failing.pair first.failing.at

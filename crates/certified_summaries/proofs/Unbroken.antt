@@ -1,5 +1,5 @@
 -- No line feed stands in compact texts of JSON.
-use Rattle.std.proofs.Common.{◌≡◌, ◌+◌, ◌||◌, ◌/◌, ◌%◌, ℕ, Bool, true, false, cond, List, [], ◌∷◌, ◌++◌, map, fold, eqb, refl, ap, arith, inl, inr, if◌then◌else◌}
+use Rattle.std.proofs.Common.{◌≡◌, ◌+◌, ◌||◌, ◌/◌, ◌%◌, ℕ, Bool, true, false, cond, List, [], ◌∷◌, ◌++◌, map, fold, eqb, refl, ap, arith, inl, inr}
 use Rattle.std.specs.Prelude.{nat_lt, ⊤}
 use Rattle.std.specs.Char.{digit_char}
 use Rattle.std.specs.Cmp.Lexicographic.{slice_cmp}

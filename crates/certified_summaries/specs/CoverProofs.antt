@@ -1,21 +1,20 @@
--- The query of a cover of a set's findings, and certificates that it is no.
+-- The query of a cover of a region's findings, and certificates that it is no.
 use Rattle.std.specs.Prelude.{◌≡◌, ◌≤◌, ◌+◌, ℕ, List, [], slice_get, Option, Some, None, Any}
 use Rattle.policy_model.specs.declared.request.Request.{Request}
 use Rattle.policy_model.specs.declared.schema.Schema.{Schema}
-use Rattle.policy_model.specs.declared.set.PolicySet.{PolicySet}
 use Rattle.policy_model.specs.Requests.{IsValid}
-use Rattle.policy_model.specs.Sets.{Allows}
 use Rattle.policy_compile.specs.declared.outcome.Query.{Query}
 use Rattle.policy_compile.specs.Numbering.{HasTooMany}
 use Rattle.policy_compile.specs.Plans.{tests_in}
 use Rattle.policy_compile.specs.Queries.{asked_tree}
-use Rattle.policy_compile.specs.Sets.{set_plan}
 use Rattle.refute_check.specs.Proofs.{Proof, depth}
 use Rattle.search_parts.specs.Trimmed.{IsTrimmed}
 use Rattle.strata.specs.declared.stratum.Strata.{Strata}
 use Rattle.strata.specs.declared.stratum.Stratum.{Stratum}
+use Rattle.findings.specs.declared.region.Region.{Region}
 use Rattle.findings.specs.CoverQueries.{CoverHasTooMany, IsCoverQuery, cover_plan}
 use Rattle.findings.specs.Findings.{LiesInFinding}
+use Rattle.findings.specs.Regions.{LiesInRegion, region_plan}
 use Rattle.proof_text.specs.Faults.{fault_after}
 use Rattle.proof_text.specs.Laws.{HoldsSmallNumbers, IsSmall, limits_of}
 use Rattle.proof_text.specs.LineForms.{bytes_after}
@@ -30,19 +29,19 @@ use Rattle.certified_summaries.specs.CoverTexts.{cover_tests_line}
 
 -- ---- the query
 
--- of the query of the cover, whether the set allows a request that lies in none of the findings, this holds
-pub record OfCover (schema : Schema) (set : PolicySet) (ds : List Stratum) (fs : List (List ℕ)) (P : Query → Type 0) : Type 0 where
+-- of the query of the cover, whether a request of the region lies in none of the findings, this holds
+pub record OfCover (schema : Schema) (region : Region) (ds : List Stratum) (fs : List (List ℕ)) (P : Query → Type 0) : Type 0 where
   pub query : Query
-  pub is : IsCoverQuery (set_plan schema set) ds fs query
+  pub is : IsCoverQuery (region_plan schema region) ds fs query
   pub holds : P query
 
 -- it has more than 1,000 tests
-abbrev pub CoverIsTooLarge : Schema → PolicySet → List Stratum → List (List ℕ) → Type 0
-CoverIsTooLarge schema set ds fs = HasTooMany [] (tests_in (cover_plan (set_plan schema set) ds fs))
+abbrev pub CoverIsTooLarge : Schema → Region → List Stratum → List (List ℕ) → Type 0
+CoverIsTooLarge schema region ds fs = HasTooMany [] (tests_in (cover_plan (region_plan schema region) ds fs))
 
--- each valid request that the set allows lies in one of the findings
-abbrev pub LeaveNobodyOut : Schema → PolicySet → List Stratum → List (List ℕ) → Type 0
-LeaveNobodyOut schema set ds fs = (r : Request) → IsValid schema r → Allows schema set r → Any (LiesInFinding r ds) fs
+-- each valid request of the region lies in one of the findings
+abbrev pub LeaveNobodyOut : Schema → Region → List Stratum → List (List ℕ) → Type 0
+LeaveNobodyOut schema region ds fs = (r : Request) → IsValid schema r → LiesInRegion schema region r → Any (LiesInFinding r ds) fs
 
 -- ---- a certificate behind other lines of a file
 
@@ -83,7 +82,7 @@ pub record CertifiesCover (schema : Schema) (q : Query) (text : List ℕ) : Type
 
 -- ---- parts
 
--- the line on the query of the cover is printed, which has more than 1,000 tests whichever set the base is of
+-- the line on the query of the cover is printed, which has more than 1,000 tests whichever region the base is of
 pub record IsLargePrinted (base : Query) (strata : Strata) (fs : List (List ℕ)) (p : Printed) : Type 0 where
   pub large : CoverHasTooMany base strata.dimensions fs
   pub prints : PrintsText cover_tests_line Refused p

@@ -16,7 +16,7 @@ head_word C7Request = codes "C7"
 abbrev pub head_fault_text : HeadFault → List ℕ
 head_fault_text fault = bad_line (head_word fault.code) fault.line
 
--- the line on the first pair that keeps the list from standing for the set, by the line of its finding
+-- the line on the first pair that keeps the list from standing for the region, by the line of its finding
 unfoldable pub not_summary_line : ℕ → List ℕ
 not_summary_line line = codes "not a summary: line " ++ decimal line ++ codes "\n"
 

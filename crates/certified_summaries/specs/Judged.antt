@@ -17,7 +17,9 @@ use Rattle.proof_text.specs.declared.read.ReadProof.{ReadProof}
 use Rattle.run_inputs.specs.declared.printed.Printed.{Printed}
 use Rattle.run_inputs.specs.declared.status.Status.TheVariants.{Holds, Refused, BadProof}
 use Rattle.run_inputs.specs.Printing.{PrintsText}
-use Rattle.run_inputs.specs.declared.one_set.OneSet.{OneSet}
+use Rattle.strata.specs.declared.names.TheConstants.{MOST_PREDICATES}
+use Rattle.summary_answers.specs.declared.subject.Subject.{Subject}
+use Rattle.summary_answers.specs.Subjects.{subject_of_set}
 use Rattle.run_inputs.specs.OneSets.{IsOneSetRefusal, SomeOneSet, SetContents}
 use Rattle.run_inputs.specs.Refusals.{IsRefusedBy}
 use Rattle.run_inputs.specs.ClosedQueries.{ClosesAll, FailsAll}
@@ -28,55 +30,56 @@ use Rattle.certified_summaries.specs.Heads.{IsHead, IsHeadFault, head_lines}
 use Rattle.certified_summaries.specs.Made.{IsNotMade, OfMade}
 use Rattle.certified_summaries.specs.declared.fault.HeadFault.{HeadFault}
 
--- the list stands for the set, and each valid request that the set allows lies in one of its findings
-pub record IsCertifiedBy (one : OneSet) (ds : List Stratum) (pairs : List (List ℕ × Request)) : Type 0 where
-  pub stands : SummaryStands one.schema one.set ds pairs
-  pub covers : LeaveNobodyOut one.schema one.set ds (findings_of pairs)
+-- the list stands for the region, and each valid request of the region lies in one of its findings
+pub record IsCertifiedBy (subject : Subject) (ds : List Stratum) (pairs : List (List ℕ × Request)) : Type 0 where
+  pub stands : SummaryStands subject.schema subject.region ds pairs
+  pub covers : LeaveNobodyOut subject.schema subject.region ds (findings_of pairs)
 
 -- what is printed of a list of pairs with a certificate behind its lines: that the query of the cover of the findings has more than 1,000
--- tests; the first fault of the certificate; the line of the first finding that keeps the list from standing for the set; the line of the
+-- tests; the first fault of the certificate; the line of the first finding that keeps the list from standing for the region; the line of the
 -- first node that fails; or that the list is accepted. Each comes only where none before it does
-pub data IsListJudged (one : OneSet) (ds : List Stratum) (bytes : List ℕ) (pairs : List (List ℕ × Request)) (p : Printed) : Type 0 where
-  large_cover : CoverIsTooLarge one.schema one.set ds (findings_of pairs) → PrintsText cover_tests_line Refused p →
-      IsListJudged one ds bytes pairs p
+pub data IsListJudged (subject : Subject) (ds : List Stratum) (bytes : List ℕ) (pairs : List (List ℕ × Request)) (p : Printed) : Type 0 where
+  large_cover : CoverIsTooLarge subject.schema subject.region ds (findings_of pairs) → PrintsText cover_tests_line Refused p →
+      IsListJudged subject ds bytes pairs p
   bad_certificate : {fault : ProofFault} →
-      OfCover one.schema one.set ds (findings_of pairs) (λ q. fault_of_cover one.schema q (head_lines pairs) bytes ≡ Some fault) →
-      PrintsText (proof_fault_text fault) BadProof p → IsListJudged one ds bytes pairs p
+      OfCover subject.schema subject.region ds (findings_of pairs) (λ q. fault_of_cover subject.schema q (head_lines pairs) bytes ≡ Some fault) →
+      PrintsText (proof_fault_text fault) BadProof p → IsListJudged subject ds bytes pairs p
   failing_pair : {place : ℕ} →
-      OfCover one.schema one.set ds (findings_of pairs) (λ q. fault_of_cover one.schema q (head_lines pairs) bytes ≡ None) →
-      IsFirstFailing one.schema one.set ds pairs place → PrintsText (not_summary_line (2 * place + 2)) BadProof p →
-      IsListJudged one ds bytes pairs p
-  failing_node : {line : ℕ} → SummaryStands one.schema one.set ds pairs →
-      OfCover one.schema one.set ds (findings_of pairs) (λ q. FailsBehindAt one.schema q (head_lines pairs) bytes line) →
-      PrintsText (not_closing_line line) BadProof p → IsListJudged one ds bytes pairs p
-  all_holds : OfCover one.schema one.set ds (findings_of pairs) (λ q. ClosesBehind one.schema q (head_lines pairs) bytes) →
-      IsCertifiedBy one ds pairs → PrintsText accepted_line Holds p → IsListJudged one ds bytes pairs p
+      OfCover subject.schema subject.region ds (findings_of pairs) (λ q. fault_of_cover subject.schema q (head_lines pairs) bytes ≡ None) →
+      IsFirstFailing subject.schema subject.region ds pairs place → PrintsText (not_summary_line (2 * place + 2)) BadProof p →
+      IsListJudged subject ds bytes pairs p
+  failing_node : {line : ℕ} → SummaryStands subject.schema subject.region ds pairs →
+      OfCover subject.schema subject.region ds (findings_of pairs) (λ q. FailsBehindAt subject.schema q (head_lines pairs) bytes line) →
+      PrintsText (not_closing_line line) BadProof p → IsListJudged subject ds bytes pairs p
+  all_holds : OfCover subject.schema subject.region ds (findings_of pairs) (λ q. ClosesBehind subject.schema q (head_lines pairs) bytes) →
+      IsCertifiedBy subject ds pairs → PrintsText accepted_line Holds p → IsListJudged subject ds bytes pairs p
 
 -- the first line of the head that fails is printed
-pub record IsBadHeadPrinted (one : OneSet) (ds : List Stratum) (bytes : List ℕ) (p : Printed) : Type 0 where
+pub record IsBadHeadPrinted (subject : Subject) (ds : List Stratum) (bytes : List ℕ) (p : Printed) : Type 0 where
   pub fault : HeadFault
-  pub is : IsHeadFault one.schema ds bytes fault
+  pub is : IsHeadFault subject.schema ds bytes fault
   pub prints : PrintsText (head_fault_text fault) BadProof p
 
 -- of the pairs of the head this holds
-pub record OfHead (one : OneSet) (ds : List Stratum) (bytes : List ℕ) (P : List (List ℕ × Request) → Type 0) : Type 0 where
+pub record OfHead (subject : Subject) (ds : List Stratum) (bytes : List ℕ) (P : List (List ℕ × Request) → Type 0) : Type 0 where
   pub pairs : List (List ℕ × Request)
-  pub is : IsHead one.schema ds bytes pairs
+  pub is : IsHead subject.schema ds bytes pairs
   pub holds : P pairs
 
--- what is printed of a file for a set with strata
-abbrev pub IsJudged : OneSet → List Stratum → List ℕ → Printed → Type 0
-IsJudged one ds bytes p = IsBadHeadPrinted one ds bytes p ⊎ OfHead one ds bytes (λ pairs. IsListJudged one ds bytes pairs p)
+-- what is printed of a file for a region with strata
+abbrev pub IsJudged : Subject → List Stratum → List ℕ → Printed → Type 0
+IsJudged subject ds bytes p = IsBadHeadPrinted subject ds bytes p ⊎ OfHead subject ds bytes (λ pairs. IsListJudged subject ds bytes pairs p)
 
--- of a set under the schema of its run: why its strata aren't made, or what is printed of the file
-abbrev pub IsSetChecked : List (List ℕ) → ℕ → List ℕ → OneSet → Printed → Type 0
-IsSetChecked names states bytes one p = IsNotMade names states one p ⊎ OfMade names one (λ ds. IsJudged one ds bytes p)
+-- why the strata of the region aren't made, or what is printed of the file
+abbrev pub IsSubjectChecked : List (List ℕ) → ℕ → ℕ → List ℕ → Subject → Printed → Type 0
+IsSubjectChecked names most states bytes subject p =
+    IsNotMade names most states subject p ⊎ OfMade names most subject (λ ds. IsJudged subject ds bytes p)
 
 -- of files: why they stand for no set, or what is printed of the set that they stand for
 abbrev pub IsSummaryCheckPrinted : SummaryCheck → List ℕ → SetContents → Printed → Type 0
 IsSummaryCheckPrinted asked bytes c p =
     IsRefusedBy (IsOneSetRefusal c.set c.schema) p
-    ⊎ SomeOneSet c.set c.schema (λ one. IsSetChecked asked.dimensions asked.states bytes one p)
+    ⊎ SomeOneSet c.set c.schema (λ one. IsSubjectChecked asked.dimensions MOST_PREDICATES asked.states bytes (subject_of_set one) p)
 
 -- ---- parts
 
@@ -106,6 +109,6 @@ pub record HasHeadLines (bytes : List ℕ) (pairs : List (List ℕ × Request)) 
   pub lines : head_lines pairs ≤ length (lines_of bytes)
 
 -- what is printed where a certificate was read, whichever file it stands in
-abbrev pub IsReadJudged : OneSet → List Stratum → List (List ℕ × Request) → Query → ReadProof → Printed → Type 0
-IsReadJudged one ds pairs q read p =
-    (bytes : List ℕ) → IsReadBehind (limits_of q.tests one.schema.version) (head_lines pairs) bytes read → IsListJudged one ds bytes pairs p
+abbrev pub IsReadJudged : Subject → List Stratum → List (List ℕ × Request) → Query → ReadProof → Printed → Type 0
+IsReadJudged subject ds pairs q read p =
+    (bytes : List ℕ) → IsReadBehind (limits_of q.tests subject.schema.version) (head_lines pairs) bytes read → IsListJudged subject ds bytes pairs p

@@ -1,9 +1,8 @@
--- The strata of a set by dimensions, or what is printed instead.
+-- The strata of a region by dimensions, or what is printed instead.
 use Rattle.std.specs.Prelude.{◌⊎◌, ◌<◌, ⊤, ℕ, List, [], length, get_or, Contains, Err}
 use Rattle.std.specs.Str.{chars}
 use Rattle.policy_compile.specs.declared.outcome.Query.{Query}
 use Rattle.policy_compile.specs.Queries.{IsQuery}
-use Rattle.policy_compile.specs.Sets.{set_plan}
 use Rattle.policy_model.specs.declared.test.Slot.{Slot}
 use Rattle.strata.specs.declared.outcome.StrataFault.{StrataFault}
 use Rattle.strata.specs.declared.outcome.StrataFault.TheVariants.{TooManyPredicates, Wide, NoMemory}
@@ -14,35 +13,36 @@ use Rattle.summary_search.specs.Outcomes.{AreStrataWithin}
 use Rattle.run_inputs.specs.declared.printed.Printed.{Printed}
 use Rattle.run_inputs.specs.declared.status.Status.TheVariants.{Refused, Undecided}
 use Rattle.run_inputs.specs.Printing.{PrintsText}
-use Rattle.run_inputs.specs.declared.one_set.OneSet.{OneSet}
 use Rattle.run_inputs.specs.declared.shortage.Shortage.TheVariants.{States}
 use Rattle.run_inputs.specs.Parts.{shortage_text}
 use Rattle.run_inputs.specs.Refusals.{IsRefusedBy}
+use Rattle.summary_answers.specs.declared.subject.Subject.{Subject}
 use Rattle.summary_answers.specs.Dimensions.{IsUnknownPrinted, NameSlots, dimension_slots}
 use Rattle.summary_answers.specs.FindingTexts.{too_many_line}
-use Rattle.run_inputs.specs.PastLimits.{IsSetPastLimit}
+use Rattle.run_inputs.specs.PastLimits.{IsPlanPastLimit}
+use Rattle.summary_answers.specs.Subjects.{subject_plan}
 use Rattle.findings.specs.Queries.{AreMadeFor}
 use Rattle.certified_summaries.specs.declared.made.Made.{Made}
 
--- each name is that of a dimension, the query is that of the set, and the strata are made for it by these dimensions. None of them names
--- too many predicates
-pub record IsMadeOf (names : List (List ℕ)) (one : OneSet) (query : Query) (strata : Strata) : Type 0 where
-  pub known : NameSlots one.schema names
-  pub made : AreMadeFor one.schema one.set query strata
-  pub within : AreStrataWithin one.schema query (dimension_slots names) strata
+-- each name is that of a dimension, the query is that of the region, and the strata are made for it by these dimensions. None of them
+-- names more predicates than so many
+pub record IsMadeOf (names : List (List ℕ)) (most : ℕ) (subject : Subject) (query : Query) (strata : Strata) : Type 0 where
+  pub known : NameSlots subject.schema names
+  pub made : AreMadeFor subject.schema subject.region query strata
+  pub within : AreStrataWithin most subject.schema query (dimension_slots names) strata
 
--- some query of the set has strata whose dimensions satisfy P
-pub record OfMade (names : List (List ℕ)) (one : OneSet) (P : List Stratum → Type 0) : Type 0 where
+-- some query of the region has strata whose dimensions satisfy P
+pub record OfMade (names : List (List ℕ)) (most : ℕ) (subject : Subject) (P : List Stratum → Type 0) : Type 0 where
   pub query : Query
   pub strata : Strata
-  pub is : IsMadeOf names one query strata
+  pub is : IsMadeOf names most subject query strata
   pub holds : P strata.dimensions
 
 -- two predicates of no dimension have patterns with more product states
-abbrev pub AreNarrow : List (List ℕ) → ℕ → OneSet → Type 0
-AreNarrow names states one =
-    (q : Query) → IsQuery (set_plan one.schema one.set) q → (s : Slot) (texts : List (List ℕ)) →
-    Contains (dimension_slots names) s → ¬ NamesWide one.schema q.tests states s texts
+abbrev pub AreNarrow : List (List ℕ) → ℕ → Subject → Type 0
+AreNarrow names states subject =
+    (q : Query) → IsQuery (subject_plan subject) q → (s : Slot) (texts : List (List ℕ)) →
+    Contains (dimension_slots names) s → ¬ NamesWide subject.schema q.tests states s texts
 
 -- the line on why there are none: a dimension with too many named predicates is refused, and a number of states that is too small
 -- for two predicates leaves them unmade
@@ -51,25 +51,25 @@ PrintsUnmade names states (TooManyPredicates d) p = PrintsText (too_many_line (c
 PrintsUnmade names states (Wide s texts) p = PrintsText (shortage_text (States states s)) Undecided p
 PrintsUnmade names states NoMemory p = ⊥
 
--- the strata of a query of the set aren't made, for which this is the cause, and its line is printed
-pub record IsUnmade (names : List (List ℕ)) (states : ℕ) (one : OneSet) (p : Printed) : Type 0 where
+-- the strata of a query of the region aren't made, for which this is the cause, and its line is printed
+pub record IsUnmade (names : List (List ℕ)) (most states : ℕ) (subject : Subject) (p : Printed) : Type 0 where
   pub query : Query
-  pub is : IsQuery (set_plan one.schema one.set) query
+  pub is : IsQuery (subject_plan subject) query
   pub fault : StrataFault
-  pub cause : AreStrataOf one.schema states query (dimension_slots names) (Err fault)
+  pub cause : AreStrataOf most subject.schema states query (dimension_slots names) (Err fault)
   pub prints : PrintsUnmade names states fault p
 
--- the first name of no dimension; or the limit that the query of the set is past, or why there are no strata
-abbrev pub IsNotMade : List (List ℕ) → ℕ → OneSet → Printed → Type 0
-IsNotMade names states one p =
-    IsUnknownPrinted one.schema names p
-    ⊎ (NameSlots one.schema names × (IsRefusedBy (IsSetPastLimit one.schema one.set) p ⊎ IsUnmade names states one p))
+-- the first name of no dimension; or the limit that the query of the region is past, or why there are no strata
+abbrev pub IsNotMade : List (List ℕ) → ℕ → ℕ → Subject → Printed → Type 0
+IsNotMade names most states subject p =
+    IsUnknownPrinted subject.schema names p
+    ⊎ (NameSlots subject.schema names × (IsRefusedBy (IsPlanPastLimit (subject_plan subject)) p ⊎ IsUnmade names most states subject p))
 
 -- ---- parts
 
 -- the query and the strata are such
-abbrev pub IsMade : List (List ℕ) → OneSet → Made → Type 0
-IsMade names one made = IsMadeOf names one made.query made.strata
+abbrev pub IsMade : List (List ℕ) → ℕ → Subject → Made → Type 0
+IsMade names most subject made = IsMadeOf names most subject made.query made.strata
 
 -- the fault's dimension is among the named ones
 abbrev pub HasDimension : List (List ℕ) → StrataFault → Type 0

@@ -1,6 +1,6 @@
 //! What summaries with certificates, and checks of them, come to. Each law is a function whose contract states
 //! it.
-ghost use Rattle.certified_summaries.specs.Decides.{CertifiedSummariesDecide, PrintedSummariesAreAccepted, SummaryChecksDecide};
+ghost use Rattle.certified_summaries.specs.Decides.{CertifiedSubjectsAreAccepted, CertifiedSummariesDecide, PrintedSummariesAreAccepted, SummaryChecksDecide};
 
 use findings::{summaries_stand, summary_verdicts_are_equal};
 use policy_compile::queries_are_within_limits;
@@ -21,11 +21,10 @@ pub fn summary_checks_decide()
     ensures { SummaryChecksDecide }
 {}
 
-/// What is printed to a summary for which a certificate is asked is accepted by a check of the same files, by the
-/// same dimensions, as long as it has at most 67,108,864 bytes and the check's number of states is enough for the
-/// strata.
-pub(crate) fn printed_summaries_are_accepted()
-    ensures { PrintedSummariesAreAccepted }
+/// What is printed of a region with a certificate is accepted by a check by the same dimensions, as long as it has at
+/// most 67,108,864 bytes and the check's number of states is enough for the strata.
+pub fn certified_subjects_are_accepted()
+    ensures { CertifiedSubjectsAreAccepted }
 {
     queries_are_within_limits();
     strata_are_determined();
@@ -35,4 +34,11 @@ pub(crate) fn printed_summaries_are_accepted()
     one_proof_for_each_text();
     summaries_stand();
     summary_verdicts_are_equal();
+}
+
+/// What is printed to a summary for which a certificate is asked is accepted so by a check of the same files.
+pub(crate) fn printed_summaries_are_accepted()
+    ensures { PrintedSummariesAreAccepted }
+{
+    certified_subjects_are_accepted();
 }

@@ -11,12 +11,11 @@ ghost use Rattle.certified_summaries.specs.Certified.{IsCertifiedText, IsCoverSa
 use crate::cover::cover_of;
 use crate::text::{cover_splits_line, cover_states_line};
 use findings::summaries_cover;
-use policy_compile::Query;
 use proof_text::write_proof;
 use refute_check::Refutation;
-use run_inputs::{EarlyEnd, OneSet, Printed, Status};
+use run_inputs::{EarlyEnd, Printed, Status};
 use std::alloc::{AllocError, Global};
-use summary_answers::{Found, found_text};
+use summary_answers::{Found, Subject, found_text};
 use summary_search::Limits;
 use tree_search::{Budgets, Decided, decide};
 
@@ -36,33 +35,35 @@ fn certified_text(
     Ok(text)
 }
 
-/// What is printed of the summary that was found of a set whose query `base` is: with a certificate that no
-/// valid request that the set allows lies outside its findings, or why there is none.
+/// What is printed of the summary that was found of a region: with a certificate that no valid request of the region
+/// lies outside its findings, with this status, or why there is none.
 pub(crate) fn certify(
     alloc: Global,
-    one: &OneSet,
-    base: &Query,
+    subject: &Subject,
     found: &Found,
+    status: Status,
     limits: Limits,
 ) -> Result<Printed, EarlyEnd>
-    requires made { AreMadeFor one.now.schema one.now.set base.now found.now.strata }
-    requires summary { IsSummary one.now.schema one.now.set found.now.strata.dimensions found.now.summary }
+    requires made { AreMadeFor subject.now.schema subject.now.region found.now.query
+        found.now.strata }
+    requires summary { IsSummary subject.now.schema subject.now.region
+        found.now.strata.dimensions found.now.summary }
     requires findings { HaveFindings found.now.strata.dimensions found.now.summary }
     requires limits { AreInRange limits }
-    ensures { IfPrinted result (IsCoverSaid limits one.now found.now) }
+    ensures { IfPrinted result (IsCoverSaid status limits subject.now found.now) }
 {
-    let query = cover_of(alloc, &found.strata, base, &found.summary)?;
+    let query = cover_of(alloc, &found.strata, &found.query, &found.summary)?;
     let budgets = Budgets {
         splits: limits.splits,
         states: limits.states,
     };
     summaries_cover();
-    match decide(alloc, &one.schema, &query, budgets)? {
+    match decide(alloc, &subject.schema, &query, budgets)? {
         Decided::Refuted(refutation) => Ok(Printed {
-            text: certified_text(alloc, found, &refutation, one.schema.version)?,
-            status: Status::Holds,
+            text: certified_text(alloc, found, &refutation, subject.schema.version)?,
+            status,
         }),
-        // Each request that the set allows lies in a finding of its summary.
+        // Each request of the region lies in a finding of its summary.
         Decided::Met(_) => unreachable!(),
         Decided::OutOfSplits => Ok(Printed {
             text: cover_splits_line(alloc, limits.splits)?,

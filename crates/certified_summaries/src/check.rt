@@ -26,20 +26,23 @@ use policy_model::Schema;
 use proof_text::{ProofAnswer, ReadProof, read_proof_from};
 use refute_check::{Verdict, check};
 use request_json::RequestReader;
-use run_inputs::{
-    EarlyEnd, OneSet, Printed, Status, accepted_line, not_closing_line, proof_fault_text,
-};
+use run_inputs::{EarlyEnd, Printed, Status, accepted_line, not_closing_line, proof_fault_text};
 use std::alloc::Global;
 use strata::Strata;
-use summary_answers::ended;
+use summary_answers::{Subject, ended};
 
 // The pairs whose lines stand before the certificate, or the line on the first line that fails.
-fn head_of(alloc: Global, one: &OneSet, strata: &Strata, bytes: &[u8]) -> Result<Summary, EarlyEnd>
+fn head_of(
+    alloc: Global,
+    subject: &Subject,
+    strata: &Strata,
+    bytes: &[u8],
+) -> Result<Summary, EarlyEnd>
     requires { All (λ d. IsNumberable d.predicates) strata.now.dimensions }
-    ensures { OrAnswered result (IsHead one.now.schema strata.now.dimensions bytes.now)
-        (IsBadHeadPrinted one.now strata.now.dimensions bytes.now) }
+    ensures { OrAnswered result (IsHead subject.now.schema strata.now.dimensions bytes.now)
+        (IsBadHeadPrinted subject.now strata.now.dimensions bytes.now) }
 {
-    let reader = RequestReader::new(alloc, &one.schema)?;
+    let reader = RequestReader::new(alloc, &subject.schema)?;
     match read_head(alloc, &reader, strata, bytes) {
         Ok(pairs) => Ok(pairs),
         Err(HeadAnswer::Refused(fault)) => {
@@ -106,24 +109,24 @@ fn print_closing(
 // What is printed of pairs whose certificate was read.
 fn judge_read(
     alloc: Global,
-    one: &OneSet,
+    subject: &Subject,
     made: &Made,
     pairs: &Summary,
     query: &Query,
     read: &ReadProof,
 ) -> Result<Printed, EarlyEnd>
-    requires made { AreMadeFor one.now.schema one.now.set made.now.query made.now.strata }
+    requires made { AreMadeFor subject.now.schema subject.now.region made.now.query made.now.strata }
     requires findings { All (IsFinding made.now.strata.dimensions) (findings_of pairs.now) }
     requires few { length pairs.now ≤ MOST_FINDINGS }
     requires cover { IsCoverOf made.now.query made.now.strata (findings_of pairs.now) query.now }
     requires lines { length read.now.lines ≡ size (proof_of read.now.refutation.value) }
     requires nodes { size (proof_of read.now.refutation.value) < 2 ^ 32 }
     ensures { IfPrinted result
-        (IsReadJudged one.now made.now.strata.dimensions pairs.now query.now read.now) }
+        (IsReadJudged subject.now made.now.strata.dimensions pairs.now query.now read.now) }
 {
     closed_covers_leave_nobody_out();
-    match check_summary(alloc, &one.schema, &made.strata, &made.query, pairs)? {
-        SummaryVerdict::Stands => print_closing(alloc, &one.schema, query, read),
+    match check_summary(alloc, &subject.schema, &made.strata, &made.query, pairs)? {
+        SummaryVerdict::Stands => print_closing(alloc, &subject.schema, query, read),
         SummaryVerdict::Fails { place } => Ok(Printed {
             text: not_summary_line(alloc, 2 * place + 2)?,
             status: Status::BadProof,
@@ -134,35 +137,35 @@ fn judge_read(
 // What is printed of pairs whose lines were read.
 fn judge_pairs(
     alloc: Global,
-    one: &OneSet,
+    subject: &Subject,
     made: &Made,
     pairs: &Summary,
     bytes: &[u8],
 ) -> Result<Printed, EarlyEnd>
-    requires made { AreMadeFor one.now.schema one.now.set made.now.query made.now.strata }
+    requires made { AreMadeFor subject.now.schema subject.now.region made.now.query made.now.strata }
     requires short { length bytes.now ≤ MOST_PROOF_BYTES }
-    requires head { IsHead one.now.schema made.now.strata.dimensions bytes.now pairs.now }
+    requires head { IsHead subject.now.schema made.now.strata.dimensions bytes.now pairs.now }
     ensures { IfPrinted result
-        (IsListJudged one.now made.now.strata.dimensions bytes.now pairs.now) }
+        (IsListJudged subject.now made.now.strata.dimensions bytes.now pairs.now) }
 {
     let query = cover_of(alloc, &made.strata, &made.query, pairs)?;
-    let read = certificate_of(alloc, &one.schema, &query, pairs, bytes)?;
-    judge_read(alloc, one, made, pairs, &query, &read)
+    let read = certificate_of(alloc, &subject.schema, &query, pairs, bytes)?;
+    judge_read(alloc, subject, made, pairs, &query, &read)
 }
 
-/// What is printed of a file, whether it holds a list that stands for the set and a certificate that the list
-/// leaves out nobody whom the set allows.
+/// What is printed of a file, whether it holds a list that stands for the region and a certificate that the list
+/// leaves out no request of the region.
 pub(crate) fn judge(
     alloc: Global,
-    one: &OneSet,
+    subject: &Subject,
     made: &Made,
     bytes: &[u8],
 ) -> Result<Printed, EarlyEnd>
-    requires made { AreMadeFor one.now.schema one.now.set made.now.query made.now.strata }
+    requires made { AreMadeFor subject.now.schema subject.now.region made.now.query made.now.strata }
     requires numbers { All (λ d. IsNumberable d.predicates) made.now.strata.dimensions }
     requires short { length bytes.now ≤ MOST_PROOF_BYTES }
-    ensures { IfPrinted result (IsJudged one.now made.now.strata.dimensions bytes.now) }
+    ensures { IfPrinted result (IsJudged subject.now made.now.strata.dimensions bytes.now) }
 {
-    let pairs = head_of(alloc, one, &made.strata, bytes)?;
-    judge_pairs(alloc, one, made, &pairs, bytes)
+    let pairs = head_of(alloc, subject, &made.strata, bytes)?;
+    judge_pairs(alloc, subject, made, &pairs, bytes)
 }

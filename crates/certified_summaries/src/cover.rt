@@ -34,8 +34,8 @@ fn findings_of(alloc: Global, summary: &Summary) -> Result<FindingList, NoMemory
     Ok(findings)
 }
 
-/// The query of the cover of a list's findings: whether the set whose query `base` is allows a request that lies in
-/// none of them. Or the line on that query, where it has more than 1,000 tests.
+/// The query of the cover of a list's findings: whether a request of the region whose query `base` is lies in none
+/// of them. Or the line on that query, where it has more than 1,000 tests.
 pub(crate) fn cover_of(
     alloc: Global,
     strata: &Strata,

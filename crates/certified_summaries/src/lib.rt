@@ -13,8 +13,11 @@ mod printing;
 mod text;
 mod wording;
 
-pub use accepting::{certified_summaries_decide, summary_checks_decide};
+pub use accepting::{
+    certified_subjects_are_accepted, certified_summaries_decide, summary_checks_decide,
+};
 pub use fault::{HeadCode, HeadFault};
 pub use printing::{
-    print_certified_summary, print_set_certified, print_set_checked, print_summary_check,
+    print_certified_summary, print_findings_certified, print_subject_certified,
+    print_subject_checked, print_summary_check,
 };

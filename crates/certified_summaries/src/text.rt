@@ -24,7 +24,7 @@ pub(crate) fn head_fault_text(alloc: Global, fault: HeadFault) -> Result<String,
     bad_line(alloc, head_word(fault.code), fault.line)
 }
 
-/// The line on the first pair that keeps a list from standing for a set, by the line of its finding.
+/// The line on the first pair that keeps a list from standing for a region, by the line of its finding.
 #[tactic(auto, unfolding(crate::specs::CoverTexts::not_summary_line))]
 pub(crate) fn not_summary_line(alloc: Global, line: u32) -> Result<String, AllocError>
     ensures { IfOk result (λ s. string_bytes s ≡ not_summary_line line) }

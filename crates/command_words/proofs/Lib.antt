@@ -1,16 +1,9 @@
 mod Asking
-mod CheckSummary
-mod Compare
 mod Distinct
-mod Emit
 mod Filled
-mod Idle
-mod Load
 mod Named
 mod Numbers
 mod Parses
-mod Reach
 mod Readings
 mod Rules
 mod Simple
-mod Summary

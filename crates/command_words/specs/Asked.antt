@@ -7,12 +7,12 @@ use Rattle.std.specs.Option.{option_map_or}
 use Rattle.std.specs.Str.{bytes_eq}
 use Rattle.std.specs.Str.Parse.{digits_value, without_leading_plus}
 use Rattle.clap.specs.Words.{App, Kinds, Row, Text, all_of, fault_of, first_of, matches_of, one_of}
-use Rattle.command_words.specs.Forms.{check_form, check_summary_form, compare_form, emit_form, eval_form, idle_form, load_form}
-use Rattle.command_words.specs.Forms.{reach_form, summary_form}
+use Rattle.command_words.specs.Forms.{check_form, check_new_access_form, check_summary_form, compare_form, emit_form, eval_form}
+use Rattle.command_words.specs.Forms.{idle_form, load_form, new_access_form, reach_form, summary_form}
 use Rattle.command_words.specs.declared.asked.CheckArguments.{CheckArguments}
 use Rattle.command_words.specs.declared.asked.CheckSummaryArguments.{CheckSummaryArguments}
 use Rattle.command_words.specs.declared.asked.Command.{Command}
-use Rattle.command_words.specs.declared.asked.Command.TheVariants.{Compare, Check, Summary, Eval, Load, Idle, Reach, Emit, CheckSummary}
+use Rattle.command_words.specs.declared.asked.Command.TheVariants.{Compare, Check, Summary, Eval, Load, Idle, Reach, Emit, CheckSummary, NewAccess, CheckNewAccess, MisusedNewAccess}
 use Rattle.command_words.specs.declared.asked.CompareArguments.{CompareArguments}
 use Rattle.command_words.specs.declared.asked.EvalArguments.{EvalArguments}
 use Rattle.command_words.specs.declared.asked.FileNames.{FileNames}
@@ -85,6 +85,12 @@ pub data Asked : Type 0 where
   -- the findings that a policy is written from
   EmitCommand : Summarising → Asked
   CheckSummaryCommand : SummaryCheck → Asked
+  -- the findings of what the set allows and a second set doesn't, the name of the second's file, and whether a certificate is asked for
+  NewAccessCommand : Summarising → List ℕ → Bool → Asked
+  -- a check of them
+  CheckNewAccessCommand : SummaryCheck → List ℕ → Asked
+  -- the line that says how these two are called: one of them is named, and the other words aren't such
+  NewAccessUsage : Asked
 
 -- ---- the same, of owned names
 
@@ -155,6 +161,9 @@ asked_in (Idle u) = IdleCommand (use_question_in u)
 asked_in (Reach r) = ReachCommand (summarising_in r.summary) (string_bytes r.zone)
 asked_in (Emit s) = EmitCommand (summarising_in s)
 asked_in (CheckSummary c) = CheckSummaryCommand (summary_check_in c)
+asked_in (NewAccess n) = NewAccessCommand (summarising_in n.summary) (string_bytes n.second) n.certified
+asked_in (CheckNewAccess c) = CheckNewAccessCommand (summary_check_in c.check) (string_bytes c.second)
+asked_in MisusedNewAccess = NewAccessUsage
 
 -- ---- the dimensions of findings
 
@@ -212,6 +221,9 @@ IsInRange (Idle u) = HasUseNumbersInRange u
 IsInRange (Reach r) = AreFindingsInRange r.summary
 IsInRange (Emit s) = AreFindingsInRange s
 IsInRange (CheckSummary c) = IsSummaryCheckInRange c
+IsInRange (NewAccess n) = AreFindingsInRange n.summary
+IsInRange (CheckNewAccess c) = IsSummaryCheckInRange c.check
+IsInRange MisusedNewAccess = ⊤
 
 -- ---- what the matches of a command say
 
@@ -306,43 +318,60 @@ summary_checking_of rows = record {
 }
 
 -- a check of a summary, unless there are too many dimensions or one stands twice
+abbrev pub summary_check_asked : List Row → Option SummaryCheck
+summary_check_asked rows = if are_dimensions (names_at (codes "dimension") rows) then Some (summary_checking_of rows) else None
+
 abbrev pub summary_check_of : List Row → Option Asked
-summary_check_of rows =
-    if are_dimensions (names_at (codes "dimension") rows) then Some (CheckSummaryCommand (summary_checking_of rows)) else None
+summary_check_of rows = option_map CheckSummaryCommand (summary_check_asked rows)
+
+abbrev pub new_access_of : List Row → Option Asked
+new_access_of rows =
+    option_map (λ s. NewAccessCommand s (name_at (codes "second") rows) (has_flag (codes "proof") rows)) (findings_asked rows)
+
+abbrev pub new_access_check_of : List Row → Option Asked
+new_access_check_of rows = option_map (λ c. CheckNewAccessCommand c (name_at (codes "second") rows)) (summary_check_asked rows)
 
 -- ---- the table of the commands
 
--- a command: its form, whose name is the first word, and what the matches of the form ask, if anything
+-- a command: its form, whose name is the first word, what the matches of the form ask, if anything, and what other words behind the name
+-- ask
 pub record NamedCommand : Type 0 where
   pub form : App
   pub asks : List Row → Option Asked
+  pub otherwise : Option Asked
 
 abbrev pub compare_command : NamedCommand
-compare_command = record { form = compare_form; asks = λ rows. Some (comparison_of rows) }
+compare_command = record { form = compare_form; asks = λ rows. Some (comparison_of rows); otherwise = None }
 
 abbrev pub check_command : NamedCommand
-check_command = record { form = check_form; asks = λ rows. Some (check_of rows) }
+check_command = record { form = check_form; asks = λ rows. Some (check_of rows); otherwise = None }
 
 abbrev pub summary_command : NamedCommand
-summary_command = record { form = summary_form; asks = summary_of }
+summary_command = record { form = summary_form; asks = summary_of; otherwise = None }
 
 abbrev pub eval_command : NamedCommand
-eval_command = record { form = eval_form; asks = λ rows. Some (evaluation_of rows) }
+eval_command = record { form = eval_form; asks = λ rows. Some (evaluation_of rows); otherwise = None }
 
 abbrev pub load_command : NamedCommand
-load_command = record { form = load_form; asks = λ rows. Some (load_of rows) }
+load_command = record { form = load_form; asks = λ rows. Some (load_of rows); otherwise = None }
 
 abbrev pub idle_command : NamedCommand
-idle_command = record { form = idle_form; asks = λ rows. Some (use_question_of rows) }
+idle_command = record { form = idle_form; asks = λ rows. Some (use_question_of rows); otherwise = None }
 
 abbrev pub reach_command : NamedCommand
-reach_command = record { form = reach_form; asks = reach_of }
+reach_command = record { form = reach_form; asks = reach_of; otherwise = None }
 
 abbrev pub emit_command : NamedCommand
-emit_command = record { form = emit_form; asks = emission_of }
+emit_command = record { form = emit_form; asks = emission_of; otherwise = None }
 
 abbrev pub check_summary_command : NamedCommand
-check_summary_command = record { form = check_summary_form; asks = summary_check_of }
+check_summary_command = record { form = check_summary_form; asks = summary_check_of; otherwise = None }
+
+abbrev pub new_access_command : NamedCommand
+new_access_command = record { form = new_access_form; asks = new_access_of; otherwise = Some NewAccessUsage }
+
+abbrev pub check_new_access_command : NamedCommand
+check_new_access_command = record { form = check_new_access_form; asks = new_access_check_of; otherwise = Some NewAccessUsage }
 
 abbrev pub commands : List NamedCommand
 commands = compare_command ∷ check_command ∷ summary_command ∷ eval_command ∷ load_command
@@ -350,6 +379,8 @@ commands = compare_command ∷ check_command ∷ summary_command ∷ eval_comman
     ∷ reach_command
     ∷ emit_command
     ∷ check_summary_command
+    ∷ new_access_command
+    ∷ check_new_access_command
     ∷ []
 
 -- the command that the first word names, by its exact text
@@ -361,12 +392,21 @@ abbrev pub asked_unless : Kinds → Option Asked → Option Asked
 asked_unless [] asked_by_words = asked_by_words
 asked_unless (kind ∷ kinds) asked_by_words = None
 
--- what the words ask of a command, as `clap` reads them: it passes over the first, the command's name
-abbrev pub asked_of : NamedCommand → List Text → Option Asked
-asked_of e words = asked_unless (fault_of e.form words) (e.asks (matches_of e.form words))
+-- what the words ask by the form of a command, as `clap` reads them: it passes over the first, the command's name
+abbrev pub asked_by_form : NamedCommand → List Text → Option Asked
+asked_by_form e words = asked_unless (fault_of e.form words) (e.asks (matches_of e.form words))
 
--- what the words ask, or none where the first is missing or names no command, where `clap` refuses the others, or where they ask
--- for findings by too many dimensions or by one twice
+-- and what they ask if they ask nothing by it
+abbrev pub or_otherwise : NamedCommand → Option Asked → Option Asked
+or_otherwise e None = e.otherwise
+or_otherwise e (Some asked) = Some asked
+
+-- what the words ask of a command
+abbrev pub asked_of : NamedCommand → List Text → Option Asked
+asked_of e words = or_otherwise e (asked_by_form e words)
+
+-- what the words ask, or none where the first is missing or names no command, or where it names one of the first nine and `clap` refuses
+-- the others, or they ask for findings by too many dimensions or by one twice
 abbrev pub asked_by_words : List Text → Option Asked
 asked_by_words [] = None
 asked_by_words (word ∷ words) = option_and_then (λ e. asked_of e (word ∷ words)) (command_of word)

@@ -103,3 +103,16 @@ emit_form = form_of (codes "emit") (name_rule (codes "set")
 unfoldable pub check_summary_form : App
 check_summary_form = form_of (codes "check-summary") (name_rule (codes "set") ∷ name_rule (codes "proof")
     ∷ names_rule (codes "dimension") ∷ file_rule (codes "schema") ∷ number_rule (codes "states") MOST_STATES ∷ [])
+
+-- `new-access FIRST SECOND DIMENSION.. [--schema FILE] [--splits N] [--states N] [--findings N] [--proof]`
+unfoldable pub new_access_form : App
+new_access_form = form_of (codes "new-access") (name_rule (codes "set") ∷ name_rule (codes "second")
+    ∷ names_rule (codes "dimension") ∷ file_rule (codes "schema")
+    ∷ number_rule (codes "splits") MOST_SPLITS ∷ number_rule (codes "states") MOST_STATES
+    ∷ number_rule (codes "findings") MOST_FINDINGS ∷ flag_rule (codes "proof") ∷ [])
+
+-- `check-new-access FIRST SECOND PROOF DIMENSION.. [--schema FILE] [--states N]`
+unfoldable pub check_new_access_form : App
+check_new_access_form = form_of (codes "check-new-access") (name_rule (codes "set") ∷ name_rule (codes "second")
+    ∷ name_rule (codes "proof") ∷ names_rule (codes "dimension") ∷ file_rule (codes "schema")
+    ∷ number_rule (codes "states") MOST_STATES ∷ [])

@@ -84,6 +84,23 @@ pub struct CheckSummaryArguments {
     pub states: u32,
 }
 
+/// What `new-access` is asked: the findings of what the set allows and a second set doesn't, the name of the
+/// second's file, and whether a certificate is wanted.
+#[derive(Drop)]
+pub struct NewAccessArguments {
+    pub summary: FindingArguments,
+    pub second: String,
+    pub certified: bool,
+}
+
+/// What `check-new-access` is asked: the check of the findings of what the set allows and a second set doesn't, and
+/// the name of the second's file.
+#[derive(Drop)]
+pub struct CheckNewAccessArguments {
+    pub check: CheckSummaryArguments,
+    pub second: String,
+}
+
 /// One of the commands.
 #[derive(Drop)]
 pub enum Command {
@@ -98,4 +115,9 @@ pub enum Command {
     /// The findings that a policy is written from.
     Emit(FindingArguments),
     CheckSummary(CheckSummaryArguments),
+    NewAccess(NewAccessArguments),
+    CheckNewAccess(CheckNewAccessArguments),
+    /// The line that says how `new-access` and `check-new-access` are called, one of which is named with words that it
+    /// doesn't take.
+    MisusedNewAccess,
 }

@@ -1,13 +1,15 @@
 //! The words of the commands on findings, read.
-ghost use Rattle.std.specs.Prelude.{◌≡◌, true, codes, IfOk, IfSome, option_map};
+ghost use Rattle.std.specs.Prelude.{◌≡◌, true, IfOk, IfSome, option_map};
 ghost use Rattle.clap.specs.Words.{found_of, rows_of};
 ghost use Rattle.command_words.specs.Asked.{AreFindingsInRange, HasBudgetsInRange, HasStatesInRange, IsInRange};
-ghost use Rattle.command_words.specs.Asked.{are_dimensions, asked_in, emission_of, findings_asked, reach_of, summarising_in, summarising_of};
-ghost use Rattle.command_words.specs.Asked.{summary_check_in, summary_check_of, summary_checking_of, summary_of, texts_in};
-ghost use Rattle.command_words.specs.Parsing.{HasNumberUpTo};
+ghost use Rattle.command_words.specs.Asked.{IsSummaryCheckInRange, are_dimensions, asked_in, emission_of, findings_asked, new_access_check_of, new_access_of};
+ghost use Rattle.command_words.specs.Asked.{reach_of, summarising_in, summarising_of, summary_check_asked, summary_check_in, summary_check_of};
+ghost use Rattle.command_words.specs.Asked.{summary_checking_of, summary_of, texts_in};
+ghost use Rattle.command_words.specs.Parsing.{HasNumbers};
 
 use crate::asked::{
-    CheckSummaryArguments, Command, FindingArguments, ReachArguments, SummaryArguments,
+    CheckNewAccessArguments, CheckSummaryArguments, Command, FindingArguments, NewAccessArguments,
+    ReachArguments, SummaryArguments,
 };
 use crate::dimensions::are_dimensions;
 use crate::limits::{
@@ -20,9 +22,7 @@ use std::alloc::Global;
 
 // The names and the budgets of findings, whatever the dimensions.
 fn finding_arguments(alloc: Global, matches: &ArgMatches) -> Result<FindingArguments, NoMemory>
-    requires splits { HasNumberUpTo (found_of matches.now) (codes "splits") MOST_SPLITS }
-    requires states { HasNumberUpTo (found_of matches.now) (codes "states") MOST_STATES }
-    requires findings { HasNumberUpTo (found_of matches.now) (codes "findings") MOST_FINDINGS }
+    requires { HasNumbers (found_of matches.now) }
     ensures value { IfOk result
         (λ s. summarising_in s ≡ summarising_of (rows_of (found_of matches.now))) }
     ensures within { IfOk result HasBudgetsInRange }
@@ -39,9 +39,7 @@ fn finding_arguments(alloc: Global, matches: &ArgMatches) -> Result<FindingArgum
 
 // The findings that the matches ask for, or none where there are too many dimensions or one stands twice.
 fn findings_in(alloc: Global, matches: &ArgMatches) -> Result<Option<FindingArguments>, NoMemory>
-    requires splits { HasNumberUpTo (found_of matches.now) (codes "splits") MOST_SPLITS }
-    requires states { HasNumberUpTo (found_of matches.now) (codes "states") MOST_STATES }
-    requires findings { HasNumberUpTo (found_of matches.now) (codes "findings") MOST_FINDINGS }
+    requires { HasNumbers (found_of matches.now) }
     ensures value { IfOk result (λ s. option_map summarising_in s
         ≡ findings_asked (rows_of (found_of matches.now))) }
     ensures within { IfOk result (λ s. IfSome s AreFindingsInRange) }
@@ -56,9 +54,7 @@ fn findings_in(alloc: Global, matches: &ArgMatches) -> Result<Option<FindingArgu
 
 /// What the matches of `summary` ask, or none where the dimensions aren't those of findings.
 pub(crate) fn summary_in(alloc: Global, matches: &ArgMatches) -> Result<Option<Command>, NoMemory>
-    requires splits { HasNumberUpTo (found_of matches.now) (codes "splits") MOST_SPLITS }
-    requires states { HasNumberUpTo (found_of matches.now) (codes "states") MOST_STATES }
-    requires findings { HasNumberUpTo (found_of matches.now) (codes "findings") MOST_FINDINGS }
+    requires { HasNumbers (found_of matches.now) }
     ensures value { IfOk result (λ c. option_map asked_in c
         ≡ summary_of (rows_of (found_of matches.now))) }
     ensures within { IfOk result (λ c. IfSome c IsInRange) }
@@ -74,9 +70,7 @@ pub(crate) fn summary_in(alloc: Global, matches: &ArgMatches) -> Result<Option<C
 
 /// What the matches of `reach` ask, or none where the dimensions aren't those of findings.
 pub(crate) fn reach_in(alloc: Global, matches: &ArgMatches) -> Result<Option<Command>, NoMemory>
-    requires splits { HasNumberUpTo (found_of matches.now) (codes "splits") MOST_SPLITS }
-    requires states { HasNumberUpTo (found_of matches.now) (codes "states") MOST_STATES }
-    requires findings { HasNumberUpTo (found_of matches.now) (codes "findings") MOST_FINDINGS }
+    requires { HasNumbers (found_of matches.now) }
     ensures value { IfOk result (λ c. option_map asked_in c
         ≡ reach_of (rows_of (found_of matches.now))) }
     ensures within { IfOk result (λ c. IfSome c IsInRange) }
@@ -92,9 +86,7 @@ pub(crate) fn reach_in(alloc: Global, matches: &ArgMatches) -> Result<Option<Com
 
 /// What the matches of `emit` ask, or none where the dimensions aren't those of findings.
 pub(crate) fn emission_in(alloc: Global, matches: &ArgMatches) -> Result<Option<Command>, NoMemory>
-    requires splits { HasNumberUpTo (found_of matches.now) (codes "splits") MOST_SPLITS }
-    requires states { HasNumberUpTo (found_of matches.now) (codes "states") MOST_STATES }
-    requires findings { HasNumberUpTo (found_of matches.now) (codes "findings") MOST_FINDINGS }
+    requires { HasNumbers (found_of matches.now) }
     ensures value { IfOk result (λ c. option_map asked_in c
         ≡ emission_of (rows_of (found_of matches.now))) }
     ensures within { IfOk result (λ c. IfSome c IsInRange) }
@@ -110,7 +102,7 @@ fn summary_check_arguments(
     alloc: Global,
     matches: &ArgMatches,
 ) -> Result<CheckSummaryArguments, NoMemory>
-    requires { HasNumberUpTo (found_of matches.now) (codes "states") MOST_STATES }
+    requires { HasNumbers (found_of matches.now) }
     ensures value { IfOk result
         (λ c. summary_check_in c ≡ summary_checking_of (rows_of (found_of matches.now))) }
     ensures within { IfOk result HasStatesInRange }
@@ -124,20 +116,75 @@ fn summary_check_arguments(
     })
 }
 
+// The check of findings that the matches ask for, or none where there are too many dimensions or one stands twice.
+fn summary_check_asked(
+    alloc: Global,
+    matches: &ArgMatches,
+) -> Result<Option<CheckSummaryArguments>, NoMemory>
+    requires { HasNumbers (found_of matches.now) }
+    ensures value { IfOk result (λ c. option_map summary_check_in c
+        ≡ summary_check_asked (rows_of (found_of matches.now))) }
+    ensures within { IfOk result (λ c. IfSome c IsSummaryCheckInRange) }
+{
+    let asked = summary_check_arguments(alloc, matches)?;
+    if are_dimensions(alloc, asked.dimensions.as_slice())? {
+        Ok(Some(asked))
+    } else {
+        Ok(None)
+    }
+}
+
 /// What the matches of `check-summary` ask, or none where the dimensions aren't those of findings.
 pub(crate) fn summary_check_in(
     alloc: Global,
     matches: &ArgMatches,
 ) -> Result<Option<Command>, NoMemory>
-    requires { HasNumberUpTo (found_of matches.now) (codes "states") MOST_STATES }
+    requires { HasNumbers (found_of matches.now) }
     ensures value { IfOk result (λ c. option_map asked_in c
         ≡ summary_check_of (rows_of (found_of matches.now))) }
     ensures within { IfOk result (λ c. IfSome c IsInRange) }
 {
-    let asked = summary_check_arguments(alloc, matches)?;
-    if are_dimensions(alloc, asked.dimensions.as_slice())? {
-        Ok(Some(Command::CheckSummary(asked)))
-    } else {
-        Ok(None)
+    match summary_check_asked(alloc, matches)? {
+        Some(check) => Ok(Some(Command::CheckSummary(check))),
+        None => Ok(None),
+    }
+}
+
+/// What the matches of `new-access` ask, or none where the dimensions aren't those of findings.
+pub(crate) fn new_access_in(
+    alloc: Global,
+    matches: &ArgMatches,
+) -> Result<Option<Command>, NoMemory>
+    requires { HasNumbers (found_of matches.now) }
+    ensures value { IfOk result (λ c. option_map asked_in c
+        ≡ new_access_of (rows_of (found_of matches.now))) }
+    ensures within { IfOk result (λ c. IfSome c IsInRange) }
+{
+    match findings_in(alloc, matches)? {
+        Some(summary) => Ok(Some(Command::NewAccess(NewAccessArguments {
+            summary,
+            second: name_at(alloc, matches, "second")?,
+            certified: has_flag(matches, "proof"),
+        }))),
+        None => Ok(None),
+    }
+}
+
+/// What the matches of `check-new-access` ask, or none where the dimensions aren't those of findings.
+pub(crate) fn new_access_check_in(
+    alloc: Global,
+    matches: &ArgMatches,
+) -> Result<Option<Command>, NoMemory>
+    requires { HasNumbers (found_of matches.now) }
+    ensures value { IfOk result (λ c. option_map asked_in c
+        ≡ new_access_check_of (rows_of (found_of matches.now))) }
+    ensures within { IfOk result (λ c. IfSome c IsInRange) }
+{
+    match summary_check_asked(alloc, matches)? {
+        Some(check) => Ok(Some(Command::CheckNewAccess(CheckNewAccessArguments {
+            check,
+            second: name_at(alloc, matches, "second")?,
+        }))),
+        None => Ok(None),
     }
 }

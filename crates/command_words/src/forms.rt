@@ -2,8 +2,8 @@
 ghost use Rattle.std.specs.Prelude.{◌≡◌, ◌≤◌, false, fold, map, IfOk};
 ghost use Rattle.clap.specs.Words.{app_of, rule_of, with_rule};
 ghost use Rattle.command_words.specs.Arguments.{argument_rule};
-ghost use Rattle.command_words.specs.Forms.{amount_rule, check_form, check_summary_form, compare_form, emit_form, eval_form};
-ghost use Rattle.command_words.specs.Forms.{file_rule, flag_rule, idle_form, load_form, name_rule, names_rule, number_rule};
+ghost use Rattle.command_words.specs.Forms.{amount_rule, check_form, check_new_access_form, check_summary_form, compare_form, emit_form, eval_form};
+ghost use Rattle.command_words.specs.Forms.{file_rule, flag_rule, idle_form, load_form, name_rule, names_rule, new_access_form, number_rule};
 ghost use Rattle.command_words.specs.Forms.{numbers_up_to, reach_form, summary_form};
 ghost use Rattle.command_words.specs.Named.{named_command};
 
@@ -258,6 +258,40 @@ fn check_summary_form<'a>(alloc: Global) -> Result<Command<'a>, NoMemory>
     with_arguments(alloc, Command::new(alloc, "check-summary"), &arguments)
 }
 
+// `new-access FIRST SECOND DIMENSION.. [--schema FILE] [--splits N] [--states N] [--findings N] [--proof]`.
+#[tactic(auto, unfolding(crate::specs::Forms::new_access_form))]
+fn new_access_form<'a>(alloc: Global) -> Result<Command<'a>, NoMemory>
+    ensures { IfOk result (λ c. app_of c ≡ new_access_form) }
+{
+    let arguments = [
+        Argument::Name("set"),
+        Argument::Name("second"),
+        Argument::Names("dimension"),
+        Argument::File("schema"),
+        Argument::Number("splits", MOST_SPLITS),
+        Argument::Number("states", MOST_STATES),
+        Argument::Number("findings", MOST_FINDINGS),
+        Argument::Flag("proof"),
+    ];
+    with_arguments(alloc, Command::new(alloc, "new-access"), &arguments)
+}
+
+// `check-new-access FIRST SECOND PROOF DIMENSION.. [--schema FILE] [--states N]`.
+#[tactic(auto, unfolding(crate::specs::Forms::check_new_access_form))]
+fn check_new_access_form<'a>(alloc: Global) -> Result<Command<'a>, NoMemory>
+    ensures { IfOk result (λ c. app_of c ≡ check_new_access_form) }
+{
+    let arguments = [
+        Argument::Name("set"),
+        Argument::Name("second"),
+        Argument::Name("proof"),
+        Argument::Names("dimension"),
+        Argument::File("schema"),
+        Argument::Number("states", MOST_STATES),
+    ];
+    with_arguments(alloc, Command::new(alloc, "check-new-access"), &arguments)
+}
+
 /// The form of the command of the name.
 pub(crate) fn command_form<'a>(alloc: Global, name: CommandName) -> Result<Command<'a>, NoMemory>
     ensures { IfOk result (λ c. app_of c ≡ (named_command name).form) }
@@ -272,5 +306,7 @@ pub(crate) fn command_form<'a>(alloc: Global, name: CommandName) -> Result<Comma
         CommandName::Reach => reach_form(alloc),
         CommandName::Emit => emit_form(alloc),
         CommandName::CheckSummary => check_summary_form(alloc),
+        CommandName::NewAccess => new_access_form(alloc),
+        CommandName::CheckNewAccess => check_new_access_form(alloc),
     }
 }

@@ -14,8 +14,9 @@ mod reading;
 mod uses;
 
 pub use asked::{
-    CheckArguments, CheckSummaryArguments, Command, CompareArguments, EvalArguments, FileNames,
-    FindingArguments, IdleArguments, ReachArguments, SummaryArguments,
+    CheckArguments, CheckNewAccessArguments, CheckSummaryArguments, Command, CompareArguments,
+    EvalArguments, FileNames, FindingArguments, IdleArguments, NewAccessArguments, ReachArguments,
+    SummaryArguments,
 };
 pub use limits::{
     DEFAULT_FINDINGS, DEFAULT_SPLITS, DEFAULT_STATES, MOST_DIMENSIONS, MOST_FINDINGS, MOST_KEYS,

@@ -15,6 +15,8 @@ pub(crate) enum CommandName {
     Reach,
     Emit,
     CheckSummary,
+    NewAccess,
+    CheckNewAccess,
 }
 
 /// The command that the first word names, by its exact text, if it names one.
@@ -31,6 +33,8 @@ pub(crate) fn command_named(word: &str) -> Option<CommandName>
         "reach" => Some(CommandName::Reach),
         "emit" => Some(CommandName::Emit),
         "check-summary" => Some(CommandName::CheckSummary),
+        "new-access" => Some(CommandName::NewAccess),
+        "check-new-access" => Some(CommandName::CheckNewAccess),
         _ => None,
     }
 }

@@ -1,17 +1,19 @@
 //! The words of a command line, read.
-ghost use Rattle.std.specs.Prelude.{◌≡◌, ◌≤◌, codes, IfOk, IfSome, option_and_then, option_map};
+ghost use Rattle.std.specs.Prelude.{◌≡◌, ◌≤◌, IfOk, IfSome, option_and_then, option_map};
 ghost use Rattle.clap.specs.Words.{found_of, rows_of};
 ghost use Rattle.command_words.specs.Asked.{HasNumbersInRange, IsInRange};
 ghost use Rattle.command_words.specs.Asked.{CheckCommand, CompareCommand, LoadCommand, EvalCommand};
-ghost use Rattle.command_words.specs.Asked.{asked_by, asked_in, asked_of, check_of, checking_in};
+ghost use Rattle.command_words.specs.Asked.{asked_by, asked_by_form, asked_in, asked_of, check_of, checking_in};
 ghost use Rattle.command_words.specs.Asked.{command_of, comparing_in, comparison_of};
 ghost use Rattle.command_words.specs.Asked.{evaluating_in, evaluation_of, load_of, names_in, pair_names};
 ghost use Rattle.command_words.specs.Asked.{texts_in};
-ghost use Rattle.command_words.specs.Named.{HasNumbersOf, named_command};
-ghost use Rattle.command_words.specs.Parsing.{HasNumberUpTo};
+ghost use Rattle.command_words.specs.Named.{named_command};
+ghost use Rattle.command_words.specs.Parsing.{HasNumbers};
 
 use crate::asked::{CheckArguments, Command, CompareArguments, EvalArguments, FileNames};
-use crate::findings::{emission_in, reach_in, summary_check_in, summary_in};
+use crate::findings::{
+    emission_in, new_access_check_in, new_access_in, reach_in, summary_check_in, summary_in,
+};
 use crate::forms::command_form;
 use crate::limits::{DEFAULT_SPLITS, DEFAULT_STATES, MOST_KEYS, MOST_SPLITS, MOST_STATES};
 use crate::names::{CommandName, command_named};
@@ -33,8 +35,7 @@ fn names_in(alloc: Global, matches: &ArgMatches) -> Result<FileNames, NoMemory>
 
 // What the matches of `compare` ask.
 fn comparison_in(alloc: Global, matches: &ArgMatches) -> Result<CompareArguments, NoMemory>
-    requires splits { HasNumberUpTo (found_of matches.now) (codes "splits") MOST_SPLITS }
-    requires states { HasNumberUpTo (found_of matches.now) (codes "states") MOST_STATES }
+    requires { HasNumbers (found_of matches.now) }
     ensures value { IfOk result (λ c. CompareCommand (comparing_in c)
         ≡ comparison_of (rows_of (found_of matches.now))) }
     ensures within { IfOk result HasNumbersInRange }
@@ -72,7 +73,7 @@ fn evaluation_in(alloc: Global, matches: &ArgMatches) -> Result<EvalArguments, N
 
 // The number of keys in the matches of `load`.
 fn load_in(matches: &ArgMatches) -> u32
-    requires { HasNumberUpTo (found_of matches.now) (codes "keys") MOST_KEYS }
+    requires { HasNumbers (found_of matches.now) }
     ensures value { LoadCommand result ≡ load_of (rows_of (found_of matches.now)) }
     ensures within { (1 ≤ result) × (result ≤ MOST_KEYS) }
 {
@@ -85,7 +86,7 @@ fn command_in(
     name: CommandName,
     matches: &ArgMatches,
 ) -> Result<Option<Command>, NoMemory>
-    requires { HasNumbersOf name (found_of matches.now) }
+    requires { HasNumbers (found_of matches.now) }
     ensures value { IfOk result (λ c. option_map asked_in c
         ≡ (named_command name).asks (rows_of (found_of matches.now))) }
     ensures within { IfOk result (λ c. IfSome c IsInRange) }
@@ -100,11 +101,49 @@ fn command_in(
         CommandName::Reach => reach_in(alloc, matches),
         CommandName::Emit => emission_in(alloc, matches),
         CommandName::CheckSummary => summary_check_in(alloc, matches),
+        CommandName::NewAccess => new_access_in(alloc, matches),
+        CommandName::CheckNewAccess => new_access_check_in(alloc, matches),
     }
 }
 
-// What the words ask of the command of the name, or none where `clap` refuses them or they ask for no
+// What the words ask by the form of the command of the name, or none where `clap` refuses them or they ask for no
 // findings.
+fn read_form(
+    alloc: Global,
+    name: CommandName,
+    words: &[String],
+) -> Result<Option<Command>, NoMemory>
+    ensures value { IfOk result (λ c. option_map asked_in c
+        ≡ asked_by_form (named_command name) (texts_in words.now)) }
+    ensures within { IfOk result (λ c. IfSome c IsInRange) }
+{
+    match parsed(command_form(alloc, name)?, words)? {
+        Some(matches) => command_in(alloc, name, &matches),
+        None => Ok(None),
+    }
+}
+
+// What is asked by words behind the name that ask nothing by the command's form.
+fn otherwise(name: CommandName) -> Option<Command>
+    ensures value { option_map asked_in result ≡ (named_command name).otherwise }
+    ensures within { IfSome result IsInRange }
+{
+    match name {
+        CommandName::NewAccess => Some(Command::MisusedNewAccess),
+        CommandName::CheckNewAccess => Some(Command::MisusedNewAccess),
+        CommandName::Compare => None,
+        CommandName::Check => None,
+        CommandName::Summary => None,
+        CommandName::Eval => None,
+        CommandName::Load => None,
+        CommandName::Idle => None,
+        CommandName::Reach => None,
+        CommandName::Emit => None,
+        CommandName::CheckSummary => None,
+    }
+}
+
+// What the words ask of the command of the name.
 fn read_named(
     alloc: Global,
     name: CommandName,
@@ -114,9 +153,9 @@ fn read_named(
         ≡ asked_of (named_command name) (texts_in words.now)) }
     ensures within { IfOk result (λ c. IfSome c IsInRange) }
 {
-    match parsed(command_form(alloc, name)?, words)? {
-        Some(matches) => command_in(alloc, name, &matches),
-        None => Ok(None),
+    match read_form(alloc, name, words)? {
+        Some(command) => Ok(Some(command)),
+        None => Ok(otherwise(name)),
     }
 }
 
@@ -135,7 +174,7 @@ fn read_command(alloc: Global, word: &str, words: &[String]) -> Result<Option<Co
 /// What the words after the program's name ask, or none where there are none, where the first is no
 /// command, where `clap` refuses the others, which aren't of the command's form or ask for help, or where
 /// they ask for findings by more than four dimensions, or by two that are equal but for the case of ASCII
-/// letters.
+/// letters. Behind `new-access` and `check-new-access` such words ask how these two are called.
 pub fn read_words(alloc: Global, words: &[String]) -> Result<Option<Command>, NoMemory>
     ensures value { IfOk result (λ c. option_map asked_in c ≡ asked_by words.now) }
     ensures within { IfOk result (λ c. IfSome c IsInRange) }

@@ -1,8 +1,8 @@
 //! The words of the command on the uses of statements, read.
-ghost use Rattle.std.specs.Prelude.{◌≡◌, codes, IfOk};
+ghost use Rattle.std.specs.Prelude.{◌≡◌, IfOk};
 ghost use Rattle.clap.specs.Words.{found_of, rows_of};
 ghost use Rattle.command_words.specs.Asked.{HasUseNumbersInRange, IdleCommand, use_question_in, use_question_of};
-ghost use Rattle.command_words.specs.Parsing.{HasNumberUpTo};
+ghost use Rattle.command_words.specs.Parsing.{HasNumbers};
 
 use crate::asked::IdleArguments;
 use crate::limits::{DEFAULT_SPLITS, DEFAULT_STATES, MOST_SPLITS, MOST_STATES};
@@ -16,8 +16,7 @@ pub(crate) fn use_question_in(
     alloc: Global,
     matches: &ArgMatches,
 ) -> Result<IdleArguments, NoMemory>
-    requires splits { HasNumberUpTo (found_of matches.now) (codes "splits") MOST_SPLITS }
-    requires states { HasNumberUpTo (found_of matches.now) (codes "states") MOST_STATES }
+    requires { HasNumbers (found_of matches.now) }
     ensures value { IfOk result (λ u. IdleCommand (use_question_in u)
         ≡ use_question_of (rows_of (found_of matches.now))) }
     ensures within { IfOk result HasUseNumbersInRange }

@@ -9,15 +9,13 @@ use policy_compile::Query;
 use query_reduction::reduced;
 use request_json::written_requests_are_read_again;
 use run_inputs::Pair;
-use staged_search::decide_in_stages;
+use staged_search::{FEW_SPLITS, decide_in_stages};
 use std::alloc::{AllocError, Global};
 use tree_search::Budgets;
 
-// A budget of so many splits or fewer is spent on the whole query alone: whoever names it counts the splits of that.
-const FEW_SPLITS: u32 = 100;
-
 /// The answer, where the reduced query of the pair is decided. Of what both sets say alike nothing is left in it, so
-/// it is most often as small as the change between them. Within few splits nothing is answered.
+/// it is most often as small as the change between them. A budget of few splits is spent on the whole query alone:
+/// whoever names it counts the splits of that.
 pub(crate) fn reduced_answer(
     alloc: Global,
     pair: &Pair,

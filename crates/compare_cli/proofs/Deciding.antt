@@ -1,7 +1,7 @@
 -- What is printed has a status of a text, and over accepted files without faults one of an answer of the command.
 use Rattle.std.proofs.Common.{◌≡◌, ◌⊎◌, ◌∙◌, ℕ, List, [], Bool, true, false, Option, None, Some, ap, inl, inr, refl, subst, sym}
 use Rattle.command_words.specs.Asked.{Asked, Summarising, CheckCommand, CompareCommand, LoadCommand, ReachCommand, SummaryCommand, CheckSummaryCommand}
-use Rattle.command_words.specs.Asked.{IdleCommand, EmitCommand, EvalCommand}
+use Rattle.command_words.specs.Asked.{IdleCommand, EmitCommand, EvalCommand, NewAccessCommand, CheckNewAccessCommand, NewAccessUsage}
 use Rattle.pol_outside.specs.Faults.{Rose}
 use Rattle.pol_outside.specs.Folder.{Files}
 use Rattle.run_inputs.specs.declared.printed.Printed.{Printed}
@@ -21,6 +21,7 @@ use Rattle.reach_answers.specs.ReachPrinted.{ReachContents, reach_contents}
 use Rattle.reach_answers.proofs.Laws.{reach_of_text, reaches_decide}
 use Rattle.emit_answers.proofs.Laws.{emit_of_text, emits_decide}
 use Rattle.certified_summaries.proofs.Laws.{certified_summaries_decide, certified_summary_of_text, summary_check_of_text, summary_checks_decide}
+use Rattle.access_answers.proofs.Laws.{new_access_check_of_text, new_access_checks_decide, new_access_decides, new_access_of_text}
 use Rattle.compare_cli.specs.Commands.{CheckContents, IsSummaryPrintedFrom, MayPrint, IsPrinted, checked_bytes, compared_bytes, evaluated_bytes}
 use Rattle.compare_cli.specs.Commands.{SummaryCheckContents, one_set_bytes, named_files, reached_bytes, summary_checked_bytes}
 use Rattle.compare_cli.specs.Complete.{IsAccepted, IsAcceptedBy, IsDecided, IsSummaryFor}
@@ -44,6 +45,9 @@ may_of_text (IdleCommand u) r p v = idle_of_text u v.contents p v.holds
 may_of_text (ReachCommand s zone) r p v = reach_of_text s v.contents p v.holds
 may_of_text (EmitCommand s) r p v = emit_of_text s v.contents p v.holds
 may_of_text (CheckSummaryCommand k) r p v = summary_check_of_text k v.contents.proof v.contents.set p v.holds
+may_of_text (NewAccessCommand s second certified) r p v = new_access_of_text s certified v.contents p v.holds
+may_of_text (CheckNewAccessCommand k second) r p v = new_access_check_of_text k v.contents.proof v.contents.sets p v.holds
+may_of_text NewAccessUsage r p v = with_status p status.Usage tt v.1
 
 pub printed_of_text : (asked : Option Asked) (r : Reading) (p : Printed) → IsPrinted asked r p → IsOfText p.status
 printed_of_text None r p v = with_status p status.Usage tt v.0.1
@@ -175,6 +179,13 @@ module _ (files : Files) (p : Printed) where
   may_decide (CheckSummaryCommand k) r held d v =
       let both = both_of files (named_files (CheckSummaryCommand k)) summary_checked_bytes summary_checked_once _ _ r.held held d v in
       one_of_two (IsDecided (Some (CheckSummaryCommand k))) status.Holds status.BadProof tt tt p.status (summary_checks_decide k both.contents.proof both.contents.set p both.one both.other)
+  may_decide (NewAccessCommand s second certified) r held d v =
+      let both = both_of files (named_files (NewAccessCommand s second certified)) compared_bytes compared_once _ _ r.held held d v in
+      one_of_two (IsDecided (Some (NewAccessCommand s second certified))) status.Holds status.Fails tt tt p.status (new_access_decides s certified both.contents p both.one both.other)
+  may_decide (CheckNewAccessCommand k second) r held d v =
+      let both = both_of files (named_files (CheckNewAccessCommand k second)) checked_bytes checked_once _ _ r.held held d v in
+      one_of_two (IsDecided (Some (CheckNewAccessCommand k second))) status.Holds status.BadProof tt tt p.status (new_access_checks_decide k both.contents.proof both.contents.sets p both.one both.other)
+  may_decide NewAccessUsage r held d v = absurd d
 
   fails_not : (asked : Asked) (r : Reading) → r.held ≡ Some files → IsAcceptedBy (Some files) asked → ¬ Rose r.faults_before r.faults → FilesFail (named_files asked) r p → ⊥
   fails_not (CompareCommand c) r held d calm failing = none_fails r files (named_files (CompareCommand c)) (compared_bytes d.contents) p held d.read calm failing
@@ -186,6 +197,9 @@ module _ (files : Files) (p : Printed) where
   fails_not (ReachCommand s zone) r held d calm failing = none_fails r files (named_files (ReachCommand s zone)) (reached_bytes d.contents) p held d.read calm failing
   fails_not (EmitCommand s) r held d calm failing = none_fails r files (named_files (EmitCommand s)) (one_set_bytes d.contents) p held d.read calm failing
   fails_not (CheckSummaryCommand k) r held d calm failing = none_fails r files (named_files (CheckSummaryCommand k)) (summary_checked_bytes d.contents) p held d.read calm failing
+  fails_not (NewAccessCommand s second certified) r held d calm failing = none_fails r files (named_files (NewAccessCommand s second certified)) (compared_bytes d.contents) p held d.read calm failing
+  fails_not (CheckNewAccessCommand k second) r held d calm failing = none_fails r files (named_files (CheckNewAccessCommand k second)) (checked_bytes d.contents) p held d.read calm failing
+  fails_not NewAccessUsage r held d calm failing = absurd d
 
 held_decides : (held : Option Files) (asked : Asked) (r : Reading) (p : Printed) → r.held ≡ held → IsPrinted (Some asked) r p → IsAccepted held (Some asked) → ¬ Rose r.faults_before r.faults → IsDecided (Some asked) p.status
 held_decides None asked r p is may accepted calm = absurd accepted

@@ -2,7 +2,7 @@
 use Rattle.std.proofs.Common.{◌≡◌, Option, Some, None, subst, sym}
 use Rattle.std.specs.Prelude.{string_bytes}
 use Rattle.command_words.specs.Asked.{Asked, CheckCommand, CompareCommand, LoadCommand, ReachCommand, SummaryCommand, CheckSummaryCommand, IdleCommand}
-use Rattle.command_words.specs.Asked.{EmitCommand, EvalCommand}
+use Rattle.command_words.specs.Asked.{EmitCommand, EvalCommand, NewAccessCommand, CheckNewAccessCommand, NewAccessUsage}
 use Rattle.pol_outside.specs.Faults.{Rose}
 use Rattle.pol_outside.specs.Sink.{Appends}
 use Rattle.run_inputs.specs.declared.printed.Printed.{Printed}
@@ -72,6 +72,9 @@ without_memory (Some (IdleCommand u)) = tt
 without_memory (Some (ReachCommand s zone)) = tt
 without_memory (Some (EmitCommand s)) = tt
 without_memory (Some (CheckSummaryCommand k)) = tt
+without_memory (Some (NewAccessCommand s second certified)) = tt
+without_memory (Some (CheckNewAccessCommand k second)) = tt
+without_memory (Some NewAccessUsage) = tt
 
 pub decided : (asked : Option Asked) (r : Reading) (w : Writing) (p : Printed) (s : Status) → IsPrinted asked r p → IsWritten p w s
     → IsAccepted r.held asked → ¬ Rose r.faults_before r.faults → ¬ Rose w.faults_before w.faults → IsDecided asked s

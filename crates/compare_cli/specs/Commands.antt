@@ -1,7 +1,7 @@
 -- What may be printed, by what the arguments ask and what the folder holds.
 use Rattle.std.specs.Prelude.{◌⊎◌, ℕ, List, [], ◌∷◌, ◌++◌, Bool, true, false, Option, Some, None, Result, Ok, Err, ⊤, codes}
 use Rattle.command_words.specs.Asked.{Asked, Summarising, CheckCommand, CompareCommand, LoadCommand, ReachCommand, SummaryCommand, CheckSummaryCommand}
-use Rattle.command_words.specs.Asked.{IdleCommand, EmitCommand, EvalCommand}
+use Rattle.command_words.specs.Asked.{IdleCommand, EmitCommand, EvalCommand, NewAccessCommand, CheckNewAccessCommand, NewAccessUsage}
 use Rattle.run_inputs.specs.declared.printed.EarlyEnd.{EarlyEnd}
 use Rattle.run_inputs.specs.declared.printed.EarlyEnd.TheVariants.{Answered, NoMemory}
 use Rattle.run_inputs.specs.declared.printed.Printed.{Printed}
@@ -21,6 +21,8 @@ use Rattle.idle_answers.specs.UsesPrinted.{IsIdlePrinted}
 use Rattle.certified_summaries.specs.Certified.{IsCertifiedSummaryPrinted}
 use Rattle.certified_summaries.specs.Judged.{IsSummaryCheckPrinted}
 use Rattle.load_answers.specs.Loaded.{IsLoadPrinted}
+use Rattle.access_answers.specs.NewAccessChecked.{IsNewAccessCheckPrinted}
+use Rattle.access_answers.specs.NewAccessPrinted.{IsNewAccessPrinted}
 
 -- ---- the files of a command
 
@@ -36,13 +38,17 @@ named_files (IdleCommand u) = file set_file u.set ∷ if_named schema_file u.sch
 named_files (ReachCommand s zone) = file set_file s.set ∷ file Zone zone ∷ if_named schema_file s.schema
 named_files (EmitCommand s) = file set_file s.set ∷ if_named schema_file s.schema
 named_files (CheckSummaryCommand k) = file set_file k.set ∷ file Proof k.proof ∷ if_named schema_file k.schema
+named_files (NewAccessCommand s second certified) = file First s.set ∷ file Second second ∷ if_named schema_file s.schema
+named_files (CheckNewAccessCommand k second) =
+    file First k.set ∷ file Second second ∷ file Proof k.proof ∷ if_named schema_file k.schema
+named_files NewAccessUsage = []
 
 -- the files that the arguments name
 abbrev pub files_named : Option Asked → List FileName
 files_named None = []
 files_named (Some asked) = named_files asked
 
--- the bytes of a check's files: of the two sets and the schema, and of the certificate
+-- the bytes of a check's files: of the two sets and the schema, and of the certificate, or of the file that is checked
 pub record CheckContents : Type 0 where
   pub sets : Contents
   pub proof : List ℕ
@@ -73,6 +79,15 @@ summary_checked_bytes c = c.set.set ∷ c.proof ∷ if_given c.set.schema
 
 -- ---- what may be printed
 
+-- the line that says how the program is called, and that of the two commands on new access
+abbrev pub usage_line : List ℕ
+usage_line =
+    codes "usage: compare FIRST SECOND | summary SET DIMENSION.. | check FIRST SECOND PROOF | eval SET REQUEST | load N "
+    ++ codes "| idle SET | reach SET ZONE DIMENSION.. | emit SET DIMENSION.. | check-summary SET PROOF DIMENSION..\n"
+
+abbrev pub new_access_usage_line : List ℕ
+new_access_usage_line = codes "usage: new-access FIRST SECOND DIMENSION.. | check-new-access FIRST SECOND PROOF DIMENSION..\n"
+
 -- to a summary: with a certificate behind it, where one is asked for
 abbrev pub IsSummaryPrintedFrom : Summarising → Bool → SetContents → Printed → Type 0
 IsSummaryPrintedFrom s true c p = IsCertifiedSummaryPrinted s c p
@@ -91,12 +106,11 @@ MayPrint (ReachCommand s zone) r p = OfReadFiles r.held (named_files (ReachComma
 MayPrint (EmitCommand s) r p = OfReadFiles r.held (named_files (EmitCommand s)) one_set_bytes (λ f. IsEmitPrinted s f p)
 MayPrint (CheckSummaryCommand k) r p =
     OfReadFiles r.held (named_files (CheckSummaryCommand k)) summary_checked_bytes (λ f. IsSummaryCheckPrinted k f.proof f.set p)
-
--- the line that says how the program is called
-abbrev pub usage_line : List ℕ
-usage_line =
-    codes "usage: compare FIRST SECOND | summary SET DIMENSION.. | check FIRST SECOND PROOF | eval SET REQUEST | load N "
-    ++ codes "| idle SET | reach SET ZONE DIMENSION.. | emit SET DIMENSION.. | check-summary SET PROOF DIMENSION..\n"
+MayPrint (NewAccessCommand s second certified) r p =
+    OfReadFiles r.held (named_files (NewAccessCommand s second certified)) compared_bytes (λ f. IsNewAccessPrinted s certified f p)
+MayPrint (CheckNewAccessCommand k second) r p =
+    OfReadFiles r.held (named_files (CheckNewAccessCommand k second)) checked_bytes (λ f. IsNewAccessCheckPrinted k f.proof f.sets p)
+MayPrint NewAccessUsage r p = PrintsText new_access_usage_line Usage p
 
 -- the usage line, exactly where the arguments ask for nothing; what is printed of the first file that fails; or what the command may
 -- print, and the folder was asked for the command's files and wasn't failed at any
@@ -110,8 +124,9 @@ IsCommandEnd asked r (Ok p) = IsPrinted asked r p
 IsCommandEnd asked r (Err (Answered p)) = IsPrinted asked r p
 IsCommandEnd asked r (Err NoMemory) = IsStopped (files_named asked) r
 
--- the arguments name no file: they ask for nothing, or for a load
+-- the arguments name no file: they ask for nothing, for how two commands are called, or for a load
 abbrev pub NameNoFile : Option Asked → Type 0
 NameNoFile None = ⊤
+NameNoFile (Some NewAccessUsage) = ⊤
 NameNoFile (Some (LoadCommand keys)) = ⊤
 NameNoFile (Some _) = ⊥

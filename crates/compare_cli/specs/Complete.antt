@@ -1,28 +1,28 @@
 -- When an answer of the command must come.
 use Rattle.std.specs.Prelude.{Bool, true, false, Option, Some, None, ⊤}
 use Rattle.command_words.specs.Asked.{Asked, Summarising, CheckCommand, CompareCommand, LoadCommand, ReachCommand, SummaryCommand, CheckSummaryCommand}
-use Rattle.command_words.specs.Asked.{IdleCommand, EmitCommand, EvalCommand}
+use Rattle.command_words.specs.Asked.{IdleCommand, EmitCommand, EvalCommand, NewAccessCommand, CheckNewAccessCommand, NewAccessUsage}
 use Rattle.pol_outside.specs.Folder.{Files}
 use Rattle.run_inputs.specs.declared.status.Status.{Status}
 use Rattle.run_inputs.specs.declared.status.Status.TheVariants.{Holds, Fails, NoMemory, BadProof}
 use Rattle.run_inputs.specs.Readings.{OfReadFiles}
-use Rattle.run_inputs.specs.OneSets.{SomeOneSet, SetContents}
+use Rattle.run_inputs.specs.OneSets.{SetContents}
 use Rattle.run_inputs.specs.Pairs.{SomePair}
 use Rattle.compare_answers.specs.Complete.{IsDecidable, IsQueriable}
 use Rattle.compare_answers.specs.Printed.{budgets_of}
 use Rattle.eval_answers.specs.Evaluated.{IsEvaluable}
 use Rattle.summary_answers.specs.Complete.{IsSummaryAccepted}
-use Rattle.summary_answers.specs.Printed.{limits_in}
 use Rattle.reach_answers.specs.ReachComplete.{IsReachAccepted}
 use Rattle.emit_answers.specs.EmitComplete.{IsEmitAccepted}
 use Rattle.idle_answers.specs.UsesComplete.{IsIdleAccepted}
-use Rattle.certified_summaries.specs.Decides.{IsCertifiable, IsJudgeable}
+use Rattle.certified_summaries.specs.Decides.{IsCertifiedSummaryAccepted, IsSummaryCheckAccepted}
+use Rattle.access_answers.specs.NewAccessComplete.{IsNewAccessAccepted, IsNewAccessCheckAccepted}
 use Rattle.compare_cli.specs.Commands.{checked_bytes, compared_bytes, evaluated_bytes, one_set_bytes, named_files, reached_bytes}
 use Rattle.compare_cli.specs.Commands.{summary_checked_bytes}
 
 -- the files of a summary are accepted, and where a certificate is asked for, its search is within the budgets too
 abbrev pub IsSummaryFor : Summarising → Bool → SetContents → Type 0
-IsSummaryFor s true c = SomeOneSet c.set c.schema (IsCertifiable s.dimensions (limits_in s))
+IsSummaryFor s true c = IsCertifiedSummaryAccepted s c
 IsSummaryFor s false c = IsSummaryAccepted s c
 
 -- the names are those of files that are accepted
@@ -38,7 +38,12 @@ IsAcceptedBy held (IdleCommand u) = OfReadFiles held (named_files (IdleCommand u
 IsAcceptedBy held (ReachCommand s zone) = OfReadFiles held (named_files (ReachCommand s zone)) reached_bytes (IsReachAccepted s)
 IsAcceptedBy held (EmitCommand s) = OfReadFiles held (named_files (EmitCommand s)) one_set_bytes (IsEmitAccepted s)
 IsAcceptedBy held (CheckSummaryCommand k) =
-    OfReadFiles held (named_files (CheckSummaryCommand k)) summary_checked_bytes (λ f. SomeOneSet f.set.set f.set.schema (IsJudgeable k.dimensions k.states f.proof))
+    OfReadFiles held (named_files (CheckSummaryCommand k)) summary_checked_bytes (λ f. IsSummaryCheckAccepted k f.proof f.set)
+IsAcceptedBy held (NewAccessCommand s second certified) =
+    OfReadFiles held (named_files (NewAccessCommand s second certified)) compared_bytes (IsNewAccessAccepted s certified)
+IsAcceptedBy held (CheckNewAccessCommand k second) =
+    OfReadFiles held (named_files (CheckNewAccessCommand k second)) checked_bytes (λ f. IsNewAccessCheckAccepted k f.proof f.sets)
+IsAcceptedBy held NewAccessUsage = ⊥
 
 -- the folder tells what it holds, and the arguments name files that are accepted
 abbrev pub IsAccepted : Option Files → Option Asked → Type 0
@@ -63,5 +68,9 @@ IsDecided (Some (ReachCommand s zone)) Fails = ⊤
 IsDecided (Some (EmitCommand s)) Holds = ⊤
 IsDecided (Some (CheckSummaryCommand k)) Holds = ⊤
 IsDecided (Some (CheckSummaryCommand k)) BadProof = ⊤
+IsDecided (Some (NewAccessCommand s second certified)) Holds = ⊤
+IsDecided (Some (NewAccessCommand s second certified)) Fails = ⊤
+IsDecided (Some (CheckNewAccessCommand k second)) Holds = ⊤
+IsDecided (Some (CheckNewAccessCommand k second)) BadProof = ⊤
 IsDecided asked NoMemory = ⊤
 IsDecided _ _ = ⊥

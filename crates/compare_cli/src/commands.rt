@@ -2,15 +2,20 @@
 ghost use Rattle.std.specs.Prelude.{◌≡◌, ◌≤◌, Some, string_bytes};
 ghost use Rattle.command_words.specs.Asked.{AreFindingsInRange, HasUseNumbersInRange, IsInRange, IsSummaryCheckInRange};
 ghost use Rattle.command_words.specs.Asked.{CheckCommand, CompareCommand, ReachCommand, SummaryCommand, CheckSummaryCommand, IdleCommand, EmitCommand, EvalCommand};
+ghost use Rattle.command_words.specs.Asked.{CheckNewAccessCommand, NewAccessCommand};
 ghost use Rattle.command_words.specs.Asked.{asked_in, checking_in, comparing_in, evaluating_in, summarising_in, summary_check_in, use_question_in};
+ghost use Rattle.run_inputs.specs.Printing.{IfPrinted, PrintsText};
 ghost use Rattle.run_inputs.specs.Readings.{reading_of};
-ghost use Rattle.compare_cli.specs.Commands.{IsCommandEnd, NameNoFile};
+ghost use Rattle.run_inputs.specs.declared.status.Status.TheVariants.{Usage};
+ghost use Rattle.compare_cli.specs.Commands.{IsCommandEnd, NameNoFile, new_access_usage_line};
 
 use crate::files::{read_last, read_named};
+use access_answers::{print_new_access, print_new_access_check};
 use certified_summaries::{print_certified_summary, print_summary_check};
 use command_words::{
-    CheckArguments, CheckSummaryArguments, Command, CompareArguments, EvalArguments,
-    FindingArguments, IdleArguments, ReachArguments, SummaryArguments,
+    CheckArguments, CheckNewAccessArguments, CheckSummaryArguments, Command, CompareArguments,
+    EvalArguments, FindingArguments, IdleArguments, NewAccessArguments, ReachArguments,
+    SummaryArguments,
 };
 use compare_answers::{print_check, print_comparison};
 use emit_answers::print_emit;
@@ -19,7 +24,7 @@ use idle_answers::print_idle;
 use load_answers::print_load;
 use pol_outside::Folder;
 use reach_answers::print_reach;
-use run_inputs::{EarlyEnd, Printed, Role, bytes_of};
+use run_inputs::{EarlyEnd, Printed, Role, Status, bytes_of};
 use std::alloc::Global;
 use summary_answers::print_summary;
 
@@ -222,6 +227,80 @@ fn summary_check<F: Folder>(
     )
 }
 
+// What is printed to the question what a first set newly allows.
+fn new_access<F: Folder>(
+    alloc: Global,
+    folder: &mut F,
+    arguments: &NewAccessArguments,
+) -> Result<Printed, EarlyEnd>
+    requires { AreFindingsInRange arguments.now.summary }
+    ensures prints { IsCommandEnd
+        (Some (NewAccessCommand (summarising_in arguments.now.summary)
+        (string_bytes arguments.now.second) arguments.now.certified))
+        (reading_of F.held F.faults F.last_fault F.asked folder.old folder.new) result }
+    ensures held { F.held folder.new ≡ F.held folder.old }
+    ensures later { F.faults folder.old ≤ F.faults folder.new }
+{
+    let asked = &arguments.summary;
+    let first = read_named(alloc, folder, Role::First, &asked.set)?;
+    let rest = read_last(
+        alloc,
+        folder,
+        Role::Second,
+        &arguments.second,
+        &asked.schema,
+    )?;
+    print_new_access(
+        alloc,
+        first.as_slice(),
+        rest.file.as_slice(),
+        bytes_of(&rest.schema),
+        arguments,
+    )
+}
+
+// What is printed to a check of a certified answer to it.
+fn new_access_check<F: Folder>(
+    alloc: Global,
+    folder: &mut F,
+    arguments: &CheckNewAccessArguments,
+) -> Result<Printed, EarlyEnd>
+    requires { IsSummaryCheckInRange arguments.now.check }
+    ensures prints { IsCommandEnd
+        (Some (CheckNewAccessCommand (summary_check_in arguments.now.check)
+        (string_bytes arguments.now.second)))
+        (reading_of F.held F.faults F.last_fault F.asked folder.old folder.new) result }
+    ensures held { F.held folder.new ≡ F.held folder.old }
+    ensures later { F.faults folder.old ≤ F.faults folder.new }
+{
+    let asked = &arguments.check;
+    let first = read_named(alloc, folder, Role::First, &asked.set)?;
+    let second = read_named(alloc, folder, Role::Second, &arguments.second)?;
+    let rest = read_last(alloc, folder, Role::Proof, &asked.proof, &asked.schema)?;
+    print_new_access_check(
+        alloc,
+        first.as_slice(),
+        second.as_slice(),
+        rest.file.as_slice(),
+        bytes_of(&rest.schema),
+        asked,
+    )
+}
+
+// The line that says how `new-access` and `check-new-access` are called.
+const NEW_ACCESS_USAGE: &str =
+    "usage: new-access FIRST SECOND DIMENSION.. | check-new-access FIRST SECOND PROOF DIMENSION..\n";
+
+// What is printed where one of these is named with words that it doesn't take.
+fn new_access_usage(alloc: Global) -> Result<Printed, EarlyEnd>
+    ensures { IfPrinted result (PrintsText new_access_usage_line Usage) }
+{
+    Ok(Printed {
+        text: String::from_str(alloc, NEW_ACCESS_USAGE)?,
+        status: Status::Usage,
+    })
+}
+
 /// What is printed to a command.
 pub fn print_command<F: Folder>(
     alloc: Global,
@@ -245,5 +324,8 @@ pub fn print_command<F: Folder>(
         Command::Reach(arguments) => reach(alloc, folder, arguments),
         Command::Emit(arguments) => emission(alloc, folder, arguments),
         Command::CheckSummary(arguments) => summary_check(alloc, folder, arguments),
+        Command::NewAccess(arguments) => new_access(alloc, folder, arguments),
+        Command::CheckNewAccess(arguments) => new_access_check(alloc, folder, arguments),
+        Command::MisusedNewAccess => new_access_usage(alloc),
     }
 }

@@ -14,7 +14,7 @@ use pol_outside::{Folder, Sink, put_all};
 use run_inputs::{EarlyEnd, Printed, Status, printed_of};
 use std::alloc::Global;
 
-/// The line that says how the program is called: the form of each command, without options.
+/// The line that says how the program is called: the form of each of the first nine commands, without options.
 pub const USAGE: &str = "usage: compare FIRST SECOND | summary SET DIMENSION.. | \
     check FIRST SECOND PROOF | eval SET REQUEST | load N | idle SET | \
     reach SET ZONE DIMENSION.. | emit SET DIMENSION.. | check-summary SET PROOF DIMENSION..\n";
@@ -68,6 +68,10 @@ fn write<S: Sink>(printed: &Printed, out: &mut S) -> Status
 ///     printed with `--proof` is a certificate that `check` accepts, up to 67,108,864 bytes;
 ///   - `summary`: what was written are exactly the maximal irreducible findings of the set, each with a valid
 ///     request that the set allows and that lies in no finer finding; with `--proof` a certificate behind them;
+///   - `new-access`: there is no finding, and the second set allows each valid request that the first allows; with
+///     `--proof` a certificate behind it;
+///   - `check-new-access`: each newly allowed request lies in a finding of the file that was checked, each of whose
+///     requests is its finding's own, and none of whose findings is finer than another;
 ///   - `check-summary`: each valid request that the set allows lies in a finding of the file that was checked, each
 ///     of whose requests is its finding's own, and none of whose findings is finer than another;
 ///   - `reach`: the set allows no valid request from outside of the zone;
@@ -77,8 +81,10 @@ fn write<S: Sink>(printed: &Printed, out: &mut S) -> Status
 ///     to the two sets.
 ///
 ///   With `Fails` a valid request was written that the first set allows and the second doesn't, whose line is read
-///   again as that request; or requests from outside of the zone, one for each finding; or some statement is idle,
-///   with `--proof` a certificate of it; or `eval`'s set doesn't allow the request. With `BadProof` the line is that
+///   again as that request; or exactly the maximal irreducible findings of what the first set allows and the second
+///   doesn't were written, each with such a request that lies in no finer finding; or requests from outside of the
+///   zone, one for each finding; or some statement is idle, with `--proof` a certificate of it; or `eval`'s set
+///   doesn't allow the request. With `BadProof` the line is that
 ///   of the certificate's or the summary's first fault, or of the first node or finding that fails. A refusal, a
 ///   budget, a fault of reading and the usage line come only by their cause, with their line. With `ReadFault` the
 ///   folder's count of faults rose in this call, with `WriteFault` the sink's. With every answer but `ReadFault`, or
@@ -90,7 +96,7 @@ fn write<S: Sink>(printed: &Printed, out: &mut S) -> Status
 /// - `held`, `reads`, `writes`: what the folder holds stays as it is, and no count of faults falls.
 /// - `complete`: an answer of the command comes under these conditions: files are accepted, the sets have a schema, it
 ///   has the dimensions, there is no fault, and memory isn't wanting. Budgets aren't below the need of the plain runs,
-///   of the predicates and of the findings that must be looked at. With the certificate of a summary the query of its
+///   of the predicates and of the findings that must be looked at. With a certificate of findings the query of their
 ///   cover is within them too; with `emit` there are no more findings than statements of a set.
 pub fn run<F: Folder, S: Sink>(
     alloc: Global,

@@ -3,6 +3,7 @@ use Rattle.std.proofs.Common.{◌≡◌, ◌⊎◌, ◌<◌, ◌≤◌, ℕ, Lis
 use Rattle.std.specs.Prelude.{String, string_bytes}
 use Rattle.std.specs.declared.alloc.Global.{Global}
 use Rattle.std.proofs.lemmas.List.{length-map}
+use Rattle.findings.specs.declared.region.Region.TheVariants.{AllowedBy}
 use Rattle.findings.specs.Laws.{SummariesCover}
 use Rattle.findings.specs.Summaries.{findings_of}
 use Rattle.policy_emit.specs.declared.fault.EmitFault.TheVariants.{TooManyStatements}
@@ -20,8 +21,10 @@ use Rattle.run_inputs.specs.Printing.{PrintsText}
 use Rattle.run_inputs.specs.declared.one_set.OneSet.{OneSet}
 use Rattle.run_inputs.specs.OneSets.{IsOneSetOf, SomeSet, SomeSetRun, one_of}
 use Rattle.summary_answers.specs.declared.answer.Found.{Found}
+use Rattle.summary_answers.specs.declared.subject.Subject.{Subject}
 use Rattle.summary_answers.specs.Found.{IsFoundOf}
-use Rattle.emit_answers.specs.EmitPrinted.{HasNoPolicy, HasPolicy, IsOfFile, IsPolicyPrinted, SaysFindings, many_findings_line, policy_of}
+use Rattle.summary_answers.specs.Subjects.{subject_of_set}
+use Rattle.emit_answers.specs.EmitPrinted.{HasNoPolicy, HasPolicy, IsFoundEmitted, IsOfFile, IsPolicyPrinted, SaysFindings, many_findings_line, policy_of}
 
 -- ---- what is printed of what was found
 
@@ -44,27 +47,34 @@ none-printed schema found many p told = inl (record {
 -- ---- what the policy says
 
 module _ (covers : SummariesCover) (allow : EmittedSetsAllowFindings) (known : EmittedKeysAreKnown) where
-  says-findings : (names : List (List ℕ)) (limits : Limits) (named : Schema) (one : OneSet) (found : Found) → IsFoundOf names limits one found → IsOfFile named one → IsReadAsEmitted one.schema found.strata (findings_of found.summary) (policy_of one.schema found) → SaysFindings named one found (policy_of one.schema found)
+  says-findings : (names : List (List ℕ)) (limits : Limits) (named : Schema) (one : OneSet) (found : Found) → IsFoundOf names limits (subject_of_set one) found → IsOfFile named one → IsReadAsEmitted one.schema found.strata (findings_of found.summary) (policy_of one.schema found) → SaysFindings named one found (policy_of one.schema found)
   says-findings names limits named one found is of read =
       let fs = findings_of found.summary in
-      let from : AreMadeFromFile one.schema found.strata = record { bytes = of.bytes; set = one.set; stands = of.stands; base = is.query; made = is.made } in
+      let from : AreMadeFromFile one.schema found.strata = record { region = AllowedBy one.set; files = record { bytes = of.bytes; stands = of.stands }; base = found.query; made = is.made } in
       record {
         set = emitted_set one.schema found.strata.dimensions fs;
         stands = read from;
-        allows = λ r valid. allow one.schema one.set is.query found.strata fs is.made r valid;
+        allows = λ r valid. allow one.schema one.set found.query found.strata fs is.made r valid;
         covers = λ r valid allowed.
-            (allow one.schema one.set is.query found.strata fs is.made r valid).1
-            (covers one.schema one.set found.strata found.summary (record { base = is.query; made = is.made; is = is.summary }) r valid allowed);
-        runs = known named one.schema one.set is.query found.strata fs of.run is.made;
+            (allow one.schema one.set found.query found.strata fs is.made r valid).1
+            (covers one.schema (AllowedBy one.set) found.strata found.summary (record { base = found.query; made = is.made; is = is.summary }) r valid allowed);
+        runs = known named one.schema one.set found.query found.strata fs of.run is.made;
       }
 
-  pub has-policy : (names : List (List ℕ)) (limits : Limits) (named : Schema) (one : OneSet) (found : Found) → IsFoundOf names limits one found → IsOfFile named one → (p : Printed) → IsPolicyPrinted one.schema found p → HasNoPolicy found p ⊎ HasPolicy named one found p
+  has-policy : (names : List (List ℕ)) (limits : Limits) (named : Schema) (one : OneSet) (found : Found) → IsFoundOf names limits (subject_of_set one) found → IsOfFile named one → (p : Printed) → IsPolicyPrinted one.schema found p → HasNoPolicy found p ⊎ HasPolicy named one found p
   has-policy names limits named one found is of p (inl many) = inl many
   has-policy names limits named one found is of p (inr text) = inr (record {
     few = text.few;
     prints = text.prints;
     says = says-findings names limits named one found is of text.read;
   })
+
+  -- of the subject that is the set's
+  pub emits-found : (names : List (List ℕ)) (limits : Limits) (named : Schema) (subject : Subject) (one : OneSet) (found : Found) → subject ≡ subject_of_set one → IsFoundOf names limits subject found → IsOfFile named one → (p : Printed) → IsPolicyPrinted subject.schema found p → IsFoundEmitted names limits named one p
+  emits-found names limits named subject one found same is of p printed =
+      let own : IsFoundOf names limits (subject_of_set one) found = subst (λ (x : Subject). IsFoundOf names limits x found) same is in
+      let here : IsPolicyPrinted one.schema found p = subst (λ (x : Subject). IsPolicyPrinted x.schema found p) same printed in
+      record { found = found; is = own; emits = has-policy names limits named one found own of p here }
 
 -- ---- files
 

@@ -15,7 +15,8 @@ use Rattle.run_inputs.specs.Refusals.{IsRefusedBy}
 use Rattle.run_inputs.proofs.Laws.{no_one_fails, of_same_set}
 use Rattle.summary_answers.specs.declared.answer.Found.{Found}
 use Rattle.summary_answers.specs.Printed.{limits_in}
-use Rattle.summary_answers.proofs.Laws.{not_found_of_text, summarisable_sets_are_found}
+use Rattle.summary_answers.specs.Subjects.{subject_of_set}
+use Rattle.summary_answers.proofs.Laws.{not_found_of_text, summarisable_subjects_are_found}
 use Rattle.emit_answers.specs.EmitComplete.{EmitsDecide, IsEmittable}
 use Rattle.emit_answers.specs.EmitPrinted.{HasNoPolicy, HasPolicy, IsEmitPrinted, IsSetEmitted}
 
@@ -32,7 +33,7 @@ emits_with named one found p (inl none) = with_status p status.Refused tt none.p
 emits_with named one found p (inr policy) = with_status p status.Holds tt policy.prints.1
 
 set_with : (names : List (List ℕ)) (limits : Limits) (named : Schema) (one : OneSet) (p : Printed) → IsSetEmitted names limits named one p → IsOfText p.status
-set_with names limits named one p (inl none) = not_found_of_text names limits one p none
+set_with names limits named one p (inl none) = not_found_of_text names limits (subject_of_set one) p none
 set_with names limits named one p (inr found) = emits_with named one found.found p found.emits
 
 pub emit_of_text : (e : Summarising) (c : SetContents) (p : Printed) → IsEmitPrinted e c p → IsOfText p.status
@@ -46,7 +47,7 @@ policy_decides named one found p few (inl none) = let many = none.many in absurd
 policy_decides named one found p few (inr policy) = policy.prints.1
 
 set_decides : (names : List (List ℕ)) (limits : Limits) (named : Schema) (one : OneSet) (p : Printed) → IsEmittable names limits one → IsSetEmitted names limits named one p → p.status ≡ status.Holds
-set_decides names limits named one p d (inl none) = absurd (summarisable_sets_are_found names limits one p d.summarisable none)
+set_decides names limits named one p d (inl none) = absurd (summarisable_subjects_are_found names limits (subject_of_set one) p d.summarisable none)
 set_decides names limits named one p d (inr found) = policy_decides named one found.found p (d.few found.found found.is) found.emits
 
 pub emits_decide : EmitsDecide

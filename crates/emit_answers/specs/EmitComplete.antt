@@ -11,12 +11,13 @@ use Rattle.summary_answers.specs.declared.answer.Found.{Found}
 use Rattle.summary_answers.specs.Complete.{IsSummarisable}
 use Rattle.summary_answers.specs.Found.{IsFoundOf}
 use Rattle.summary_answers.specs.Printed.{limits_in}
+use Rattle.summary_answers.specs.Subjects.{subject_of_set}
 use Rattle.emit_answers.specs.EmitPrinted.{IsEmitPrinted}
 
 -- the set is summarised, and its findings are no more than statements may stand in a set
 pub record IsEmittable (names : List (List ℕ)) (limits : Limits) (one : OneSet) : Type 0 where
-  pub summarisable : IsSummarisable names limits one
-  pub few : (found : Found) → IsFoundOf names limits one found → length found.summary ≤ MOST_STATEMENTS
+  pub summarisable : IsSummarisable names limits (subject_of_set one)
+  pub few : (found : Found) → IsFoundOf names limits (subject_of_set one) found → length found.summary ≤ MOST_STATEMENTS
 
 -- the files stand for such a set
 abbrev pub IsEmitAccepted : Summarising → SetContents → Type 0

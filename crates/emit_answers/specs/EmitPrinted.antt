@@ -1,5 +1,5 @@
 -- What may be printed where a policy is asked for that is written from the findings of a set.
-use Rattle.std.specs.Prelude.{◌⊎◌, ◌≤◌, ◌<◌, ◌↔◌, ℕ, List, length, codes, Any, None, Result, Ok}
+use Rattle.std.specs.Prelude.{◌≡◌, ◌⊎◌, ◌≤◌, ◌<◌, ◌↔◌, ℕ, List, length, codes, Any, None, Result, Ok}
 use Rattle.command_words.specs.Asked.{Summarising}
 use Rattle.findings.specs.Findings.{LiesInFinding}
 use Rattle.findings.specs.Summaries.{findings_of}
@@ -24,7 +24,9 @@ use Rattle.run_inputs.specs.Refusals.{IsRefusedBy}
 use Rattle.run_inputs.specs.Standing.{StandsFor}
 use Rattle.summary_answers.specs.declared.answer.Found.{Found}
 use Rattle.summary_answers.specs.Found.{IsFoundOf, IsNotFound}
+use Rattle.summary_answers.specs.declared.subject.Subject.{Subject}
 use Rattle.summary_answers.specs.Printed.{limits_in}
+use Rattle.summary_answers.specs.Subjects.{subject_of_set}
 
 -- ---- what a policy says
 
@@ -66,12 +68,12 @@ pub record HasPolicy (named : Schema) (one : OneSet) (found : Found) (p : Printe
 -- of a set with findings: that there are too many, or their policy
 pub record IsFoundEmitted (names : List (List ℕ)) (limits : Limits) (named : Schema) (one : OneSet) (p : Printed) : Type 0 where
   pub found : Found
-  pub is : IsFoundOf names limits one found
+  pub is : IsFoundOf names limits (subject_of_set one) found
   pub emits : HasNoPolicy found p ⊎ HasPolicy named one found p
 
 -- of a set under the schema of its run: why it isn't summarised, or what is printed of its findings
 abbrev pub IsSetEmitted : List (List ℕ) → Limits → Schema → OneSet → Printed → Type 0
-IsSetEmitted names limits named one p = IsNotFound names limits one p ⊎ IsFoundEmitted names limits named one p
+IsSetEmitted names limits named one p = IsNotFound names limits (subject_of_set one) p ⊎ IsFoundEmitted names limits named one p
 
 -- of files: why they stand for no set, or what is printed of the set that they stand for
 abbrev pub IsEmitPrinted : Summarising → SetContents → Printed → Type 0
@@ -97,7 +99,8 @@ pub record IsOfFile (named : Schema) (one : OneSet) : Type 0 where
   pub stands : StandsFor bytes one.set
   pub run : IsInferred named one.set None (Ok one.schema)
 
--- as above, whichever keys were named
-abbrev pub EmitsOf : List (List ℕ) → Limits → OneSet → Result Printed EarlyEnd → Type 0
-EmitsOf names limits one result =
-    (named : Schema) → IsOfFile named one → IfPrinted result (IsSetEmitted names limits named one)
+-- as above, whichever set is the subject's, and whichever keys were named
+abbrev pub EmitsOf : List (List ℕ) → Limits → Subject → Result Printed EarlyEnd → Type 0
+EmitsOf names limits subject result =
+    (named : Schema) (one : OneSet) → subject ≡ subject_of_set one → IsOfFile named one →
+    IfPrinted result (IsSetEmitted names limits named one)

@@ -9,31 +9,30 @@ use Rattle.formula_tree.specs.declared.value.Three.TheVariants.{No}
 use Rattle.formula_tree.proofs.Laws.{says-no}
 use Rattle.policy_model.specs.declared.request.Request.{Request}
 use Rattle.policy_model.specs.declared.schema.Schema.{Schema}
-use Rattle.policy_model.specs.declared.set.PolicySet.{PolicySet}
 use Rattle.policy_model.specs.declared.test.Test.{Test}
 use Rattle.policy_model.specs.Requests.{IsValid}
-use Rattle.policy_model.specs.Sets.{Allows}
-use Rattle.policy_model.specs.Soundness.{SchemaFits}
 use Rattle.policy_model.specs.Tests.{TestHolds}
 use Rattle.policy_compile.specs.declared.outcome.Query.{Query}
 use Rattle.policy_compile.specs.Meaning.{AnswersAs}
 use Rattle.policy_compile.specs.Queries.{IsQuery}
-use Rattle.policy_compile.specs.Sets.{set_plan}
-use Rattle.policy_compile.proofs.Laws.{holds-numbered, set-holds}
+use Rattle.policy_compile.proofs.Laws.{holds-numbered}
 use Rattle.slot_theory.specs.Possible.{AnswersPath}
 use Rattle.strata.specs.declared.stratum.Strata.{Strata}
 use Rattle.strata.specs.declared.stratum.Stratum.{Stratum}
 use Rattle.findings.specs.declared.known.KnownAnswers.{KnownAnswers}
+use Rattle.findings.specs.declared.region.Region.{Region}
 use Rattle.findings.specs.Findings.{IsFinding, IsIrreducible, LiesInFinding}
 use Rattle.findings.specs.Nobody.{KeepInhabited, KeepsInhabited}
 use Rattle.findings.specs.Queries.{AreMadeFor}
 use Rattle.findings.specs.Steps.{MeetsFiner, predicate_number_at}
 use Rattle.findings.specs.KnownAnswers.{AreOwnAnswers, AreInsideAnswers, ComesFromMet, ComesFromMissed, AreKnownAnswers, IsAnswerTable}
+use Rattle.findings.specs.Regions.{LiesInRegion, RegionFits, region_plan}
 use Rattle.findings.specs.Screening.{HasPlainlyNobody, DropsPlainlyEmpty}
 use Rattle.findings.proofs.Looking.{some-answers}
 use Rattle.findings.proofs.Lying.{finer-at, lies-at}
 use Rattle.findings.proofs.Made.{made-steps}
 use Rattle.findings.proofs.Orders.{lies-finer, under-finding, under-finer}
+use Rattle.findings.proofs.Regions.{region-holds}
 use Rattle.findings.proofs.Stepping.{finding-long}
 
 -- ---- answers of the finding's requests
@@ -83,33 +82,33 @@ completed-as r tests path answers gives say n t at = by (answer_of path n) refl
     by (Some b) e = subst (λ (o : Option Bool). IsTrue (unwrap_or o (answers n)) ↔ TestHolds r t) (sym e) (known-as b (gives n b t e at))
 
 -- the set doesn't allow the request
-barred : (schema : Schema) (set : PolicySet) (base : Query) (path : Answers) → SchemaFits schema set → IsQuery (set_plan schema set) base → value path (tree_of base.formula.value) ≡ No →
-    (r : Request) → IsValid schema r → AnswersPath base.tests path r → Allows schema set r → ⊥
-barred schema set base path fits query no_ r valid gives allowed =
+barred : (schema : Schema) (region : Region) (base : Query) (path : Answers) → RegionFits schema region → IsQuery (region_plan schema region) base → value path (tree_of base.formula.value) ≡ No →
+    (r : Request) → IsValid schema r → AnswersPath base.tests path r → LiesInRegion schema region r → ⊥
+barred schema region base path fits query no_ r valid gives allowed =
     some-answers r base.tests (λ answers say. (
     let total = completed path answers in
     let gave = completed-as r base.tests path answers gives say in
     let fails = says-no path (tree_of base.formula.value) total (completes path answers) no_ in
-    let plan = (set-holds schema r set fits valid).1 allowed in
-    let holds_ = (holds-numbered total r base.tests gave (set_plan schema set) (tree_of base.formula.value) query.tree).1 plan in
+    let plan = (region-holds schema r region fits valid).1 allowed in
+    let holds_ = (holds-numbered total r base.tests gave (region_plan schema region) (tree_of base.formula.value) query.tree).1 plan in
     absurd (cc)))
 
 pub plainly-nobody : (base : Query) (known : KnownAnswers) (f : List ℕ) (path : Answers) → AreInsideAnswers known f path → value path (tree_of base.formula.value) ≡ No → HasPlainlyNobody base known f
-plainly-nobody base known f path are no_ schema set strata made table is r valid allowed lies =
-    barred schema set base path made.fits made.query no_ r valid (met-says schema base.tests strata.dimensions known f is r valid path table are lies) allowed
+plainly-nobody base known f path are no_ schema region strata made table is r valid allowed lies =
+    barred schema region base path made.fits made.query no_ r valid (met-says schema base.tests strata.dimensions known f is r valid path table are lies) allowed
 
 -- no request is the finding's own
-pub plainly-reducible : (schema : Schema) (set : PolicySet) (base : Query) (strata : Strata) (known : KnownAnswers) (f : List ℕ) (path : Answers) → AreMadeFor schema set base strata → AreKnownAnswers schema base strata known → IsFinding strata.dimensions f →
-    AreOwnAnswers known strata.dimensions f path → value path (tree_of base.formula.value) ≡ No → ¬ IsIrreducible schema set strata.dimensions f
-plainly-reducible schema set base strata known f path made says is are no_ irreducible =
+pub plainly-reducible : (schema : Schema) (region : Region) (base : Query) (strata : Strata) (known : KnownAnswers) (f : List ℕ) (path : Answers) → AreMadeFor schema region base strata → AreKnownAnswers schema base strata known → IsFinding strata.dimensions f →
+    AreOwnAnswers known strata.dimensions f path → value path (tree_of base.formula.value) ≡ No → ¬ IsIrreducible schema region strata.dimensions f
+plainly-reducible schema region base strata known f path made says is are no_ irreducible =
     let ds = strata.dimensions in
     let r = irreducible.0 in
     let own = irreducible.1 in
-    let steps = made-steps schema set base strata made in
+    let steps = made-steps schema region base strata made in
     let none : ¬ MeetsFiner r ds f = λ meets. (
     let lower = lies-finer schema r ds f own.lies meets in
     own.no_finer lower.finer (under-finding schema ds steps lower.finer f lower.under is) (under-finer schema ds steps lower.finer f lower.under) lower.lies) in
-    barred schema set base path made.fits made.query no_ r own.valid (lying-says schema base.tests ds known f is r own.valid path says.met says.missed are own.lies none) own.allowed
+    barred schema region base path made.fits made.query no_ r own.valid (lying-says schema base.tests ds known f is r own.valid path says.met says.missed are own.lies none) own.allowed
 
 -- ---- which findings are kept
 
@@ -142,15 +141,15 @@ module _ (base : Query) (known : KnownAnswers) where
   }))
 
 -- those that are kept of those that were kept
-pub both-kept : (schema : Schema) (set : PolicySet) (base : Query) (strata : Strata) (known : KnownAnswers) (fs few kept : List (List ℕ)) → AreMadeFor schema set base strata → AreKnownAnswers schema base strata known → All (IsFinding strata.dimensions) fs →
-    DropsPlainlyEmpty base known fs few → KeepInhabited schema base strata few kept → KeepsInhabited schema set strata.dimensions fs kept
-both-kept schema set base strata known fs few kept made says are plainly inhabited =
-    let more = inhabited set made in
+pub both-kept : (schema : Schema) (region : Region) (base : Query) (strata : Strata) (known : KnownAnswers) (fs few kept : List (List ℕ)) → AreMadeFor schema region base strata → AreKnownAnswers schema base strata known → All (IsFinding strata.dimensions) fs →
+    DropsPlainlyEmpty base known fs few → KeepInhabited schema base strata few kept → KeepsInhabited schema region strata.dimensions fs kept
+both-kept schema region base strata known fs few kept made says are plainly inhabited =
+    let more = inhabited region made in
     record {
       only = λ f h. plainly.only f (more.only f h);
       others = λ f h. elim (plainly.others f h) [
         | inl there ↦ more.others f there
-        | inr nobody ↦ inr (nobody schema set strata made says.met (All-contains (IsFinding strata.dimensions) fs f are h))
+        | inr nobody ↦ inr (nobody schema region strata made says.met (All-contains (IsFinding strata.dimensions) fs f are h))
       ];
     }
 

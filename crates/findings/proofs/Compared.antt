@@ -18,7 +18,7 @@ use Rattle.strata.specs.declared.stratum.Stratum.{Stratum}
 use Rattle.strata.specs.Covers.{IsBelowAt}
 use Rattle.strata.specs.Strata.{AnswersOrderOf, IsStratum}
 use Rattle.findings.specs.Findings.{IsFiner, IsFinding}
-use Rattle.findings.specs.Judging.{DecidesComparable, DecidesComparedBehind, DecidesFiner, IsApartBetween, IsComparedWith, IsFirstCompared, OfOrder}
+use Rattle.findings.specs.Judging.{DecidesComparable, DecidesComparedBehind, DecidesFiner, IsApartBetween, IsComparedWith, IsFirstCompared, EachOrder}
 use Rattle.findings.specs.StandingSummaries.{AreComparable}
 use Rattle.findings.specs.Steps.{predicate_number_at}
 use Rattle.findings.specs.Summaries.{findings_of}
@@ -136,7 +136,7 @@ same-at pairs i p q first second = cc
 module _ (strata : Strata) (pairs : Pairs) (i : ℕ) (own : List ℕ × Request) (here : slice_get pairs i ≡ Some own) where
   -- none of those behind it and before index n is comparable to it
   abbrev pub ApartBefore : ℕ → Type 0
-  ApartBefore n = OfOrder strata (λ schema. IsApartBetween schema strata.dimensions own.0 pairs i n)
+  ApartBefore n = EachOrder strata (λ schema. IsApartBetween schema strata.dimensions own.0 pairs i n)
 
   pub compared-behind : (j : ℕ) (p : List ℕ × Request) (b : Bool) → slice_get pairs j ≡ Some p → DecidesComparable strata own.0 p.0 b → b ≡ true → DecidesComparedBehind strata pairs i true
   compared-behind j p b at told holds schema tests are q there =
@@ -162,7 +162,7 @@ module _ (strata : Strata) (pairs : Pairs) (i : ℕ) (own : List ℕ × Request)
 
 -- none of the first n pairs is comparable to one behind it
 abbrev pub ApartBehind : Strata → Pairs → ℕ → Type 0
-ApartBehind strata pairs n = OfOrder strata (λ schema. (i j : ℕ) (p q : List ℕ × Request) → i < n → i < j → slice_get pairs i ≡ Some p → slice_get pairs j ≡ Some q → ¬ AreComparable schema strata.dimensions p.0 q.0)
+ApartBehind strata pairs n = EachOrder strata (λ schema. (i j : ℕ) (p q : List ℕ × Request) → i < n → i < j → slice_get pairs i ≡ Some p → slice_get pairs j ≡ Some q → ¬ AreComparable schema strata.dimensions p.0 q.0)
 
 other-side : (schema : Schema) (ds : List Stratum) (f g : List ℕ) → AreComparable schema ds f g → AreComparable schema ds g f
 other-side schema ds f g (inl finer) = inr finer

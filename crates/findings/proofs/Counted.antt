@@ -63,11 +63,11 @@ no-more-looked old new n findings most count same = omega (arith, most, count, a
 -- those that were found were looked at
 found-looked : (schema : Schema) (base : Query) (strata : Strata) (w : Walk) → AreMadeUnder schema base strata → HasEnded schema base strata w → All (Contains w.looked.keys) (findings_of (found_by w))
 found-looked schema base strata w made ended =
-    let set = made.0 in
+    let region = made.0 in
     let old = ended.before in
-    let own = (ended.stands set made.1).own in
+    let own = (ended.stands region made.1).own in
     let all : All (Contains old.looked.keys) (findings_of (found_by old)) =
-    All-map (Contains old.looked.keys) (λ (p : List ℕ × Request). p.0) (found_by old) (All-weaker (IsFoundFinding schema set strata.dimensions old.looked.keys) (λ p. Contains old.looked.keys p.0) (λ p h. h.0) (found_by old) own) in
+    All-map (Contains old.looked.keys) (λ (p : List ℕ × Request). p.0) (found_by old) (All-weaker (IsFoundFinding schema region strata.dimensions old.looked.keys) (λ p. Contains old.looked.keys p.0) (λ p h. h.0) (found_by old) own) in
     let found : found_by old ≡ found_by w = sym (ap (map (λ e. (e.0.items, e.1))) ended.same.found) in
     subst (λ (fs : List (List ℕ)). All (Contains fs) (findings_of (found_by w))) (sym ended.same.looked) (subst (λ (ps : List (List ℕ × Request)). All (Contains old.looked.keys) (findings_of ps)) found all)
 

@@ -11,15 +11,13 @@ use Rattle.formula_tree.specs.declared.formula.Formula.TheVariants.{All as AllNo
 use Rattle.formula_tree.specs.Trees.{Tree, of_list, tree_of, trees_of}
 use Rattle.formula_tree.specs.Trees as tree
 use Rattle.policy_model.specs.declared.schema.Schema.{Schema}
-use Rattle.policy_model.specs.declared.set.PolicySet.{PolicySet}
 use Rattle.policy_model.specs.declared.test.Test.{Test}
 use Rattle.policy_model.specs.Soundness.{TestSuits}
 use Rattle.findings.specs.declared.cover.TheConstants.{MOST_COVER_TESTS}
+use Rattle.findings.specs.declared.region.Region.{Region}
 use Rattle.policy_compile.specs.declared.outcome.Query.{Query}
-use Rattle.policy_compile.specs.Laws.{TestsOfSetQueriesSuit}
 use Rattle.policy_compile.specs.Numbering.{Collects, IsNumbered, numbered_all}
 use Rattle.policy_compile.specs.Plans.{Plan, all, of_plans, tests_in, tests_in_each}
-use Rattle.policy_compile.specs.Sets.{set_plan}
 use Rattle.policy_compile.proofs.Laws.{All-collects, below-numbered}
 use Rattle.strata.specs.declared.stratum.Strata.{Strata}
 use Rattle.strata.specs.declared.stratum.Stratum.{Stratum}
@@ -27,9 +25,11 @@ use Rattle.findings.specs.Answers.{QueryIsAskable}
 use Rattle.findings.specs.Asked.{AreAsked, AsksBase, IsAsked}
 use Rattle.findings.specs.CoverQueries.{AsksCover, CoverHasTooMany, IsCoverAsked, IsCoverQuery, cover_plan, lies_plan, outside_plan}
 use Rattle.findings.specs.Queries.{AreMadeFor, own_plans}
-use Rattle.findings.proofs.Made.{all-read, base-suits, made-suits, own-suit}
+use Rattle.findings.specs.Regions.{region_plan}
+use Rattle.findings.proofs.Made.{made-suits, own-suit}
 use Rattle.findings.proofs.Owning.{AllSuit}
 use Rattle.findings.proofs.Plans.{asked-next, asked-none}
+use Rattle.findings.proofs.Regions.{region-suits}
 use Rattle.findings.proofs.Trees.{tree-All}
 
 -- a formula that all of some hold
@@ -84,13 +84,13 @@ cover-suits schema ds suit fs allowed suits =
     let each = tests_in_each (of_plans (map (lies_plan ds) fs)) in
     All-append (TestSuits schema) (tests_in allowed) (each ++ []) suits (All-append (TestSuits schema) each [] (each-lies-suit schema ds suit fs) (All-nil (TestSuits schema)))
 
-pub cover-askable : TestsOfSetQueriesSuit → (schema : Schema) (set : PolicySet) (base : Query) (strata : Strata) → AreMadeFor schema set base strata → (fs : List (List ℕ)) (q : Query) → IsCoverQuery (set_plan schema set) strata.dimensions fs q → QueryIsAskable schema q
-cover-askable law schema set base strata made fs q asks =
-    let plan = cover_plan (set_plan schema set) strata.dimensions fs in
-    let read = all-read (TestSuits schema) [] (tests_in (set_plan schema set)) base.tests made.query.tests (base-suits schema set base strata made law) in
+pub cover-askable : (schema : Schema) (region : Region) (base : Query) (strata : Strata) → AreMadeFor schema region base strata → (fs : List (List ℕ)) (q : Query) → IsCoverQuery (region_plan schema region) strata.dimensions fs q → QueryIsAskable schema q
+cover-askable schema region base strata made fs q asks =
+    let plan = cover_plan (region_plan schema region) strata.dimensions fs in
+    let read = region-suits schema region made.fits in
     record {
       sound = made.sound;
-      suit = All-collects (TestSuits schema) [] (tests_in plan) q.tests asks.tests (All-nil (TestSuits schema)) (cover-suits schema strata.dimensions (made-suits schema set base strata made law) fs (set_plan schema set) read);
+      suit = All-collects (TestSuits schema) [] (tests_in plan) q.tests asks.tests (All-nil (TestSuits schema)) (cover-suits schema strata.dimensions (made-suits schema region base strata made) fs (region_plan schema region) read);
       count = (let few = asks.few in omega (arith, few));
       below = below-numbered q.tests plan (tree_of q.formula.value) asks.tree;
     }

@@ -6,18 +6,18 @@ use Rattle.std.specs.Prelude.{All, AllPairs, Any, Contains, take}
 use Rattle.std.proofs.lemmas.List.Elements.{All-contains, All-head, All-tail, All-take}
 use Rattle.policy_model.specs.declared.request.Request.{Request}
 use Rattle.policy_model.specs.declared.schema.Schema.{Schema}
-use Rattle.policy_model.specs.declared.set.PolicySet.{PolicySet}
 use Rattle.policy_model.specs.declared.test.Slot.{Slot}
 use Rattle.policy_model.specs.declared.test.Test.{Test}
 use Rattle.policy_model.specs.Requests.{IsValid}
-use Rattle.policy_model.specs.Sets.{Allows}
 use Rattle.policy_model.proofs.Laws.{Any-decided}
 use Rattle.slot_theory.specs.Slots.{SlotIsIn}
 use Rattle.strata.specs.declared.stratum.Stratum.{Stratum}
 use Rattle.strata.specs.Covers.{IsApartAt, OrderIsDecided, predicate_at}
 use Rattle.strata.specs.Strata.{IsStratum}
+use Rattle.findings.specs.declared.region.Region.{Region}
 use Rattle.findings.specs.Findings.{HasNoneAbove, IsFiner, IsFinding, IsIrreducible, IsStrictlyFiner, LiesInFinding}
 use Rattle.findings.specs.Laws.{LiesApart, SummariesAreFlat, SummariesAreNeeded, SummariesCover, VisitsAreBounded}
+use Rattle.findings.specs.Regions.{LiesInRegion}
 use Rattle.findings.specs.Summaries.{IsMaximal, IsSummary, MustBeVisited, findings_of}
 use Rattle.findings.specs.Walks.{first_finding}
 use Rattle.findings.proofs.Deciding.{lies-decided}
@@ -28,9 +28,9 @@ use Rattle.findings.proofs.Parts.{meets-other, meets-own, valid-part, with_part}
 -- ---- no finding is finer than another
 
 pub summaries-flat : SummariesAreFlat
-summaries-flat schema set strata summary has f g in_f in_g strict =
-    let first = All-contains (IsMaximal schema set strata.dimensions) (findings_of summary) f has.is.maximal in_f in
-    let second = All-contains (IsMaximal schema set strata.dimensions) (findings_of summary) g has.is.maximal in_g in
+summaries-flat schema region strata summary has f g in_f in_g strict =
+    let first = All-contains (IsMaximal schema region strata.dimensions) (findings_of summary) f has.is.maximal in_f in
+    let second = All-contains (IsMaximal schema region strata.dimensions) (findings_of summary) g has.is.maximal in_g in
     first.none_above g second.finding strict second.irreducible
 
 -- ---- each allowed request lies in some finding
@@ -38,13 +38,13 @@ summaries-flat schema set strata summary has f g in_f in_g strict =
 some-lie : (r : Request) (ds : List Stratum) (fs : List (List ℕ)) (f : List ℕ) → Contains fs f → LiesInFinding r ds f → Any (LiesInFinding r ds) fs
 some-lie r ds fs f h lies = (h.0, f, h.1, h.2, lies)
 
-module _ (schema : Schema) (set : PolicySet) (ds : List Stratum) (steps : AllHaveSteps schema ds) (summary : List (List ℕ × Request)) (is : IsSummary schema set ds summary) (r : Request) (valid : IsValid schema r)
-    (allowed : Allows schema set r) (none : ¬ Any (LiesInFinding r ds) (findings_of summary)) where
+module _ (schema : Schema) (region : Region) (ds : List Stratum) (steps : AllHaveSteps schema ds) (summary : List (List ℕ × Request)) (is : IsSummary schema region ds summary) (r : Request) (valid : IsValid schema r)
+    (allowed : LiesInRegion schema region r) (none : ¬ Any (LiesInFinding r ds) (findings_of summary)) where
   -- an irreducible finding that the request lies in: were it maximal, it would be in the summary
-  no-irreducible : (deep : ℕ) (f : List ℕ) → IsFinding ds f → rank_of schema ds steps f < deep → IsIrreducible schema set ds f → LiesInFinding r ds f → ⊥
+  no-irreducible : (deep : ℕ) (f : List ℕ) → IsFinding ds f → rank_of schema ds steps f < deep → IsIrreducible schema region ds f → LiesInFinding r ds f → ⊥
   no-irreducible zero f is_f few irreducible lies = omega (arith, few)
   no-irreducible (suc deep) f is_f few irreducible lies =
-      let above : HasNoneAbove schema set ds f = λ g is_g strict more.
+      let above : HasNoneAbove schema region ds f = λ g is_g strict more.
       no-irreducible deep g is_g (omega (arith, few, ranks-fall schema ds steps f g is_f is_g strict)) more (lies-above schema r valid ds f g is_f strict.0 lies) in
       none (some-lie r ds (findings_of summary) f (is.all f (record { finding = is_f; irreducible = irreducible; none_above = above })) lies)
 
@@ -60,11 +60,11 @@ module _ (schema : Schema) (set : PolicySet) (ds : List Stratum) (steps : AllHav
   lies-somewhere = lies-nowhere (suc (most_rank ds)) (first_finding ds) (zeros-finding schema ds steps) (omega arith) (lies-first schema r ds steps)
 
 pub summaries-cover : SummariesCover
-summaries-cover schema set strata summary has r valid allowed =
-    let steps = made-steps schema set has.base strata has.made in
+summaries-cover schema region strata summary has r valid allowed =
+    let steps = made-steps schema region has.base strata has.made in
     elim (Any-decided (LiesInFinding r strata.dimensions) (lies-decided r strata.dimensions) (findings_of summary)) [
       | inl some ↦ some
-      | inr none ↦ absurd (lies-somewhere schema set strata.dimensions steps summary has.is r valid allowed none)
+      | inr none ↦ absurd (lies-somewhere schema region strata.dimensions steps summary has.is r valid allowed none)
     ]
 
 -- ---- each finding is needed
@@ -139,9 +139,9 @@ finer-or-apart schema (d ∷ ds) apart decided (n ∷ f) (m ∷ g) is_f is_g q v
     }
 
 pub summaries-needed : SummariesAreNeeded
-summaries-needed schema set strata summary has f g in_f in_g differ =
-    let first = All-contains (IsMaximal schema set strata.dimensions) (findings_of summary) f has.is.maximal in_f in
-    let second = All-contains (IsMaximal schema set strata.dimensions) (findings_of summary) g has.is.maximal in_g in
+summaries-needed schema region strata summary has f g in_f in_g differ =
+    let first = All-contains (IsMaximal schema region strata.dimensions) (findings_of summary) f has.is.maximal in_f in
+    let second = All-contains (IsMaximal schema region strata.dimensions) (findings_of summary) g has.is.maximal in_g in
     let slots = has.made.are.on in
     let apart = are-apart schema strata.dimensions (subst (AllPairs (λ s t. s ≢ t)) (sym slots) has.made.differ) (subst (All (SlotIsIn schema)) (sym slots) has.made.known) in
     let decided = are-decided schema has.base.tests strata.dimensions has.made.are.each in
@@ -161,12 +161,12 @@ take-differ n fs differ i j d less within same =
     differ i j d less (omega (arith, within, long)) (sym first ∙ same ∙ second)
 
 pub visits-bounded : VisitsAreBounded
-visits-bounded schema set strata few many least exact = elim (cases_lt many few) [
+visits-bounded schema region strata few many least exact = elim (cases_lt many few) [
   | inl more ↦ absurd (exact.most (record {
     listed = take (many + 1) least.listed;
     count = (let all = length-take (many + 1) least.listed in omega (arith, all, least.count, more));
     different = take-differ (many + 1) least.listed least.different;
-    each = All-take (MustBeVisited schema set strata.dimensions) (many + 1) least.listed least.each;
+    each = All-take (MustBeVisited schema region strata.dimensions) (many + 1) least.listed least.each;
   }))
   | inr most ↦ most
 ]

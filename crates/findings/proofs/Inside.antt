@@ -11,36 +11,36 @@ use Rattle.formula_tree.specs.declared.formula.Formula.TheVariants.{All as AllNo
 use Rattle.formula_tree.specs.Trees.{Tree, tree_of, trees_of}
 use Rattle.policy_model.specs.declared.request.Request.{Request}
 use Rattle.policy_model.specs.declared.schema.Schema.{Schema}
-use Rattle.policy_model.specs.declared.set.PolicySet.{PolicySet}
 use Rattle.policy_model.specs.declared.test.Test.{Test}
 use Rattle.policy_model.specs.Requests.{IsValid}
-use Rattle.policy_model.specs.Soundness.{SchemaFits, TestSuits}
+use Rattle.policy_model.specs.Soundness.{TestSuits}
 use Rattle.policy_compile.specs.declared.outcome.Query.{Query}
-use Rattle.policy_compile.specs.Laws.{TestsOfSetQueriesSuit}
 use Rattle.policy_compile.specs.Numbering.{Collects, IsNumbered}
 use Rattle.policy_compile.specs.Plans.{Plan, PlanHolds, of_plans, tests_in, tests_in_each}
 use Rattle.policy_compile.specs.Queries.{asked_tree}
-use Rattle.policy_compile.specs.Sets.{set_plan}
-use Rattle.policy_compile.proofs.Laws.{All-collects, below-numbered, holds-numbered, set-holds}
+use Rattle.policy_compile.proofs.Laws.{All-collects, below-numbered, holds-numbered}
 use Rattle.refute_check.specs.Laws.{NoneMeets}
 use Rattle.strata.specs.declared.stratum.Strata.{Strata}
 use Rattle.strata.specs.declared.stratum.Stratum.{Stratum}
 use Rattle.findings.specs.declared.decide.Asked.{Asked}
 use Rattle.findings.specs.declared.decide.Asked.TheVariants as asked
+use Rattle.findings.specs.declared.region.Region.{Region}
 use Rattle.findings.specs.Answers.{AnswersQuery}
 use Rattle.findings.specs.Asked.{AsksBase, IsAsked}
 use Rattle.findings.specs.CoverQueries.{inside_plan, lies_plan}
 use Rattle.findings.specs.Findings.{HasNobody, IsFinding}
 use Rattle.findings.specs.Nobody.{IsAllowedInside, IsInsideAsked, IsInsideQuery, IsPartedBy, KeepInhabited, ShowsNobody, allowed_inside_plan}
 use Rattle.findings.specs.Queries.{AreMadeUnder}
+use Rattle.findings.specs.Regions.{RegionFits, region_plan}
 use Rattle.findings.specs.Steps.{AddUnder}
 use Rattle.findings.proofs.Covered.{all-asked, each-lies-suit}
 use Rattle.findings.proofs.LeftOut.{some-lie-holds}
 use Rattle.findings.proofs.Looking.{some-answers}
-use Rattle.findings.proofs.Made.{all-read, base-suits, made-steps, made-suits}
+use Rattle.findings.proofs.Made.{made-steps, made-suits}
 use Rattle.findings.proofs.Orders.{under-finding}
 use Rattle.findings.proofs.Owning.{AllSuit}
 use Rattle.findings.proofs.Plans.{asked-next, asked-none}
+use Rattle.findings.proofs.Regions.{region-holds, region-suits}
 
 -- that the request lies in one of the findings, and then the set's query
 pub inside-asked : (base : Query) (ds : List Stratum) (fs : List (List ℕ)) (a b c : List Test) (none one : List Tree) (t : Tree) (r : Rc Formula Global) (branches : Branches) (whole : Formula) →
@@ -56,34 +56,34 @@ inside-suits schema ds suit fs allowed suits =
     let each = tests_in_each (of_plans (map (lies_plan ds) fs)) in
     All-append (TestSuits schema) each (tests_in allowed ++ []) (each-lies-suit schema ds suit fs) (All-append (TestSuits schema) (tests_in allowed) [] suits (All-nil (TestSuits schema)))
 
-inside-holds : (schema : Schema) (set : PolicySet) (ds : List Stratum) → SchemaFits schema set → AllSuit schema ds → (fs : List (List ℕ)) → All (IsFinding ds) fs → (r : Request) → IsValid schema r →
-    (PlanHolds r (allowed_inside_plan (set_plan schema set) ds fs) ↔ IsAllowedInside schema set ds fs r)
-inside-holds schema set ds fits suit fs are r valid =
-    let allowed = set-holds schema r set fits valid in
+inside-holds : (schema : Schema) (region : Region) (ds : List Stratum) → RegionFits schema region → AllSuit schema ds → (fs : List (List ℕ)) → All (IsFinding ds) fs → (r : Request) → IsValid schema r →
+    (PlanHolds r (allowed_inside_plan (region_plan schema region) ds fs) ↔ IsAllowedInside schema region ds fs r)
+inside-holds schema region ds fits suit fs are r valid =
+    let allowed = region-holds schema r region fits valid in
     let some = some-lie-holds schema r ds suit fs are in (
       λ h. record { allowed = allowed.0 h.1.0; inside = some.0 h.0 },
       λ h. (some.1 h.inside, (allowed.1 h.allowed, tt)),
     )
 
 -- that formula and the tests are the findings' query
-pub inside-query : TestsOfSetQueriesSuit → (base : Query) (strata : Strata) (fs : List (List ℕ)) → All (IsFinding strata.dimensions) fs → (tests : List Test) (q : Query) → IsInsideAsked base strata.dimensions fs tests (tree_of q.formula.value) → q.tests ≡ tests → length q.tests < 2 ^ 32 →
+pub inside-query : (base : Query) (strata : Strata) (fs : List (List ℕ)) → All (IsFinding strata.dimensions) fs → (tests : List Test) (q : Query) → IsInsideAsked base strata.dimensions fs tests (tree_of q.formula.value) → q.tests ≡ tests → length q.tests < 2 ^ 32 →
     IsInsideQuery base strata fs q
-inside-query law base strata fs are tests q asked is few = record {
-  inside = λ schema set made r answers valid say. (
-      let plan = allowed_inside_plan (set_plan schema set) strata.dimensions fs in
-      let numbered = subst (λ (xs : List Test). IsNumbered xs plan (tree_of q.formula.value)) (sym is) (asked (set_plan schema set) made.query).numbered in
+inside-query base strata fs are tests q asked is few = record {
+  inside = λ schema region made r answers valid say. (
+      let plan = allowed_inside_plan (region_plan schema region) strata.dimensions fs in
+      let numbered = subst (λ (xs : List Test). IsNumbered xs plan (tree_of q.formula.value)) (sym is) (asked (region_plan schema region) made.query).numbered in
       let then = holds-numbered answers r q.tests say plan (tree_of q.formula.value) numbered in
-      let own = inside-holds schema set strata.dimensions made.fits (made-suits schema set base strata made law) fs are r valid in
+      let own = inside-holds schema region strata.dimensions made.fits (made-suits schema region base strata made) fs are r valid in
       (λ h. own.0 (then.0 h), λ h. then.1 (own.1 h)));
-  askable = λ schema set made. (
-      let plan = allowed_inside_plan (set_plan schema set) strata.dimensions fs in
-      let whole = asked (set_plan schema set) made.query in
-      let read = all-read (TestSuits schema) [] (tests_in (set_plan schema set)) base.tests made.query.tests (base-suits schema set base strata made law) in
+  askable = λ schema region made. (
+      let plan = allowed_inside_plan (region_plan schema region) strata.dimensions fs in
+      let whole = asked (region_plan schema region) made.query in
+      let read = region-suits schema region made.fits in
       let collects = subst (λ (xs : List Test). Collects [] (tests_in plan) xs) (sym is) whole.collects in
       let numbered = subst (λ (xs : List Test). IsNumbered xs plan (tree_of q.formula.value)) (sym is) whole.numbered in
       record {
         sound = made.sound;
-        suit = All-collects (TestSuits schema) [] (tests_in plan) q.tests collects (All-nil (TestSuits schema)) (inside-suits schema strata.dimensions (made-suits schema set base strata made law) fs (set_plan schema set) read);
+        suit = All-collects (TestSuits schema) [] (tests_in plan) q.tests collects (All-nil (TestSuits schema)) (inside-suits schema strata.dimensions (made-suits schema region base strata made) fs (region_plan schema region) read);
         count = few;
         below = below-numbered q.tests plan (tree_of q.formula.value) numbered;
       });
@@ -91,25 +91,25 @@ inside-query law base strata fs are tests q asked is few = record {
 
 -- where nobody meets the query, nobody is allowed anything in any of the findings
 pub told-nobody : (schema : Schema) (base : Query) (strata : Strata) (fs : List (List ℕ)) (q : Query) (splits states : ℕ) (answer : Asked) → IsInsideQuery base strata fs q → AnswersQuery schema splits states q answer → ShowsNobody schema base strata fs answer
-told-nobody schema base strata fs q splits states answer query says is set made k d within r valid allowed lies =
+told-nobody schema base strata fs q splits states answer query says is region made k d within r valid allowed lies =
     let none : NoneMeets schema q.tests (asked_tree q) [] = subst (AnswersQuery schema splits states q) is says in
     let there = Contains-get_or fs k d within in
     some-answers r q.tests (λ answers say. none r (record {
       valid = valid;
       answers = λ n b t e at. absurd (cc);
-      meets = (answers, say, (query.inside schema set made r answers valid say).1 (record { allowed = allowed; inside = (there.0, get_or fs k d, there.1, there.2, lies) }));
+      meets = (answers, say, (query.inside schema region made r answers valid say).1 (record { allowed = allowed; inside = (there.0, get_or fs k d, there.1, there.2, lies) }));
     }))
 
 -- ---- which findings are kept
 
 pub all-kept : (schema : Schema) (base : Query) (strata : Strata) (fs : List (List ℕ)) → KeepInhabited schema base strata fs fs
-all-kept schema base strata fs set made = record { only = λ f h. h; others = λ f h. inl h }
+all-kept schema base strata fs region made = record { only = λ f h. h; others = λ f h. inl h }
 
 pub marked-kept : (schema : Schema) (base : Query) (strata : Strata) (fs : List (List ℕ)) (parts : List (List ℕ) × List (List ℕ)) (answer : Asked) → IsPartedBy fs parts → ShowsNobody schema base strata parts.0 answer → answer ≡ asked.Nobody → KeepInhabited schema base strata fs parts.1
-marked-kept schema base strata fs parts answer parted tells is set made = record {
+marked-kept schema base strata fs parts answer parted tells is region made = record {
   only = parted.second;
   others = λ f h. elim (parted.either f h) [
-    | inl there ↦ inr (All-contains (HasNobody schema set strata.dimensions) parts.0 f (tells is set made) there)
+    | inl there ↦ inr (All-contains (HasNobody schema region strata.dimensions) parts.0 f (tells is region made) there)
     | inr marked ↦ inl marked
   ];
 }

@@ -9,8 +9,8 @@ use Rattle.std.proofs.lemmas.Map.Keys.{Less-from_sorted}
 use Rattle.std.proofs.lemmas.Option.{get_or_from_slice_get, slice_get_within}
 use Rattle.policy_model.specs.declared.request.Request.{Request}
 use Rattle.policy_model.specs.declared.schema.Schema.{Schema}
-use Rattle.policy_model.specs.declared.set.PolicySet.{PolicySet}
 use Rattle.strata.specs.declared.stratum.Stratum.{Stratum}
+use Rattle.findings.specs.declared.region.Region.{Region}
 use Rattle.findings.specs.declared.standing.SummaryVerdict.TheVariants.{Stands, Fails}
 use Rattle.findings.specs.CoverLaws.{SummariesStand, SummaryVerdictsAreEqual}
 use Rattle.findings.specs.Findings.{IsOwn}
@@ -19,10 +19,10 @@ use Rattle.findings.specs.Summaries.{findings_of}
 use Rattle.findings.proofs.Covering.{summaries-flat}
 
 pub summaries-stand : SummariesStand
-summaries-stand schema set strata summary has = record {
+summaries-stand schema region strata summary has = record {
   rise = has.is.order;
   own = has.is.own;
-  flat = summaries-flat schema set strata summary has;
+  flat = summaries-flat schema region strata summary has;
 }
 
 -- ---- one verdict
@@ -36,8 +36,8 @@ finding-in [] i p at = absurd (cc)
 finding-in (q ∷ pairs) zero p at = let same : q ≡ p = cc in (0, omega arith, ap (λ (x : List ℕ × Request). x.0) same)
 finding-in (q ∷ pairs) (suc i) p at = let rest = finding-in pairs i p at in (suc rest.0, omega (arith, rest.1), rest.2)
 
-own-at : (schema : Schema) (set : PolicySet) (ds : List Stratum) (pairs : Pairs) (i : ℕ) (p : List ℕ × Request) → All (λ x. IsOwn schema set ds x.0 x.1) pairs → slice_get pairs i ≡ Some p → IsOwn schema set ds p.0 p.1
-own-at schema set ds pairs i p all at = subst (λ (x : List ℕ × Request). IsOwn schema set ds x.0 x.1) (get_or_from_slice_get pairs i p p at) (all i p (slice_get_within pairs i p at))
+own-at : (schema : Schema) (region : Region) (ds : List Stratum) (pairs : Pairs) (i : ℕ) (p : List ℕ × Request) → All (λ x. IsOwn schema region ds x.0 x.1) pairs → slice_get pairs i ≡ Some p → IsOwn schema region ds p.0 p.1
+own-at schema region ds pairs i p all at = subst (λ (x : List ℕ × Request). IsOwn schema region ds x.0 x.1) (get_or_from_slice_get pairs i p p at) (all i p (slice_get_within pairs i p at))
 
 finding-read : (pairs : Pairs) (i : ℕ) (d : List ℕ) (p : List ℕ × Request) → slice_get pairs i ≡ Some p → get_or (findings_of pairs) i d ≡ p.0
 finding-read [] i d p at = absurd (cc)
@@ -45,9 +45,9 @@ finding-read (q ∷ pairs) zero d p at = let same : q ≡ p = cc in ap (λ (x : 
 finding-read (q ∷ pairs) (suc i) d p at = finding-read pairs i d p at
 
 -- a list that stands has no failing pair
-pub standing-fails-nowhere : (schema : Schema) (set : PolicySet) (ds : List Stratum) (pairs : Pairs) (i : ℕ) → SummaryStands schema set ds pairs → IsFailingPair schema set ds pairs i → ⊥
-standing-fails-nowhere schema set ds pairs i stands fails = elim fails.fault [
-  | inl foreign ↦ foreign (own-at schema set ds pairs i fails.pair stands.own fails.at)
+pub standing-fails-nowhere : (schema : Schema) (region : Region) (ds : List Stratum) (pairs : Pairs) (i : ℕ) → SummaryStands schema region ds pairs → IsFailingPair schema region ds pairs i → ⊥
+standing-fails-nowhere schema region ds pairs i stands fails = elim fails.fault [
+  | inl foreign ↦ foreign (own-at schema region ds pairs i fails.pair stands.own fails.at)
   | inr other ↦ elim other [
     | inl falls ↦ (
         let within = slice_get_within pairs i fails.pair fails.at in
@@ -67,10 +67,10 @@ standing-fails-nowhere schema set ds pairs i stands fails = elim fails.fault [
 ]
 
 pub verdicts-equal : SummaryVerdictsAreEqual
-verdicts-equal schema set strata pairs Stands Stands one other = refl
-verdicts-equal schema set strata pairs Stands (Fails n) one other = absurd (standing-fails-nowhere schema set strata.dimensions pairs n one other.failing)
-verdicts-equal schema set strata pairs (Fails m) Stands one other = absurd (standing-fails-nowhere schema set strata.dimensions pairs m other one.failing)
-verdicts-equal schema set strata pairs (Fails m) (Fails n) one other = elim (cases_lt m n) [
+verdicts-equal schema region strata pairs Stands Stands one other = refl
+verdicts-equal schema region strata pairs Stands (Fails n) one other = absurd (standing-fails-nowhere schema region strata.dimensions pairs n one other.failing)
+verdicts-equal schema region strata pairs (Fails m) Stands one other = absurd (standing-fails-nowhere schema region strata.dimensions pairs m other one.failing)
+verdicts-equal schema region strata pairs (Fails m) (Fails n) one other = elim (cases_lt m n) [
   | inl lower ↦ absurd (other.first m lower one.failing)
   | inr upper ↦ elim (cases_eq m n) [
     | inl same ↦ ap Fails same

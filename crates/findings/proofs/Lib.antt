@@ -21,6 +21,7 @@ mod Parts
 mod Passing
 mod Plainly
 mod Plans
+mod Regions
 mod Whole
 mod Saying
 mod Sets

@@ -1,21 +1,17 @@
 -- What strata that are made for a set say of their dimensions, and whether a finding's query may be asked.
 use Rattle.std.proofs.Common.{ℕ, ◌<◌, ◌≤◌, ◌^◌, List, [], ◌∷◌, ◌++◌, length, map, inl, inr, sym, subst, arith}
-use Rattle.std.specs.Prelude.{All, Contains, get_or}
+use Rattle.std.specs.Prelude.{All, get_or}
 use Rattle.std.proofs.lemmas.Bool.{cases_lt}
 use Rattle.std.proofs.lemmas.List.{get_or_past}
-use Rattle.std.proofs.lemmas.List.Elements.{All-append, All-cons, All-contains, All-head, All-nil, All-tail, Contains-append_left, Contains-get_or, Contains-push}
+use Rattle.std.proofs.lemmas.List.Elements.{All-append, All-cons, All-head, All-nil, All-tail, Contains-get_or}
 use Rattle.formula_tree.specs.Trees.{tree_of}
 use Rattle.policy_model.specs.declared.schema.Schema.{Schema}
-use Rattle.policy_model.specs.declared.set.PolicySet.{PolicySet}
 use Rattle.policy_model.specs.declared.test.Slot.{Slot}
 use Rattle.policy_model.specs.declared.test.Slot.TheVariants as slot
 use Rattle.policy_model.specs.declared.test.Test.{Test}
 use Rattle.policy_model.specs.Soundness.{TestSuits}
 use Rattle.policy_compile.specs.declared.outcome.Query.{Query}
-use Rattle.policy_compile.specs.Numbering.{Collects, again, anew, nothing}
-use Rattle.policy_compile.specs.Laws.{TestsOfSetQueriesSuit}
 use Rattle.policy_compile.specs.Plans.{Plan, of_plans, tests_in, tests_in_each}
-use Rattle.policy_compile.specs.Sets.{set_plan}
 use Rattle.policy_compile.proofs.Laws.{All-collects, below-numbered}
 use Rattle.strata.specs.declared.predicate.Predicate.{Predicate}
 use Rattle.strata.specs.declared.predicate.Predicate.TheVariants.{Every, Principal, Word, Meets}
@@ -27,13 +23,15 @@ use Rattle.strata.specs.Covers.{predicate_at}
 use Rattle.strata.specs.Predicates.{SuitsSlot, test_of}
 use Rattle.strata.specs.Strata.{IsStratum}
 use Rattle.strata.proofs.Laws.{stratum-suits}
+use Rattle.findings.specs.declared.region.Region.{Region}
 use Rattle.findings.specs.Answers.{QueryIsAskable}
 use Rattle.findings.specs.Queries.{AreMadeFor, IsFindingQuery, finding_plan, finer_plans, number_plan, numbers_below, own_plans, plan_or_yes}
+use Rattle.findings.specs.Regions.{region_plan}
 use Rattle.findings.specs.Steps.{AreNumberedBelow, IsNumberedBelow}
 use Rattle.findings.proofs.Ordered.{all-have-steps, below-among}
 use Rattle.findings.proofs.Orders.{AllHaveSteps}
 use Rattle.findings.proofs.Owning.{AllSuit}
-use Rattle.findings.proofs.Plans.{reads-front}
+use Rattle.findings.proofs.Regions.{region-suits}
 
 -- ---- dimension by dimension
 
@@ -43,24 +41,24 @@ kept-fewer schema s earlier [] (q ∷ kept) x = elim x [ ]
 kept-fewer schema s earlier (p ∷ names) kept (keeps_it {kept = more} is rest) = omega (arith, kept-fewer schema s (earlier ++ p ∷ []) names more rest)
 kept-fewer schema s earlier (p ∷ names) kept (drops_it is rest) = omega (arith, kept-fewer schema s (earlier ++ p ∷ []) names kept rest)
 
-few-below : (schema : Schema) (tests : List Test) (d : Stratum) → IsStratum schema tests d → ¬ NamesTooMany tests d.slot → length d.below < 2 ^ 32
-few-below schema tests d is few = elim (cases_lt 128 (length is.predicates.names)) [
+few-below : (most : ℕ) → most < 2 ^ 32 → (schema : Schema) (tests : List Test) (d : Stratum) → IsStratum schema tests d → ¬ NamesTooMany most tests d.slot → length d.below < 2 ^ 32
+few-below most bound schema tests d is few = elim (cases_lt most (length is.predicates.names)) [
   | inl many ↦ absurd (few (record { names = is.predicates.names; named = is.predicates.named; many = many }))
-  | inr fits ↦ omega (arith, is.order.count, kept-fewer schema d.slot [] is.predicates.names d.predicates is.predicates.kept, fits)
+  | inr fits ↦ omega (arith, is.order.count, kept-fewer schema d.slot [] is.predicates.names d.predicates is.predicates.kept, fits, bound)
 ]
 
-numbered-below : (schema : Schema) (tests : List Test) (d : Stratum) → IsStratum schema tests d → ¬ NamesTooMany tests d.slot → IsNumberedBelow d
-numbered-below schema tests d is few = record {
+numbered-below : (most : ℕ) → most < 2 ^ 32 → (schema : Schema) (tests : List Test) (d : Stratum) → IsStratum schema tests d → ¬ NamesTooMany most tests d.slot → IsNumberedBelow d
+numbered-below most bound schema tests d is few = record {
   count = is.order.count;
-  few = few-below schema tests d is few;
+  few = few-below most bound schema tests d is few;
   each = λ n k x within. (below-among schema tests d is (get_or (numbers_below d n) k x) n (Contains-get_or (numbers_below d n) k x within)).strictly.lower;
 }
 
-all-numbered : (schema : Schema) (tests : List Test) (ds : List Stratum) → All (IsStratum schema tests) ds → All (λ s. ¬ NamesTooMany tests s) (map (λ x. x.slot) ds) → AreNumberedBelow ds
-all-numbered schema tests [] are few = All-nil IsNumberedBelow
-all-numbered schema tests (d ∷ ds) are few = All-cons IsNumberedBelow d ds
-    (numbered-below schema tests d (All-head (IsStratum schema tests) d ds are) (All-head (λ (s : Slot). ¬ NamesTooMany tests s) d.slot (map (λ x. x.slot) ds) few))
-    (all-numbered schema tests ds (All-tail (IsStratum schema tests) d ds are) (All-tail (λ (s : Slot). ¬ NamesTooMany tests s) d.slot (map (λ x. x.slot) ds) few))
+all-numbered : (most : ℕ) → most < 2 ^ 32 → (schema : Schema) (tests : List Test) (ds : List Stratum) → All (IsStratum schema tests) ds → All (λ s. ¬ NamesTooMany most tests s) (map (λ x. x.slot) ds) → AreNumberedBelow ds
+all-numbered most bound schema tests [] are few = All-nil IsNumberedBelow
+all-numbered most bound schema tests (d ∷ ds) are few = All-cons IsNumberedBelow d ds
+    (numbered-below most bound schema tests d (All-head (IsStratum schema tests) d ds are) (All-head (λ (s : Slot). ¬ NamesTooMany most tests s) d.slot (map (λ x. x.slot) ds) few))
+    (all-numbered most bound schema tests ds (All-tail (IsStratum schema tests) d ds are) (All-tail (λ (s : Slot). ¬ NamesTooMany most tests s) d.slot (map (λ x. x.slot) ds) few))
 
 suits-at : (schema : Schema) (tests : List Test) (d : Stratum) → All (TestSuits schema) tests → IsStratum schema tests d → (n : ℕ) → SuitsSlot schema d.slot (predicate_at d.predicates n)
 suits-at schema tests d suit is n = elim (cases_lt n (length d.predicates)) [
@@ -74,21 +72,21 @@ all-suit schema tests suit (d ∷ ds) are = (suits-at schema tests d suit (All-h
 
 -- ---- strata made for a set
 
-module _ (schema : Schema) (set : PolicySet) (base : Query) (strata : Strata) (made : AreMadeFor schema set base strata) where
+module _ (schema : Schema) (region : Region) (base : Query) (strata : Strata) (made : AreMadeFor schema region base strata) where
   pub made-steps : AllHaveSteps schema strata.dimensions
   made-steps = all-have-steps schema base.tests made.has_request strata.dimensions made.are.each
 
   pub made-numbered : AreNumberedBelow strata.dimensions
-  made-numbered = all-numbered schema base.tests strata.dimensions made.are.each (subst (λ (slots : List Slot). All (λ s. ¬ NamesTooMany base.tests s) slots) (sym made.are.on) made.named)
+  made-numbered = all-numbered made.most made.few schema base.tests strata.dimensions made.are.each (subst (λ (slots : List Slot). All (λ s. ¬ NamesTooMany made.most base.tests s) slots) (sym made.are.on) made.named)
 
   pub made-few : length base.tests < 2 ^ 32
   made-few = omega (arith, made.query.few)
 
-  pub base-suits : TestsOfSetQueriesSuit → All (TestSuits schema) base.tests
-  base-suits law = law schema set base.tests made.fits made.query.tests
+  pub base-suits : All (TestSuits schema) base.tests
+  base-suits = All-collects (TestSuits schema) [] (tests_in (region_plan schema region)) base.tests made.query.tests (All-nil (TestSuits schema)) (region-suits schema region made.fits)
 
-  pub made-suits : TestsOfSetQueriesSuit → AllSuit schema strata.dimensions
-  made-suits law = all-suit schema base.tests (base-suits law) strata.dimensions made.are.each
+  pub made-suits : AllSuit schema strata.dimensions
+  made-suits = all-suit schema base.tests base-suits strata.dimensions made.are.each
 
 -- ---- the tests of a finding's query
 
@@ -130,24 +128,13 @@ finding-suits : (schema : Schema) (ds : List Stratum) → AllSuit schema ds → 
 finding-suits schema ds suit f allowed suits = own-suit schema ds suit f _
     (All-append (TestSuits schema) (tests_in_each (of_plans (finer_plans ds f))) (tests_in allowed ++ []) (finer-suit schema ds suit f) (All-append (TestSuits schema) (tests_in allowed) [] suits (All-nil (TestSuits schema))))
 
--- what holds of the tests that are got holds of those that were read
-pub all-read : (P : Test → Type 0) (had read got : List Test) → Collects had read got → All P got → All P read
-all-read P had [] got nothing all = All-nil P
-all-read P had (t ∷ read) got (again there rest) all =
-    let longer = reads-front had read got rest in
-    All-cons P t read (All-contains P got t all (subst (λ (xs : List Test). Contains xs t) (sym longer.is) (Contains-append_left had longer.rest t there))) (all-read P had read got rest all)
-all-read P had (t ∷ read) got (anew new rest) all =
-    let longer = reads-front (had ++ t ∷ []) read got rest in
-    All-cons P t read (All-contains P got t all (subst (λ (xs : List Test). Contains xs t) (sym longer.is) (Contains-append_left (had ++ t ∷ []) longer.rest t (Contains-push had t)))) (all-read P (had ++ t ∷ []) read got rest all)
-
 -- the query may be asked of whoever answers for the schema
-pub made-askable : TestsOfSetQueriesSuit → (schema : Schema) (set : PolicySet) (base : Query) (strata : Strata) → AreMadeFor schema set base strata → (f : List ℕ) (q : Query) → IsFindingQuery (set_plan schema set) strata.dimensions f q → length q.tests < 2 ^ 32 → QueryIsAskable schema q
-made-askable law schema set base strata made f q asks count =
-    let plan = finding_plan (set_plan schema set) strata.dimensions f in
-    let read = all-read (TestSuits schema) [] (tests_in (set_plan schema set)) base.tests made.query.tests (base-suits schema set base strata made law) in
+pub made-askable : (schema : Schema) (region : Region) (base : Query) (strata : Strata) → AreMadeFor schema region base strata → (f : List ℕ) (q : Query) → IsFindingQuery (region_plan schema region) strata.dimensions f q → length q.tests < 2 ^ 32 → QueryIsAskable schema q
+made-askable schema region base strata made f q asks count =
+    let plan = finding_plan (region_plan schema region) strata.dimensions f in
     record {
       sound = made.sound;
-      suit = All-collects (TestSuits schema) [] (tests_in plan) q.tests asks.tests (All-nil (TestSuits schema)) (finding-suits schema strata.dimensions (made-suits schema set base strata made law) f (set_plan schema set) read);
+      suit = All-collects (TestSuits schema) [] (tests_in plan) q.tests asks.tests (All-nil (TestSuits schema)) (finding-suits schema strata.dimensions (made-suits schema region base strata made) f (region_plan schema region) (region-suits schema region made.fits));
       count = count;
       below = below-numbered q.tests plan (tree_of q.formula.value) asks.tree;
     }

@@ -6,25 +6,25 @@ use Rattle.formula_tree.specs.Trees.{tree_of}
 use Rattle.formula_tree.specs.Values.{holds}
 use Rattle.policy_model.specs.declared.request.Request.{Request}
 use Rattle.policy_model.specs.declared.schema.Schema.{Schema}
-use Rattle.policy_model.specs.declared.set.PolicySet.{PolicySet}
 use Rattle.policy_model.specs.declared.test.Slot.{Slot}
 use Rattle.policy_model.specs.declared.test.Slot.TheVariants as slot
 use Rattle.policy_model.specs.Requests.{IsValid}
-use Rattle.policy_model.specs.Soundness.{SchemaFits}
 use Rattle.policy_compile.specs.declared.outcome.Query.{Query}
 use Rattle.policy_compile.specs.Meaning.{AnswersAs}
 use Rattle.policy_compile.specs.Plans.{EachHolds, Plan, PlanHolds, SomeHolds, not, of_plans, one_of}
-use Rattle.policy_compile.specs.Sets.{set_plan}
-use Rattle.policy_compile.proofs.Laws.{holds-numbered, set-holds}
+use Rattle.policy_compile.proofs.Laws.{holds-numbered}
 use Rattle.strata.specs.declared.predicate.Predicate.{Predicate}
 use Rattle.strata.specs.declared.predicate.Predicate.TheVariants.{Every, Principal, Word, Meets}
 use Rattle.strata.specs.declared.stratum.Stratum.{Stratum}
 use Rattle.strata.specs.Covers.{predicate_at}
 use Rattle.strata.specs.Predicates.{MeetsPredicate, SuitsSlot, test_of}
+use Rattle.findings.specs.declared.region.Region.{Region}
 use Rattle.findings.specs.Findings.{IsFinding, IsOwn, LiesInFinding}
 use Rattle.findings.specs.Queries.{IsFindingQuery, finding_plan, finer_plans, number_plan, numbers_below, own_plans, plan_or_yes}
+use Rattle.findings.specs.Regions.{RegionFits, region_plan}
 use Rattle.findings.specs.Steps.{MeetsFiner, MeetsOneOf}
 use Rattle.findings.proofs.Orders.{AllHaveSteps, lies-finer, meets-finer, under-finding, under-finer}
+use Rattle.findings.proofs.Regions.{region-holds}
 
 -- each predicate of each dimension suits its slot
 abbrev pub AllSuit : Schema → List Stratum → Type 0
@@ -107,13 +107,13 @@ finer-holds schema r (d ∷ ds) suit (n ∷ f) =
 
 -- ---- the whole
 
-pub plan-holds : (schema : Schema) (set : PolicySet) (ds : List Stratum) → SchemaFits schema set → AllHaveSteps schema ds → AllSuit schema ds → (f : List ℕ) → IsFinding ds f → (r : Request) → IsValid schema r →
-    (PlanHolds r (finding_plan (set_plan schema set) ds f) ↔ IsOwn schema set ds f r)
-plan-holds schema set ds fits steps suit f is r valid =
+pub plan-holds : (schema : Schema) (region : Region) (ds : List Stratum) → RegionFits schema region → AllHaveSteps schema ds → AllSuit schema ds → (f : List ℕ) → IsFinding ds f → (r : Request) → IsValid schema r →
+    (PlanHolds r (finding_plan (region_plan schema region) ds f) ↔ IsOwn schema region ds f r)
+plan-holds schema region ds fits steps suit f is r valid =
     let own = own-holds schema r ds suit f is in
     let finer = finer-holds schema r ds suit f in
-    let allowed = set-holds schema r set fits valid in
-    let parts = each-append r (own_plans ds f) (not (one_of (of_plans (finer_plans ds f))) ∷ set_plan schema set ∷ []) in (
+    let allowed = region-holds schema r region fits valid in
+    let parts = each-append r (own_plans ds f) (not (one_of (of_plans (finer_plans ds f))) ∷ region_plan schema region ∷ []) in (
       λ h. let both = parts.0 h in record {
         valid = valid;
         allowed = allowed.0 both.1.1.0;
@@ -132,9 +132,9 @@ plan-holds schema set ds fits steps suit f is r valid =
     )
 
 -- so its tree holds under the request's answers exactly there
-pub query-holds : (schema : Schema) (set : PolicySet) (ds : List Stratum) → SchemaFits schema set → AllHaveSteps schema ds → AllSuit schema ds → (f : List ℕ) → IsFinding ds f → (q : Query) → IsFindingQuery (set_plan schema set) ds f q →
-    (r : Request) (answers : ℕ → Bool) → IsValid schema r → AnswersAs answers r q.tests → (IsTrue (holds answers (tree_of q.formula.value)) ↔ IsOwn schema set ds f r)
-query-holds schema set ds fits steps suit f is q asks r answers valid say =
-    let numbered = holds-numbered answers r q.tests say (finding_plan (set_plan schema set) ds f) (tree_of q.formula.value) asks.tree in
-    let own = plan-holds schema set ds fits steps suit f is r valid in
+pub query-holds : (schema : Schema) (region : Region) (ds : List Stratum) → RegionFits schema region → AllHaveSteps schema ds → AllSuit schema ds → (f : List ℕ) → IsFinding ds f → (q : Query) → IsFindingQuery (region_plan schema region) ds f q →
+    (r : Request) (answers : ℕ → Bool) → IsValid schema r → AnswersAs answers r q.tests → (IsTrue (holds answers (tree_of q.formula.value)) ↔ IsOwn schema region ds f r)
+query-holds schema region ds fits steps suit f is q asks r answers valid say =
+    let numbered = holds-numbered answers r q.tests say (finding_plan (region_plan schema region) ds f) (tree_of q.formula.value) asks.tree in
+    let own = plan-holds schema region ds fits steps suit f is r valid in
     (λ h. own.0 (numbered.0 h), λ h. numbered.1 (own.1 h))

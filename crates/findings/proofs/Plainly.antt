@@ -9,10 +9,8 @@ use Rattle.policy_model.specs.declared.schema.Schema.{Schema}
 use Rattle.policy_model.specs.declared.test.Test.{Test}
 use Rattle.policy_model.specs.Soundness.{TestSuits}
 use Rattle.policy_compile.specs.declared.outcome.Query.{Query}
-use Rattle.policy_compile.specs.Laws.{TestsOfSetQueriesSuit}
 use Rattle.policy_compile.specs.Numbering.{Collects, IsNumbered}
 use Rattle.policy_compile.specs.Plans.{of_plans, tests_in, tests_in_each}
-use Rattle.policy_compile.specs.Sets.{set_plan}
 use Rattle.policy_compile.proofs.Laws.{All-collects, below-numbered}
 use Rattle.strata.specs.declared.stratum.Strata.{Strata}
 use Rattle.strata.specs.declared.stratum.Stratum.{Stratum}
@@ -22,6 +20,7 @@ use Rattle.findings.specs.Answers.{AnswersQuery}
 use Rattle.findings.specs.Asked.{AreAsked, AsksOwn, HoldsForOwn, IsAskableOver, IsAsked, no_finer_plan}
 use Rattle.findings.specs.Asking.{IsOwnAnswered, lying_plan}
 use Rattle.findings.specs.Queries.{finer_plans, own_plans}
+use Rattle.findings.specs.Regions.{region_plan}
 use Rattle.findings.proofs.Covered.{all-asked}
 use Rattle.findings.proofs.Looking.{met-own, none-own}
 use Rattle.findings.proofs.Made.{finer-suit, made-suits, own-suit}
@@ -33,11 +32,11 @@ lying-asked ds f start a b none first t branches whole begins empty own finer gr
     let both = asked-next start a b (own_plans ds f) (no_finer_plan ds f) none first (trees_of branches) t own finer grows in
     subst (λ (xs : List Test). IsAsked xs b (lying_plan ds f) (tree_of whole)) begins (all-asked start b (own_plans ds f ++ no_finer_plan ds f ∷ []) none branches whole empty both is)
 
-pub lying-askable : TestsOfSetQueriesSuit → (strata : Strata) (f : List ℕ) (tests : List Test) (q : Query) → IsAsked [] tests (lying_plan strata.dimensions f) (tree_of q.formula.value) → q.tests ≡ tests → length q.tests < 2 ^ 32 → IsAskableOver strata q
-lying-askable law strata f tests q asked is few base schema set made =
+pub lying-askable : (strata : Strata) (f : List ℕ) (tests : List Test) (q : Query) → IsAsked [] tests (lying_plan strata.dimensions f) (tree_of q.formula.value) → q.tests ≡ tests → length q.tests < 2 ^ 32 → IsAskableOver strata q
+lying-askable strata f tests q asked is few base schema region made =
     let ds = strata.dimensions in
     let plan = lying_plan ds f in
-    let suit = made-suits schema set base strata made law in
+    let suit = made-suits schema region base strata made in
     let numbered = subst (λ (xs : List Test). IsNumbered xs plan (tree_of q.formula.value)) (sym is) asked.numbered in
     record {
       sound = made.sound;
@@ -49,7 +48,7 @@ lying-askable law strata f tests q asked is few base schema set made =
 
 -- what is answered on the finding's query tells whose the finding is
 pub query-tells : (schema : Schema) (splits states : ℕ) (base : Query) (strata : Strata) (f : List ℕ) (q : Query) (answer : Asked) → AsksOwn base strata.dimensions f q → HoldsForOwn base strata f q → AnswersQuery schema splits states q answer → IsOwnAnswered schema splits states base strata f answer
-query-tells schema splits states base strata f q (asked.Met r) plan own says set made = met-own schema set base strata f q r made own says
-query-tells schema splits states base strata f q asked.Nobody plan own says set made = none-own schema set base strata f q made own says
-query-tells schema splits states base strata f q asked.OutOfSplits plan own says set made = record { query = q; is = plan (set_plan schema set) made.query; holds = says }
-query-tells schema splits states base strata f q (asked.OutOfStates w) plan own says set made = record { query = q; is = plan (set_plan schema set) made.query; holds = says }
+query-tells schema splits states base strata f q (asked.Met r) plan own says region made = met-own schema region base strata f q r made own says
+query-tells schema splits states base strata f q asked.Nobody plan own says region made = none-own schema region base strata f q made own says
+query-tells schema splits states base strata f q asked.OutOfSplits plan own says region made = record { query = q; is = plan (region_plan schema region) made.query; holds = says }
+query-tells schema splits states base strata f q (asked.OutOfStates w) plan own says region made = record { query = q; is = plan (region_plan schema region) made.query; holds = says }

@@ -1,5 +1,5 @@
 -- What indexed sets have.
-use Rattle.std.proofs.Common.{◌≡◌, ◌⊎◌, ◌↔◌, ◌||◌, ℕ, zero, suc, List, [], ◌∷◌, ◌++◌, length, get_or, Bool, true, false, true≢false, Decides, Some, refl, sym, ap, ◌∙◌, subst, inl, inr, if◌then◌else◌, arith, nat_eq}
+use Rattle.std.proofs.Common.{◌≡◌, ◌↔◌, ◌||◌, ℕ, List, [], ◌∷◌, ◌++◌, get_or, Bool, true, false, true≢false, Decides, Some, refl, sym, ap, ◌∙◌, subst, if◌then◌else◌, arith, nat_eq}
 use Rattle.std.specs.Prelude.{Contains, IsTrue, slice_get}
 use Rattle.std.specs.List.{list_any}
 use Rattle.std.specs.Cmp.Lexicographic.{pointwise, pointwise_decides}

@@ -7,11 +7,9 @@ use Rattle.formula_tree.specs.declared.value.Three.TheVariants.{No}
 use Rattle.wildcard_lang.specs.Places.{ShowWider}
 use Rattle.policy_model.specs.declared.request.Request.{Request}
 use Rattle.policy_model.specs.declared.schema.Schema.{Schema}
-use Rattle.policy_model.specs.declared.set.PolicySet.{PolicySet}
 use Rattle.policy_model.specs.Soundness.{SchemaIsSound, TestSuits}
 use Rattle.policy_compile.specs.declared.outcome.Query.{Query}
 use Rattle.policy_compile.specs.Queries.{asked_tree}
-use Rattle.policy_compile.specs.Sets.{set_plan}
 use Rattle.slot_theory.specs.Cores.{HasTest}
 use Rattle.slot_theory.specs.Possible.{IsPossible}
 use Rattle.slot_theory.specs.Slots.{patterns_at}
@@ -22,7 +20,9 @@ use Rattle.findings.specs.declared.decide.Asked.TheVariants.{Met, Nobody, OutOfS
 use Rattle.findings.specs.declared.decide.Wide.{Wide}
 use Rattle.findings.specs.declared.outcome.SummaryFault.{SummaryFault}
 use Rattle.findings.specs.declared.outcome.SummaryFault.TheVariants as fault
+use Rattle.findings.specs.declared.region.Region.{Region}
 use Rattle.findings.specs.Queries.{IsFindingQuery}
+use Rattle.findings.specs.Regions.{region_plan}
 use Rattle.findings.specs.Summaries.{IsSummary, MustBeVisited, VisitsAtLeast}
 
 -- a query that may be asked: its tests suit the schema and are numbered by 32 bits, and its tree has their numbers alone
@@ -52,21 +52,21 @@ AnswersQuery schema splits states query OutOfSplits = SplitsFail schema query sp
 AnswersQuery schema splits states query (OutOfStates w) = StatesFail schema query states w
 
 -- the finding must be looked at, and of its query P holds
-pub record FailsAtFinding (schema : Schema) (set : PolicySet) (ds : List Stratum) (f : List ℕ) (P : Query → Type 0) : Type 0 where
-  pub visited : MustBeVisited schema set ds f
+pub record FailsAtFinding (schema : Schema) (region : Region) (ds : List Stratum) (f : List ℕ) (P : Query → Type 0) : Type 0 where
+  pub visited : MustBeVisited schema region ds f
   pub query : Query
-  pub is : IsFindingQuery (set_plan schema set) ds f query
+  pub is : IsFindingQuery (region_plan schema region) ds f query
   pub fails : P query
 
--- What a summary of a set comes to, where queries are answered within so many splits and states and at most so many findings may
+-- What a summary of a region comes to, where queries are answered within so many splits and states and at most so many findings may
 -- be looked at: the summary; that more findings must be looked at; or a finding that must be, and for whose query a number is too
 -- small
 abbrev pub IsSummarised :
-    Schema → PolicySet → List Stratum → ℕ → ℕ → ℕ → Result (List (List ℕ × Request)) SummaryFault → Type 0
-IsSummarised schema set ds splits states findings (Ok summary) = IsSummary schema set ds summary
-IsSummarised schema set ds splits states findings (Err fault.OutOfFindings) = VisitsAtLeast schema set ds (findings + 1)
-IsSummarised schema set ds splits states findings (Err (fault.OutOfSplits f)) =
-    FailsAtFinding schema set ds f (λ q. SplitsFail schema q splits)
-IsSummarised schema set ds splits states findings (Err (fault.OutOfStates f w)) =
-    FailsAtFinding schema set ds f (λ q. StatesFail schema q states w)
-IsSummarised schema set ds splits states findings (Err fault.NoMemory) = ⊤
+    Schema → Region → List Stratum → ℕ → ℕ → ℕ → Result (List (List ℕ × Request)) SummaryFault → Type 0
+IsSummarised schema region ds splits states findings (Ok summary) = IsSummary schema region ds summary
+IsSummarised schema region ds splits states findings (Err fault.OutOfFindings) = VisitsAtLeast schema region ds (findings + 1)
+IsSummarised schema region ds splits states findings (Err (fault.OutOfSplits f)) =
+    FailsAtFinding schema region ds f (λ q. SplitsFail schema q splits)
+IsSummarised schema region ds splits states findings (Err (fault.OutOfStates f w)) =
+    FailsAtFinding schema region ds f (λ q. StatesFail schema q states w)
+IsSummarised schema region ds splits states findings (Err fault.NoMemory) = ⊤

@@ -7,7 +7,6 @@ use Rattle.formula_tree.specs.Values.{holds}
 use Rattle.formula_tree.specs.declared.formula.Formula.{Formula}
 use Rattle.policy_model.specs.declared.request.Request.{Request}
 use Rattle.policy_model.specs.declared.schema.Schema.{Schema}
-use Rattle.policy_model.specs.declared.set.PolicySet.{PolicySet}
 use Rattle.policy_model.specs.declared.test.Test.{Test}
 use Rattle.policy_model.specs.Requests.{IsValid}
 use Rattle.policy_compile.specs.declared.outcome.Query.{Query}
@@ -17,6 +16,7 @@ use Rattle.policy_compile.specs.Plans.{Plan, not, of_plans, one_of, tests_in, te
 use Rattle.policy_compile.specs.Queries.{IsQuery}
 use Rattle.strata.specs.declared.stratum.Strata.{Strata}
 use Rattle.strata.specs.declared.stratum.Stratum.{Stratum}
+use Rattle.findings.specs.declared.region.Region.{Region}
 use Rattle.findings.specs.Answers.{QueryIsAskable}
 use Rattle.findings.specs.Findings.{IsOwn}
 use Rattle.findings.specs.Queries.{AreMadeFor, IsFindingQuery, finer_plans}
@@ -52,22 +52,22 @@ pub record AreNumbersOf (old new : List Test) (tests : List Test) (numbers : Lis
 abbrev pub AsksBase : List Test → List Test → Query → Rc Formula Global → Type 0
 AsksBase old new base f = (allowed : Plan) → IsQuery allowed base → IsAsked old new allowed (tree_of f.value)
 
--- of whichever set the query is, the finding's query is that of its plan
+-- of whichever region the query is, the finding's query is that of its plan
 abbrev pub AsksOwn : Query → List Stratum → List ℕ → Query → Type 0
 AsksOwn base ds f q = (allowed : Plan) → IsQuery allowed base → IsFindingQuery allowed ds f q
 
 -- under the answers that a valid request gives its tests, its tree holds exactly where the request is the finding's own
 abbrev pub HoldsForOwn : Query → Strata → List ℕ → Query → Type 0
 HoldsForOwn base strata f q =
-    (schema : Schema) (set : PolicySet) → AreMadeFor schema set base strata →
+    (schema : Schema) (region : Region) → AreMadeFor schema region base strata →
     (r : Request) (answers : ℕ → Bool) → IsValid schema r → AnswersAs answers r q.tests →
-    (IsTrue (holds answers (tree_of q.formula.value)) ↔ IsOwn schema set strata.dimensions f r)
+    (IsTrue (holds answers (tree_of q.formula.value)) ↔ IsOwn schema region strata.dimensions f r)
 
 -- the query may be asked of whoever answers for the schema
 abbrev pub IsAskableFor : Query → Strata → Query → Type 0
 IsAskableFor base strata q =
-    (schema : Schema) (set : PolicySet) → AreMadeFor schema set base strata → QueryIsAskable schema q
+    (schema : Schema) (region : Region) → AreMadeFor schema region base strata → QueryIsAskable schema q
 
--- whichever set the strata are of
+-- whichever region the strata are of
 abbrev pub IsAskableOver : Strata → Query → Type 0
 IsAskableOver strata q = (base : Query) → IsAskableFor base strata q

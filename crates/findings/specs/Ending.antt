@@ -1,10 +1,10 @@
 -- How a walk ends.
 use Rattle.std.specs.Prelude.{ℕ, None, Err}
 use Rattle.policy_model.specs.declared.schema.Schema.{Schema}
-use Rattle.policy_model.specs.declared.set.PolicySet.{PolicySet}
 use Rattle.policy_compile.specs.declared.outcome.Query.{Query}
 use Rattle.strata.specs.declared.stratum.Strata.{Strata}
 use Rattle.findings.specs.declared.outcome.SummaryFault.{SummaryFault}
+use Rattle.findings.specs.declared.region.Region.{Region}
 use Rattle.findings.specs.declared.walk.Walk.{Walk}
 use Rattle.findings.specs.Answers.{IsSummarised}
 use Rattle.findings.specs.Queries.{AreMadeFor}
@@ -17,8 +17,8 @@ pub record HasEnded (schema : Schema) (base : Query) (strata : Strata) (w : Walk
   pub next : IsNextFinding strata.dimensions before w None
   pub same : SameBesides before w
 
--- why there is no summary of whichever set the strata are
+-- why there is no summary of whichever region the strata are
 abbrev pub SummaryFails : Schema → Query → Strata → ℕ → ℕ → ℕ → SummaryFault → Type 0
 SummaryFails schema base strata splits states findings e =
-    (set : PolicySet) → AreMadeFor schema set base strata →
-    IsSummarised schema set strata.dimensions splits states findings (Err e)
+    (region : Region) → AreMadeFor schema region base strata →
+    IsSummarised schema region strata.dimensions splits states findings (Err e)

@@ -1,4 +1,4 @@
--- What predicates plainly say of the tests of a set: answers that each request gives that meets a predicate, or misses it.
+-- What predicates plainly say of a query's tests: answers that each request gives that meets a predicate, or misses it.
 use Rattle.std.specs.Prelude.{◌≡◌, ◌⊎◌, ◌<◌, ℕ, Bool, true, false, List, [], Contains, MatchBool, Some, length, slice_get, slice_index_or}
 use Rattle.formula_tree.specs.Answers.{Answers, answer_of}
 use Rattle.policy_model.specs.declared.request.Request.{Request}

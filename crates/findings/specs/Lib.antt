@@ -1,3 +1,4 @@
+pub mod Regions
 pub mod Findings
 pub mod Summaries
 pub mod Queries

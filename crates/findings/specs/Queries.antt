@@ -1,17 +1,15 @@
 -- The query of a finding: whether a request is the finding's own.
-use Rattle.std.specs.Prelude.{◌≢◌, ℕ, List, [], ◌∷◌, ◌++◌, All, AllPairs, Option, Some, None, map, slice_index_or}
+use Rattle.std.specs.Prelude.{◌≢◌, ◌<◌, ◌^◌, ℕ, List, [], ◌∷◌, ◌++◌, All, AllPairs, Option, Some, None, map, slice_index_or}
 use Rattle.formula_tree.specs.Trees.{tree_of}
 use Rattle.policy_model.specs.declared.schema.Schema.{Schema}
-use Rattle.policy_model.specs.declared.set.PolicySet.{PolicySet}
 use Rattle.policy_model.specs.declared.test.Slot.{Slot}
 use Rattle.policy_model.specs.declared.test.Test.{Test}
 use Rattle.policy_model.specs.Requests.{HasValidRequest}
-use Rattle.policy_model.specs.Soundness.{SchemaFits, SchemaIsSound}
+use Rattle.policy_model.specs.Soundness.{SchemaIsSound}
 use Rattle.policy_compile.specs.declared.outcome.Query.{Query}
 use Rattle.policy_compile.specs.Numbering.{Collects, IsNumbered}
 use Rattle.policy_compile.specs.Plans.{Plan, all, ask, not, of_plans, one_of, tests_in, yes}
 use Rattle.policy_compile.specs.Queries.{IsQuery}
-use Rattle.policy_compile.specs.Sets.{set_plan}
 use Rattle.slot_theory.specs.Slots.{SlotIsIn}
 use Rattle.strata.specs.declared.stratum.Strata.{Strata}
 use Rattle.strata.specs.declared.stratum.Stratum.{Stratum}
@@ -19,6 +17,8 @@ use Rattle.strata.specs.Causes.{AreFew}
 use Rattle.strata.specs.Covers.{predicate_at}
 use Rattle.strata.specs.Predicates.{test_of}
 use Rattle.strata.specs.Strata.{AreStrata}
+use Rattle.findings.specs.declared.region.Region.{Region}
+use Rattle.findings.specs.Regions.{RegionFits, region_plan}
 
 -- a test, or what always holds where there is none
 abbrev pub plan_or_yes : Option Test → Plan
@@ -45,7 +45,7 @@ finer_plans [] f = []
 finer_plans (d ∷ ds) [] = []
 finer_plans (d ∷ ds) (n ∷ f) = map (number_plan d) (numbers_below d n) ++ finer_plans ds f
 
--- each predicate of the finding holds, none of those right below does, and the set allows
+-- each predicate of the finding holds, none of those right below does, and the region's plan does
 abbrev pub finding_plans : Plan → List Stratum → List ℕ → List Plan
 finding_plans allowed ds f = own_plans ds f ++ not (one_of (of_plans (finer_plans ds f))) ∷ allowed ∷ []
 
@@ -57,22 +57,24 @@ pub record IsFindingQuery (allowed : Plan) (ds : List Stratum) (f : List ℕ) (q
   pub tests : Collects [] (tests_in (finding_plan allowed ds f)) q.tests
   pub tree : IsNumbered q.tests (finding_plan allowed ds f) (tree_of q.formula.value)
 
--- the query is that of the set under the schema, which has a valid request, and the strata are those of the query: of slots that
--- differ, and that requests under the schema have, with at most 128 predicates each
-pub record AreMadeFor (schema : Schema) (set : PolicySet) (base : Query) (strata : Strata) : Type 0 where
+-- the query is that of the region under the schema, which has a valid request, and the strata are those of the query: of slots that
+-- differ, and that requests under the schema have, with fewer predicates each than 32 bits number
+pub record AreMadeFor (schema : Schema) (region : Region) (base : Query) (strata : Strata) : Type 0 where
   pub sound : SchemaIsSound schema
-  pub fits : SchemaFits schema set
+  pub fits : RegionFits schema region
   pub has_request : HasValidRequest schema
-  pub query : IsQuery (set_plan schema set) base
+  pub query : IsQuery (region_plan schema region) base
   pub slots : List Slot
   pub differ : AllPairs (λ s t. s ≢ t) slots
   pub known : All (SlotIsIn schema) slots
-  pub named : AreFew base.tests slots
+  pub most : ℕ
+  pub few : most < 2 ^ 32
+  pub named : AreFew most base.tests slots
   pub are : AreStrata schema base slots strata
 
--- for some set
+-- for some region
 abbrev pub AreMadeUnder : Schema → Query → Strata → Type 0
-AreMadeUnder schema base strata = (set : PolicySet) × AreMadeFor schema set base strata
+AreMadeUnder schema base strata = (region : Region) × AreMadeFor schema region base strata
 
 abbrev pub AreMade : Query → Strata → Type 0
 AreMade base strata = (schema : Schema) × AreMadeUnder schema base strata

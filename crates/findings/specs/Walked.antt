@@ -5,12 +5,12 @@ use Rattle.std.specs.BTreeMap.{insert_entry}
 use Rattle.std.specs.Ordering.{nat_cmp}
 use Rattle.policy_model.specs.declared.request.Request.{Request}
 use Rattle.policy_model.specs.declared.schema.Schema.{Schema}
-use Rattle.policy_model.specs.declared.set.PolicySet.{PolicySet}
 use Rattle.policy_compile.specs.declared.outcome.Query.{Query}
 use Rattle.strata.specs.declared.stratum.Strata.{Strata}
 use Rattle.strata.specs.declared.stratum.Stratum.{Stratum}
 use Rattle.findings.specs.declared.outcome.SummaryFault.{SummaryFault}
 use Rattle.findings.specs.declared.outcome.SummaryFault.TheVariants as fault
+use Rattle.findings.specs.declared.region.Region.{Region}
 use Rattle.findings.specs.declared.walk.Walk.{Walk}
 use Rattle.findings.specs.Answers.{FailsAtFinding, SplitsFail, StatesFail}
 use Rattle.findings.specs.Findings.{IsFinding}
@@ -84,33 +84,33 @@ pub record AddsReducible (old : Walk) (f : List ℕ) (more : List (List ℕ)) (n
   pub reducible : ¬ Contains old.reducible.keys f → new.reducible.keys ≡ old.reducible.keys ++ f ∷ []
   pub found : new.found.entries ≡ old.found.entries
 
--- the finding was looked at, and of those right under it are to come in which somebody may be allowed something
-pub record GoesBelowFor (schema : Schema) (set : PolicySet) (ds : List Stratum) (old : Walk) (f : List ℕ) (new : Walk) : Type 0 where
+-- the finding was looked at, and those right under it that may have somebody are to come
+pub record GoesBelowFor (schema : Schema) (region : Region) (ds : List Stratum) (old : Walk) (f : List ℕ) (new : Walk) : Type 0 where
   pub under : List (List ℕ)
   pub are : AddUnder ds f [] under
   pub kept : List (List ℕ)
-  pub inhabited : KeepsInhabited schema set ds under kept
+  pub inhabited : KeepsInhabited schema region ds under kept
   pub adds : AddsReducible old f kept new
 
--- of whichever set the strata are
+-- of whichever region the strata are
 abbrev pub GoesBelow : Schema → Query → Strata → Walk → List ℕ → Walk → Type 0
 GoesBelow schema base strata old f new =
-    (set : PolicySet) → AreMadeFor schema set base strata → GoesBelowFor schema set strata.dimensions old f new
+    (region : Region) → AreMadeFor schema region base strata → GoesBelowFor schema region strata.dimensions old f new
 
--- the walk stands so for the set, and the finding, which was taken from those to come, is due
-pub record IsTakenFor (schema : Schema) (set : PolicySet) (ds : List Stratum) (w : Walk) (f : List ℕ) : Type 0 where
-  pub walk : IsWalk schema set ds (w.coming.items ++ f ∷ []) w.looked.keys w.reducible.keys (found_by w)
+-- the walk stands so for the region, and the finding, which was taken from those to come, is due
+pub record IsTakenFor (schema : Schema) (region : Region) (ds : List Stratum) (w : Walk) (f : List ℕ) : Type 0 where
+  pub walk : IsWalk schema region ds (w.coming.items ++ f ∷ []) w.looked.keys w.reducible.keys (found_by w)
   pub due : IsDue ds w f
 
--- of whichever set the strata are
+-- of whichever region the strata are
 abbrev pub IsTaken : Schema → Query → Strata → Walk → List ℕ → Type 0
 IsTaken schema base strata w f =
-    (set : PolicySet) → AreMadeFor schema set base strata → IsTakenFor schema set strata.dimensions w f
+    (region : Region) → AreMadeFor schema region base strata → IsTakenFor schema region strata.dimensions w f
 
 abbrev pub StandsAt : Schema → Query → Strata → Walk → Type 0
 StandsAt schema base strata w =
-    (set : PolicySet) → AreMadeFor schema set base strata →
-    IsWalk schema set strata.dimensions w.coming.items w.looked.keys w.reducible.keys (found_by w)
+    (region : Region) → AreMadeFor schema region base strata →
+    IsWalk schema region strata.dimensions w.coming.items w.looked.keys w.reducible.keys (found_by w)
 
 -- so many findings were looked at
 pub record HasLookedAt (schema : Schema) (base : Query) (strata : Strata) (w : Walk) (n : ℕ) : Type 0 where
@@ -118,13 +118,13 @@ pub record HasLookedAt (schema : Schema) (base : Query) (strata : Strata) (w : W
   pub count : length w.looked.keys ≡ n
 
 -- why a finding couldn't be looked at
-abbrev pub FailsFor : Schema → PolicySet → List Stratum → ℕ → ℕ → SummaryFault → Type 0
-FailsFor schema set ds splits states fault.OutOfFindings = ⊥
-FailsFor schema set ds splits states (fault.OutOfSplits f) = FailsAtFinding schema set ds f (λ q. SplitsFail schema q splits)
-FailsFor schema set ds splits states (fault.OutOfStates f w) =
-    FailsAtFinding schema set ds f (λ q. StatesFail schema q states w)
-FailsFor schema set ds splits states fault.NoMemory = ⊤
+abbrev pub FailsFor : Schema → Region → List Stratum → ℕ → ℕ → SummaryFault → Type 0
+FailsFor schema region ds splits states fault.OutOfFindings = ⊥
+FailsFor schema region ds splits states (fault.OutOfSplits f) = FailsAtFinding schema region ds f (λ q. SplitsFail schema q splits)
+FailsFor schema region ds splits states (fault.OutOfStates f w) =
+    FailsAtFinding schema region ds f (λ q. StatesFail schema q states w)
+FailsFor schema region ds splits states fault.NoMemory = ⊤
 
 abbrev pub LookFails : Schema → Query → Strata → ℕ → ℕ → SummaryFault → Type 0
 LookFails schema base strata splits states e =
-    (set : PolicySet) → AreMadeFor schema set base strata → FailsFor schema set strata.dimensions splits states e
+    (region : Region) → AreMadeFor schema region base strata → FailsFor schema region strata.dimensions splits states e

@@ -10,12 +10,12 @@ use crate::numbering::Numbering;
 use crate::outcome::{Finding, FindingList};
 use formula_tree::{Branches, Formula};
 use plain_lists::NoMemory;
-use policy_compile::{Query, tests_of_set_queries_suit};
+use policy_compile::Query;
 use std::alloc::{AllocError, Global};
 use std::rc::Rc;
 use strata::Strata;
 
-/// The most tests of a cover's query, as of each query of a set.
+/// The most tests of a cover's query, as of each query.
 pub(crate) const MOST_COVER_TESTS: usize = 1_000;
 
 /// Why there is no query of a cover.
@@ -107,7 +107,7 @@ fn lies_in_none(
     Ok(formula)
 }
 
-// The formula of the cover, where there are no tests yet. The set's own query comes first, so its tests
+// The formula of the cover, where there are no tests yet. The region's own query comes first, so its tests
 // keep their numbers.
 fn cover_formula(
     alloc: Global,
@@ -129,11 +129,11 @@ fn cover_formula(
     Ok(formula)
 }
 
-/// The query of a cover: that the set allows, and that no finding holds. On a valid request it holds
-/// exactly where the set allows the request and it lies in none of the findings. So where it is refuted,
+/// The query of a cover: that the query of the region holds, and that no finding does. On a valid request
+/// it holds exactly where the request lies in the region and in none of the findings. So where it is refuted,
 /// the findings leave out nobody.
 ///
-/// `base` is the query of the set and `strata` are those of `base`, under one schema. `TooManyTests`
+/// `base` is the query of the region and `strata` are those of `base`, under one schema. `TooManyTests`
 /// comes exactly where the query has more than 1,000 different tests. How many pieces their patterns have
 /// isn't limited.
 pub fn cover_query(
@@ -146,7 +146,6 @@ pub fn cover_query(
     requires findings { All (IsFinding strata.now.dimensions) findings.now }
     ensures { IsCoverAnswer base.now strata.now findings.now result }
 {
-    tests_of_set_queries_suit();
     let mut numbering = Numbering::new(alloc);
     let formula = cover_formula(alloc, &mut numbering, strata, base, findings)?;
     let tests = numbering.into_tests()?;

@@ -1,4 +1,4 @@
-//! Whether a set allows a request, by the query of the set.
+//! Whether a request lies in a region, by the query of the region.
 ghost use Rattle.std.specs.Prelude.{◌≡◌, IfOk, length};
 ghost use Rattle.formula_tree.specs.Trees.{children_of, tree_of};
 ghost use Rattle.formula_tree.specs.Values.{AreBelow, EachBelow, each_holds, holds, some_holds};
@@ -71,7 +71,7 @@ fn some_holds_by(answers: &[bool], branches: &Branches) -> bool
     false
 }
 
-/// Whether the set whose query is `base` allows the valid request. Each test is asked once.
+/// Whether the valid request lies in the region whose query is `base`. Each test is asked once.
 pub(crate) fn is_allowed(alloc: Global, base: &Query, request: &Request) -> Result<bool, NoMemory>
     requires { AreBelow (length base.now.tests) (tree_of base.now.formula.value) }
     ensures { IfOk result (DecidesAllowed base.now request.now) }

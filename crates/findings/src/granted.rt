@@ -1,5 +1,5 @@
 //! Own requests of findings that are asked for by the finding's predicates and those below alone, while the
-//! tree of the set is left out. Mostly the set allows what comes, which is seen by evaluating the tree once.
+//! tree of the region is left out. Mostly what comes lies in the region: the tree is evaluated once.
 ghost use Rattle.std.specs.Prelude.{◌≡◌, [], IfOk, IfSome};
 ghost use Rattle.formula_tree.specs.Trees.{tree_of};
 ghost use Rattle.findings.specs.Asked.{IsAskableOver, IsAsked};
@@ -14,13 +14,13 @@ use crate::outcome::Finding;
 use crate::own::is_own_if_valid;
 use formula_tree::{Branches, Formula};
 use plain_lists::NoMemory;
-use policy_compile::{Query, tests_of_set_queries_suit};
+use policy_compile::Query;
 use policy_model::Request;
 use std::alloc::Global;
 use std::rc::Rc;
 use strata::Strata;
 
-/// The most tests of such a finding's predicates and those below. With more of them the set's own are few
+/// The most tests of such a finding's predicates and those below. With more of them the region's own are few
 /// beside them.
 const MOST_TESTS: usize = 16;
 
@@ -44,21 +44,20 @@ fn lying_formula(
     Ok(formula)
 }
 
-// The query that asks so. It may be asked where the strata are those of a set.
+// The query that asks so. It may be asked where the strata are those of a region.
 fn lying_query(alloc: Global, strata: &Strata, finding: &Finding) -> Result<Query, NoMemory>
     requires finding { IsFinding strata.now.dimensions finding.now }
     requires numbers { AreNumberedBelow strata.now.dimensions }
     ensures { IfOk result (IsAskableOver strata.now) }
 {
-    tests_of_set_queries_suit();
     let mut numbering = Numbering::new(alloc);
     let formula = lying_formula(alloc, &mut numbering, strata, finding)?;
     let tests = numbering.into_tests()?;
     Ok(Query { formula, tests })
 }
 
-/// A request of the finding's own, where the set allows one that is found in the finding and in no finer one
-/// without a look at the set. Where there is none nothing follows.
+/// A request of the finding's own, where the region has one that is found in the finding and in no finer one
+/// without a look at the region. Where there is none nothing follows.
 pub(crate) fn granted_request<D: Decide>(
     alloc: Global,
     strata: &Strata,

@@ -41,7 +41,7 @@ const MOST_PARTS: usize = 500_000_000;
 #[derive(Drop)]
 pub(crate) struct Samples {
     alloc: Global,
-    /// Requests that the set allows.
+    /// Requests of the region.
     requests: Vec<Request>,
     /// How many more questions may be asked that leave nothing out.
     left: usize,
@@ -207,8 +207,8 @@ impl Samples {
         }
     }
 
-    /// Those of the findings right under the first of which it isn't plain that nobody is allowed anything in them, or
-    /// all of them where too many were looked at in vain.
+    /// Those of the findings right under the first for which it isn't plain that they have nobody; or all of them
+    /// where too many were looked at in vain.
     pub(crate) fn likely(
         &mut self,
         known: &KnownAnswers,

@@ -1,4 +1,4 @@
-//! What the predicates of findings say of the tests of a set by themselves: a table, made once for a summary,
+//! What the predicates of findings say of the tests of a query by themselves: a table, made once for a summary,
 //! by which much is known of a finding without a search.
 ghost use Rattle.std.specs.Prelude.{◌≡◌, ◌<◌, ◌^◌, IfOk, IfSome, OnOk, false, length, true};
 ghost use Rattle.findings.specs.Findings.{IsFinding};
@@ -14,10 +14,10 @@ use std::alloc::Global;
 use strata::{Predicate, Strata, Stratum, test_of};
 use test_relations::{excludes, leads};
 
-/// For each predicate of a dimension, answers to tests of the set.
+/// For each predicate of a dimension, answers to tests of the query.
 type PathList = List<Path>;
 
-/// What the predicates of each dimension say of the tests of a set.
+/// What the predicates of each dimension say of the tests of a query.
 #[derive(Drop)]
 pub(crate) struct KnownAnswers {
     /// By dimensions and numbers of predicates: what each request answers that meets the predicate.
@@ -183,7 +183,7 @@ fn join_at(path: &mut Path, table: &List<PathList>, i: usize, number: usize) -> 
 }
 
 impl KnownAnswers {
-    /// The table for the set whose query is `base`.
+    /// The table for the region whose query is `base`.
     pub(crate) fn new(
         alloc: Global,
         schema: &Schema,

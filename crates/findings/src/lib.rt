@@ -1,5 +1,5 @@
-//! Summaries of what a set of policies allows: findings, one predicate of each dimension, that have a
-//! request of their own and no such finding above them.
+//! Summaries of a region of requests, such as those that a set of policies allows: findings, one predicate
+//! of each dimension, that have a request of their own and no such finding above them.
 #![tactic(auto)]
 
 mod certified;
@@ -17,6 +17,7 @@ mod outcome;
 mod own;
 mod query;
 mod reading;
+mod region;
 mod screening;
 mod standing;
 mod steps;
@@ -32,6 +33,7 @@ pub use decide::{Asked, Decide, Wide};
 pub use meaning::{summaries_are_flat, summaries_are_needed, summaries_cover, visits_are_bounded};
 pub use outcome::{Finding, FindingList, Summary, SummaryFault};
 pub use query::finding_query;
+pub use region::Region;
 pub use standing::{SummaryVerdict, check_summary};
 pub use summary::summarise;
 pub use text::{finding_text, predicate_text, some_is_narrow, some_takes_either_case};

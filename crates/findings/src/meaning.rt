@@ -1,7 +1,7 @@
 //! What holds of summaries. Each law is a function that does nothing, and whose contract states it.
 ghost use Rattle.findings.specs.Laws.{SummariesAreFlat, SummariesAreNeeded, SummariesCover, VisitsAreBounded};
 
-/// Each valid request that the set allows lies in some finding of the summary.
+/// Each valid request of the region lies in some finding of the summary.
 pub fn summaries_cover()
     ensures { SummariesCover }
 {}

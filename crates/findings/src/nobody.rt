@@ -11,12 +11,12 @@ use crate::numbering::Numbering;
 use crate::outcome::FindingList;
 use formula_tree::{Branches, Formula};
 use plain_lists::NoMemory;
-use policy_compile::{Query, tests_of_set_queries_suit};
+use policy_compile::Query;
 use std::alloc::Global;
 use std::rc::Rc;
 use strata::Strata;
 
-// The formula that a request lies in one of the findings and the set allows it, where there are no tests yet.
+// The formula that a request lies in one of the findings and in the region, where there are no tests yet.
 fn inside_formula(
     alloc: Global,
     numbering: &mut Numbering,
@@ -48,7 +48,6 @@ fn inside_query(
     requires findings { All (IsFinding strata.now.dimensions) findings.now }
     ensures { IfOk result (IsInsideQuery base.now strata.now findings.now) }
 {
-    tests_of_set_queries_suit();
     let mut numbering = Numbering::new(alloc);
     let formula = inside_formula(alloc, &mut numbering, strata, base, findings)?;
     let tests = numbering.into_tests()?;

@@ -185,7 +185,7 @@ impl Numbering {
         Ok(formula)
     }
 
-    // The numbers of tests, each of which gets the next one where it is new.
+    // The numbers of tests. A new test gets the next number.
     fn numbers(&mut self, tests: &TestList) -> Result<Vec<u32>, NoMemory>
         ensures { IfOk result (λ numbers. AreNumbersOf self.old.tests.keys self.new.tests.keys
             tests.now numbers.items) }

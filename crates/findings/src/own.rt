@@ -119,8 +119,8 @@ pub(crate) fn is_own_if_valid(
     Ok(allowed)
 }
 
-/// Whether the request is the finding's own: it is valid under the schema, the set whose query is `base`
-/// allows it, and it lies in the finding and in no strictly finer one.
+/// Whether the request is the finding's own: it is valid under the schema, and lies in the region whose
+/// query is `base` and in the finding, and in no strictly finer one.
 pub(crate) fn is_own(
     alloc: Global,
     validity: &Validity<'_>,

@@ -15,13 +15,13 @@ use crate::outcome::Finding;
 use crate::screening::is_plainly_no;
 use formula_tree::{Branches, Formula};
 use plain_lists::NoMemory;
-use policy_compile::{Query, tests_of_set_queries_suit};
+use policy_compile::Query;
 use std::alloc::Global;
 use std::rc::Rc;
 use strata::Strata;
 
 // Adds the parts of a finding's query: its predicates, that none right below them holds, and the query
-// of the set.
+// of the region.
 fn add_parts(
     numbering: &mut Numbering,
     branches: &mut Branches,
@@ -63,10 +63,10 @@ fn whole_formula(
 }
 
 /// The query of a finding: that its predicates hold, that none of those that are maximal strictly below
-/// them does, and that the set allows. On a valid request it holds exactly where the request is the
-/// finding's own: where it lies in the finding and in no strictly finer one, and the set allows it.
+/// them does, and that the query of the region does. On a valid request it holds exactly where the request
+/// is the finding's own: where it lies in the region and in the finding, and in no strictly finer one.
 ///
-/// `base` is the query of the set and `strata` are those of `base`, under one schema. The only error is
+/// `base` is the query of the region and `strata` are those of `base`, under one schema. The only error is
 /// want of memory.
 pub fn finding_query(
     alloc: Global,
@@ -80,7 +80,6 @@ pub fn finding_query(
     ensures own { IfOk result (HoldsForOwn base.now strata.now finding.now) }
     ensures askable { IfOk result (IsAskableFor base.now strata.now) }
 {
-    tests_of_set_queries_suit();
     let mut numbering = Numbering::new(alloc);
     let formula = whole_formula(alloc, &mut numbering, strata, base, finding)?;
     let tests = numbering.into_tests()?;

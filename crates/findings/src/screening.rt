@@ -1,5 +1,4 @@
-//! Findings of which it is plain, without a search, that nobody is allowed anything in them, or that they
-//! have no request of their own.
+//! Findings for which it is plain, without a search, that they have nobody, or no request of their own.
 ghost use Rattle.std.specs.Prelude.{◌≡◌, IfOk, IsTrue};
 ghost use Rattle.formula_tree.specs.declared.value.Three.TheVariants.{No};
 ghost use Rattle.formula_tree.specs.Trees.{tree_of};
@@ -14,7 +13,7 @@ use plain_lists::{List, NoMemory};
 use policy_compile::Query;
 use std::alloc::Global;
 
-/// Whether the set plainly allows no request that gives these answers.
+/// Whether plainly no request of the region gives these answers.
 pub(crate) fn is_plainly_no(base: &Query, path: &Path) -> bool
     ensures { IsTrue result → value path.now (tree_of base.now.formula.value) ≡ No }
 {
@@ -37,8 +36,8 @@ fn has_plainly_nobody(
     Ok(is_plainly_no(base, &path))
 }
 
-/// Those of the findings right under the first, in their order, of which it isn't plain that nobody is
-/// allowed anything in them. In one dimension each is kept, since nothing comes below it that would be saved.
+/// Those of the findings right under the first, in their order, for which it isn't plain that they have nobody. In
+/// one dimension each is kept, since nothing comes below it that would be saved.
 pub(crate) fn without_nobody(
     alloc: Global,
     known: &KnownAnswers,

@@ -1,4 +1,4 @@
-//! Whether a list of findings with requests stands for a set.
+//! Whether a list of findings with requests stands for a region.
 ghost use Rattle.std.specs.Prelude.{◌<◌, ◌≤◌, ◌^◌, ◌≡◌, All, IfOk, length};
 ghost use Rattle.findings.specs.Findings.{IsFinding};
 ghost use Rattle.findings.specs.Judging.{IsFirstAlone, Rises, DecidesAlone, verdict_at};
@@ -21,7 +21,7 @@ pub enum SummaryVerdict {
     /// Each finding has the request beside it as its own, comes behind the one before it in the order of
     /// their numbers, and is neither finer nor broader than another one of the list.
     Stands,
-    /// The first pair, counted from 0, of which one of these doesn't hold.
+    /// The first pair, counted from 0, for which one of these doesn't hold.
     Fails { place: u32 },
 }
 
@@ -77,7 +77,7 @@ fn first_alone(
     Ok(pairs.len())
 }
 
-// The same, under a schema.
+// As above, under a schema.
 fn first_failing(
     alloc: Global,
     schema: &Schema,
@@ -109,7 +109,7 @@ fn verdict_at(first: usize, count: usize) -> SummaryVerdict
     }
 }
 
-/// Whether the list stands for the set whose query is `base`, whoever wrote it.
+/// Whether the list stands for the region whose query is `base`, whoever wrote it.
 ///
 /// `strata` are those of `base`, both under the schema, and the list has at most 4,294,967,295 pairs. The
 /// only error is want of memory.

@@ -3,7 +3,7 @@ ghost use Rattle.std.specs.Prelude.{◌≡◌, ◌≤◌, IfErr, IfOk, OnOk, len
 ghost use Rattle.std.specs.Cmp.Lexicographic.{slice_cmp};
 ghost use Rattle.std.specs.List.Sorted.{IsStrictlySortedBy};
 ghost use Rattle.std.specs.Ordering.{nat_cmp};
-ghost use Rattle.policy_model.specs.declared.set.PolicySet.{PolicySet};
+ghost use Rattle.findings.specs.declared.region.Region.{Region};
 ghost use Rattle.findings.specs.Answers.{IsSummarised};
 ghost use Rattle.findings.specs.Ending.{HasEnded, SummaryFails};
 ghost use Rattle.findings.specs.KnownAnswers.{AreKnownAnswers};
@@ -79,7 +79,7 @@ fn look_at_each<D: Decide>(
     Ok(())
 }
 
-/// The summary of the set whose query is `base`: the irreducible findings that have no irreducible one
+/// The summary of the region whose query is `base`: the irreducible findings that have no irreducible one
 /// strictly above, in the order of their numbers, each with a request of its own. They are at most
 /// `findings`. `strata` are those of `base`, under the schema that `asks` answers for.
 ///
@@ -94,8 +94,8 @@ pub fn summarise<D: Decide>(
     findings: u32,
 ) -> Result<Summary, SummaryFault>
     requires made { AreMadeUnder (D.schema asks.old) base.now strata.now }
-    ensures summary { (set : PolicySet) → AreMadeFor (D.schema asks.old) set base.now strata.now →
-        IsSummarised (D.schema asks.old) set strata.now.dimensions
+    ensures summary { (region : Region) → AreMadeFor (D.schema asks.old) region base.now strata.now →
+        IsSummarised (D.schema asks.old) region strata.now.dimensions
         (D.splits asks.old) (D.states asks.old) findings result }
     ensures few { IfOk result (λ summary. length summary ≤ findings) }
     ensures schema { D.schema asks.new ≡ D.schema asks.old }

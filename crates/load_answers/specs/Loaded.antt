@@ -15,7 +15,9 @@ use Rattle.run_inputs.specs.OneSets.{IsOneRunRefusal, SomeSetRun}
 use Rattle.run_inputs.specs.Pairs.{IsRunRefusal, SomeRun}
 use Rattle.run_inputs.specs.Refusals.{IsRefusedBy}
 use Rattle.compare_answers.specs.Printed.{IsPairPrinted}
-use Rattle.summary_answers.specs.Printed.{IsSetPrinted}
+use Rattle.strata.specs.declared.names.TheConstants.{MOST_PREDICATES}
+use Rattle.summary_answers.specs.Printed.{IsSubjectPrinted, always_holds}
+use Rattle.summary_answers.specs.Subjects.{subject_of_set}
 use Rattle.load_answers.specs.declared.loading.LoadLines.{LoadLines}
 
 -- the text up to its first line feed
@@ -29,7 +31,7 @@ default_budgets = record { splits = DEFAULT_SPLITS; states = DEFAULT_STATES }
 
 -- and those of a summary
 abbrev pub default_limits : Limits
-default_limits = record { splits = DEFAULT_SPLITS; states = DEFAULT_STATES; findings = DEFAULT_FINDINGS }
+default_limits = record { splits = DEFAULT_SPLITS; predicates = MOST_PREDICATES; states = DEFAULT_STATES; findings = DEFAULT_FINDINGS }
 
 -- the first key, by which the first set is summarised
 abbrev pub first_key : List (List ℕ)
@@ -44,7 +46,8 @@ ComparesSets named one two p =
 -- the same to a summary of a set by the first key that names no budget
 abbrev pub SummarisesFirst : Schema → PolicySet → Printed → Type 0
 SummarisesFirst named set p =
-    IsRefusedBy (IsOneRunRefusal named set) p ⊎ SomeSetRun named set (λ one. IsSetPrinted first_key default_limits one p)
+    IsRefusedBy (IsOneRunRefusal named set) p
+    ⊎ SomeSetRun named set (λ one. IsSubjectPrinted always_holds first_key default_limits (subject_of_set one) p)
 
 -- the text is the first line of one that may be printed
 pub record IsLineFor (may : Printed → Type 0) (line : String Global) : Type 0 where

@@ -16,7 +16,8 @@ use policy_model::{PolicySet, Schema};
 use request_schema::built_in;
 use run_inputs::{EarlyEnd, Printed, Status, printed_of, run_one, run_pair};
 use std::alloc::{AllocError, Global};
-use summary_answers::print_set_summary;
+use strata::MOST_PREDICATES;
+use summary_answers::{print_subject_summary, subject_of_set};
 use summary_search::Limits;
 use tree_search::Budgets;
 
@@ -93,6 +94,7 @@ fn default_limits() -> Limits
 {
     Limits {
         splits: DEFAULT_SPLITS,
+        predicates: MOST_PREDICATES,
         states: DEFAULT_STATES,
         findings: DEFAULT_FINDINGS,
     }
@@ -114,8 +116,9 @@ fn first_summary(alloc: Global, named: &Schema, set: PolicySet) -> Result<Printe
     ensures { IfPrinted result (SummarisesFirst named.now set) }
 {
     let one = run_one(alloc, named, set)?;
+    let subject = subject_of_set(one);
     let names = first_key(alloc)?;
-    print_set_summary(alloc, &one, names.as_slice(), default_limits())
+    print_subject_summary(alloc, &subject, names.as_slice(), default_limits())
 }
 
 // The first line of that.

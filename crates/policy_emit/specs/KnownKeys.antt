@@ -5,6 +5,7 @@ use Rattle.policy_model.specs.declared.set.PolicySet.{PolicySet}
 use Rattle.policy_compile.specs.declared.outcome.Query.{Query}
 use Rattle.request_schema.specs.RunSchemas.{IsInferred}
 use Rattle.strata.specs.declared.stratum.Strata.{Strata}
+use Rattle.findings.specs.declared.region.Region.TheVariants.{AllowedBy}
 use Rattle.findings.specs.Queries.{AreMadeFor}
 use Rattle.read_predicates.specs.KnownKeys.{IsInferredOfBoth}
 use Rattle.policy_emit.specs.Emitted.{emitted_set}
@@ -14,5 +15,5 @@ use Rattle.policy_emit.specs.Emitted.{emitted_set}
 abbrev pub EmittedKeysAreKnown : Type 0
 EmittedKeysAreKnown =
     (named schema : Schema) (set : PolicySet) (base : Query) (strata : Strata) (fs : List (List ℕ)) →
-    IsInferred named set None (Ok schema) → AreMadeFor schema set base strata →
+    IsInferred named set None (Ok schema) → AreMadeFor schema (AllowedBy set) base strata →
     IsInferredOfBoth named set (emitted_set schema strata.dimensions fs) schema

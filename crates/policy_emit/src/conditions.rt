@@ -76,7 +76,7 @@ fn add_condition(
     Ok(())
 }
 
-// Adds the condition of a dimension, where it is a key of which something is asked.
+// Adds the condition of a dimension, where it is a key and the finding asks something of it.
 fn add_dimension(
     alloc: Global,
     schema: &Schema,

@@ -94,12 +94,15 @@ fn are_too_many(summary: &Summary) -> bool
 /// a statement that allows what lies in it, and the statements stand in the order of the findings. The
 /// document's version is the one whose texts have escapes, 2012-10-17.
 ///
-/// Of a part of the request of which a finding asks nothing, `Action` and `Resource` say `*`, and
-/// `Principal` and `Condition` are left out. Actions are written without escapes, resources and the values
-/// of keys with escapes. A key stands under one operator, by its name with ASCII letters lowered: a pattern
-/// under `ArnLike` where a wildcard of it takes no colon, else under `StringEqualsIgnoreCase` where a letter
-/// of it is taken in either case, else under `StringLike`; a comparison under its `Numeric` name; a block
-/// under `IpAddress`; a flag under `Bool`, with each truth value that it takes; bytes under `BinaryEquals`.
+/// Where a finding asks nothing of a part of the request, `Action` and `Resource` say `*`, and `Principal` and
+/// `Condition` are left out. Actions are written without escapes, resources and the values of keys with
+/// escapes. A key stands under one operator, by its name with ASCII letters lowered:
+///
+/// - a pattern under `ArnLike` where a wildcard of it takes no colon, else under `StringEqualsIgnoreCase` where
+///   it takes a letter in either case, else under `StringLike`;
+/// - a comparison under its `Numeric` name, and a block under `IpAddress`;
+/// - a flag under `Bool`, with each truth value that it takes, and bytes under `BinaryEquals`.
+///
 /// Before the name of the operator stands `ForAnyValue:` where the schema gives the key several values.
 ///
 /// Where the strata were made for a set that a file gives, the reader of policies reads the text as

@@ -1,5 +1,5 @@
 -- Which statuses are printed to the question who reaches from outside a zone, and when it is found.
-use Rattle.std.proofs.Common.{◌≡◌, ◌⊎◌, ℕ, List, [], ◌∷◌, inl, inr, refl, subst, sym, ◌∙◌}
+use Rattle.std.proofs.Common.{◌≡◌, ◌⊎◌, ℕ, List, inl, inr, subst, sym, ◌∙◌}
 use Rattle.std.specs.Prelude.{Ok}
 use Rattle.command_words.specs.Asked.{Summarising}
 use Rattle.policy_model.specs.declared.schema.Schema.{Schema}
@@ -17,27 +17,19 @@ use Rattle.run_inputs.specs.Refusals.{IsRefusedBy}
 use Rattle.run_inputs.proofs.Laws.{no_one_fails, of_same_set}
 use Rattle.summary_answers.specs.Complete.{IsSummarisable}
 use Rattle.summary_answers.specs.Printed.{limits_in}
-use Rattle.summary_answers.proofs.Laws.{not_found_of_text, summarisable_sets_are_found}
+use Rattle.summary_answers.proofs.Laws.{not_found_of_text, status_by_of_text, status_is_by, summarisable_subjects_are_found}
 use Rattle.reach_answers.specs.ReachComplete.{IsReachable, ReachesDecide}
-use Rattle.reach_answers.specs.ReachPrinted.{IsReachOfSet, IsReachPrinted, IsZonePrinted, ReachContents, left_outside, status_by}
+use Rattle.reach_answers.specs.ReachPrinted.{IsReachOfSet, IsReachPrinted, IsZonePrinted, ReachContents, left_outside}
 use Rattle.reach_answers.specs.ZoneRefusals.{IsZoneRefused}
 
 -- ---- statuses
-
-found_by : {A : Type 0} (xs : List A) → (status_by xs ≡ status.Holds) ⊎ (status_by xs ≡ status.Fails)
-found_by [] = inl refl
-found_by (x ∷ xs) = inr refl
-
-by_status : {A : Type 0} (xs : List A) → IsOfText (status_by xs)
-by_status [] = tt
-by_status (x ∷ xs) = tt
 
 refusal_with : (Q : Refusal → Type 0) (p : Printed) → IsRefusedBy Q p → IsOfText p.status
 refusal_with Q p (r, is, told) = subst IsOfText (sym told.1) tt
 
 zone_with : (names : List (List ℕ)) (limits : Limits) (one : OneSet) (zone : Zone) (p : Printed) → IsZonePrinted names limits one zone p → IsOfText p.status
 zone_with names limits one zone p (inl none) = not_found_of_text names limits (left_outside one zone) p none
-zone_with names limits one zone p (inr found) = subst IsOfText (sym found.printed.prints.1) (by_status found.printed.found.summary)
+zone_with names limits one zone p (inr found) = subst IsOfText (sym found.printed.prints.1) (status_by_of_text found.printed.found.summary)
 
 set_with : (names : List (List ℕ)) (limits : Limits) (bytes : List ℕ) (one : OneSet) (p : Printed) → IsReachOfSet names limits bytes one p → IsOfText p.status
 set_with names limits bytes one p (inl refused) = subst IsOfText (sym refused.prints.1) tt
@@ -57,8 +49,8 @@ by_found p s is (inl holds) = inl (is ∙ holds)
 by_found p s is (inr fails) = inr (is ∙ fails)
 
 zone_decides : (names : List (List ℕ)) (limits : Limits) (one : OneSet) (zone : Zone) (p : Printed) → IsSummarisable names limits (left_outside one zone) → IsZonePrinted names limits one zone p → Decided p
-zone_decides names limits one zone p d (inl none) = absurd (summarisable_sets_are_found names limits (left_outside one zone) p d none)
-zone_decides names limits one zone p d (inr found) = by_found p _ found.printed.prints.1 (found_by found.printed.found.summary)
+zone_decides names limits one zone p d (inl none) = absurd (summarisable_subjects_are_found names limits (left_outside one zone) p d none)
+zone_decides names limits one zone p d (inr found) = by_found p _ found.printed.prints.1 (status_is_by found.printed.found.summary)
 
 no_fault : (schema : Schema) (bytes : List ℕ) (zone : Zone) (p : Printed) → zone_from schema bytes ≡ Ok zone → IsZoneRefused schema bytes p → ⊥
 no_fault schema bytes zone p stands refused = let first = refused.first in cc

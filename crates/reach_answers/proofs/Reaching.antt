@@ -1,7 +1,9 @@
 -- What is found of what is outside a zone says who reaches from outside.
-use Rattle.std.proofs.Common.{◌≡◌, ◌⊎◌, ℕ, List, Option, Any, arith, inl, inr, subst}
+use Rattle.std.proofs.Common.{◌≡◌, ℕ, List, Option, Any, arith, inl, inr, subst}
 use Rattle.std.specs.Prelude.{Ok}
 use Rattle.std.proofs.lemmas.List.Elements.{All-weaker}
+use Rattle.findings.specs.declared.region.Region.{Region}
+use Rattle.findings.specs.declared.region.Region.TheVariants.{AllowedBy}
 use Rattle.findings.specs.Findings.{IsOwn, LiesInFinding}
 use Rattle.findings.specs.Laws.{HasSummary, SummariesCover}
 use Rattle.findings.specs.Summaries.{findings_of}
@@ -18,8 +20,10 @@ use Rattle.run_inputs.specs.declared.printed.Printed.{Printed}
 use Rattle.run_inputs.specs.declared.one_set.OneSet.{OneSet}
 use Rattle.run_inputs.specs.OneSets.{IsOneSetOf}
 use Rattle.summary_answers.specs.declared.answer.Found.{Found}
-use Rattle.summary_answers.specs.Found.{IsFoundOf, IsNotFound}
-use Rattle.reach_answers.specs.ReachPrinted.{IsOutsidePrinted, IsReachOfSet, IsZonePrinted, ReachesFromOutside, SaysWhoReaches, left_outside}
+use Rattle.summary_answers.specs.declared.subject.Subject.{Subject}
+use Rattle.summary_answers.specs.Found.{IsFoundOf}
+use Rattle.summary_answers.specs.Printed.{IsSubjectPrinted, status_by}
+use Rattle.reach_answers.specs.ReachPrinted.{IsReachOfSet, IsZonePrinted, ReachesFromOutside, SaysWhoReaches, left_outside}
 
 -- ---- what is found
 
@@ -27,8 +31,8 @@ module _ (leave : ZonesLeaveTheOutside) (keep : ZonesKeepSchemas) (covers : Summ
   says-who : (names : List (List ℕ)) (limits : Limits) (one : OneSet) (zone : Zone) (found : Found) → TakesZone one.schema zone → IsFoundOf names limits (left_outside one zone) found → SaysWhoReaches one zone found
   says-who names limits one zone found takes is =
       let ds = found.strata.dimensions in
-      let left = outside one.set zone in
-      let from : HasSummary one.schema left found.strata found.summary = record { base = is.query; made = is.made; is = is.summary } in
+      let left : Region = AllowedBy (outside one.set zone) in
+      let from : HasSummary one.schema left found.strata found.summary = record { base = found.query; made = is.made; is = is.summary } in
       let cover : (r : Request) → ReachesFromOutside one zone r → Any (LiesInFinding r ds) (findings_of found.summary) =
       λ r reaches. covers one.schema left found.strata found.summary from r reaches.valid ((leave one.schema one.set zone r takes reaches.valid).1 (reaches.allowed, reaches.outside)) in
       record {
@@ -39,11 +43,14 @@ module _ (leave : ZonesLeaveTheOutside) (keep : ZonesKeepSchemas) (covers : Summ
       }
 
   -- what is printed of what is outside
-  pub outside-printed : (names : List (List ℕ)) (limits : Limits) (one left : OneSet) (zone : Zone) → TakesZone one.schema zone → left ≡ left_outside one zone → (p : Printed) → IsNotFound names limits left p ⊎ IsOutsidePrinted names limits left p → IsZonePrinted names limits one zone p
-  outside-printed names limits one left zone takes is p (inl none) = inl (subst (λ (o : OneSet). IsNotFound names limits o p) is none)
-  outside-printed names limits one left zone takes is p (inr found) =
-      let own : IsOutsidePrinted names limits (left_outside one zone) p = subst (λ (o : OneSet). IsOutsidePrinted names limits o p) is found in
+  zone-said : (names : List (List ℕ)) (limits : Limits) (one : OneSet) (zone : Zone) → TakesZone one.schema zone → (p : Printed) → IsSubjectPrinted status_by names limits (left_outside one zone) p → IsZonePrinted names limits one zone p
+  zone-said names limits one zone takes p (inl none) = inl none
+  zone-said names limits one zone takes p (inr own) =
       inr (record { printed = own; says = says-who names limits one zone own.found takes own.is; own = λ named inferred. keep named one.schema one.set zone inferred takes })
+
+  pub outside-printed : (names : List (List ℕ)) (limits : Limits) (one : OneSet) (left : Subject) (zone : Zone) → TakesZone one.schema zone → left ≡ left_outside one zone → (p : Printed) → IsSubjectPrinted status_by names limits left p → IsZonePrinted names limits one zone p
+  outside-printed names limits one left zone takes is p printed =
+      zone-said names limits one zone takes p (subst (λ (x : Subject). IsSubjectPrinted status_by names limits x p) is printed)
 
 -- ---- the zone of a file
 

@@ -1,6 +1,7 @@
 -- What may be printed to the question who is allowed anything from outside a trust zone.
-use Rattle.std.specs.Prelude.{◌≡◌, ◌⊎◌, ℕ, List, [], ◌∷◌, Option, None, Ok, All, Any}
+use Rattle.std.specs.Prelude.{◌≡◌, ◌⊎◌, ℕ, List, [], Option, None, Ok, All, Any}
 use Rattle.command_words.specs.Asked.{Summarising}
+use Rattle.findings.specs.declared.region.Region.TheVariants.{AllowedBy}
 use Rattle.findings.specs.Findings.{LiesInFinding}
 use Rattle.findings.specs.Summaries.{findings_of}
 use Rattle.policy_model.specs.declared.request.Request.{Request}
@@ -12,16 +13,13 @@ use Rattle.summary_search.specs.declared.outcome.Limits.{Limits}
 use Rattle.trust_zones.specs.declared.zone.Zone.{Zone}
 use Rattle.trust_zones.specs.Zones.{IsInside, outside}
 use Rattle.run_inputs.specs.declared.printed.Printed.{Printed}
-use Rattle.run_inputs.specs.declared.status.Status.{Status}
-use Rattle.run_inputs.specs.declared.status.Status.TheVariants.{Holds, Fails}
-use Rattle.run_inputs.specs.Printing.{PrintsText}
 use Rattle.run_inputs.specs.declared.one_set.OneSet.{OneSet}
 use Rattle.run_inputs.specs.OneSets.{IsOneSetRefusal, SomeOneSet}
 use Rattle.run_inputs.specs.Refusals.{IsRefusedBy}
 use Rattle.summary_answers.specs.declared.answer.Found.{Found}
-use Rattle.summary_answers.specs.FindingTexts.{found_text}
-use Rattle.summary_answers.specs.Found.{IsFoundOf, IsNotFound}
-use Rattle.summary_answers.specs.Printed.{limits_in}
+use Rattle.summary_answers.specs.declared.subject.Subject.{Subject}
+use Rattle.summary_answers.specs.Found.{IsNotFound}
+use Rattle.summary_answers.specs.Printed.{IsFoundPrinted, limits_in, status_by}
 use Rattle.reach_answers.specs.ZoneRefusals.{IsZoneRefused, OfZone}
 
 -- ---- who reaches
@@ -42,29 +40,19 @@ pub record SaysWhoReaches (one : OneSet) (zone : Zone) (found : Found) : Type 0 
 
 -- ---- what is printed
 
--- the set of what is outside the zone, under the same schema
-abbrev pub left_outside : OneSet → Zone → OneSet
-left_outside one zone = record { schema = one.schema; set = outside one.set zone }
-
--- somebody reaches, where there is a finding, and otherwise nobody does
-abbrev pub status_by : {A : Type 0} → List A → Status
-status_by [] = Holds
-status_by (x ∷ xs) = Fails
-
--- what is found of what is outside is printed
-pub record IsOutsidePrinted (names : List (List ℕ)) (limits : Limits) (left : OneSet) (p : Printed) : Type 0 where
-  pub found : Found
-  pub is : IsFoundOf names limits left found
-  pub prints : PrintsText (found_text found) (status_by found.summary) p
+-- what the set allows outside the zone, under the same schema
+abbrev pub left_outside : OneSet → Zone → Subject
+left_outside one zone = record { schema = one.schema; region = AllowedBy (outside one.set zone) }
 
 -- under the named keys that give the set this schema, what is outside the zone has it in a run of its own
 abbrev pub HasOwnRun : OneSet → Zone → Type 0
 HasOwnRun one zone = (named : Schema) →
     IsInferred named one.set None (Ok one.schema) → IsInferred named (outside one.set zone) None (Ok one.schema)
 
--- and it says who reaches, as a summary of the set of what is outside does
+-- what is found of what is outside is printed, a finding is a failure, and it says who reaches, as a summary of the set of what is
+-- outside does
 pub record IsReachFound (names : List (List ℕ)) (limits : Limits) (one : OneSet) (zone : Zone) (p : Printed) : Type 0 where
-  pub printed : IsOutsidePrinted names limits (left_outside one zone) p
+  pub printed : IsFoundPrinted status_by names limits (left_outside one zone) p
   pub says : SaysWhoReaches one zone printed.found
   pub own : HasOwnRun one zone
 

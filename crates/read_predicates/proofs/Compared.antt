@@ -38,6 +38,7 @@ use Rattle.strata.specs.declared.stratum.Stratum.{Stratum}
 use Rattle.strata.specs.Predicates.{SuitsSlot}
 use Rattle.strata.specs.Strata.{IsStratum}
 use Rattle.strata.proofs.Laws.{stratum-suits}
+use Rattle.findings.specs.declared.region.Region.TheVariants.{AllowedBy}
 use Rattle.findings.specs.Queries.{AreMadeFor}
 use Rattle.read_predicates.specs.KnownKeys.{EachConditionOf, IsDimensionOf, KnownKeysKeepSchemas, StandsForPredicate}
 use Rattle.read_predicates.proofs.Naming.{NamesOwn, stratum-named}
@@ -109,7 +110,7 @@ module _ (set : PolicySet) where
       let compared = some-of-with (IsAskedBy schema (test.SomeMeetsNone key cs)) (Compares key) (all-compared schema key cs) set asked in
       All-map (IsComparedAt (slot.Key key)) Meets cs (λ i c within. compared)
 
-  kept-compared : (schema : Schema) (base : Query) (strata : Strata) → AreMadeFor schema set base strata → Each (λ x. Each (IsComparedAt x.slot) x.predicates) strata.dimensions
+  kept-compared : (schema : Schema) (base : Query) (strata : Strata) → AreMadeFor schema (AllowedBy set) base strata → Each (λ x. Each (IsComparedAt x.slot) x.predicates) strata.dimensions
   kept-compared schema base strata made =
       let names = All-collects Names [] (tests_in (set_plan schema set)) base.tests made.query.tests (All-nil Names) (λ i t within. test-compares schema _ (set-asked schema set i t within)) in
       λ i x within. stratum-named IsComparedAt any-compared schema base.tests _ names (made.are.each i x within)
@@ -121,7 +122,7 @@ pub record RunLaws : Type 0 where
   pub suit : TestsOfSetQueriesSuit
   pub rules : KeysHaveTheirRules
 
-module _ (laws : RunLaws) (schema : Schema) (set : PolicySet) (base : Query) (strata : Strata) (made : AreMadeFor schema set base strata) where
+module _ (laws : RunLaws) (schema : Schema) (set : PolicySet) (base : Query) (strata : Strata) (made : AreMadeFor schema (AllowedBy set) base strata) where
   tests-suit : Each (TestSuits schema) base.tests
   tests-suit = laws.suit schema set base.tests made.fits made.query.tests
 

@@ -44,7 +44,7 @@ module _ (apart : PredicatesAreWrittenApart) (schema : Schema) (tests : List Tes
       let later : f ≡ g = numbers-apart ds (All-tail (IsStratum schema tests) d ds are) (All-tail forms d ds written) f g first.1 other.1 rest in
       cc
 
--- the texts of findings of strata that were made for a read set
+-- the texts of findings of strata that were made for read sets
 pub findings-apart : PredicatesAreOfWrittenForms → PredicatesAreWrittenApart → FindingsAreWrittenApart
 findings-apart written apart schema strata is f g first other e =
     let ds = strata.dimensions in

@@ -1,8 +1,8 @@
 -- The predicates that the tests of a read set name, and those of them that are kept, are of the forms that files give.
-use Rattle.std.proofs.Common.{◌≡◌, ◌≢◌, ℕ, ◌<◌, ◌||◌, Bool, true, false, List, [], ◌∷◌, length, get_or, All as Each, Any, Option, Some, None, refl, ap, sym, ◌∙◌, subst, inl, inr, arith, ℤ}
+use Rattle.std.proofs.Common.{◌≡◌, ◌≢◌, ℕ, ◌<◌, ◌||◌, Bool, true, false, List, [], ◌∷◌, ◌++◌, length, get_or, All as Each, Any, Option, Some, None, refl, ap, sym, ◌∙◌, subst, inl, inr, arith, ℤ}
 use Rattle.std.specs.Prelude.{⊤, IfSome}
 use Rattle.std.proofs.lemmas.List.{get_or_default}
-use Rattle.std.proofs.lemmas.List.Elements.{All-cons, All-contains, All-map, All-nil}
+use Rattle.std.proofs.lemmas.List.Elements.{All-append, All-cons, All-contains, All-map, All-nil}
 use Rattle.wildcard_lang.specs.declared.piece.Piece.{Piece}
 use Rattle.intervals.specs.Scaled.{IsScaled}
 use Rattle.intervals.specs.Laws.{DecimalOfIsTheForm, MomentOfIsTheForms}
@@ -52,7 +52,10 @@ use Rattle.strata.specs.Covers.{IsBelowAt, predicate_at}
 use Rattle.strata.specs.Predicates.{test_predicates}
 use Rattle.strata.specs.Strata.{IsStratum}
 use Rattle.strata.proofs.Laws.{any-first, stratum-differ, stratum-met}
-use Rattle.read_predicates.specs.Laws.{PredicatesAreOfWrittenForms}
+use Rattle.findings.specs.declared.region.Region.{Region}
+use Rattle.findings.specs.declared.region.Region.TheVariants.{AllowedBy, NewlyAllowed}
+use Rattle.findings.specs.Regions.{region_plan}
+use Rattle.read_predicates.specs.Laws.{IsRegionOfFiles, PredicatesAreOfWrittenForms}
 use Rattle.read_predicates.specs.WrittenForms.{IsWrittenCond, IsWrittenForm, IsWrittenPattern}
 use Rattle.read_predicates.proofs.Blocks.{block-in}
 use Rattle.read_predicates.proofs.Bytes.{decoded-bytes}
@@ -187,10 +190,19 @@ module _ (readings : Readings) where
       let g = some-with (SomeStatementIn (IsAskedBy schema t)) AreReadDocuments set.guards guarded read.guarding in
       documents-name schema t g.0 g.1 g.2
 
-  tests-name : (schema : Schema) (set : PolicySet) (q : Query) → IsReadForm set → IsQuery (set_plan schema set) q → Each Names q.tests
-  tests-name schema set q read is =
-      All-collects Names [] (tests_in (set_plan schema set)) q.tests is.tests (All-nil Names)
-      (λ i t within. set-names schema _ set (set-asked schema set i t within) read)
+  plan-names : (schema : Schema) (set : PolicySet) → IsReadForm set → Each Names (tests_in (set_plan schema set))
+  plan-names schema set read = λ i t within. set-names schema _ set (set-asked schema set i t within) read
+
+  region-names : (schema : Schema) (region : Region) → IsRegionOfFiles region → Each Names (tests_in (region_plan schema region))
+  region-names schema (AllowedBy set) files = plan-names schema set (read-form files.bytes set files.stands)
+  region-names schema (NewlyAllowed first second) files =
+      let taken = tests_in (set_plan schema second) in
+      All-append Names (tests_in (set_plan schema first)) (taken ++ []) (plan-names schema first (read-form files.0.bytes first files.0.stands))
+      (All-append Names taken [] (plan-names schema second (read-form files.1.bytes second files.1.stands)) (All-nil Names))
+
+  tests-name : (schema : Schema) (region : Region) (q : Query) → IsRegionOfFiles region → IsQuery (region_plan schema region) q → Each Names q.tests
+  tests-name schema region q files is =
+      All-collects Names [] (tests_in (region_plan schema region)) q.tests is.tests (All-nil Names) (region-names schema region files)
 
 -- `any` is of the form in each slot
 any-named : (s : Slot) → IsNamedForm s Every
@@ -259,9 +271,8 @@ stratum-written schema tests x some names is = λ i d within.
     λ on all. all-not-kept schema x.slot x.predicates begins.0 begins.1 (λ a b wa wb below above. stratum-differ schema tests x a b is wa wb below above) on i within (sym default ∙ all) in
     form-written schema x.slot (get_or x.predicates i d) (stratum-named IsNamedForm any-named schema tests x names is i d within) other (stratum-met schema tests x is i d within)
 
--- the predicates of strata that were made for a read set
+-- the predicates of strata that were made for read sets
 pub made-written : Readings → PredicatesAreOfWrittenForms
 made-written readings schema strata is =
-    let read = read-form is.bytes is.set is.stands in
-    let names = tests-name readings schema is.set is.base read is.made.query in
+    let names = tests-name readings schema is.region is.base is.files is.made.query in
     λ i x within. stratum-written schema is.base.tests (get_or strata.dimensions i x) is.made.has_request names (is.made.are.each i x within)

@@ -15,6 +15,7 @@ use Rattle.request_schema.specs.RunSchemas.{IsInferred}
 use Rattle.strata.specs.declared.predicate.Predicate.TheVariants.{Meets}
 use Rattle.strata.specs.declared.stratum.Strata.{Strata}
 use Rattle.strata.specs.declared.stratum.Stratum.{Stratum}
+use Rattle.findings.specs.declared.region.Region.TheVariants.{AllowedBy}
 use Rattle.findings.specs.Queries.{AreMadeFor}
 
 -- the dimension is of the condition's key, and this is one of its predicates
@@ -45,5 +46,5 @@ pub record IsInferredOfBoth (named : Schema) (set other : PolicySet) (schema : S
 abbrev pub KnownKeysKeepSchemas : Type 0
 KnownKeysKeepSchemas =
     (named schema : Schema) (set other : PolicySet) (base : Query) (strata : Strata) →
-    IsInferred named set None (Ok schema) → AreMadeFor schema set base strata →
+    IsInferred named set None (Ok schema) → AreMadeFor schema (AllowedBy set) base strata →
     EachConditionOf (StandsForPredicate schema strata) other → IsInferredOfBoth named set other schema

@@ -1,5 +1,5 @@
--- Of which forms the predicates are that strata of a set keep which a file gives: forms whose text tells one from another, and from
--- whose text the predicate can be read again.
+-- The forms of the predicates in the strata of a file's set. A predicate's text distinguishes it from others, and the predicate can be
+-- read again from it.
 use Rattle.std.specs.Prelude.{◌≡◌, ◌≢◌, ◌≤◌, ◌<◌, ⊤, ℕ, List, length, true, false, ◌||◌, MatchBool, All as Each}
 use Rattle.std.specs.List.{list_any}
 use Rattle.wildcard_lang.specs.declared.pattern.TheConstants.{MOST_PIECES}

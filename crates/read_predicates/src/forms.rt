@@ -1,14 +1,13 @@
-//! Of which forms predicates are, and what their texts tell. Each law is a function that does nothing,
+//! The forms of predicates, and what follows from their texts. Each law is a function that does nothing,
 //! and whose contract states it.
 ghost use Rattle.read_predicates.specs.Laws.{FindingsAreWrittenApart, PredicatesAreOfWrittenForms, PredicatesAreWrittenApart};
 
 use cidr_bits::{block_of_is_the_form, text_spells_one_block, written_block_spells};
 use intervals::{decimal_of_is_the_form, moment_of_is_the_forms};
 
-/// Where strata were made for the query of a set that a file gives, each of their predicates is of a
-/// form that its text can be read again as: an entry that files give, other than that of every
-/// principal; a pattern that some text stands for; a number in range; a block of addresses; a flag that
-/// true or false meets; bytes.
+/// Each predicate in the strata of a file's set is of a form that can be read again from its text: an entry
+/// that files give, other than that of every principal; a pattern that some text stands for; a number in
+/// range; a block of addresses; a flag that true or false meets; or bytes.
 pub fn predicates_are_of_written_forms()
     ensures { PredicatesAreOfWrittenForms }
 {

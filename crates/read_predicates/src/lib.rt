@@ -1,6 +1,6 @@
-//! What a set that was read from a file makes of the predicates that its tests name: they are of forms
-//! that can be told apart, and read again, by their texts; and a set whose conditions stand for such
-//! predicates asks no key for more than the set does. It has laws alone.
+//! What a set that was read from a file makes of the predicates that its tests name. Their forms are distinguished,
+//! and read again, by their texts. A set whose conditions stand for such predicates asks no key for more than the set
+//! does. It has laws alone.
 #![tactic(auto)]
 
 mod forms;

@@ -1,7 +1,8 @@
 //! What words ask.
 use command_words::{
-    CheckArguments, CheckSummaryArguments, Command, CompareArguments, EvalArguments,
-    FindingArguments, IdleArguments, ReachArguments, SummaryArguments, read_words,
+    CheckArguments, CheckNewAccessArguments, CheckSummaryArguments, Command, CompareArguments,
+    EvalArguments, FindingArguments, IdleArguments, NewAccessArguments, ReachArguments,
+    SummaryArguments, read_words,
 };
 use serde_json::Value;
 use std::alloc::{AllocError, Global};
@@ -136,18 +137,45 @@ fn push_idle(alloc: Global, out: &mut String, asked: &IdleArguments) -> Result<(
     write!(out, " splits {splits} states {states}{proof}")
 }
 
-fn push_summary_check(
+/// Adds the check of findings that is asked for, behind a command's word.
+fn push_findings_check(
     alloc: Global,
     out: &mut String,
+    word: &str,
     asked: &CheckSummaryArguments,
 ) -> Result<(), AllocError> {
-    out.push_str("check-summary")?;
+    out.push_str(word)?;
     push_name(alloc, out, asked.set.as_str())?;
     push_name(alloc, out, asked.proof.as_str())?;
     push_dimensions(alloc, out, asked.dimensions.as_slice())?;
     push_schema(alloc, out, asked.schema.as_deref())?;
     let states = asked.states;
     write!(out, " states {states}")
+}
+
+/// Adds the name of the second set's file.
+fn push_second(alloc: Global, out: &mut String, second: &str) -> Result<(), AllocError> {
+    out.push_str(" against")?;
+    push_name(alloc, out, second)
+}
+
+fn push_new_access(
+    alloc: Global,
+    out: &mut String,
+    asked: &NewAccessArguments,
+) -> Result<(), AllocError> {
+    push_findings(alloc, out, "new-access", &asked.summary)?;
+    push_second(alloc, out, asked.second.as_str())?;
+    out.push_str(proof_word(asked.certified))
+}
+
+fn push_new_access_check(
+    alloc: Global,
+    out: &mut String,
+    asked: &CheckNewAccessArguments,
+) -> Result<(), AllocError> {
+    push_findings_check(alloc, out, "check-new-access", &asked.check)?;
+    push_second(alloc, out, asked.second.as_str())
 }
 
 fn push_evaluation(
@@ -171,7 +199,10 @@ fn push_command(alloc: Global, out: &mut String, command: &Command) -> Result<()
         Command::Idle(asked) => push_idle(alloc, out, asked),
         Command::Reach(asked) => push_reach(alloc, out, asked),
         Command::Emit(asked) => push_findings(alloc, out, "emit", asked),
-        Command::CheckSummary(asked) => push_summary_check(alloc, out, asked),
+        Command::CheckSummary(asked) => push_findings_check(alloc, out, "check-summary", asked),
+        Command::NewAccess(asked) => push_new_access(alloc, out, asked),
+        Command::CheckNewAccess(asked) => push_new_access_check(alloc, out, asked),
+        Command::MisusedNewAccess => out.push_str("usage"),
     }
 }
 

@@ -7,29 +7,28 @@ use Rattle.policy_model.specs.declared.test.Test.{Test}
 use Rattle.policy_compile.specs.declared.outcome.Query.{Query}
 use Rattle.strata.specs.declared.outcome.StrataFault.{StrataFault}
 use Rattle.strata.specs.declared.outcome.StrataFault.TheVariants.{TooManyPredicates, Wide, NoMemory}
-use Rattle.strata.specs.declared.names.TheConstants.{MOST_PREDICATES}
 use Rattle.strata.specs.declared.predicate.Predicate.{Predicate}
 use Rattle.strata.specs.declared.stratum.Strata.{Strata}
 use Rattle.strata.specs.Asking.{pair_patterns}
 use Rattle.strata.specs.Predicates.{AreNamed}
 use Rattle.strata.specs.Strata.{AreStrata}
 
--- more than 128 predicates are named in the slot, `any` among them
-pub record NamesTooMany (tests : List Test) (s : Slot) : Type 0 where
+-- more predicates are named in the slot than there may be, `any` among them
+pub record NamesTooMany (most : ℕ) (tests : List Test) (s : Slot) : Type 0 where
   pub names : List Predicate
   pub named : AreNamed s tests names
-  pub many : MOST_PREDICATES < length names
+  pub many : most < length names
 
 -- in no slot are there more
-abbrev pub AreFew : List Test → List Slot → Type 0
-AreFew tests slots = All (λ s. ¬ NamesTooMany tests s) slots
+abbrev pub AreFew : ℕ → List Test → List Slot → Type 0
+AreFew most tests slots = All (λ s. ¬ NamesTooMany most tests s) slots
 
 -- slot d is the first in which there are
-pub record IsFirstTooMany (tests : List Test) (slots : List Slot) (d : ℕ) : Type 0 where
+pub record IsFirstTooMany (most : ℕ) (tests : List Test) (slots : List Slot) (d : ℕ) : Type 0 where
   pub slot : Slot
   pub at : slice_get slots d ≡ Some slot
-  pub many : NamesTooMany tests slot
-  pub first : (e : ℕ) (s : Slot) → e < d → slice_get slots e ≡ Some s → ¬ NamesTooMany tests s
+  pub many : NamesTooMany most tests slot
+  pub first : (e : ℕ) (s : Slot) → e < d → slice_get slots e ≡ Some s → ¬ NamesTooMany most tests s
 
 -- two of these predicates, which differ, are wider in the slot than the number of states: one more text than that, with different
 -- product states of the patterns of both
@@ -49,9 +48,9 @@ pub record NamesWide (schema : Schema) (tests : List Test) (states : ℕ) (s : S
 
 -- the strata of the slots, where in none too many predicates are named; or the first slot in which there are; or, where there is
 -- none, a slot with two predicates whose patterns are wider than the number of states
-abbrev pub AreStrataOf : Schema → ℕ → Query → List Slot → Result Strata StrataFault → Type 0
-AreStrataOf schema states query slots (Ok strata) = AreStrata schema query slots strata × AreFew query.tests slots
-AreStrataOf schema states query slots (Err (TooManyPredicates d)) = IsFirstTooMany query.tests slots d
-AreStrataOf schema states query slots (Err (Wide s texts)) =
-    Contains slots s × AreFew query.tests slots × NamesWide schema query.tests states s texts
-AreStrataOf schema states query slots (Err NoMemory) = ⊤
+abbrev pub AreStrataOf : ℕ → Schema → ℕ → Query → List Slot → Result Strata StrataFault → Type 0
+AreStrataOf most schema states query slots (Ok strata) = AreStrata schema query slots strata × AreFew most query.tests slots
+AreStrataOf most schema states query slots (Err (TooManyPredicates d)) = IsFirstTooMany most query.tests slots d
+AreStrataOf most schema states query slots (Err (Wide s texts)) =
+    Contains slots s × AreFew most query.tests slots × NamesWide schema query.tests states s texts
+AreStrataOf most schema states query slots (Err NoMemory) = ⊤

@@ -13,6 +13,6 @@ StrataAreDetermined =
     (schema : Schema) (query : Query) (slots : List Slot) (one other : Strata) →
     AreStrata schema query slots one → AreStrata schema query slots other → one ≡ other
 
--- at most 128 predicates may be named in a dimension
+-- `strata` allows 128 predicates in a dimension
 abbrev pub StrataLimits : Type 0
 StrataLimits = MOST_PREDICATES ≡ 128

@@ -35,7 +35,7 @@ fn covered(alloc: Global, rows: &[Row], i: usize) -> Result<NumberList, NoMemory
     Ok(numbers)
 }
 
-// The same of each number.
+// These numbers for each number.
 pub(crate) fn all_covered(alloc: Global, rows: &[Row]) -> Result<List<NumberList>, NoMemory>
     requires { length rows.now < 2 ^ 32 }
     ensures { IfOk result (AreMaximalByRows rows.now (length rows.now)) }

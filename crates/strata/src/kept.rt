@@ -40,7 +40,7 @@ fn is_same(below: bool, above: bool) -> bool
 }
 
 // How the predicate stands to those that are kept, or none where one of them is met by the same
-// requests. Then no more is asked of it.
+// requests: then nothing more is asked about it.
 fn row_of<I: Inclusion>(
     alloc: Global,
     slot: &Slot,

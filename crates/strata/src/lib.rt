@@ -1,4 +1,4 @@
-//! The predicates that a set names of each dimension, and their order by the valid requests that meet
+//! The predicates that a query names of each dimension, and their order by the valid requests that meet
 //! them.
 #![tactic(auto)]
 
@@ -19,5 +19,5 @@ pub use meaning::{strata_are_determined, strata_limits};
 pub use names::MOST_PREDICATES;
 pub use outcome::StrataFault;
 pub use predicate::{Predicate, PredicateList, test_of};
-pub use search::strata;
+pub use search::{strata, strata_of};
 pub use stratum::{NumberList, Strata, Stratum};

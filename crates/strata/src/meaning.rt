@@ -6,7 +6,7 @@ pub fn strata_are_determined()
     ensures { StrataAreDetermined }
 {}
 
-/// The most predicates that may be named in a dimension, as a number.
+/// The most predicates that may be named in a dimension of `strata`, as a number.
 pub fn strata_limits()
     ensures { StrataLimits }
 {}

@@ -10,8 +10,8 @@ use policy_model::{Cond, Slot, Test};
 use slot_theory::is_on;
 use std::alloc::Global;
 
-/// The most predicates that may be named in a dimension, `Every` among them.
-pub const MOST_PREDICATES: usize = 128;
+/// The most predicates that may be named in a dimension of `strata`, `Every` among them.
+pub const MOST_PREDICATES: u32 = 128;
 
 // Adds the predicate at the end, where it isn't had.
 fn add(names: &mut IndexSet<Predicate>, predicate: Predicate) -> Result<(), NoMemory>

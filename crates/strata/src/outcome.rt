@@ -6,8 +6,8 @@ use wildcard_lang::TextList;
 /// Why there are no strata.
 #[derive(Drop)]
 pub enum StrataFault {
-    /// In the dimension of this index, the first such one, more than 128 predicates are named, `Every`
-    /// among them.
+    /// In the dimension of this index, the first such one, more predicates are named than there may be,
+    /// `Every` among them.
     TooManyPredicates(u32),
     /// Two predicates of the slot take too many product states: one more text than the number of
     /// states, no two of which have the same product state of the patterns of these two.

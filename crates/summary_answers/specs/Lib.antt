@@ -3,3 +3,4 @@ pub mod Dimensions
 pub mod FindingTexts
 pub mod Found
 pub mod Printed
+pub mod Subjects

@@ -1,48 +1,71 @@
-//! What is printed to a summary of a file of a set.
+//! What is printed of findings, and to a summary of a file of a set.
 ghost use Rattle.std.specs.Prelude.{◌≡◌, true, option_map};
 ghost use Rattle.command_words.specs.Asked.{HasBudgetsInRange, are_dimensions, summarising_in, texts_in};
 ghost use Rattle.run_inputs.specs.Printing.{IfPrinted};
-ghost use Rattle.run_inputs.specs.OneSets.{FitsItsSchema, set_contents};
+ghost use Rattle.run_inputs.specs.OneSets.{set_contents};
 ghost use Rattle.summary_search.specs.Outcomes.{AreInRange};
-ghost use Rattle.summary_answers.specs.Printed.{IsSetPrinted, IsSummaryPrinted, limits_in};
+ghost use Rattle.summary_answers.specs.Printed.{IsSubjectPrinted, IsSummaryPrinted, always_holds, status_by};
+ghost use Rattle.summary_answers.specs.Subjects.{SubjectFits};
 
+use crate::limits::limits_of;
+use crate::subject::{Subject, subject_of_set};
 use crate::summary::found;
 use crate::text::found_text;
 use command_words::FindingArguments;
-use run_inputs::{EarlyEnd, OneSet, Printed, Status, read_one};
+use findings::Finding;
+use policy_model::Request;
+use run_inputs::{EarlyEnd, Printed, Status, read_one};
 use std::alloc::Global;
 use summary_search::Limits;
 
-/// What is printed to a summary of a set, under the schema of its run, by the dimensions of these names.
-pub fn print_set_summary(
+/// The status of findings where there should be none: `Holds` where there is none, else `Fails`.
+pub fn status_by(summary: &[(Finding, Request)]) -> Status
+    ensures { result ≡ status_by summary.now }
+{
+    match summary {
+        [] => Status::Holds,
+        _ => Status::Fails,
+    }
+}
+
+/// What is printed of the findings of a region where there should be none, by the dimensions of these names.
+pub fn print_subject_findings(
     alloc: Global,
-    one: &OneSet,
+    subject: &Subject,
     names: &[String],
     limits: Limits,
 ) -> Result<Printed, EarlyEnd>
-    requires fits { FitsItsSchema one.now }
+    requires fits { SubjectFits subject.now }
     requires dimensions { are_dimensions (texts_in names.now) ≡ true }
     requires limits { AreInRange limits }
-    ensures { IfPrinted result (IsSetPrinted (texts_in names.now) limits one.now) }
+    ensures { IfPrinted result
+        (IsSubjectPrinted status_by (texts_in names.now) limits subject.now) }
 {
-    let found = found(alloc, one, names, limits)?;
+    let found = found(alloc, subject, names, limits)?;
+    Ok(Printed {
+        text: found_text(alloc, &found)?,
+        status: status_by(found.summary.as_slice()),
+    })
+}
+
+/// What is printed to a summary of a region by the dimensions of these names.
+pub fn print_subject_summary(
+    alloc: Global,
+    subject: &Subject,
+    names: &[String],
+    limits: Limits,
+) -> Result<Printed, EarlyEnd>
+    requires fits { SubjectFits subject.now }
+    requires dimensions { are_dimensions (texts_in names.now) ≡ true }
+    requires limits { AreInRange limits }
+    ensures { IfPrinted result
+        (IsSubjectPrinted always_holds (texts_in names.now) limits subject.now) }
+{
+    let found = found(alloc, subject, names, limits)?;
     Ok(Printed {
         text: found_text(alloc, &found)?,
         status: Status::Holds,
     })
-}
-
-/// The limits of the arguments.
-pub fn limits_of(arguments: &FindingArguments) -> Limits
-    requires { HasBudgetsInRange arguments.now }
-    ensures value { result ≡ limits_in (summarising_in arguments.now) }
-    ensures range { AreInRange result }
-{
-    Limits {
-        splits: arguments.splits,
-        states: arguments.states,
-        findings: arguments.findings,
-    }
 }
 
 /// What is printed to a summary of files that were read, that of a set and that of a schema where one is named.
@@ -58,9 +81,10 @@ pub fn print_summary(
         (set_contents set.now (option_map (λ f. f.now) schema.entry))) }
 {
     let one = read_one(alloc, set, schema)?;
-    print_set_summary(
+    let subject = subject_of_set(one);
+    print_subject_summary(
         alloc,
-        &one,
+        &subject,
         arguments.dimensions.as_slice(),
         limits_of(arguments),
     )

@@ -6,7 +6,7 @@ use findings::{Asked, Decide, Wide};
 use plain_lists::NoMemory;
 use policy_compile::Query;
 use policy_model::Schema;
-use staged_search::{Earlier, Verdict, decide_after};
+use staged_search::{Verdict, decide_in_stages};
 use std::alloc::Global;
 use tree_search::Budgets;
 
@@ -16,15 +16,13 @@ pub struct BySearch<'a> {
     schema: &'a Schema,
     splits: u32,
     states: u32,
-    // What earlier queries showed.
-    earlier: Earlier,
     ghost some_splits: { 1 ≤ splits },
     ghost some_states: { 1 ≤ states },
 }
 
 impl<'a> BySearch<'a> {
     /// Answers for the schema within so many splits and states.
-    pub fn new(alloc: Global, schema: &'a Schema, splits: u32, states: u32) -> BySearch<'a>
+    pub fn new(schema: &'a Schema, splits: u32, states: u32) -> BySearch<'a>
         requires splits { 1 ≤ splits }
         requires states { 1 ≤ states }
         ensures schema { result.schema.now ≡ schema.now }
@@ -35,7 +33,6 @@ impl<'a> BySearch<'a> {
             schema,
             splits,
             states,
-            earlier: Earlier::new(alloc),
         }
     }
 }
@@ -72,7 +69,7 @@ impl<'a> Decide for BySearch<'a> {
             splits: self.splits,
             states: self.states,
         };
-        let verdict = decide_after(alloc, self.schema, query, budgets, &mut self.earlier)?;
+        let verdict = decide_in_stages(alloc, self.schema, query, budgets)?;
         Ok(answer_to(verdict))
     }
 }

@@ -1,4 +1,4 @@
-//! Summaries of a set by the search: which predicates lie below which is answered by products, and whose
+//! Summaries of a region by the search: which predicates lie below which is answered by products, and whose
 //! a finding is by the search for a request.
 #![tactic(auto)]
 

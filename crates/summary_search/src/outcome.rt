@@ -9,6 +9,8 @@ use wildcard_lang::TextList;
 pub struct Limits {
     /// The most splits on a test, for the query of each finding.
     pub splits: u32,
+    /// The most predicates that are named of a dimension, `Every` among them.
+    pub predicates: u32,
     /// The most product states of a slot's patterns.
     pub states: u32,
     /// The most findings that are looked at.
@@ -20,7 +22,7 @@ pub struct Limits {
 pub enum Outcome {
     /// The summary, with the strata that its numbers are of.
     Found(Strata, Summary),
-    /// In the dimension of this index, the first such one, more than 128 predicates are named.
+    /// In the dimension of this index, the first such one, more predicates are named.
     TooManyPredicates(u32),
     /// Two predicates of the slot take more states: one more text than there may be states, no two of
     /// which have the same product state of the patterns of these two.

@@ -13,5 +13,5 @@ returns-in-Err-Refused c =
     let fault = c.in-Err-Refused.fault in
     let read = (rw c.in-Err-Refused.field-0-is at c.in-Err-Refused.ensures) in
     let is = subst (λ (s : Schema). IsHeadFault s c.args.strata.now.dimensions c.args.bytes.now fault) c.in_ok-reader.ensures read in
-    if_answered_weaker c.ended.result (PrintsText (head_fault_text fault) BadProof) (IsBadHeadPrinted c.args.one.now c.args.strata.now.dimensions c.args.bytes.now)
+    if_answered_weaker c.ended.result (PrintsText (head_fault_text fault) BadProof) (IsBadHeadPrinted c.args.subject.now c.args.strata.now.dimensions c.args.bytes.now)
     (λ p v. record { fault = fault; is = is; prints = v }) (c.ended.ensures _ c.head_fault_text.ensures)

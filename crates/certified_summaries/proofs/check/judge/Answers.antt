@@ -7,18 +7,18 @@ use Rattle.certified_summaries.proofs.check.judge.Goals as goal
 
 pub returns-in_err-pairs : goal.returns-in_err-pairs
 returns-in_err-pairs c =
-    let one = c.args.one.now in
+    let subject = c.args.subject.now in
     let ds = c.args.made.now.strata.dimensions in
     let bytes = c.args.bytes.now in
-    let says : (p : Printed) → IsBadHeadPrinted one ds bytes p → IsJudged one ds bytes p = λ p v. inl v in
+    let says : (p : Printed) → IsBadHeadPrinted subject ds bytes p → IsJudged subject ds bytes p = λ p v. inl v in
     let p = err_from_is_err_and c.from_residual.result c.from_residual.ensures.1 in
-    rw (p.1, p.2) (if_answered_weaker _ (IsBadHeadPrinted one ds bytes) (IsJudged one ds bytes) says c.in_err-pairs.ensures)
+    rw (p.1, p.2) (if_answered_weaker _ (IsBadHeadPrinted subject ds bytes) (IsJudged subject ds bytes) says c.in_err-pairs.ensures)
 
 pub returns : goal.returns
 returns c =
-    let one = c.args.one.now in
+    let subject = c.args.subject.now in
     let ds = c.args.made.now.strata.dimensions in
     let bytes = c.args.bytes.now in
     let pairs = c.in_ok-pairs.pairs in
-    let says : (p : Printed) → IsListJudged one ds bytes pairs p → IsJudged one ds bytes p = λ p v. inr (record { pairs = pairs; is = c.in_ok-pairs.ensures; holds = v }) in
-    or_answered_weaker c.judge_pairs.result (IsListJudged one ds bytes pairs) (IsJudged one ds bytes) _ _ says says c.judge_pairs.ensures
+    let says : (p : Printed) → IsListJudged subject ds bytes pairs p → IsJudged subject ds bytes p = λ p v. inr (record { pairs = pairs; is = c.in_ok-pairs.ensures; holds = v }) in
+    or_answered_weaker c.judge_pairs.result (IsListJudged subject ds bytes pairs) (IsJudged subject ds bytes) _ _ says says c.judge_pairs.ensures

@@ -8,8 +8,10 @@ use Rattle.run_inputs.proofs.FileLaws.{if_answered_weaker, or_answered_weaker}
 use Rattle.run_inputs.proofs.Laws.{of_one}
 use Rattle.run_inputs.specs.OneSets.{IsOneSetRefusal, SetContents, set_contents}
 use Rattle.run_inputs.specs.Refusals.{IsRefusedBy}
-use Rattle.summary_answers.specs.Printed.{limits_in}
-use Rattle.certified_summaries.specs.Certified.{IsCertifiedSummaryPrinted, IsSetCertified, IsSummaryCertified}
+use Rattle.summary_answers.specs.declared.subject.Subject.{Subject}
+use Rattle.summary_answers.specs.Printed.{always_holds, limits_in}
+use Rattle.summary_answers.specs.Subjects.{subject_of_set}
+use Rattle.certified_summaries.specs.Certified.{IsCertifiedSummaryPrinted, IsSubjectCertified, IsSummaryCertified}
 use Rattle.certified_summaries.specs.Decides.{PrintedSummariesAreAccepted}
 use Rattle.certified_summaries.proofs.printing.print_certified_summary.Goals as goal
 
@@ -35,9 +37,11 @@ returns c =
     let one = c.in_ok-one.one in
     let names = texts_in c.as_slice.result.now in
     let same : names ≡ s.dimensions = search rules in
-    let of_files : (p : Printed) → IsSetCertified names c.limits_of.result one p → IsCertifiedSummaryPrinted s files p =
+    let subject = c.subject_of_set-subject.result in
+    let of_files : (p : Printed) → IsSubjectCertified always_holds names c.limits_of.result subject p → IsCertifiedSummaryPrinted s files p =
     λ p v. with-acceptance c.printed_summaries_are_accepted.ensures s files p c.requires.budgets.5
-    (inr (of_one c.args.set.now file one (λ o. IsSetCertified s.dimensions (limits_in s) o p) c.in_ok-one.ensures.read
-    (subst (λ (ws : List (List ℕ)). IsSetCertified ws (limits_in s) one p) same
-    (subst (λ (limits : Limits). IsSetCertified names limits one p) c.limits_of.ensures.value v)))) in
-    or_answered_weaker c.print_set_certified.result _ _ _ _ of_files of_files c.print_set_certified.ensures
+    (inr (of_one c.args.set.now file one (λ o. IsSubjectCertified always_holds s.dimensions (limits_in s) (subject_of_set o) p) c.in_ok-one.ensures.read
+    (subst (λ (x : Subject). IsSubjectCertified always_holds s.dimensions (limits_in s) x p) c.subject_of_set-subject.ensures.value
+    (subst (λ (ws : List (List ℕ)). IsSubjectCertified always_holds ws (limits_in s) subject p) same
+    (subst (λ (limits : Limits). IsSubjectCertified always_holds names limits subject p) c.limits_of.ensures.value v))))) in
+    or_answered_weaker c.print_subject_certified.result _ _ _ _ of_files of_files c.print_subject_certified.ensures

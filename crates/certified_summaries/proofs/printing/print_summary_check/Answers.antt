@@ -6,7 +6,10 @@ use Rattle.run_inputs.proofs.FileLaws.{if_answered_weaker, or_answered_weaker}
 use Rattle.run_inputs.proofs.Laws.{of_one}
 use Rattle.run_inputs.specs.OneSets.{IsOneSetRefusal, SetContents, set_contents}
 use Rattle.run_inputs.specs.Refusals.{IsRefusedBy}
-use Rattle.certified_summaries.specs.Judged.{IsSetChecked, IsSummaryCheckPrinted}
+use Rattle.strata.specs.declared.names.TheConstants.{MOST_PREDICATES}
+use Rattle.summary_answers.specs.declared.subject.Subject.{Subject}
+use Rattle.summary_answers.specs.Subjects.{subject_of_set}
+use Rattle.certified_summaries.specs.Judged.{IsSubjectChecked, IsSummaryCheckPrinted}
 use Rattle.certified_summaries.proofs.printing.print_summary_check.Goals as goal
 
 pub returns-in_err-one : goal.returns-in_err-one
@@ -25,7 +28,9 @@ returns c =
     let one = c.in_ok-one.one in
     let names = texts_in c.as_slice.result.now in
     let same : names ≡ asked.dimensions = search rules in
-    let of_files : (p : Printed) → IsSetChecked names asked.states c.args.proof.now one p → IsSummaryCheckPrinted asked c.args.proof.now files p =
-    λ p v. inr (of_one c.args.set.now file one (λ o. IsSetChecked asked.dimensions asked.states c.args.proof.now o p) c.in_ok-one.ensures.read
-    (subst (λ (ws : List (List ℕ)). IsSetChecked ws asked.states c.args.proof.now one p) same v)) in
-    or_answered_weaker c.print_set_checked.result _ _ _ _ of_files of_files c.print_set_checked.ensures
+    let subject = c.subject_of_set-subject.result in
+    let of_files : (p : Printed) → IsSubjectChecked names MOST_PREDICATES asked.states c.args.proof.now subject p → IsSummaryCheckPrinted asked c.args.proof.now files p =
+    λ p v. inr (of_one c.args.set.now file one (λ o. IsSubjectChecked asked.dimensions MOST_PREDICATES asked.states c.args.proof.now (subject_of_set o) p) c.in_ok-one.ensures.read
+    (subst (λ (x : Subject). IsSubjectChecked asked.dimensions MOST_PREDICATES asked.states c.args.proof.now x p) c.subject_of_set-subject.ensures.value
+    (subst (λ (ws : List (List ℕ)). IsSubjectChecked ws MOST_PREDICATES asked.states c.args.proof.now subject p) same v))) in
+    or_answered_weaker c.print_subject_checked.result _ _ _ _ of_files of_files c.print_subject_checked.ensures

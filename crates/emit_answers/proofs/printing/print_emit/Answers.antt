@@ -34,4 +34,4 @@ returns c =
     λ p v. inr (of-named c.args.set.now file one (λ (named : Schema) (o : OneSet). IsSetEmitted e.dimensions (limits_in e) named o p) of
     (subst (λ (ws : List (List ℕ)). IsSetEmitted ws (limits_in e) of.named one p) same
     (subst (λ (limits : Limits). IsSetEmitted names limits of.named one p) c.limits_of.ensures.value v))) in
-    or_answered_weaker c.print_set_policy.result _ _ _ _ said said (c.print_set_policy.ensures of.named (of-file c.args.set.now file one of))
+    or_answered_weaker c.print_set_policy.result _ _ _ _ said said (c.print_set_policy.ensures of.named one c.subject_of_set-subject.ensures.value (of-file c.args.set.now file one of))

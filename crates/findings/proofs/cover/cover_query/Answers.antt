@@ -1,6 +1,6 @@
 use Rattle.std.proofs.Common.{arith}
-use Rattle.policy_compile.specs.Sets.{set_plan}
 use Rattle.findings.specs.CoverQueries.{AsksCover}
+use Rattle.findings.specs.Regions.{region_plan}
 use Rattle.findings.proofs.Covered.{cover-askable, cover-query-asked, cover-too-many}
 use Rattle.findings.proofs.LeftOut.{left-out-holds}
 use Rattle.findings.proofs.Made.{made-suits}
@@ -12,13 +12,12 @@ returns-then-len-gt-MOST_COVER_TESTS c =
 
 pub returns : goal.returns
 returns c =
-    let law = c.tests_of_set_queries_suit.ensures in
     let plan : AsksCover c.args.base.now c.args.strata.now.dimensions c.args.findings.now _ =
     cover-query-asked c.args.base.now c.args.strata.now.dimensions c.args.findings.now c.cover_formula.new.numbering.tests.keys _ c.in_ok-formula.ensures c.in_ok-tests.ensures.tests (omega arith) in
     record {
       plan = plan;
-      left_out = λ schema set made r answers valid say.
-          left-out-holds schema set c.args.strata.now.dimensions made.fits (made-suits schema set c.args.base.now c.args.strata.now made law) c.args.findings.now c.requires.findings _ (plan (set_plan schema set) made.query) r answers valid say;
-      askable = λ schema set made.
-          cover-askable law schema set c.args.base.now c.args.strata.now made c.args.findings.now _ (plan (set_plan schema set) made.query);
+      left_out = λ schema region made r answers valid say.
+          left-out-holds schema region c.args.strata.now.dimensions made.fits (made-suits schema region c.args.base.now c.args.strata.now made) c.args.findings.now c.requires.findings _ (plan (region_plan schema region) made.query) r answers valid say;
+      askable = λ schema region made.
+          cover-askable schema region c.args.base.now c.args.strata.now made c.args.findings.now _ (plan (region_plan schema region) made.query);
     }

@@ -13,7 +13,7 @@ pub is_own_if_valid-requires-clause-made : goal.is_own_if_valid-requires-clause-
 is_own_if_valid-requires-clause-made g c = (g.D.Decide.schema c.args.asks.now, c.requires.made)
 
 pub returns-then-own-clause-own : goal.returns-then-own-clause-own
-returns-then-own-clause-own g c = λ set made.
+returns-then-own-clause-own g c = λ region made.
     let schema = g.D.Decide.schema c.args.asks.now in
     let met = subst (AnswersQuery schema (g.D.Decide.splits c.args.asks.now) (g.D.Decide.states c.args.asks.now) c.in_ok-query.query) c.in-Met.is c.in_ok-asked.ensures.answer in
-    (c.in_ok-own.ensures schema met.valid set made).0 c.if-own.true
+    (c.in_ok-own.ensures schema met.valid region made).0 c.if-own.true

@@ -1,13 +1,13 @@
 use Rattle.formula_tree.specs.Trees.{tree_of, trees_of}
-use Rattle.policy_compile.specs.Sets.{set_plan}
 use Rattle.policy_compile.proofs.Laws.{below-numbered}
+use Rattle.findings.specs.Regions.{region_plan}
 use Rattle.findings.proofs.Inside.{inside-asked}
 use Rattle.findings.proofs.nobody.inside_formula.Goals as goal
 
 pub renumbered-requires : goal.renumbered-requires
 renumbered-requires c =
     let made = c.requires.made in
-    below-numbered c.args.base.now.tests (set_plan made.0 made.1.0) (tree_of c.args.base.now.formula.value) made.1.1.query.tree
+    below-numbered c.args.base.now.tests (region_plan made.0 made.1.0) (tree_of c.args.base.now.formula.value) made.1.1.query.tree
 
 pub returns : goal.returns
 returns c =

@@ -3,5 +3,5 @@ use Rattle.findings.proofs.nobody.inside_query.Goals as goal
 
 pub returns : goal.returns
 returns c =
-    inside-query c.tests_of_set_queries_suit.ensures c.args.base.now c.args.strata.now c.args.findings.now c.requires.findings c.inside_formula.new.numbering.tests.keys _
+    inside-query c.args.base.now c.args.strata.now c.args.findings.now c.requires.findings c.inside_formula.new.numbering.tests.keys _
     c.in_ok-formula.ensures c.in_ok-tests.ensures.tests c.in_ok-tests.ensures.few

@@ -1,5 +1,5 @@
-use Rattle.policy_compile.specs.Sets.{set_plan}
 use Rattle.policy_compile.proofs.Laws.{below-numbered}
+use Rattle.findings.specs.Regions.{region_plan}
 use Rattle.findings.proofs.Lying.{own-allowed, own-finer, own-outside}
 use Rattle.findings.proofs.Made.{made-numbered}
 use Rattle.findings.proofs.own.is_own_if_valid.Goals as goal
@@ -12,7 +12,7 @@ meets_finer-requires-clause-numbers c =
 pub is_allowed-requires : goal.is_allowed-requires
 is_allowed-requires c =
     let made = c.requires.made in
-    below-numbered c.args.base.now.tests (set_plan made.0 made.1.0) _ made.1.1.query.tree
+    below-numbered c.args.base.now.tests (region_plan made.0 made.1.0) _ made.1.1.query.tree
 
 pub returns-then-not-lies_in : goal.returns-then-not-lies_in
 returns-then-not-lies_in c = λ schema valid.

@@ -15,8 +15,8 @@ ask-requires g c =
     record { askable = subst (λ (s : Schema). QueryIsAskable s c.in_ok-query.query) (sym c.granted_request.ensures.schema) askable }
 
 pub returns-then-is_plainly_no-clause-answer : goal.returns-then-is_plainly_no-clause-answer
-returns-then-is_plainly_no-clause-answer g c = λ set made.
-    plainly-reducible (g.D.Decide.schema c.args.asks.now) set c.args.base.now c.args.strata.now c.args.known.now c.args.finding.now c.in_ok-path.path made c.requires.known c.requires.finding c.in_ok-path.ensures (c.is_plainly_no.ensures (cc))
+returns-then-is_plainly_no-clause-answer g c = λ region made.
+    plainly-reducible (g.D.Decide.schema c.args.asks.now) region c.args.base.now c.args.strata.now c.args.known.now c.args.finding.now c.in_ok-path.path made c.requires.known c.requires.finding c.in_ok-path.ensures (c.is_plainly_no.ensures (cc))
 
 pub returns-in-Some-clause-answer : goal.returns-in-Some-clause-answer
 returns-in-Some-clause-answer g c =

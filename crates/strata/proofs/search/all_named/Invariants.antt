@@ -6,5 +6,5 @@ use Rattle.strata.proofs.search.all_named.Given as goal
 abbrev pub invariant-loop-d : goal.invariant-loop-d
 invariant-loop-d l = record {
   within : l.d ≤ length l.slots;
-  named : AreAllNamed l.tests l.slots l.d l.all;
+  named : AreAllNamed l.most l.tests l.slots l.d l.all;
 }

@@ -7,7 +7,9 @@ use Rattle.run_inputs.proofs.FileLaws.{if_answered_weaker, or_answered_weaker}
 use Rattle.run_inputs.proofs.Laws.{of_one}
 use Rattle.run_inputs.specs.OneSets.{IsOneSetRefusal, SetContents, set_contents}
 use Rattle.run_inputs.specs.Refusals.{IsRefusedBy}
-use Rattle.summary_answers.specs.Printed.{IsSetPrinted, IsSummaryPrinted, limits_in}
+use Rattle.summary_answers.specs.declared.subject.Subject.{Subject}
+use Rattle.summary_answers.specs.Printed.{IsSubjectPrinted, IsSummaryPrinted, always_holds, limits_in}
+use Rattle.summary_answers.specs.Subjects.{subject_of_set}
 use Rattle.summary_answers.proofs.printing.print_summary.Goals as goal
 
 pub returns-in_err-one : goal.returns-in_err-one
@@ -26,8 +28,10 @@ returns c =
     let one = c.in_ok-one.one in
     let names = texts_in c.as_slice.result.now in
     let same : names ≡ s.dimensions = search rules in
-    let of_files : (p : Printed) → IsSetPrinted names c.limits_of.result one p → IsSummaryPrinted s files p =
-    λ p v. inr (of_one c.args.set.now file one (λ o. IsSetPrinted s.dimensions (limits_in s) o p) c.in_ok-one.ensures.read
-    (subst (λ (ws : List (List ℕ)). IsSetPrinted ws (limits_in s) one p) same
-    (subst (λ (limits : Limits). IsSetPrinted names limits one p) c.limits_of.ensures.value v))) in
-    or_answered_weaker c.print_set_summary.result _ _ _ _ of_files of_files c.print_set_summary.ensures
+    let subject = c.subject_of_set-subject.result in
+    let of_files : (p : Printed) → IsSubjectPrinted always_holds names c.limits_of.result subject p → IsSummaryPrinted s files p =
+    λ p v. inr (of_one c.args.set.now file one (λ o. IsSubjectPrinted always_holds s.dimensions (limits_in s) (subject_of_set o) p) c.in_ok-one.ensures.read
+    (subst (λ (x : Subject). IsSubjectPrinted always_holds s.dimensions (limits_in s) x p) c.subject_of_set-subject.ensures.value
+    (subst (λ (ws : List (List ℕ)). IsSubjectPrinted always_holds ws (limits_in s) subject p) same
+    (subst (λ (limits : Limits). IsSubjectPrinted always_holds names limits subject p) c.limits_of.ensures.value v)))) in
+    or_answered_weaker c.print_subject_summary.result _ _ _ _ of_files of_files c.print_subject_summary.ensures

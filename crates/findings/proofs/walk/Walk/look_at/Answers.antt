@@ -25,24 +25,24 @@ pub go_below-requires-clause-numbered : goal.go_below-requires-clause-numbered
 go_below-requires-clause-numbered g c = made-numbered (g.D.Decide.schema c.args.asks.now) c.requires.made.0 c.args.base.now c.args.strata.now c.requires.made.1
 
 pub returns-in-OutOfSplits-clause-fault : goal.returns-in-OutOfSplits-clause-fault
-returns-in-OutOfSplits-clause-fault g c = λ set made.
+returns-in-OutOfSplits-clause-fault g c = λ region made.
     let schema = g.D.Decide.schema c.args.asks.now in
-    let steps = made-steps schema set c.args.base.now c.args.strata.now made in
-    let told = subst (DecidesWhose schema set c.args.strata.now.dimensions (g.D.Decide.splits c.args.asks.now) (g.D.Decide.states c.args.asks.now) c.args.finding) c.in-OutOfSplits.is (c.in_ok-answer.ensures.answer set made) in
+    let steps = made-steps schema region c.args.base.now c.args.strata.now made in
+    let told = subst (DecidesWhose schema region c.args.strata.now.dimensions (g.D.Decide.splits c.args.asks.now) (g.D.Decide.states c.args.asks.now) c.args.finding) c.in-OutOfSplits.is (c.in_ok-answer.ensures.answer region made) in
     record {
-      visited = taken-must schema set c.args.strata.now.dimensions steps c.args.self.now c.args.finding (c.requires.due set made);
+      visited = taken-must schema region c.args.strata.now.dimensions steps c.args.self.now c.args.finding (c.requires.due region made);
       query = told.query;
       is = told.is;
       fails = told.holds;
     }
 
 pub returns-in-OutOfStates-clause-fault : goal.returns-in-OutOfStates-clause-fault
-returns-in-OutOfStates-clause-fault g c = λ set made.
+returns-in-OutOfStates-clause-fault g c = λ region made.
     let schema = g.D.Decide.schema c.args.asks.now in
-    let steps = made-steps schema set c.args.base.now c.args.strata.now made in
-    let told = subst (DecidesWhose schema set c.args.strata.now.dimensions (g.D.Decide.splits c.args.asks.now) (g.D.Decide.states c.args.asks.now) c.args.finding) c.in-OutOfStates.is (c.in_ok-answer.ensures.answer set made) in
+    let steps = made-steps schema region c.args.base.now c.args.strata.now made in
+    let told = subst (DecidesWhose schema region c.args.strata.now.dimensions (g.D.Decide.splits c.args.asks.now) (g.D.Decide.states c.args.asks.now) c.args.finding) c.in-OutOfStates.is (c.in_ok-answer.ensures.answer region made) in
     record {
-      visited = taken-must schema set c.args.strata.now.dimensions steps c.args.self.now c.args.finding (c.requires.due set made);
+      visited = taken-must schema region c.args.strata.now.dimensions steps c.args.self.now c.args.finding (c.requires.due region made);
       query = told.query;
       is = told.is;
       fails = told.holds;
@@ -54,11 +54,11 @@ returns-in_ok-add_found-in-Met-clause-looked g c =
     c.in_ok-add_found-in-Met.ensures.looked taken.due.new
 
 pub returns-in_ok-add_found-in-Met-clause-stands : goal.returns-in_ok-add_found-in-Met-clause-stands
-returns-in_ok-add_found-in-Met-clause-stands g c = λ set made.
+returns-in_ok-add_found-in-Met-clause-stands g c = λ region made.
     let schema = g.D.Decide.schema c.args.asks.now in
-    let steps = made-steps schema set c.args.base.now c.args.strata.now made in
-    let told = subst (DecidesWhose schema set c.args.strata.now.dimensions (g.D.Decide.splits c.args.asks.now) (g.D.Decide.states c.args.asks.now) c.args.finding) c.in-Met.is (c.in_ok-answer.ensures.answer set made) in
-    stands-found schema set c.args.strata.now.dimensions steps c.args.self.now c.add_found.new.self c.args.finding c.in-Met.request (c.requires.due set made) told c.in_ok-add_found-in-Met.ensures
+    let steps = made-steps schema region c.args.base.now c.args.strata.now made in
+    let told = subst (DecidesWhose schema region c.args.strata.now.dimensions (g.D.Decide.splits c.args.asks.now) (g.D.Decide.states c.args.asks.now) c.args.finding) c.in-Met.is (c.in_ok-answer.ensures.answer region made) in
+    stands-found schema region c.args.strata.now.dimensions steps c.args.self.now c.add_found.new.self c.args.finding c.in-Met.request (c.requires.due region made) told c.in_ok-add_found-in-Met.ensures
 
 pub returns-in_ok-go_below-in-Nobody-clause-looked : goal.returns-in_ok-go_below-in-Nobody-clause-looked
 returns-in_ok-go_below-in-Nobody-clause-looked g c =
@@ -67,9 +67,9 @@ returns-in_ok-go_below-in-Nobody-clause-looked g c =
     (below c.requires.made.0 c.requires.made.1).adds.looked taken.due.new
 
 pub returns-in_ok-go_below-in-Nobody-clause-stands : goal.returns-in_ok-go_below-in-Nobody-clause-stands
-returns-in_ok-go_below-in-Nobody-clause-stands g c = λ set made.
+returns-in_ok-go_below-in-Nobody-clause-stands g c = λ region made.
     let schema = g.D.Decide.schema c.args.asks.now in
-    let steps = made-steps schema set c.args.base.now c.args.strata.now made in
-    let told = subst (DecidesWhose schema set c.args.strata.now.dimensions (g.D.Decide.splits c.args.asks.now) (g.D.Decide.states c.args.asks.now) c.args.finding) c.in-Nobody.is (c.in_ok-answer.ensures.answer set made) in
+    let steps = made-steps schema region c.args.base.now c.args.strata.now made in
+    let told = subst (DecidesWhose schema region c.args.strata.now.dimensions (g.D.Decide.splits c.args.asks.now) (g.D.Decide.states c.args.asks.now) c.args.finding) c.in-Nobody.is (c.in_ok-answer.ensures.answer region made) in
     let below = subst (λ (s : Schema). GoesBelow s c.args.base.now c.args.strata.now c.args.self.now c.args.finding c.go_below.new.self) c.answer_on.ensures.schema c.in_ok-go_below-in-Nobody.ensures.below in
-    stands-reducible schema set c.args.strata.now.dimensions steps c.args.self.now c.go_below.new.self c.args.finding (c.requires.due set made) told (below set made)
+    stands-reducible schema region c.args.strata.now.dimensions steps c.args.self.now c.go_below.new.self c.args.finding (c.requires.due region made) told (below region made)

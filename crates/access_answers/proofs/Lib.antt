@@ -1,0 +1,4 @@
+mod Accepted
+mod Changes
+pub mod Laws
+mod Said

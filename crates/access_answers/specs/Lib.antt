@@ -1,0 +1,4 @@
+pub mod NewAccess
+pub mod NewAccessChecked
+pub mod NewAccessComplete
+pub mod NewAccessPrinted
