@@ -1,16 +1,13 @@
 -- Which statuses are printed to the question what is newly allowed and to a check of an answer to it, and when the answers come.
-use Rattle.std.proofs.Common.{◌≡◌, ◌⊎◌, ◌∙◌, ℕ, List, Bool, true, false, inl, inr, subst, sym}
+use Rattle.std.proofs.Common.{◌∙◌, ℕ, List, Bool, true, false, inl, inr}
 use Rattle.command_words.specs.Asked.{Summarising, SummaryCheck}
-use Rattle.policy_model.specs.declared.request.Request.{Request}
 use Rattle.summary_search.specs.declared.outcome.Limits.{Limits}
 use Rattle.run_inputs.specs.declared.pair.Pair.{Pair}
 use Rattle.run_inputs.specs.declared.printed.Printed.{Printed}
 use Rattle.run_inputs.specs.declared.status.Status.TheVariants as status
-use Rattle.run_inputs.specs.declared.refusal.Refusal.{Refusal}
 use Rattle.run_inputs.specs.Pairs.{Contents, pair_of}
 use Rattle.run_inputs.specs.Printing.{IsOfText}
-use Rattle.run_inputs.specs.Refusals.{IsRefusedBy}
-use Rattle.run_inputs.proofs.Laws.{no_pair_fails, of_same}
+use Rattle.run_inputs.proofs.Laws.{no_pair_fails, of_same, refusal_with}
 use Rattle.summary_answers.specs.Printed.{HasStatusOf, change_limits_in, status_by}
 use Rattle.summary_answers.specs.Subjects.{subject_of_pair}
 use Rattle.summary_answers.specs.declared.limits.TheConstants.{MOST_CHANGE_PREDICATES}
@@ -23,9 +20,6 @@ use Rattle.access_answers.specs.NewAccessPrinted.{IsNewAccessOfFiles, IsNewAcces
 use Rattle.access_answers.proofs.Said.{as-certified, as-printed}
 
 -- ---- statuses
-
-refusal_with : (Q : Refusal → Type 0) (p : Printed) → IsRefusedBy Q p → IsOfText p.status
-refusal_with Q p (r, is, told) = subst IsOfText (sym told.1) tt
 
 pair_with : (certified : Bool) (names : List (List ℕ)) (limits : Limits) (pair : Pair) (p : Printed) → IsNewAccessOfPair certified names limits pair p → IsOfText p.status
 pair_with true names limits pair p said = certified_of_text status_by status_by_of_text names limits (subject_of_pair pair) p (as-certified names limits pair p said)

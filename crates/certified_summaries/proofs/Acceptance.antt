@@ -53,7 +53,7 @@ use Rattle.summary_answers.specs.FindingTexts.{found_text}
 use Rattle.summary_answers.specs.Found.{IsFoundOf, IsNotFound, IsNotSummarised, PrintsUnfound}
 use Rattle.summary_answers.specs.Printed.{always_holds, limits_in}
 use Rattle.summary_answers.specs.Subjects.{subject_of_set, subject_plan}
-use Rattle.run_inputs.specs.ClosedQueries.{FailsAll}
+use Rattle.refute_check.specs.Queries.{FailsAll}
 use Rattle.run_inputs.specs.CertificateLines.{accepted_line}
 use Rattle.summary_answers.proofs.Laws.{found_have_findings}
 use Rattle.certified_summaries.specs.Certified.{IsCoverSaid, large_query, short_of_splits, short_of_states, with_certificate}
@@ -64,7 +64,7 @@ use Rattle.certified_summaries.specs.Judged.{IsJudged, IsListJudged, IsSubjectCh
 use Rattle.certified_summaries.specs.Made.{AreNarrow}
 use Rattle.certified_summaries.proofs.Heads.{AreTextsApart, head-count, head-text, head-unbroken, head_contents, no-head_fault, one-head, printed-head}
 use Rattle.certified_summaries.proofs.Laws.{not_made_fails}
-use Rattle.certified_summaries.proofs.Trees.{few-enough, one-list, same-tree}
+use Rattle.policy_compile.proofs.OneNumbering.{few-enough, one-list, same-tree}
 
 -- ---- what ends a summary early is no answer
 

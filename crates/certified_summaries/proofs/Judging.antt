@@ -28,7 +28,7 @@ use Rattle.run_inputs.specs.Printing.{PrintsText}
 use Rattle.summary_answers.specs.declared.subject.Subject.{Subject}
 use Rattle.summary_answers.specs.Subjects.{subject_plan}
 use Rattle.certified_summaries.specs.CoverProofs.{ClosesBehind, FailsBehindAt, LeaveNobodyOut, OfCover, fault_of_cover}
-use Rattle.run_inputs.specs.ClosedQueries.{ClosesAll}
+use Rattle.refute_check.specs.Queries.{ClosesAll}
 use Rattle.certified_summaries.specs.CoverTexts.{not_summary_line}
 use Rattle.certified_summaries.specs.Heads.{ArePairLines, IsHead, head_lines}
 use Rattle.certified_summaries.specs.Judged.{HasHeadLines, IsBadCertificatePrinted, IsClosingPrinted, IsListJudged, IsReadJudged, all_holds, bad_certificate, failing_node, failing_pair}

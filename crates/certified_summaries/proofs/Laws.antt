@@ -1,5 +1,5 @@
 -- Which statuses what is printed has, and when the answer comes.
-use Rattle.std.proofs.Common.{◌≡◌, ◌⊎◌, ℕ, List, [], Err, subst, sym, inl, inr}
+use Rattle.std.proofs.Common.{◌≡◌, ◌⊎◌, ℕ, List, [], Err, inl, inr}
 use Rattle.command_words.specs.Asked.{Summarising, SummaryCheck}
 use Rattle.findings.specs.Summaries.{findings_of}
 use Rattle.policy_compile.specs.declared.outcome.Query.{Query}
@@ -20,8 +20,7 @@ use Rattle.run_inputs.specs.Printing.{IsOfText}
 use Rattle.run_inputs.specs.declared.refusal.Refusal.{Refusal}
 use Rattle.run_inputs.specs.declared.refusal.Refusal.TheVariants as refusal
 use Rattle.run_inputs.specs.OneSets.{one_of, SetContents}
-use Rattle.run_inputs.specs.Refusals.{IsRefusedBy}
-use Rattle.run_inputs.proofs.Laws.{no_one_fails, of_same_set}
+use Rattle.run_inputs.proofs.Laws.{no_one_fails, of_same_set, refusal_with, with_status}
 use Rattle.summary_answers.specs.declared.answer.Found.{Found}
 use Rattle.summary_answers.specs.declared.subject.Subject.{Subject}
 use Rattle.summary_answers.specs.Dimensions.{NameSlots, dimension_slots}
@@ -36,12 +35,6 @@ use Rattle.certified_summaries.specs.Judged.{IsJudged, IsListJudged, IsSubjectCh
 use Rattle.certified_summaries.specs.Made.{AreNarrow, IsNotMade, PrintsUnmade}
 
 -- ---- statuses
-
-with_status : (p : Printed) (s : Status) → IsOfText s → p.status ≡ s → IsOfText p.status
-with_status p s of is = subst IsOfText (sym is) of
-
-refusal_with : (Q : Refusal → Type 0) (p : Printed) → IsRefusedBy Q p → IsOfText p.status
-refusal_with Q p (r, is, told) = with_status p status.Refused tt told.1
 
 cover_with : (s : Status) → IsOfText s → (limits : Limits) (subject : Subject) (found : Found) (p : Printed) → IsCoverSaid s limits subject found p → IsOfText p.status
 cover_with s text limits subject found p (large_query large told) = with_status p status.Refused tt told.1
@@ -125,9 +118,9 @@ module _ (names : List (List ℕ)) (most states : ℕ) (subject : Subject) (p : 
   not_past : ¬ HasTooMany [] (tests_in (subject_plan subject)) → ¬ HasTooManyPieces (subject_plan subject) → (r : Refusal) → IsPlanPastLimit (subject_plan subject) r → ⊥
   not_past tests pieces refusal.TooManyTests v = tests v
   not_past tests pieces refusal.TooManyPieces v = pieces v
-  not_past tests pieces (refusal.NoSchema fault) v = v
-  not_past tests pieces (refusal.NoSet file fault) v = v
-  not_past tests pieces (refusal.NoRun file fault) v = v
+  not_past tests pieces (refusal.BadSchema fault) v = v
+  not_past tests pieces (refusal.BadSet file fault) v = v
+  not_past tests pieces (refusal.BadCondition file fault) v = v
 
   pub not_made_fails : NameSlots subject.schema names → ¬ HasTooMany [] (tests_in (subject_plan subject)) → ¬ HasTooManyPieces (subject_plan subject) → NameFew names most subject → AreNarrow names states subject → IsNotMade names most states subject p → ⊥
   not_made_fails known tests pieces few narrow (inl unknown) = unknown_fails subject.schema names unknown.element known unknown.first

@@ -5,6 +5,5 @@ mod Judging
 mod Certifying
 pub mod Laws
 mod Unbroken
-mod Trees
 mod Heads
 mod Acceptance

@@ -24,7 +24,7 @@ use Rattle.proof_text.specs.declared.limits.TheConstants.{MOST_NESTING, MOST_NUM
 use Rattle.run_inputs.specs.declared.printed.Printed.{Printed}
 use Rattle.run_inputs.specs.declared.status.Status.TheVariants.{Refused}
 use Rattle.run_inputs.specs.Printing.{PrintsText}
-use Rattle.run_inputs.specs.ClosedQueries.{ClosesAll, FailsAll}
+use Rattle.refute_check.specs.Queries.{ClosesAll, FailsAll}
 use Rattle.certified_summaries.specs.CoverTexts.{cover_tests_line}
 
 -- ---- the query

@@ -22,7 +22,7 @@ use Rattle.summary_answers.specs.declared.subject.Subject.{Subject}
 use Rattle.summary_answers.specs.Subjects.{subject_of_set}
 use Rattle.run_inputs.specs.OneSets.{IsOneSetRefusal, SomeOneSet, SetContents}
 use Rattle.run_inputs.specs.Refusals.{IsRefusedBy}
-use Rattle.run_inputs.specs.ClosedQueries.{ClosesAll, FailsAll}
+use Rattle.refute_check.specs.Queries.{ClosesAll, FailsAll}
 use Rattle.run_inputs.specs.CertificateLines.{accepted_line, not_closing_line, proof_fault_text}
 use Rattle.certified_summaries.specs.CoverProofs.{ClosesBehind, CoverIsTooLarge, FailsBehindAt, LeaveNobodyOut, OfCover, fault_of_cover}
 use Rattle.certified_summaries.specs.CoverTexts.{cover_tests_line, head_fault_text, not_summary_line}

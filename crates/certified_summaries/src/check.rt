@@ -1,10 +1,8 @@
 //! Checks a file with a summary and a certificate of it.
-ghost use Rattle.std.specs.Prelude.{◌≡◌, ◌<◌, ◌≤◌, ◌^◌, All, IfOk, length};
+ghost use Rattle.std.specs.Prelude.{◌≡◌, ◌<◌, ◌≤◌, ◌^◌, All, length};
 ghost use Rattle.command_words.specs.declared.limits.TheConstants.{MOST_FINDINGS};
-ghost use Rattle.formula_tree.specs.Trees.{tree_of};
 ghost use Rattle.policy_model.specs.Soundness.{SchemaIsSound, TestSuits};
 ghost use Rattle.proof_text.specs.declared.limits.TheConstants.{MOST_PROOF_BYTES};
-ghost use Rattle.refute_check.specs.Laws.{TreeInRange};
 ghost use Rattle.refute_check.specs.Proofs.{proof_of, size};
 ghost use Rattle.findings.specs.CoverQueries.{IsCoverOf};
 ghost use Rattle.findings.specs.Findings.{IsFinding};
@@ -86,7 +84,6 @@ fn print_closing(
     requires sound { SchemaIsSound schema.now }
     requires suit { All (TestSuits schema.now) query.now.tests }
     requires count { length query.now.tests < 2 ^ 32 }
-    requires below { TreeInRange query.now.tests (tree_of query.now.formula.value) }
     requires lines { length read.now.lines ≡ size (proof_of read.now.refutation.value) }
     requires few { size (proof_of read.now.refutation.value) < 2 ^ 32 }
     ensures { IfPrinted result (IsClosingPrinted schema.now query.now read.now) }

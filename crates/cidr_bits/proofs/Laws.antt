@@ -6,7 +6,5 @@ pub use Rattle.cidr_bits.proofs.Equal.{block-path}
 pub use Rattle.cidr_bits.proofs.Equal.{addresses-Decides, blocks-Decides}
 -- a block is the one of its prefix length around its first address
 pub use Rattle.cidr_bits.proofs.Around.{block_is_around_its_first}
--- an address lies in each block around it
-pub use Rattle.cidr_bits.proofs.Around.{address_is_in_blocks_around}
 -- the text that is written for an address is read as that address
 pub use Rattle.cidr_bits.proofs.Readings.{address_read_again}

@@ -1,5 +1,5 @@
 -- Of two blocks that share an address, one has the first address of the other.
-use Rattle.std.proofs.Common.{◌≡◌, ◌⊎◌, ℕ, ◌-◌, ◌/◌, ◌^◌, ◌<◌, ◌≤◌, true, inl, inr, arith, refl, ap, sym, ◌∙◌, eq-eqb}
+use Rattle.std.proofs.Common.{◌≡◌, ◌⊎◌, ℕ, ◌-◌, ◌/◌, ◌^◌, ◌≤◌, true, inl, inr, arith, refl, ap, sym, ◌∙◌, eq-eqb}
 use Rattle.std.proofs.Math.Nat.{div-div-eq-div-mul}
 use Rattle.std.proofs.lemmas.Bool.{cases_lt, eqb-true}
 use Rattle.std.proofs.lemmas.Nat.{pow-add}

@@ -20,15 +20,7 @@ room first free bits within fits clear =
     let more : (q + 1) * s ≤ t * s = mul-le-mul_right s (omega arith) in
     omega (arith, whole, parts, more)
 
--- it is the least number with its other bits
-pub least : (first free n : ℕ) → first % 2 ^ free ≡ 0 → n / 2 ^ free ≡ first / 2 ^ free → first ≤ n
-least first free n clear same =
-    let whole = shr_split first free in
-    let other = shr_split n free in
-    let e : n / 2 ^ free * 2 ^ free ≡ first / 2 ^ free * 2 ^ free = ap (λ k. k * 2 ^ free) same in
-    omega (arith, whole, other, e)
-
--- and the greatest is the one where each last bit is one
+-- the greatest number with its other bits is the one where each last bit is one
 pub greatest : (first free n last : ℕ) → first % 2 ^ free ≡ 0 → last + 1 ≡ first + 2 ^ free → n / 2 ^ free ≡ first / 2 ^ free → n ≤ last
 greatest first free n last clear value same =
     let whole = shr_split first free in

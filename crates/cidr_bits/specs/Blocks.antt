@@ -1,7 +1,6 @@
 -- Blocks: the block around an address, and the least and the greatest address of a block.
 use Rattle.std.specs.Prelude.{◌≡◌, ℕ, ◌-◌, ◌^◌, ◌≤◌, min, true}
 use Rattle.cidr_bits.specs.declared.address.Address.{Address}
-use Rattle.cidr_bits.specs.declared.address.Address.TheVariants.{V4}
 use Rattle.cidr_bits.specs.declared.block.Block.{Block}
 use Rattle.cidr_bits.specs.Numbers.{width, number, network_address, lies_in}
 use Rattle.cidr_bits.specs.Cleared.{fits-cleared, number-cleared}
@@ -37,7 +36,3 @@ block_around a prefix = record {
   fits = fits-cleared a prefix;
   clear = number-cleared a (min prefix (width a));
 }
-
--- the block of all IPv4 addresses
-abbrev pub every_ipv4 : Block
-every_ipv4 = block_around (V4 0) 0

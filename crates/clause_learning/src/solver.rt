@@ -13,8 +13,8 @@ use std::alloc::Global;
 // What a visit of a clause takes, beside the literals that are looked at.
 const VISIT_WORK: usize = 4;
 
-/// Clauses, a partial assignment, and the lines that have led to the clauses beyond the formula's. Each clause behind
-/// those of the formula is that of a line, in the same order.
+/// Clauses, a partial assignment, and the lines that have led to the learned clauses. Behind the formula's clauses
+/// stand those of the lines, in the order of the lines.
 #[derive(Drop)]
 pub struct Solver {
     pub(crate) alloc: Global,

@@ -1,4 +1,4 @@
--- Clausal proofs: lines each of which adds a clause that holds wherever those before it do, up to the empty clause, which never
+-- Clausal proofs: lines that each add a clause. It holds wherever the earlier clauses do. The last one is the empty clause, which never
 -- holds.
 use Rattle.std.specs.Prelude.{◌≡◌, ◌⊎◌, ◌<◌, List, [], ◌∷◌, ◌++◌, length, map}
 use Rattle.formula_tree.specs.Answers.{IsDistinct}

@@ -4,15 +4,8 @@ use Rattle.std.proofs.lemmas.Grind.{common_steps}
 use Rattle.std.proofs.lemmas.List.Elements.{All-head, All-tail}
 use Rattle.formula_tree.specs.Answers.{Answers, answer_of}
 use Rattle.formula_tree.proofs.Laws.{cases_eq}
-use Rattle.policy_model.specs.declared.schema.Schema.{Schema}
-use Rattle.policy_model.specs.declared.test.Slot.{Slot}
 use Rattle.policy_model.specs.declared.test.Test.{Test}
-use Rattle.policy_model.specs.declared.test.Test.TheVariants.{Action}
-use Rattle.policy_model.specs.Soundness.{TestSuits}
-use Rattle.slot_theory.specs.Cores.{HasTest}
 use Rattle.slot_theory.specs.Possible.{PathInRange}
-use Rattle.slot_theory.specs.Slots.{SlotIsIn, test_at}
-use Rattle.slot_theory.proofs.Laws.{slot-in}
 
 some-of : (o : Option Bool) → IsSome o → (b : Bool) × (o ≡ Some b)
 some-of (Some b) h = (b, refl)
@@ -50,8 +43,3 @@ in-range tests path all n b e = at-answered (λ k. k < length tests) path n all 
 -- what a path in range answers is in range
 pub within-range : (tests : List Test) (path : Answers) (n : ℕ) → PathInRange tests path → IsSome (answer_of path n) → n < length tests
 within-range tests path n range h = let (b, e) = some-of (answer_of path n) h in range n b e
-
--- the slot of an answered test is one of requests under the schema
-pub asked-in : (schema : Schema) (tests : List Test) (path : Answers) (s : Slot) → All (TestSuits schema) tests → PathInRange tests path → HasTest tests path s → SlotIsIn schema s
-asked-in schema tests path s suit range h =
-    subst (SlotIsIn schema) h.is.on_slot (slot-in schema (test_at tests h.number) (suit h.number (Action []) (within-range tests path h.number range h.is.answered)))

@@ -27,7 +27,7 @@ fn price(assignment: &Assignment, path: &Path, formula: &Formula, wanted: bool) 
     }
 }
 
-// The same of branches. They all need the value where it is that of each, and else one of them does.
+// As above, for branches. All of them need the value where it is that of each, and else one of them does.
 #[cycle(price)]
 fn price_in(
     assignment: &Assignment,

@@ -32,11 +32,11 @@ const CHOICE_WORK: usize = 4;
 // What an answer that slots are asked about takes, in units of work.
 const ANSWER_WORK: usize = 20;
 
-/// Searches for a refutation of the query, or for a valid request that makes it yes. Assignments of the formula's
-/// clauses are found by conflict-driven clause learning; the slots are asked about few answers of each that already
-/// make the formula yes, and what they exclude is learned too. A refutation is one that the check of clausal proofs
-/// accepts. The query is left open where its formula is very large, where slots of such answers need more product
-/// states than `states`, and where the search or its proof would be long; its limits don't rest on the machine.
+/// Searches for a refutation of the query, or for a valid request that makes it yes. Conflict-driven clause learning
+/// finds assignments of the formula's clauses. The slots are asked about few answers of each that already make the
+/// formula yes, and what they exclude is learned too. A refutation is one that the check of clausal proofs accepts. The
+/// query is left open where its formula is very large, where slots need more product states than `states`, and where
+/// the search or its proof would be long. Its limits don't rest on the machine.
 ///
 /// The schema is sound and every test suits it, the formula's test numbers are below the number of tests, and `states`
 /// is at least 1. The only error is want of memory.
@@ -154,8 +154,8 @@ fn round(
     ask(asked, solver, &path, theory)
 }
 
-// Asks the slots about the answers. First those are asked of which no value is known that gives them; where all have
-// one each is asked.
+// Asks the slots about the answers. Slots without a known value come first; if all have one, each is
+// asked.
 fn ask(
     asked: &Asked<'_>,
     solver: &mut Solver,

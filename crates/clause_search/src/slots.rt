@@ -117,7 +117,7 @@ impl Failing {
         self.cores = Vec::new(alloc);
     }
 
-    // Whether slots are left for which more product states may tell more, and nothing is excluded.
+    // Whether slots are left that more product states may decide, and nothing is excluded.
     fn waits(&self) -> bool {
         self.cores.is_empty() && !self.slots.is_empty()
     }
@@ -239,8 +239,8 @@ fn states_at(most: u32, level: u32, answers: usize) -> u32
     most.min(LEAST_STATES.max(affordable as u32))
 }
 
-/// Asks each slot of a test of the path for a value that answers the slot's tests as the path does. More product
-/// states are looked at only where fewer tell nothing of a slot and no other slot excludes the answers.
+/// Asks each slot of a test of the path for a value that answers the slot's tests as the path does. It looks at more
+/// product states only where fewer don't decide a slot and no other slot excludes the answers.
 pub(crate) fn ask_levels(
     asked: &Asked<'_>,
     path: &Path,

@@ -28,15 +28,6 @@ others-all path d test answer others here decided n b h =
 
 -- ---- an answer that was decided before
 
-not-same : (a b : Bool) → (a ≡ b → ⊥) → a ≡ not b
-not-same true true ne = absurd (ne refl)
-not-same true false ne = refl
-not-same false true ne = refl
-not-same false false ne = absurd (ne refl)
-
-pub opposite : (path d : Answers) (test : ℕ) (answer value : Bool) → answer_of path test ≡ Some answer → answer_of d test ≡ Some value → (value ≡ answer → ⊥) → IsOpposite test path d
-opposite path d test answer value here decided ne = (answer, here, decided ∙ ap (λ (x : Bool). Some x) (not-same value answer ne))
-
 not-itself : (b : Bool) → b ≡ not b → ⊥
 not-itself true e = absurd (cc)
 not-itself false e = absurd (cc)

@@ -61,9 +61,6 @@ needs-end c k old new past n = subst (λ (x : Clause). NeedsAlso x old new) (tak
 
 -- ---- the answers of a path to needed variables
 
-pub answers-none : (needed : List Bool) → AreNeeded [] needed []
-answers-none needed = record { inside = λ v b h. h; marked = λ v b h. absurd (cc); all = λ v b n h. h }
-
 pub answers-take : (path : Answers) (needed : List Bool) (used : Answers) (l : Literal) → AreNeeded path needed used → answer_of path l.0 ≡ None → IsNeeded needed l.0 →
     AreNeeded (path ++ l ∷ []) needed (used ++ l ∷ [])
 answers-take path needed used l old fresh n = record {

@@ -1,64 +1,17 @@
--- A walk over a formula, branch after branch.
-use Rattle.std.proofs.Common.{◌≡◌, ℕ, ◌<◌, ◌≤◌, ◌+◌, List, [], ◌∷◌, ◌++◌, length, take, get_or, zero, suc, Some, None, slice_get, inl, inr, refl, sym, ap, subst, ◌∙◌, arith, rules, append_assoc, Global, append-nil}
-use Rattle.std.proofs.lemmas.List.{take_more, take_all}
-use Rattle.std.proofs.lemmas.Option.{slice_get_within, get_or_from_slice_get, slice_get-get_or}
-use Rattle.std.proofs.lemmas.Bool.{cases_lt}
+-- Numbers of nodes and clauses of branches, one after another.
+use Rattle.std.proofs.Common.{◌≡◌, ℕ, ◌≤◌, ◌+◌, List, [], ◌∷◌, ◌++◌, length, take, zero, suc, Some, slice_get, refl, sym, ap, subst, ◌∙◌, arith, append_assoc, Global, append-nil}
+use Rattle.std.proofs.lemmas.List.{take_all}
 use Rattle.std.specs.declared.rc.Rc.{Rc}
-use Rattle.formula_tree.specs.declared.formula.Formula.{Formula, the_lemmas}
-use Rattle.formula_tree.specs.declared.formula.Formula.TheVariants.{Test, Not, All, OneOf}
+use Rattle.formula_tree.specs.declared.formula.Formula.{Formula}
+use Rattle.formula_tree.specs.declared.formula.Formula.TheVariants.{Not, All, OneOf}
 use Rattle.formula_tree.specs.declared.formula.Branches.{Branches}
-use Rattle.formula_tree.specs.Trees.{Tree, Trees, yes, no, test, not, all, one_of, none, more, of_list, tree_of, trees_of}
+use Rattle.formula_tree.specs.Trees.{Tree, of_list, tree_of, trees_of}
+use Rattle.formula_tree.proofs.FormulaWalks.{take_next, tree-Not, tree-All, tree-OneOf}
 use Rattle.cnf_clauses.specs.Literals.{Clause}
 use Rattle.cnf_clauses.specs.Numbering.{nodes, nodes_in, variable_of, variables_of, node_clauses, node_clauses_in, with_more}
 use Rattle.cnf_clauses.proofs.Limits.{cut-twice}
 
-pub tree-Test : (n : ℕ) → tree_of (Test n) ≡ test n
-tree-Test n = search (rules, the_lemmas)
-
-pub tree-Not : (r : Rc Formula Global) → tree_of (Not r) ≡ not (tree_of r.value)
-tree-Not r = search (rules, the_lemmas)
-
-pub tree-All : (b : Branches) → tree_of (All b) ≡ all (of_list (trees_of b))
-tree-All b = search (rules, the_lemmas)
-
-pub tree-OneOf : (b : Branches) → tree_of (OneOf b) ≡ one_of (of_list (trees_of b))
-tree-OneOf b = search (rules, the_lemmas)
-
--- ---- how large a tree is, for the walk to end
-
-abbrev mutual
-  pub size : Tree → ℕ
-  size yes = 0
-  size no = 0
-  size (test n) = 0
-  size (not t) = suc (size t)
-  size (all ts) = suc (size_in ts)
-  size (one_of ts) = suc (size_in ts)
-
-  pub size_in : Trees → ℕ
-  size_in none = 0
-  size_in (more t ts) = suc (size t + size_in ts)
-
-pub size-at : (ts : List Tree) (i : ℕ) (t : Tree) → Some t ≡ slice_get ts i → size t < size_in (of_list ts)
-size-at [] i t e = absurd (cc)
-size-at (x ∷ xs) zero t e = let same : t ≡ x = cc in rw same (omega arith)
-size-at (x ∷ xs) (suc i) t e = omega (arith, size-at xs i t e)
-
-pub size-Not : (r : Rc Formula Global) (f : Formula) → f ≡ Not r → size (tree_of r.value) < size (tree_of f)
-size-Not r f e = rw (e, tree-Not r) (omega arith)
-
-pub size-All : (b : Branches) (f : Formula) → f ≡ All b → size_in (of_list (trees_of b)) < size (tree_of f)
-size-All b f e = rw (e, tree-All b) (omega arith)
-
-pub size-OneOf : (b : Branches) (f : Formula) → f ≡ OneOf b → size_in (of_list (trees_of b)) < size (tree_of f)
-size-OneOf b f e = rw (e, tree-OneOf b) (omega arith)
-
 -- ---- branches, one after another
-
-take_next : (ts : List Tree) (i : ℕ) (t : Tree) → Some t ≡ slice_get ts i → take (i + 1) ts ≡ take i ts ++ t ∷ []
-take_next ts i t e =
-    let room : i < length ts = slice_get_within ts i t (sym e) in
-    take_more ts i t room ∙ ap (λ (x : Tree). take i ts ++ x ∷ []) (get_or_from_slice_get ts i t t (sym e))
 
 nodes_in-snoc : (ts : List Tree) (t : Tree) → nodes_in (of_list (ts ++ t ∷ [])) ≡ nodes_in (of_list ts) + nodes t
 nodes_in-snoc [] t = omega arith
@@ -75,9 +28,6 @@ nodes_in-take (x ∷ xs) (suc i) = omega (arith, nodes_in-take xs i)
 
 pub nodes_in-within : (ts : List Tree) (i : ℕ) (t : Tree) → Some t ≡ slice_get ts i → nodes_in (of_list (take i ts)) + nodes t ≤ nodes_in (of_list ts)
 nodes_in-within ts i t e = omega (arith, nodes_in-next ts i t e, nodes_in-take ts (i + 1))
-
-pub none_past : (ts : List Tree) (i : ℕ) → None ≡ slice_get ts i → length ts ≤ i
-none_past ts i e = elim (cases_lt i (length ts)) [ inl l ↦ (let some : slice_get ts i ≡ Some (get_or ts i yes) = slice_get-get_or ts i yes l in absurd (cc)) | inr g ↦ g ]
 
 variables-snoc : (n : ℕ) (ts : List Tree) (t : Tree) → variables_of n (of_list (ts ++ t ∷ [])) ≡ variables_of n (of_list ts) ++ variable_of (n + nodes_in (of_list ts)) t ∷ []
 variables-snoc n [] t = let e : n + 0 ≡ n = omega arith in rw e refl

@@ -8,7 +8,7 @@ pub data Replays (clauses : List Clause) : Answers → List ℕ → Type 0 where
   -- the last hint names a refuted clause
   refuted : (decided : Answers) (hint : ℕ) (c : Clause) → slice_get clauses hint ≡ Some c → IsRefuted decided c →
       Replays clauses decided (hint ∷ [])
-  -- each other hint names a clause of which one literal is left, and that literal becomes true
+  -- each other hint names a clause with one literal left, and that literal becomes true
   derives : (decided : Answers) (hint : ℕ) (hints : List ℕ) (c : Clause) (l : Literal) → slice_get clauses hint ≡ Some c →
       IsUnit decided c l → Replays clauses (decided ++ l ∷ []) hints → Replays clauses decided (hint ∷ hints)
 

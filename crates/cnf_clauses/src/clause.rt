@@ -9,7 +9,7 @@ use plain_lists::List;
 // A variable, and the value at which the literal is true.
 pub(crate) type Literal = (u32, bool);
 
-// The literals of which one must be true.
+// The literals; one of them must be true.
 pub(crate) type Clause = List<Literal>;
 
 // What a look at a clause finds.

@@ -15,8 +15,8 @@ use std::marker::Model;
 /// Numbers of clauses, in the order in which a replay takes them.
 pub type Hints = List<u32>;
 
-/// Clauses over numbered variables. A clause is a list of literals, of which one must be true; a
-/// literal is a variable with the value at which it is true.
+/// Clauses over numbered variables. A clause is a list of literals, one of them true; a literal is a
+/// variable with the value at which it is true.
 #[derive(Drop)]
 pub struct Clauses {
     clauses: Vec<Clause>,

@@ -191,7 +191,7 @@ fn follow_answer(
     Ok(Some(explain(alloc, clauses, path, trail, upto, number)?))
 }
 
-// The same, with a mark where the level begins. At a conflict, and where there is no memory, all is
+// As above, with a mark where the level begins. At a conflict, and where there is no memory, all is
 // taken back.
 fn follow_level(
     alloc: Global,

@@ -110,7 +110,7 @@ pub(crate) fn add_clause(
     Ok(())
 }
 
-// Whether the literals are the same.
+// Whether the literals are equal.
 fn is_same(one: Literal, other: Literal) -> bool
     ensures { IsTrue result → one ≡ other }
 {

@@ -108,7 +108,7 @@ pub(crate) fn follow_all(
             return Ok(true);
         }
     }
-    // `len` tells that a list is shorter than `usize::MAX`: the proof that nothing is left rests on it.
+    // `len` shows that a list is shorter than `usize::MAX`: the proof that nothing is left rests on it.
     let _decided = decided.len();
     Ok(false)
 }

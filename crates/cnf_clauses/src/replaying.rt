@@ -10,9 +10,9 @@ use formula_tree::Path;
 use plain_lists::NoMemory;
 use std::alloc::Global;
 
-/// Whether the hints replay from the path's answers. Each hint names a clause of which all literals
-/// but one are false and that one is undecided: it becomes true. The last hint, and only the last,
-/// names a clause of which all literals are false. No hints don't replay. This is the check of
+/// Whether the hints replay from the path's answers. Each hint but the last names a clause with one undecided literal
+/// and no true one: that literal becomes true. The last hint names a clause whose literals are all false. An empty
+/// list of hints doesn't replay. This is the check of
 /// reverse unit propagation with hints, as certificates of unsatisfiability carry them.
 pub fn replay(
     alloc: Global,
@@ -26,7 +26,7 @@ pub fn replay(
     replay_from(clauses, &mut decided, hints)
 }
 
-// The same from what is decided.
+// Replays the hints from what is decided.
 fn replay_from(clauses: &Clauses, decided: &mut Decided, hints: &Hints) -> Result<bool, NoMemory>
     ensures { IfOk result (λ yes. IsTrue yes ↔ Replays clauses.now decided.old hints.now) }
 {

@@ -180,7 +180,7 @@ abbrev pub are_distinct : List Text → Bool
 are_distinct [] = true
 are_distinct (text ∷ texts) = not (is_one_of text texts) && are_distinct texts
 
--- at most four names, none of which is another one but for the case of ASCII letters
+-- at most four names that differ when ASCII letters are lowered
 abbrev pub are_dimensions : List Text → Bool
 are_dimensions names = not (nat_lt MOST_DIMENSIONS (length names)) && are_distinct (map lower_case names)
 

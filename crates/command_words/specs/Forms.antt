@@ -15,7 +15,7 @@ numbers_up_to most = Signed (pos 1) (pos most)
 abbrev pub name_rule : Text → Rule
 name_rule id = record (new_rule id) { required = true; action = Some Set }
 
--- names of which one has to stand, behind the others by their position
+-- names, one of them required, behind the others by their position
 abbrev pub names_rule : Text → Rule
 names_rule id = record (new_rule id) {
   required = true;

@@ -34,9 +34,9 @@ pub struct EvalArguments {
     pub schema: Option<String>,
 }
 
-/// What findings are asked for, as of `emit`: the names of the files of a set, and of a schema where one is
-/// named; the dimensions, at most four, none of which is another one but for the case of ASCII letters; and
-/// the splits, the product states and the findings that they may need.
+/// What findings are asked for, as of `emit`: the names of the files of a set, and of a schema where one is named;
+/// the dimensions, at most four, different when ASCII letters are lowered; and the splits, product states and
+/// findings that they may need.
 #[derive(Drop)]
 pub struct FindingArguments {
     pub set: String,
@@ -72,9 +72,8 @@ pub struct IdleArguments {
     pub certified: bool,
 }
 
-/// What `check-summary` is asked: the names of the files of a set and of a certified summary, and of a
-/// schema where one is named; the dimensions, as those of findings; and the product states that their
-/// predicates may need.
+/// What `check-summary` is asked: the names of the files of a set and of a certified summary, and of a schema
+/// where one is named; the dimensions, as those of findings; and the product states for their predicates.
 #[derive(Drop)]
 pub struct CheckSummaryArguments {
     pub set: String,

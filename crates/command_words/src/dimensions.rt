@@ -41,7 +41,7 @@ fn are_distinct(texts: &[String]) -> bool
     true
 }
 
-/// Whether these are at most four names, none of which is another one but for the case of ASCII letters.
+/// Whether these are at most four names that differ when ASCII letters are lowered.
 pub(crate) fn are_dimensions(alloc: Global, names: &[String]) -> Result<bool, NoMemory>
     ensures { IfOk result (λ b. b ≡ are_dimensions (texts_in names.now)) }
 {

@@ -77,7 +77,7 @@ fn flag_arg<'a>(alloc: Global, id: &'a str) -> Arg<'a>
 pub(crate) enum Argument<'a> {
     /// A name that has to stand, by its position.
     Name(&'a str),
-    /// Names of which one has to stand, behind the others by their position.
+    /// Names, one of them required, behind the others by position.
     Names(&'a str),
     /// A number from 1 to the greatest that has to stand, by its position.
     Amount(&'a str, u32),

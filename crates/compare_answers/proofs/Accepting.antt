@@ -1,17 +1,15 @@
 -- A file is checked with one answer for two sets, and what a comparison prints is accepted.
-use Rattle.std.proofs.Common.{◌≡◌, ◌≤◌, ◌<◌, ◌⊎◌, ◌++◌, ◌+◌, ◌∷◌, ◌∙◌, ℕ, zero, suc, List, [], length, sum_by, Some, None, Contains, slice_get, ap, arith, inl, inr, refl, subst, sym}
+use Rattle.std.proofs.Common.{◌≡◌, ◌≤◌, ◌<◌, ◌++◌, ◌+◌, ◌∙◌, ℕ, List, [], length, sum_by, Some, None, slice_get, ap, arith, inl, inr, refl, subst, sym}
 use Rattle.std.specs.Prelude.{String, string_bytes, codes, true}
 use Rattle.std.specs.declared.alloc.Global.{Global}
-use Rattle.std.proofs.lemmas.List.{length-append}
-use Rattle.std.proofs.lemmas.Option.{get_or_from_slice_get, slice_get_within}
 use Rattle.formula_tree.specs.Trees as tree
 use Rattle.policy_model.specs.declared.test.Test.{Test}
 use Rattle.policy_compile.specs.declared.outcome.Query.{Query}
-use Rattle.policy_compile.specs.Numbering.{AreNumbered, Collects, HasTooMany, IsNumbered, again, anew, nothing}
-use Rattle.policy_compile.specs.Numbering.{numbered_all, numbered_ask, numbered_more, numbered_none, numbered_not, numbered_one_of, numbered_yes}
-use Rattle.policy_compile.specs.Plans.{Plan, Plans, tests_in}
+use Rattle.policy_compile.specs.Plans.{tests_in}
 use Rattle.policy_compile.specs.Plans as plan
 use Rattle.policy_compile.specs.Queries.{IsQuery, asked_tree, test_pieces}
+use Rattle.policy_compile.proofs.OneNumbering as numbering
+use Rattle.policy_compile.proofs.OneNumbering.{few-enough, one-list}
 use Rattle.formula_tree.specs.Answers.{Answers}
 use Rattle.policy_model.specs.declared.schema.Schema.{Schema}
 use Rattle.refute_check.specs.Closing.{Before, FailsAt, at_first, here, in_label, in_no, in_yes}
@@ -31,108 +29,30 @@ use Rattle.run_inputs.specs.Printing.{PrintsText}
 use Rattle.run_inputs.specs.declared.pair.Pair.{Pair}
 use Rattle.run_inputs.specs.declared.refusal.Refusal.{Refusal}
 use Rattle.run_inputs.specs.declared.refusal.Refusal.TheVariants as refusal
-use Rattle.run_inputs.specs.Pairs.{Contents, SomePair, SomeRun, pair_of}
+use Rattle.run_inputs.specs.Pairs.{Contents, SomePair, SomePairRun, pair_of}
 use Rattle.run_inputs.specs.Refusals.{PrintsRefusal, IsRefusedBy, refusal_text}
 use Rattle.run_inputs.proofs.Laws.{no_pair_fails, of_same}
 use Rattle.compare_answers.specs.declared.answer.CheckAnswer.{CheckAnswer}
 use Rattle.compare_answers.specs.declared.answer.CheckAnswer.TheVariants as answer
 use Rattle.compare_answers.specs.declared.answer.ComparisonAnswer.{ComparisonAnswer}
 use Rattle.compare_answers.specs.declared.answer.ComparisonAnswer.TheVariants as compared
-use Rattle.run_inputs.specs.ClosedQueries.{FailsAll}
+use Rattle.refute_check.specs.Queries.{FailsAll}
 use Rattle.compare_answers.specs.Certified.{ClosesBy, FailsAtLine, HasProofFault, fault_for}
 use Rattle.compare_answers.specs.Checks.{ChecksAgree, PrintedProofsAreAccepted, SaysTheSame}
 use Rattle.compare_answers.specs.Comparison.{SomeQuery, TooManyPieces, TooManyTests, plan_of}
 use Rattle.compare_answers.specs.Decided.{IsChecked, IsComparison, IsPastLimit}
 use Rattle.compare_answers.specs.Printed.{IsCheckOfPair, IsCheckPrinted, IsComparisonPrinted, IsPairPrinted, PrintsCheck, budgets_of}
 use Rattle.compare_answers.specs.Texts.{check_status, check_text, comparison_status, comparison_text}
-use Rattle.compare_answers.proofs.Comparing.{one_list}
 
--- ---- a plan has one list of tests, each once
-
--- no test stands at two numbers
-abbrev AreDistinct : List Test → Type 0
-AreDistinct ts = (n m : ℕ) (t : Test) → slice_get ts n ≡ Some t → slice_get ts m ≡ Some t → n ≡ m
-
-at-more : (ts : List Test) (t u : Test) (n : ℕ) → slice_get (ts ++ t ∷ []) n ≡ Some u → (slice_get ts n ≡ Some u) ⊎ ((n ≡ length ts) × (t ≡ u))
-at-more [] t u zero e = inr (refl, cc)
-at-more [] t u (suc n) e = absurd (cc)
-at-more (x ∷ ts) t u zero e = inl e
-at-more (x ∷ ts) t u (suc n) e = elim (at-more ts t u n e) [
-  | inl front ↦ inl front
-  | inr last ↦ inr (omega (arith, last.0), last.1)
-]
-
-contains-at : (ts : List Test) (t : Test) (n : ℕ) → slice_get ts n ≡ Some t → Contains ts t
-contains-at ts t n e = (n, slice_get_within ts n t e, get_or_from_slice_get ts n t t e)
-
-contains-same : (ts : List Test) (t u : Test) (n : ℕ) → slice_get ts n ≡ Some u → t ≡ u → Contains ts t
-contains-same ts t u n e same = contains-at ts t n (e ∙ ap Some (sym same))
-
-distinct-more : (ts : List Test) (t : Test) → ¬ Contains ts t → AreDistinct ts → AreDistinct (ts ++ t ∷ [])
-distinct-more ts t new old n m u one other =
-    elim (at-more ts t u n one) [
-      | inl front ↦ elim (at-more ts t u m other) [
-        | inl also ↦ old n m u front also
-        | inr last ↦ absurd (new (contains-same ts t u n front last.1))
-      ]
-      | inr last ↦ elim (at-more ts t u m other) [
-        | inl front ↦ absurd (new (contains-same ts t u m front last.1))
-        | inr also ↦ last.0 ∙ sym also.0
-      ]
-    ]
-
-collected-distinct : (had read got : List Test) → Collects had read got → AreDistinct had → AreDistinct got
-collected-distinct had [] got nothing old = old
-collected-distinct had (t ∷ read) got (again known rest) old = collected-distinct had read got rest old
-collected-distinct had (t ∷ read) got (anew new rest) old = collected-distinct (had ++ t ∷ []) read got rest (distinct-more had t new old)
-
-no-tests-distinct : AreDistinct []
-no-tests-distinct n m t one other = absurd (cc)
-
--- ---- and one tree
-
-mutual
-  one-tree : (ts : List Test) → AreDistinct ts → (p : Plan) (a b : tree.Tree) → IsNumbered ts p a → IsNumbered ts p b → a ≡ b
-  one-tree ts distinct plan.yes a b numbered_yes numbered_yes = refl
-  one-tree ts distinct (plan.ask t) a b (numbered_ask {n = n} one) (numbered_ask {n = m} other) = ap tree.test (distinct n m t one other)
-  one-tree ts distinct (plan.not p) a b (numbered_not {t = t} x) (numbered_not {t = u} y) = ap tree.not (one-tree ts distinct p t u x y)
-  one-tree ts distinct (plan.all ps) a b (numbered_all {ts = t} x) (numbered_all {ts = u} y) = ap tree.all (one-branches ts distinct ps t u x y)
-  one-tree ts distinct (plan.one_of ps) a b (numbered_one_of {ts = t} x) (numbered_one_of {ts = u} y) = ap tree.one_of (one-branches ts distinct ps t u x y)
-
-  one-branches : (ts : List Test) → AreDistinct ts → (ps : Plans) (a b : tree.Trees) → AreNumbered ts ps a → AreNumbered ts ps b → a ≡ b
-  one-branches ts distinct plan.none a b numbered_none numbered_none = refl
-  one-branches ts distinct (plan.more p ps) a b (numbered_more {t = t} {ts = us} x xs) (numbered_more {t = u} {ts = vs} y ys) =
-      ap (λ (w : tree.Tree). tree.more w us) (one-tree ts distinct p t u x y) ∙ ap (tree.more u) (one-branches ts distinct ps us vs xs ys)
+-- ---- a pair has one list of tests and one tree
 
 same-tests : (pair : Pair) (q r : Query) → IsQuery (plan_of pair) q → IsQuery (plan_of pair) r → q.tests ≡ r.tests
-same-tests pair q r is other = one_list [] (tests_in (plan_of pair)) q.tests r.tests is.tests other.tests
+same-tests pair q r is other = one-list [] (tests_in (plan_of pair)) q.tests r.tests is.tests other.tests
 
 same-tree : (pair : Pair) (q r : Query) → IsQuery (plan_of pair) q → IsQuery (plan_of pair) r → asked_tree q ≡ asked_tree r
-same-tree pair q r is other =
-    let distinct = collected-distinct [] (tests_in (plan_of pair)) r.tests other.tests no-tests-distinct in
-    let there : IsNumbered r.tests (plan_of pair) (asked_tree q) = subst (λ (ts : List Test). IsNumbered ts (plan_of pair) (asked_tree q)) (same-tests pair q r is other) is.tree in
-    one-tree r.tests distinct (plan_of pair) (asked_tree q) (asked_tree r) there other.tree
+same-tree pair q r is other = numbering.same-tree (plan_of pair) q.tests r.tests (asked_tree q) (asked_tree r) is.tests other.tests is.tree other.tree
 
 -- ---- a query is past no limit
-
-grows : (had read got : List Test) → Collects had read got → length had ≤ length got
-grows had [] got nothing = omega arith
-grows had (t ∷ read) got (again old rest) = grows had read got rest
-grows had (t ∷ read) got (anew new rest) = omega (arith, grows (had ++ t ∷ []) read got rest, length-append had (t ∷ []))
-
-few-front : (had front rest got all : List Test) → Collects had front got → Collects had (front ++ rest) all → length got ≤ length all
-few-front had [] rest got all nothing whole = grows had rest all whole
-few-front had (t ∷ front) rest got all (again old more) (again old_too whole) = few-front had front rest got all more whole
-few-front had (t ∷ front) rest got all (anew new more) (anew new_too whole) = few-front (had ++ t ∷ []) front rest got all more whole
-few-front had (t ∷ front) rest got all (again old more) (anew new_too whole) = absurd (new_too old)
-few-front had (t ∷ front) rest got all (anew new more) (again old_too whole) = absurd (new old_too)
-
-few-enough : (read all : List Test) → Collects [] read all → length all ≤ 1000 → HasTooMany [] read → ⊥
-few-enough read all collects few past =
-    let whole : Collects [] (past.front ++ past.rest) all = subst (λ (ts : List Test). Collects [] ts all) past.is collects in
-    let fewer = few-front [] past.front past.rest past.got all past.collects whole in
-    let many = past.many in
-    omega arith
 
 -- the tests of a plan that are too many aren't few with too many pieces
 one-limit : (pair : Pair) → TooManyTests pair → TooManyPieces pair → ⊥
@@ -140,7 +60,7 @@ one-limit pair tests pieces = few-enough (tests_in (plan_of pair)) pieces.tests 
 
 within-pieces : (pair : Pair) (q : Query) → IsQuery (plan_of pair) q → TooManyPieces pair → ⊥
 within-pieces pair q is past =
-    let same : past.tests ≡ q.tests = one_list [] (tests_in (plan_of pair)) past.tests q.tests past.collects is.tests in
+    let same : past.tests ≡ q.tests = one-list [] (tests_in (plan_of pair)) past.tests q.tests past.collects is.tests in
     let large : 65536 < sum_by test_pieces q.tests = subst (λ (ts : List Test). 65536 < sum_by test_pieces ts) same past.large in
     let small = is.small in
     omega arith
@@ -346,7 +266,7 @@ module _ (law : OneProofForEachText) (asked : Comparing) (c : Contents) (p q : P
   accepted-files : SomePair c Says → IsCheckPrinted (string_bytes p.text) c q → PrintsText (codes "accepted\n") status.Holds q
   accepted-files given (inl (r, none, line)) = absurd (no_pair_fails c Says given r none)
   accepted-files given (inr of) =
-      let same = of_same c (λ named one two. SomeRun named one two Says) (λ named one two. SomeRun named one two Checks) given of in
+      let same = of_same c (λ named one two. SomePairRun named one two Says) (λ named one two. SomePairRun named one two Checks) given of in
       accepted-pair given same.holds
 
   accepted-printed : IsComparisonPrinted asked c p → IsCheckPrinted (string_bytes p.text) c q → PrintsText (codes "accepted\n") status.Holds q

@@ -1,5 +1,5 @@
 -- What the search decides of a query, and what a certificate shows of it, says what the sets allow.
-use Rattle.std.proofs.Common.{◌≡◌, ◌^◌, ◌≤◌, ℕ, Bool, List, [], ◌∷◌, ◌++◌, length, All, Option, Some, None, IfSome, IfOk, false, slice_get, refl, ap, inl, inr, subst, sym, arith, Result, Ok, Err}
+use Rattle.std.proofs.Common.{◌≡◌, ◌^◌, ◌≤◌, ℕ, Bool, List, [], ◌++◌, length, All, Option, Some, IfSome, false, slice_get, refl, ap, inl, inr, subst, sym, arith, Err}
 use Rattle.std.specs.Prelude.{IsTrue, string_bytes}
 use Rattle.std.proofs.Math.Pow.{pow_mono}
 use Rattle.std.proofs.lemmas.Bool.{cases_Bool}
@@ -14,10 +14,10 @@ use Rattle.policy_model.specs.Soundness.{TestSuits}
 use Rattle.policy_compile.specs.declared.outcome.Query.{Query}
 use Rattle.policy_compile.specs.Laws.{AsksPair}
 use Rattle.policy_compile.specs.Meaning.{AnswersAs}
-use Rattle.policy_compile.specs.Numbering.{Collects, again, anew, nothing}
 use Rattle.policy_compile.specs.Plans.{tests_in}
 use Rattle.policy_compile.specs.Queries.{IsQuery, asked_tree}
 use Rattle.policy_compile.proofs.Laws.{All-collects, below-numbered, holds-numbered, query-covers, query-holds, suit-query}
+use Rattle.policy_compile.proofs.OneNumbering.{one-list}
 use Rattle.query_reduction.specs.Values.{HasSameValue}
 use Rattle.slot_theory.specs.Possible.{IsPossible}
 use Rattle.refute_check.specs.Laws.{ClosedQueriesAreNo, MakesYes}
@@ -50,7 +50,7 @@ use Rattle.compare_answers.specs.declared.answer.CheckAnswer.{CheckAnswer}
 use Rattle.compare_answers.specs.declared.answer.CheckAnswer.TheVariants as check
 use Rattle.compare_answers.specs.declared.answer.ComparisonAnswer.{ComparisonAnswer}
 use Rattle.compare_answers.specs.declared.answer.ComparisonAnswer.TheVariants as answer
-use Rattle.run_inputs.specs.ClosedQueries.{ClosesAll}
+use Rattle.refute_check.specs.Queries.{ClosesAll}
 use Rattle.compare_answers.specs.Certified.{Certifies, ClosesBy, FailsAtLine}
 use Rattle.compare_answers.specs.Comparison.{Covers, FewTestsAreDecided, IsWitness, plan_of}
 use Rattle.compare_answers.specs.Decided.{IsChecked, IsComparison, IsDecisionAnswer, IsRefutedAnswer, IsStagedAnswer, IsToldBy, IsVerdictOn, IsVerdictAnswer}
@@ -172,18 +172,10 @@ checked_if_read law pair some q bytes read fitting is from (check.NotClosing lin
     record { query = q; is = is; holds = at }
 checked_if_read law pair some q bytes read fitting is from _ v = absurd v
 
--- a plan has one list of tests
-pub one_list : (had read got other : List Test) → Collects had read got → Collects had read other → got ≡ other
-one_list had [] got other nothing nothing = refl
-one_list had (t ∷ read) got other (again old rest) (again old_too rest_too) = one_list had read got other rest rest_too
-one_list had (t ∷ read) got other (anew new rest) (anew new_too rest_too) = one_list (had ++ t ∷ []) read got other rest rest_too
-one_list had (t ∷ read) got other (again old rest) (anew new_too rest_too) = absurd (new_too old)
-one_list had (t ∷ read) got other (anew new rest) (again old_too rest_too) = absurd (new old_too)
-
 -- a query of few tests needs no more splits than there may be
 pub few_tests_fit : (schema : Schema) (q : Query) → FewTestsFit (IsPossible schema q.tests) → FewTestsAreDecided schema q
 few_tests_fit schema q fit pair under is few needs =
-    let same : needs.query.tests ≡ q.tests = one_list [] (tests_in (plan_of pair)) needs.query.tests q.tests needs.is.tests is.tests in
+    let same : needs.query.tests ≡ q.tests = one-list [] (tests_in (plan_of pair)) needs.query.tests q.tests needs.is.tests is.tests in
     let fit_there : FewTestsFit (IsPossible pair.schema q.tests) = subst (λ (s : Schema). FewTestsFit (IsPossible s q.tests)) (sym under) fit in
     let fit_too : FewTestsFit (IsPossible pair.schema needs.query.tests) = subst (λ (ts : List Test). FewTestsFit (IsPossible pair.schema ts)) (sym same) fit_there in
     let below = below-numbered needs.query.tests (plan_of pair) (asked_tree needs.query) needs.is.tree in

@@ -1,8 +1,7 @@
 -- What is printed of a pair within its limits, and which statuses it has.
-use Rattle.std.proofs.Common.{◌≡◌, ◌⊎◌, ℕ, List, inl, inr, sym, subst}
+use Rattle.std.proofs.Common.{◌≡◌, ◌⊎◌, ℕ, List, inl, inr, subst}
 use Rattle.command_words.specs.Asked.{Comparing}
 use Rattle.run_inputs.specs.declared.printed.Printed.{Printed}
-use Rattle.run_inputs.specs.declared.status.Status.{Status}
 use Rattle.run_inputs.specs.declared.status.Status.TheVariants as status
 use Rattle.run_inputs.specs.Printing.{IsOfText, PrintsText}
 use Rattle.run_inputs.specs.declared.pair.Pair.{Pair}
@@ -10,8 +9,7 @@ use Rattle.run_inputs.specs.declared.refusal.Refusal.{Refusal}
 use Rattle.run_inputs.specs.declared.refusal.Refusal.TheVariants as refusal
 use Rattle.run_inputs.specs.declared.shortage.Shortage.TheVariants as shortage
 use Rattle.run_inputs.specs.Pairs.{Contents, pair_of}
-use Rattle.run_inputs.specs.Refusals.{IsRefusedBy}
-use Rattle.run_inputs.proofs.Laws.{no_pair_fails, of_same}
+use Rattle.run_inputs.proofs.Laws.{no_pair_fails, of_same, refusal_with, with_status}
 use Rattle.compare_answers.specs.declared.answer.CheckAnswer.{CheckAnswer}
 use Rattle.compare_answers.specs.declared.answer.CheckAnswer.TheVariants as check
 use Rattle.compare_answers.specs.declared.answer.ComparisonAnswer.{ComparisonAnswer}
@@ -24,9 +22,6 @@ use Rattle.compare_answers.specs.Texts.{check_status, check_text, comparison_sta
 
 -- ---- statuses
 
-with_status : (p : Printed) (s : Status) → IsOfText s → p.status ≡ s → IsOfText p.status
-with_status p s of is = subst IsOfText (sym is) of
-
 comparison_with : (p : Printed) (a : ComparisonAnswer) → PrintsText (comparison_text a) (comparison_status a) p → IsOfText p.status
 comparison_with p answer.NotMore told = with_status p status.Holds tt told.1
 comparison_with p (answer.Proved text) told = with_status p status.Holds tt told.1
@@ -37,9 +32,6 @@ check_with : (p : Printed) (a : CheckAnswer) → PrintsText (check_text a) (chec
 check_with p check.Accepted told = with_status p status.Holds tt told.1
 check_with p (check.NotClosing line) told = with_status p status.BadProof tt told.1
 check_with p (check.BadProof fault) told = with_status p status.BadProof tt told.1
-
-refusal_with : (Q : Refusal → Type 0) (p : Printed) → IsRefusedBy Q p → IsOfText p.status
-refusal_with Q p (r, is, told) = with_status p status.Refused tt told.1
 
 pub comparison_of_text : (asked : Comparing) (c : Contents) (p : Printed) → IsComparisonPrinted asked c p → IsOfText p.status
 comparison_of_text asked c p (inl none) = refusal_with _ p none
@@ -60,9 +52,9 @@ check_of_text proof c p (inr of) = elim of.holds.holds [
 not_past : (pair : Pair) → ¬ TooManyTests pair → ¬ TooManyPieces pair → (r : Refusal) → IsPastLimit pair r → ⊥
 not_past pair tests pieces refusal.TooManyTests v = tests v
 not_past pair tests pieces refusal.TooManyPieces v = pieces v
-not_past pair tests pieces (refusal.NoSchema fault) v = v
-not_past pair tests pieces (refusal.NoSet file fault) v = v
-not_past pair tests pieces (refusal.NoRun file fault) v = v
+not_past pair tests pieces (refusal.BadSchema fault) v = v
+not_past pair tests pieces (refusal.BadSet file fault) v = v
+not_past pair tests pieces (refusal.BadCondition file fault) v = v
 
 module _ (asked : Comparing) (pair : Pair) (p : Printed) (d : IsDecidable (budgets_of asked) pair) where
   answer_decides : (a : ComparisonAnswer) → IsComparison asked.certified (budgets_of asked) pair a → PrintsText (comparison_text a) (comparison_status a) p → (p.status ≡ status.Holds) ⊎ (p.status ≡ status.Fails)

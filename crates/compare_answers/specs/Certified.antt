@@ -12,7 +12,7 @@ use Rattle.proof_text.specs.Spelling.{IsCertificateOf, certificate_text, node_li
 use Rattle.proof_text.specs.declared.fault.ProofFault.{ProofFault}
 use Rattle.proof_text.specs.declared.limits.TheConstants.{MOST_PROOF_BYTES}
 use Rattle.search_parts.specs.Trimmed.{IsTrimmed}
-use Rattle.run_inputs.specs.ClosedQueries.{ClosesAll, FailsAll}
+use Rattle.refute_check.specs.Queries.{ClosesAll, FailsAll}
 
 -- the first fault of a certificate for the query: it is read for the number of its tests, in the format of the schema's version
 abbrev pub fault_for : Schema → Query → List ℕ → Option ProofFault

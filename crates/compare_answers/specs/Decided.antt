@@ -20,7 +20,7 @@ use Rattle.compare_answers.specs.declared.answer.CheckAnswer.{CheckAnswer}
 use Rattle.compare_answers.specs.declared.answer.CheckAnswer.TheVariants.{Accepted, NotClosing, BadProof}
 use Rattle.compare_answers.specs.declared.answer.ComparisonAnswer.{ComparisonAnswer}
 use Rattle.compare_answers.specs.declared.answer.ComparisonAnswer.TheVariants.{NotMore, Proved, More, Undecided}
-use Rattle.run_inputs.specs.ClosedQueries.{ClosesAll, FailsAll}
+use Rattle.refute_check.specs.Queries.{ClosesAll, FailsAll}
 use Rattle.run_inputs.specs.PastLimits.{IsPlanPastLimit}
 use Rattle.compare_answers.specs.Certified.{Certifies, ClosesBy, FailsAtLine, HasProofFault}
 use Rattle.compare_answers.specs.Comparison.{Covers, CoversAll, HasQuery, IsWitness, NeedsSplits, NeedsStates, SomeQuery, plan_of}

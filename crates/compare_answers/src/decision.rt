@@ -1,9 +1,7 @@
 //! Compares two sets by the search, and checks certificates of it.
 ghost use Rattle.std.specs.Prelude.{◌≡◌, ◌<◌, ◌≤◌, ◌^◌, All, IfOk, false, length};
-ghost use Rattle.formula_tree.specs.Trees.{tree_of};
 ghost use Rattle.policy_model.specs.Soundness.{SchemaIsSound, TestSuits};
 ghost use Rattle.proof_text.specs.declared.limits.TheConstants.{MOST_PROOF_BYTES};
-ghost use Rattle.refute_check.specs.Laws.{TreeInRange};
 ghost use Rattle.refute_check.specs.Proofs.{proof_of, size};
 ghost use Rattle.policy_compile.specs.Queries.{IsQuery};
 ghost use Rattle.run_inputs.specs.Printing.{OrAnswered};
@@ -140,7 +138,6 @@ fn verdict_answer(
     requires sound { SchemaIsSound schema.now }
     requires suit { All (TestSuits schema.now) query.now.tests }
     requires count { length query.now.tests < 2 ^ 32 }
-    requires below { TreeInRange query.now.tests (tree_of query.now.formula.value) }
     requires lines { length read.now.lines ≡ size (proof_of read.now.refutation.value) }
     requires few { size (proof_of read.now.refutation.value) < 2 ^ 32 }
     ensures { IfOk result (IsVerdictAnswer schema.now query.now read.now) }

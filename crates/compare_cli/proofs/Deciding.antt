@@ -15,6 +15,7 @@ use Rattle.compare_answers.proofs.Laws.{check_of_text, checks_decide, comparison
 use Rattle.eval_answers.specs.Evaluated.{EvaluationContents, evaluation_contents}
 use Rattle.eval_answers.proofs.Laws.{evaluation_of_text, evaluations_decide}
 use Rattle.run_inputs.specs.OneSets.{SetContents, set_contents}
+use Rattle.run_inputs.proofs.Laws.{with_status}
 use Rattle.summary_answers.proofs.Laws.{summaries_decide, summary_of_text}
 use Rattle.idle_answers.proofs.Laws.{idle_of_text, uses_decide}
 use Rattle.reach_answers.specs.ReachPrinted.{ReachContents, reach_contents}
@@ -27,9 +28,6 @@ use Rattle.compare_cli.specs.Commands.{SummaryCheckContents, one_set_bytes, name
 use Rattle.compare_cli.specs.Complete.{IsAccepted, IsAcceptedBy, IsDecided, IsSummaryFor}
 
 -- ---- statuses
-
-with_status : (p : Printed) (s : Status) → IsOfText s → p.status ≡ s → IsOfText p.status
-with_status p s of is = subst IsOfText (sym is) of
 
 summarised_of_text : (s : Summarising) (certified : Bool) (c : SetContents) (p : Printed) → IsSummaryPrintedFrom s certified c p → IsOfText p.status
 summarised_of_text s true c p v = certified_summary_of_text s c p v

@@ -19,7 +19,7 @@ use Rattle.run_inputs.specs.declared.printed.Printed.{Printed}
 use Rattle.run_inputs.specs.declared.status.Status.TheVariants.{Holds, Refused}
 use Rattle.run_inputs.specs.Printing.{PrintsText}
 use Rattle.run_inputs.specs.declared.one_set.OneSet.{OneSet}
-use Rattle.run_inputs.specs.OneSets.{IsOneSetOf, SomeSet, SomeSetRun, one_of}
+use Rattle.run_inputs.specs.OneSets.{IsOneSetOf, SomeReadSet, SomeSetRun, one_of}
 use Rattle.summary_answers.specs.declared.answer.Found.{Found}
 use Rattle.summary_answers.specs.declared.subject.Subject.{Subject}
 use Rattle.summary_answers.specs.Found.{IsFoundOf}
@@ -85,7 +85,7 @@ of-file set schema one of =
     subst (IsOfFile of.named) of.holds.holds there
 
 -- and what holds of it under the named keys holds of the files
-pub of-named : (set : List ℕ) (schema : Option (List ℕ)) (one : OneSet) (P : Schema → OneSet → Type 0) → (of : IsOneSetOf set schema one) → P of.named one → SomeSet set schema (λ named s. SomeSetRun named s (P named))
+pub of-named : (set : List ℕ) (schema : Option (List ℕ)) (one : OneSet) (P : Schema → OneSet → Type 0) → (of : IsOneSetOf set schema one) → P of.named one → SomeReadSet set schema (λ named s. SomeSetRun named s (P named))
 of-named set schema one P of here = record {
   named = of.named;
   set = of.set;

@@ -1,18 +1,15 @@
 -- Which statuses are printed where a policy is asked for, and when the policy is printed.
-use Rattle.std.proofs.Common.{◌≡◌, ◌⊎◌, ◌≤◌, ℕ, List, arith, inl, inr, length, subst, sym}
+use Rattle.std.proofs.Common.{◌≡◌, ◌⊎◌, ◌≤◌, ℕ, List, arith, inl, inr, length}
 use Rattle.command_words.specs.Asked.{Summarising}
 use Rattle.policy_json.specs.declared.statement.TheConstants.{MOST_STATEMENTS}
 use Rattle.policy_model.specs.declared.schema.Schema.{Schema}
 use Rattle.summary_search.specs.declared.outcome.Limits.{Limits}
 use Rattle.run_inputs.specs.declared.printed.Printed.{Printed}
-use Rattle.run_inputs.specs.declared.status.Status.{Status}
 use Rattle.run_inputs.specs.declared.status.Status.TheVariants as status
 use Rattle.run_inputs.specs.Printing.{IsOfText}
 use Rattle.run_inputs.specs.declared.one_set.OneSet.{OneSet}
-use Rattle.run_inputs.specs.declared.refusal.Refusal.{Refusal}
 use Rattle.run_inputs.specs.OneSets.{one_of, SetContents}
-use Rattle.run_inputs.specs.Refusals.{IsRefusedBy}
-use Rattle.run_inputs.proofs.Laws.{no_one_fails, of_same_set}
+use Rattle.run_inputs.proofs.Laws.{no_one_fails, of_same_set, refusal_with, with_status}
 use Rattle.summary_answers.specs.declared.answer.Found.{Found}
 use Rattle.summary_answers.specs.Printed.{limits_in}
 use Rattle.summary_answers.specs.Subjects.{subject_of_set}
@@ -21,12 +18,6 @@ use Rattle.emit_answers.specs.EmitComplete.{EmitsDecide, IsEmittable}
 use Rattle.emit_answers.specs.EmitPrinted.{HasNoPolicy, HasPolicy, IsEmitPrinted, IsSetEmitted}
 
 -- ---- statuses
-
-with_status : (p : Printed) (s : Status) → IsOfText s → p.status ≡ s → IsOfText p.status
-with_status p s of is = subst IsOfText (sym is) of
-
-refusal_with : (Q : Refusal → Type 0) (p : Printed) → IsRefusedBy Q p → IsOfText p.status
-refusal_with Q p (r, is, told) = with_status p status.Refused tt told.1
 
 emits_with : (named : Schema) (one : OneSet) (found : Found) (p : Printed) → HasNoPolicy found p ⊎ HasPolicy named one found p → IsOfText p.status
 emits_with named one found p (inl none) = with_status p status.Refused tt none.prints.1

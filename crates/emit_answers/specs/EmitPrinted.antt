@@ -19,7 +19,7 @@ use Rattle.run_inputs.specs.declared.printed.Printed.{Printed}
 use Rattle.run_inputs.specs.declared.status.Status.TheVariants.{Holds, Refused}
 use Rattle.run_inputs.specs.Printing.{IfPrinted, PrintsText}
 use Rattle.run_inputs.specs.declared.one_set.OneSet.{OneSet}
-use Rattle.run_inputs.specs.OneSets.{IsOneSetRefusal, SomeSet, SomeSetRun, SetContents}
+use Rattle.run_inputs.specs.OneSets.{IsOneSetRefusal, SomeReadSet, SomeSetRun, SetContents}
 use Rattle.run_inputs.specs.Refusals.{IsRefusedBy}
 use Rattle.run_inputs.specs.Standing.{StandsFor}
 use Rattle.summary_answers.specs.declared.answer.Found.{Found}
@@ -79,7 +79,7 @@ IsSetEmitted names limits named one p = IsNotFound names limits (subject_of_set 
 abbrev pub IsEmitPrinted : Summarising → SetContents → Printed → Type 0
 IsEmitPrinted e c p =
     IsRefusedBy (IsOneSetRefusal c.set c.schema) p
-    ⊎ SomeSet c.set c.schema (λ named set. SomeSetRun named set (λ one. IsSetEmitted e.dimensions (limits_in e) named one p))
+    ⊎ SomeReadSet c.set c.schema (λ named set. SomeSetRun named set (λ one. IsSetEmitted e.dimensions (limits_in e) named one p))
 
 -- ---- parts
 

@@ -1,21 +1,17 @@
 -- What is printed of a request, and which statuses it has.
-use Rattle.std.proofs.Common.{◌≡◌, ◌⊎◌, ℕ, List, inl, inr, subst, sym}
+use Rattle.std.proofs.Common.{◌≡◌, ◌⊎◌, ℕ, List, inl, inr}
 use Rattle.run_inputs.specs.declared.printed.Printed.{Printed}
-use Rattle.run_inputs.specs.declared.status.Status.{Status}
 use Rattle.run_inputs.specs.declared.status.Status.TheVariants as status
 use Rattle.run_inputs.specs.Printing.{IsOfText, PrintsText}
 use Rattle.run_inputs.specs.declared.one_set.OneSet.{OneSet}
 use Rattle.run_inputs.specs.OneSets.{one_of}
-use Rattle.run_inputs.proofs.Laws.{no_one_fails, of_same_set}
+use Rattle.run_inputs.proofs.Laws.{no_one_fails, of_same_set, with_status}
 use Rattle.eval_answers.specs.declared.answer.Evaluation.{Evaluation}
 use Rattle.eval_answers.specs.declared.answer.Evaluation.TheVariants as answer
 use Rattle.eval_answers.specs.Evaluated.{EvaluationContents, EvaluationsDecide, IsAnyRequest, IsEvaluationPrinted, IsRequestPrinted, OfRequest}
 use Rattle.eval_answers.specs.Sayings.{evaluation_status, evaluation_text}
 
 -- ---- statuses
-
-with_status : (p : Printed) (s : Status) → IsOfText s → p.status ≡ s → IsOfText p.status
-with_status p s of is = subst IsOfText (sym is) of
 
 answer_with : (p : Printed) (a : Evaluation) → PrintsText (evaluation_text a) (evaluation_status a) p → IsOfText p.status
 answer_with p (answer.Allowed name) told = with_status p status.Holds tt told.1

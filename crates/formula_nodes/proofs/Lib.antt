@@ -4,4 +4,3 @@ pub mod Laws
 mod Same
 mod Standing
 mod Valuing
-mod Walking

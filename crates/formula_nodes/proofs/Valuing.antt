@@ -16,7 +16,7 @@ use Rattle.formula_nodes.specs.declared.claim.Claim.{Claim}
 use Rattle.formula_nodes.specs.declared.part.Part.TheVariants as part
 use Rattle.formula_nodes.proofs.Laws.{had-values, keep-values, stays-for}
 use Rattle.formula_nodes.proofs.Standing.{claim-tree-holds, each-from, each-to, some-from, some-to, turned-holds}
-use Rattle.formula_nodes.proofs.Walking.{take_next}
+use Rattle.formula_tree.proofs.FormulaWalks.{take_next}
 
 -- ---- truth values
 

@@ -16,7 +16,7 @@ pub struct Claim {
 pub type ClaimList = List<Claim>;
 
 impl Claim {
-    /// The claim of the same node that holds where this one doesn't.
+    /// The opposite claim of the same node: it holds where this one doesn't.
     pub fn opposite(self) -> Claim
         ensures node { result.node ≡ self.node }
         ensures holds { result.holds ≡ not self.holds }

@@ -1,7 +1,7 @@
 -- The lemmas on paths, values and runs that crates above cite.
 use Rattle.std.proofs.Common.{◌≡◌, ◌≢◌, ℕ, ◌<◌, suc, [], ◌∷◌, ◌++◌, Bool, true, false, Some, None, ◌⊎◌}
 use Rattle.formula_tree.specs.Answers.{Answers, answer_of, Completes, Contained}
-use Rattle.formula_tree.specs.Runs.{path_with, Run, unanswered_count}
+use Rattle.formula_tree.specs.Runs.{path_with, unanswered_count}
 use Rattle.formula_tree.specs.Trees.{Tree}
 use Rattle.formula_tree.specs.Values.{holds, pick, value}
 use Rattle.formula_tree.specs.declared.value.Three.TheVariants.{Yes, No, Unknown}
@@ -11,8 +11,8 @@ use Rattle.formula_tree.proofs.Running as runs
 use Rattle.formula_tree.proofs.Keeping as values
 -- what a look at a tree gives under answers is the tree's value under a path of the same answers, and the test that it picks
 pub use Rattle.formula_tree.proofs.Looking.{clause-unanswered, clause-unknown, clause-within, pick-is, value-is, waits-unanswered, waits-within}
--- branches in a row, of which a known one decides
-pub use Rattle.formula_tree.proofs.Looking.{both-assoc, both-yes, either-assoc, either-no}
+-- branches in a row, however they are grouped
+pub use Rattle.formula_tree.proofs.Looking.{both-assoc, either-assoc}
 
 -- two numbers are equal, or they aren't
 pub cases_eq : (k n : ℕ) → (k ≡ n) ⊎ (k ≢ n)
@@ -50,10 +50,6 @@ pick-unknown = looks.pick-unknown
 pub pick-unanswered : (path : Answers) (t : Tree) (n : ℕ) → pick path t ≡ Some n → answer_of path n ≡ None
 pick-unanswered = looks.pick-unanswered
 
--- a path has one run
-pub same_run : (possible : Answers → Type 0) (tree : Tree) (p : Answers) (b c : Bool) (n m : ℕ) → Run possible tree p b n → Run possible tree p c m → (b ≡ c) × (n ≡ m)
-same_run = runs.same_run
-
 -- one more answer leaves one open test less
 pub unanswered-more : (path : Answers) (n : ℕ) (b : Bool) (t : ℕ) → n < t → answer_of path n ≡ None → unanswered_count path t ≡ suc (unanswered_count (path_with path n b) t)
 unanswered-more = runs.unanswered-more
@@ -62,10 +58,6 @@ unanswered-more = runs.unanswered-more
 pub unanswered-start : (t : ℕ) → unanswered_count [] t ≡ t
 unanswered-start = runs.unanswered-start
 
--- a longer path keeps the value yes
-pub keeps-yes : (few many : Answers) (t : Tree) → Contained few many → value few t ≡ Yes → value many t ≡ Yes
-keeps-yes = values.keeps-yes
-
 -- and the value no
 pub keeps-no : (few many : Answers) (t : Tree) → Contained few many → value few t ≡ No → value many t ≡ No
 keeps-no = values.keeps-no
@@ -73,10 +65,6 @@ keeps-no = values.keeps-no
 -- a path is contained in itself with one more answer
 pub contained-answered : (path : Answers) (n : ℕ) (b : Bool) → Contained path (path_with path n b)
 contained-answered = runs.contained-answered
-
--- a path that gains an answer that the longer one has stays contained in it
-pub contained-by : (few many : Answers) (n : ℕ) (b : Bool) → Contained few many → answer_of few n ≡ None → answer_of many n ≡ Some b → Contained (path_with few n b) many
-contained-by = runs.contained-by
 
 -- and so does a path where both gain the same answer
 pub contained-both : (few many : Answers) (n : ℕ) (b : Bool) → Contained few many → answer_of few n ≡ None → answer_of many n ≡ None → Contained (path_with few n b) (path_with many n b)

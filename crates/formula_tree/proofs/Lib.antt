@@ -1,4 +1,5 @@
 mod AnswerLists
+pub mod FormulaWalks
 mod Keeping
 pub mod Laws
 mod Looking

@@ -19,16 +19,6 @@ both-assoc (Waits n) (Waits m) Yes = refl
 both-assoc (Waits n) (Waits m) No = refl
 both-assoc (Waits n) (Waits m) (Waits k) = refl
 
-pub both-yes : (a : Look) → look_of_both a Yes ≡ a
-both-yes Yes = refl
-both-yes No = refl
-both-yes (Waits n) = refl
-
-pub both-no : (a b : Look) → look_of_both a (look_of_both No b) ≡ No
-both-no Yes b = refl
-both-no No b = refl
-both-no (Waits n) b = refl
-
 pub either-assoc : (a b c : Look) → look_of_either a (look_of_either b c) ≡ look_of_either (look_of_either a b) c
 either-assoc Yes b c = refl
 either-assoc No b c = refl
@@ -37,16 +27,6 @@ either-assoc (Waits n) Yes c = refl
 either-assoc (Waits n) (Waits m) Yes = refl
 either-assoc (Waits n) (Waits m) No = refl
 either-assoc (Waits n) (Waits m) (Waits k) = refl
-
-pub either-no : (a : Look) → look_of_either a No ≡ a
-either-no Yes = refl
-either-no No = refl
-either-no (Waits n) = refl
-
-pub either-yes : (a b : Look) → look_of_either a (look_of_either Yes b) ≡ Yes
-either-yes Yes b = refl
-either-yes No b = refl
-either-yes (Waits n) b = refl
 
 -- ---- the value
 

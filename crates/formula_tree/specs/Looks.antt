@@ -29,7 +29,7 @@ look_of_both (Waits n) No = No
 look_of_both (Waits n) Yes = Waits n
 look_of_both (Waits n) (Waits m) = Waits n
 
--- of two trees of which one must hold, the first that isn't no, unless one is yes
+-- two trees, one of which must hold: the first that isn't no, unless one is yes
 abbrev pub look_of_either : Look → Look → Look
 look_of_either Yes b = Yes
 look_of_either No b = b

@@ -67,7 +67,7 @@ pub fn look_of_both(first: Look, second: Look) -> Look
     }
 }
 
-/// Two formulas of which one must hold: the first that isn't no, unless one is yes.
+/// Two formulas, one of which must hold: the first that isn't no, unless one is yes.
 pub fn look_of_either(first: Look, second: Look) -> Look
     ensures { result ≡ look_of_either first second }
 {

@@ -65,9 +65,9 @@ fn look_at_some(branches: &Branches, path: &Path) -> Look
     some
 }
 
-/// The value of the formula under the path's answers, in the three-valued logic of Kleene: of `All`
-/// no where a branch is no and yes where all are yes, so also where there is none; of `OneOf` the
-/// other way round. It takes no memory.
+/// The value of the formula under the path's answers, in the three-valued logic of Kleene. `All` is no where a
+/// branch is no, and yes where all are yes, also where there is none. `OneOf` is the other way round. It takes
+/// no memory.
 pub fn value3(formula: &Formula, path: &Path) -> Three
     ensures { result ≡ value path.now (tree_of formula.now) }
 {

@@ -1,5 +1,5 @@
 -- Which statuses what is printed of a set's statements has, and when each statement is decided.
-use Rattle.std.proofs.Common.{◌≡◌, ◌∙◌, ◌⊎◌, ◌||◌, ℕ, suc, Bool, true, false, List, [], ◌∷◌, All, ap, arith, refl, inl, inr, subst, sym}
+use Rattle.std.proofs.Common.{◌≡◌, ◌∙◌, ◌⊎◌, ◌||◌, ℕ, suc, Bool, true, false, List, [], ◌∷◌, All, ap, arith, refl, inl, inr, subst}
 use Rattle.std.specs.Prelude.{if◌then◌else◌}
 use Rattle.std.specs.List.{AllZip, list_any}
 use Rattle.command_words.specs.Asked.{UseQuestion}
@@ -13,8 +13,7 @@ use Rattle.run_inputs.specs.declared.refusal.Refusal.{Refusal}
 use Rattle.run_inputs.specs.declared.refusal.Refusal.TheVariants as refusal
 use Rattle.run_inputs.specs.declared.shortage.Shortage.TheVariants as shortage
 use Rattle.run_inputs.specs.OneSets.{one_of, SetContents}
-use Rattle.run_inputs.specs.Refusals.{IsRefusedBy}
-use Rattle.run_inputs.proofs.Laws.{no_one_fails, of_same_set}
+use Rattle.run_inputs.proofs.Laws.{no_one_fails, of_same_set, refusal_with, with_status}
 use Rattle.set_questions.specs.Settling.{BothRunsFail}
 use Rattle.set_questions.specs.Uses.{OfChange}
 use Rattle.tree_search.specs.declared.outcome.Budgets.{Budgets}
@@ -28,25 +27,19 @@ use Rattle.idle_answers.specs.UseTexts.{is_idle, is_undecided, uses_status}
 
 -- ---- statuses
 
-with_status : (p : Printed) (s : Status) → IsOfText s → p.status ≡ s → IsOfText p.status
-with_status p s of is = subst IsOfText (sym is) of
-
 uses_of_text : (undecided idle : Bool) → IsOfText (if undecided then status.Undecided else (if idle then status.Fails else status.Holds))
 uses_of_text true idle = tt
 uses_of_text false true = tt
 uses_of_text false false = tt
 
-refused_of_text : (Q : Refusal → Type 0) (p : Printed) → IsRefusedBy Q p → IsOfText p.status
-refused_of_text Q p (r, is, told) = with_status p status.Refused tt told.1
-
 set_of_text : (certified : Bool) (budgets : Budgets) (one : OneSet) (p : Printed) → AreUsesPrinted certified budgets one p → IsOfText p.status
-set_of_text certified budgets one p (inl past) = refused_of_text (IsSetPastLimit one.schema one.set) p past
+set_of_text certified budgets one p (inl past) = refusal_with (IsSetPastLimit one.schema one.set) p past
 set_of_text certified budgets one p (inr says) =
     with_status p (uses_status says.answers) (uses_of_text (list_any is_undecided says.answers) (list_any is_idle says.answers)) says.prints.1
 
 -- what is printed has a status that a text has
 pub idle_of_text : (u : UseQuestion) (c : SetContents) (p : Printed) → IsIdlePrinted u c p → IsOfText p.status
-idle_of_text u c p (inl none) = refused_of_text _ p none
+idle_of_text u c p (inl none) = refusal_with _ p none
 idle_of_text u c p (inr of) = set_of_text u.certified (use_budgets u) _ p of.holds.holds
 
 -- ---- statements that are decided

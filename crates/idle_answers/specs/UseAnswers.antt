@@ -16,7 +16,8 @@ use Rattle.request_json.specs.Laws.{RequestIsReadAgain}
 use Rattle.run_inputs.specs.declared.one_set.OneSet.{OneSet}
 use Rattle.run_inputs.specs.declared.shortage.Shortage.TheVariants.{Splits, States}
 use Rattle.set_questions.specs.Idle.{IsIdle, IsUsedBy, EachNamed}
-use Rattle.set_questions.specs.Settling.{BothRunsFail, IsQueryClosedBy}
+use Rattle.refute_check.specs.Queries.{ClosesAll}
+use Rattle.set_questions.specs.Settling.{BothRunsFail}
 use Rattle.set_questions.specs.Uses.{OfChange}
 use Rattle.tree_search.specs.declared.outcome.Budgets.{Budgets}
 use Rattle.idle_answers.specs.declared.answer.UseAnswer.{UseAnswer}
@@ -33,7 +34,7 @@ pub record IsCertificateReadAgain (schema : Schema) (q : Query) (proof : Proof) 
 pub record CertifiesChange (schema : Schema) (text : List ℕ) (q : Query) : Type 0 where
   pub proof : Proof
   pub spelled : text ≡ certificate_text schema.version proof
-  pub closes : IsQueryClosedBy schema q proof
+  pub closes : ClosesAll schema q proof
   pub readable : length text ≤ MOST_PROOF_BYTES → IsCertificateReadAgain schema q proof text
 
 -- at a node of the plain run of the query the patterns of the slot have more product states
@@ -56,7 +57,7 @@ IsUseAnswer certified budgets one named (Undecided (Splits n)) =
 IsUseAnswer certified budgets one named (Undecided (States n s)) =
     (n ≡ budgets.states) × OfChange one.schema one.set named (IsShortAt one.schema n s)
 
--- the same by the statement's name
+-- as above, by the statement's name
 abbrev pub IsUseAnswerAt : Bool → Budgets → OneSet → StatementName → UseAnswer → Type 0
 IsUseAnswerAt certified budgets one name answer =
     EachNamed one.set name (λ s. IsUseAnswer certified budgets one (name, s) answer)

@@ -10,9 +10,9 @@ use run_inputs::Shortage;
 pub enum UseAnswer {
     /// A valid request that the set answers otherwise without the statement.
     Used(Request),
-    /// The set allows the same valid requests without the statement.
+    /// Without the statement the set allows the same valid requests.
     Idle,
-    /// The same, with the text of a certificate of it.
+    /// `Idle`, with the text of its certificate.
     Proved(String),
     /// The search would need more than it may take.
     Undecided(Shortage),

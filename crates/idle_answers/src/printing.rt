@@ -32,7 +32,7 @@ struct Told {
     undecided: bool,
 }
 
-// Nothing is said of any statement so far, of which there are so many.
+// The beginning for so many statements: nothing is said yet of any.
 fn started(alloc: Global, count: usize) -> Result<Told, AllocError>
     ensures { IfOk result (IsStarted count) }
 {

@@ -13,9 +13,14 @@ use crate::scaled::{Scaled, from_whole};
 pub struct BadDate;
 
 /// The moment that the text stands for, in units of 10^-9 s since 1970-01-01T00:00:00Z. `BadDate`
-/// exactly where the text is of none of the forms: one to eighteen digits, which are seconds,
-/// `YYYY-MM`, `YYYY-MM-DD` or `YYYY-MM-DDThh:mm`, then optionally `:ss`, behind it optionally a point
-/// and one to nine digits, and then `Z` or an offset `+hh:mm` or `-hh:mm`. It takes no memory.
+/// exactly where the text has none of these forms:
+///
+/// - one to eighteen digits, which are seconds;
+/// - `YYYY-MM` or `YYYY-MM-DD`;
+/// - `YYYY-MM-DDThh:mm`; then optionally `:ss`, and behind that optionally a point and one to nine digits;
+///   and then `Z` or an offset `+hh:mm` or `-hh:mm`.
+///
+/// It takes no memory.
 pub fn read_moment(text: &str) -> Result<Scaled, BadDate>
     ensures stands_for { IfOk result (λ moment. WritesMoment text.now moment) }
     ensures refused { OnErr result ((units : ℤ) → ¬ WritesMoment text.now units) }

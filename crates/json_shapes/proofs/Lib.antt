@@ -6,3 +6,4 @@ mod LineFeeds
 mod Readings
 mod Rising
 mod Spelling
+pub mod WithoutFloats

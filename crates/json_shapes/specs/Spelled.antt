@@ -1,4 +1,4 @@
--- JSON values whose compact text (RFC 8259) is read again as the same value.
+-- JSON values that are read again from their compact text (RFC 8259).
 use Rattle.std.specs.Prelude.{◌≡◌, ◌≤◌, ◌<◌, ◌^◌, ◌++◌, ⊤, ℕ, ℤ, pos, negsuc, List, [], ◌∷◌, Some}
 use Rattle.std.specs.Cmp.Lexicographic.{slice_cmp}
 use Rattle.std.specs.Ordering.{nat_cmp}

@@ -4,8 +4,8 @@ use Rattle.policy_model.specs.declared.schema.Schema.{Schema}
 use Rattle.policy_model.specs.declared.set.PolicySet.{PolicySet}
 use Rattle.run_inputs.specs.declared.one_set.OneSet.{OneSet}
 use Rattle.run_inputs.specs.declared.pair.Pair.{Pair}
-use Rattle.run_inputs.specs.OneSets.{IsOneRunOf, SomeSetRun}
-use Rattle.run_inputs.specs.Pairs.{IsRunOf, SomeRun}
+use Rattle.run_inputs.specs.OneSets.{IsSetRunOf, SomeSetRun}
+use Rattle.run_inputs.specs.Pairs.{IsPairRunOf, SomePairRun}
 use Rattle.load_answers.specs.Loaded.{line_of}
 
 -- the text in front of the first line feed
@@ -23,8 +23,8 @@ without_feed (b ∷ bs) none =
 -- ---- sets under the schema of their run
 
 -- what holds of a pair holds of the two sets
-pub run_same : (named : Schema) (one two : PolicySet) (pair : Pair) (P : Pair → Type 0) → IsRunOf named one two pair → P pair → SomeRun named one two P
+pub run_same : (named : Schema) (one two : PolicySet) (pair : Pair) (P : Pair → Type 0) → IsPairRunOf named one two pair → P pair → SomePairRun named one two P
 run_same named one two pair P of here = record { answered = of.answered; holds = subst P (sym of.holds) here }
 
-pub one_same : (named : Schema) (set : PolicySet) (one : OneSet) (P : OneSet → Type 0) → IsOneRunOf named set one → P one → SomeSetRun named set P
+pub one_same : (named : Schema) (set : PolicySet) (one : OneSet) (P : OneSet → Type 0) → IsSetRunOf named set one → P one → SomeSetRun named set P
 one_same named set one P of here = record { answered = of.answered; holds = subst P (sym of.holds) here }

@@ -11,8 +11,8 @@ use Rattle.std.specs.declared.alloc.Global.{Global}
 use Rattle.run_inputs.specs.declared.printed.Printed.{Printed}
 use Rattle.run_inputs.specs.declared.status.Status.TheVariants.{Holds}
 use Rattle.run_inputs.specs.Printing.{PrintsText}
-use Rattle.run_inputs.specs.OneSets.{IsOneRunRefusal, SomeSetRun}
-use Rattle.run_inputs.specs.Pairs.{IsRunRefusal, SomeRun}
+use Rattle.run_inputs.specs.OneSets.{IsSetRunRefusal, SomeSetRun}
+use Rattle.run_inputs.specs.Pairs.{IsPairRunRefusal, SomePairRun}
 use Rattle.run_inputs.specs.Refusals.{IsRefusedBy}
 use Rattle.compare_answers.specs.Printed.{IsPairPrinted}
 use Rattle.strata.specs.declared.names.TheConstants.{MOST_PREDICATES}
@@ -41,12 +41,12 @@ first_key = codes "load:k001" ∷ []
 -- that the run has no schema for, or what may be printed of the pair
 abbrev pub ComparesSets : Schema → PolicySet → PolicySet → Printed → Type 0
 ComparesSets named one two p =
-    IsRefusedBy (IsRunRefusal named one two) p ⊎ SomeRun named one two (λ pair. IsPairPrinted false default_budgets pair p)
+    IsRefusedBy (IsPairRunRefusal named one two) p ⊎ SomePairRun named one two (λ pair. IsPairPrinted false default_budgets pair p)
 
 -- the same to a summary of a set by the first key that names no budget
 abbrev pub SummarisesFirst : Schema → PolicySet → Printed → Type 0
 SummarisesFirst named set p =
-    IsRefusedBy (IsOneRunRefusal named set) p
+    IsRefusedBy (IsSetRunRefusal named set) p
     ⊎ SomeSetRun named set (λ one. IsSubjectPrinted always_holds first_key default_limits (subject_of_set one) p)
 
 -- the text is the first line of one that may be printed

@@ -112,7 +112,7 @@ fn turn(
     Ok(stay)
 }
 
-// The same of one list.
+// Turns one list.
 fn turn_one(
     lists: &[Path],
     path: &Path,

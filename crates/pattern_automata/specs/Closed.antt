@@ -84,7 +84,7 @@ all_rise (l ∷ ls) = rises_from 0 l && all_rise ls
 abbrev pub IsShaped : List (List Piece) → List (List ℕ) → Type 0
 IsShaped patterns lists = (length lists ≡ length patterns) × (all_rise lists ≡ true)
 
--- a set of product states that no text leads out of, and of which none meets the clauses
+-- no text leads out of this set of product states, and none of them meets the clauses
 pub record IsClosed (patterns : List (List Piece)) (clauses : List (List Literal)) (set : List (List (List ℕ))) : Type 0 where
   pub shaped : All (IsShaped patterns) set
   pub starts : Contains set (lists_of patterns [])

@@ -192,7 +192,7 @@ fn mix(guess: u64, number: u64) -> u64 {
     (guess ^ number).wrapping_mul(GUESS_FACTOR)
 }
 
-/// The same with the places of a list.
+/// Mixes in the places of a list.
 fn mix_places(before: u64, places: &[u32]) -> u64 {
     let mut guess = before;
     for place in places {
@@ -340,11 +340,13 @@ fn check(alloc: Global, wants: &Wants, machine: &Machine, closed: &Closed) -> Re
     all_pass(alloc, wants, machine, &members.fitting, &members.others)
 }
 
-/// Whether the set of product states is closed: each of them has one list for each pattern, with
-/// strictly rising places; it has that of the empty text; it has the step of each of them by each
-/// representative, which are the literals of the patterns, both cases of the folded ones, the colon,
-/// and, where one is left, the least Unicode scalar that is none of these; and none of them meets the
-/// clauses. Then no text meets the wants.
+/// Whether the set of product states is closed. Then no text meets the wants. It is closed if
+///
+/// - each state has one list for each pattern, with strictly rising places;
+/// - it has the state of the empty text;
+/// - it has the step of each state by each representative: the literals of the patterns, both cases of folded
+///   ones, the colon, and the least Unicode scalar that is none of these, if there is one;
+/// - no state meets the clauses.
 ///
 /// Each literal names one of the patterns. The only error is want of memory.
 pub fn is_closed(alloc: Global, wants: &Wants, closed: &Closed) -> Result<bool, NoMemory>

@@ -60,7 +60,7 @@ fn push_fronts(pattern: &Pattern, fronts: &mut Vec<Option<Piece>>) -> Result<(),
     Ok(())
 }
 
-/// The pieces before the marks of the patterns, of which there are so many.
+/// The pieces before the marks of the patterns. There are `count` marks.
 pub fn fronts_of(
     alloc: Global,
     patterns: &[Pattern],

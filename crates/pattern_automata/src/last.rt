@@ -81,7 +81,7 @@ fn differ_in_characters(machine: &Machine, other: &Machine) -> bool
     have_same_patches(machine.moves.as_slice(), other.moves.as_slice())
 }
 
-/// Whether the literals are the same.
+/// Whether the literals are equal.
 fn are_same_literals(literals: &[Literal], others: &[Literal]) -> bool
     ensures { IsTrue result → literals.now ≡ others.now }
 {
@@ -97,7 +97,7 @@ fn are_same_literals(literals: &[Literal], others: &[Literal]) -> bool
     true
 }
 
-/// Whether the clauses are the same.
+/// Whether the clauses are equal.
 fn are_same_clauses(clauses: &[LiteralList], others: &[LiteralList]) -> bool
     ensures { IsTrue result → clauses.now ≡ others.now }
 {

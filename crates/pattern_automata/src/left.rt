@@ -93,7 +93,7 @@ fn literal_left(
     }
 }
 
-/// The less of two numbers, of which there may be none.
+/// The lesser of two numbers; either may be absent.
 fn less(known: Option<usize>, other: Option<usize>) -> Option<usize> {
     match (known, other) {
         (Some(a), Some(b)) => Some(a.min(b)),

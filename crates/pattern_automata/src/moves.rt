@@ -66,8 +66,8 @@ fn patch_of(fronts: &[Option<Piece>], masks: &Masks, index: usize, c: char) -> P
     }
 }
 
-/// The patch of the character at an index, if it needs one. What a piece names it takes, and of other
-/// characters the colon alone is told from the rest.
+/// The patch of the character at an index, if it needs one. A piece takes the characters that it names; of the
+/// others only the colon differs from the rest.
 pub(crate) fn patch_at(
     fronts: &[Option<Piece>],
     masks: &Masks,

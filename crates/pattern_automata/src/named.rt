@@ -80,7 +80,7 @@ fn add_piece(named: &mut Vec<Named>, piece: Piece, bit: usize) -> Result<(), NoM
     }
 }
 
-/// The same, if there is a piece.
+/// Adds the character that the first piece names, if there is a piece.
 fn add_front(named: &mut Vec<Named>, front: Option<Piece>, bit: usize) -> Result<(), NoMemory>
     requires { bit < 64 }
     ensures { OnOk result (AddsFront named.old.items front bit named.new.items) }

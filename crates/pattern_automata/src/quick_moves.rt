@@ -53,7 +53,7 @@ fn propose(
     Ok(())
 }
 
-/// For each character the words that may tell it from others: all for the colon, and those that name it.
+/// For each character the words that may treat it differently: all for the colon, and those that name it.
 fn proposals_of(
     alloc: Global,
     indices: &Indices,

@@ -91,7 +91,7 @@ fn leads_as_first(wants: &Wants, machine: &Machine, k: usize, step: &Move, state
     leads_alike(state, step.patches.as_slice())
 }
 
-/// Whether the patches are the same.
+/// Whether the patches are equal.
 fn is_same(patch: Patch, other: Patch) -> bool
     ensures { IsTrue result → patch ≡ other }
 {
@@ -107,7 +107,7 @@ fn is_same(patch: Patch, other: Patch) -> bool
     patch.differs == other.differs
 }
 
-/// Whether all patches are the same.
+/// Whether all patches are equal.
 pub fn are_same(patches: &[Patch], others: &[Patch]) -> bool
     ensures { IsTrue result → patches.now ≡ others.now }
 {

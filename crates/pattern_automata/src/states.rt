@@ -204,7 +204,7 @@ fn add_lists(lists: &mut PlaceLists, state: &PlaceLists) -> Result<(), NoMemory>
     Ok(())
 }
 
-// The same, or nothing.
+// Adds all lists of a state. Where there is no memory nothing is added.
 fn add_state(lists: &mut PlaceLists, state: &PlaceLists) -> Result<(), NoMemory>
     ensures ok { OnOk result (lists.new ≡ lists.old ++ state.now) }
     ensures err { OnErr result (lists.new ≡ lists.old) }

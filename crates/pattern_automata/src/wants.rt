@@ -17,10 +17,10 @@ impl EqualClone for Literal {
     ghost clones_are_equal = { Prim.search rules };
 }
 
-/// A clause: a list of literals, of which one is to be met.
+/// A clause: a list of literals; one of them is to be met.
 pub type LiteralList = List<Literal>;
 
-/// A list of clauses, each of which is to be met.
+/// A list of clauses that are all to be met.
 pub type ClauseList = List<LiteralList>;
 
 /// Patterns, and clauses over them. A text meets the wants where each clause has a literal whose

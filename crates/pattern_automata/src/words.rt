@@ -95,7 +95,7 @@ fn moved_word(state: &[u64], index: usize, one: u64, stay: u64) -> u64
     (shifted(state[index], carry(state, index)) & one) | (state[index] & stay)
 }
 
-/// The same by a character that no piece names.
+/// This word after a step by a character that no piece names.
 fn masked_word(state: &[u64], index: usize, masks: &Masks) -> u64
     requires size { HaveSize masks.now (length state.now) }
     requires within { index < length state.now }
@@ -116,7 +116,7 @@ fn moved_words(state: &[u64], masks: &Masks, moved: &mut Vec<u64>) -> Result<(),
     Ok(())
 }
 
-/// The same by a character that has these patches.
+/// These words after a step by a character that has these patches.
 fn patch_words(state: &[u64], patches: &[Patch], moved: &mut Vec<u64>)
     requires within { All (λ p. p.index < length state.now) patches.now }
     requires count { length moved.old.items ≡ length state.now }

@@ -1,10 +1,10 @@
-//! Values of which equal ones can be made.
+//! Values with equal copies.
 ghost use Rattle.std.specs.Prelude.{◌≡◌, IfOk};
 ghost use Rattle.std.proofs.Common.{rules};
 
 use crate::{List, NoMemory};
 
-/// A value whose clones are equal to it, of which `Clone` alone says nothing.
+/// A value whose clones are equal to it. `Clone` alone doesn't promise that.
 pub trait EqualClone: Clone {
     ghost clones_are_equal: { (x y : Self) → Self.is_clone x y → y ≡ x };
 

@@ -1,6 +1,6 @@
 //! What the program reads and writes: a folder of files and a sink for bytes, as traits whose
-//! objects count their faults. Ones over a disk and a writer, as the system's; ones in memory that fail
-//! where they are told to; and ones that never fail.
+//! objects count their faults. There are ones over a disk and a writer, as the system's; ones in memory with planned
+//! faults; and ones that never fail.
 #![tactic(auto)]
 
 mod disk;

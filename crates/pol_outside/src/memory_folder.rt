@@ -1,4 +1,4 @@
-// A folder in memory, whose calls fail where they are told to.
+// A folder in memory, with planned faults.
 ghost use Rattle.std.specs.Prelude.{◌≡◌, ◌≤◌, ℕ, List, [], ◌∷◌, ◌++◌, Some, None, IfOk, OnOk, OnErr, option_map, string_bytes};
 ghost use Rattle.pol_outside.specs.declared.folder.TheConstants.{MOST_TAKEN};
 ghost use Rattle.pol_outside.specs.Faults.{one_more};

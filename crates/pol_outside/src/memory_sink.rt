@@ -1,4 +1,4 @@
-// A sink in memory, whose calls fail where they are told to.
+// A sink in memory, with planned faults.
 ghost use Rattle.std.specs.Prelude.{◌≡◌, ◌<◌, ◌≤◌, [], Some, IfOk, OnOk, OnErr, length, vec_capacity};
 ghost use Rattle.pol_outside.specs.Faults.{CountsError, one_more};
 ghost use Rattle.pol_outside.specs.Sink.{Puts};

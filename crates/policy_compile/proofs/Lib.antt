@@ -11,6 +11,7 @@ mod Items
 pub mod Laws
 mod Meanings
 mod Members
+pub mod OneNumbering
 mod Operating
 mod Origins
 mod Ranges

@@ -24,7 +24,7 @@ pub record AsksPair (schema : Schema) (first second : PolicySet) (r : Request) (
   pub say : AnswersAs answers r tests
   pub numbered : IsNumbered tests (query_plan schema first second) tree
 
--- the same of one set
+-- these facts for one set
 pub record AsksSet (schema : Schema) (set : PolicySet) (r : Request) (answers : ℕ → Bool) (tree : Tree) : Type 0 where
   pub fits : SchemaFits schema set
   pub valid : IsValid schema r

@@ -42,7 +42,7 @@ fn room_after_cond(room: usize, cond: &Cond) -> Option<usize>
     }
 }
 
-// The same of a list, which may have more pieces than a number holds.
+// The room after a list of conditions, which may have more pieces than a number holds.
 fn room_after_conds(room: usize, conds: &[Cond]) -> Option<usize>
     ensures { IsRoomAfter room (sum_by cond_pieces conds.now) result }
 {
@@ -53,7 +53,7 @@ fn room_after_conds(room: usize, conds: &[Cond]) -> Option<usize>
     Some(left)
 }
 
-// The same of a test's patterns.
+// The room after a test's patterns.
 fn room_after(room: usize, test: &Test) -> Option<usize>
     ensures { IsRoomAfter room (test_pieces test.now) result }
 {
@@ -104,9 +104,9 @@ fn finished(builder: Builder, index: usize) -> Result<Query, QueryFault>
 }
 
 /// The query 'the first set allows the request and the second doesn't'. `TooManyTests` comes exactly
-/// where it has more than 1,000 different tests, and `TooManyPieces` exactly where it has fewer and
-/// their patterns have more than 65,536 pieces together; for this an account has 24 pieces, an exact
-/// id one for each character, and what is asked of values that aren't texts none.
+/// where it has more than 1,000 different tests. `TooManyPieces` comes exactly where it has fewer and
+/// their patterns have more than 65,536 pieces together. For this an account has 24 pieces, an exact
+/// id one for each character, and a condition on values that aren't texts none.
 pub fn query(
     alloc: Global,
     schema: &Schema,

@@ -9,7 +9,7 @@ use crate::outcome::QueryFault;
 use plain_lists::{EqualClone, List};
 use policy_model::{Condition, Kind, Operand, Quantifier, Schema, Test, cond_of, conds_of};
 
-// The key has a value.
+// The node of whether the key has a value.
 fn present(builder: &mut Builder, condition: &Condition) -> Result<usize, QueryFault>
     ensures { IsBuilt builder.old builder.new (present_plan condition.now) result }
 {
@@ -24,7 +24,7 @@ fn absent(builder: &mut Builder, condition: &Condition) -> Result<usize, QueryFa
     Ok(index)
 }
 
-// Some value of the key meets what a value of the policy asks.
+// The node of whether some value of the key meets what a value of the policy asks.
 fn meets(
     builder: &mut Builder,
     kind: Kind,
@@ -70,7 +70,7 @@ fn no_meets(builder: &mut Builder, kind: Kind, condition: &Condition) -> Result<
     Ok(index)
 }
 
-// Some value of the key meets nothing that the policy asks.
+// The node of whether some value of the key meets nothing that the policy asks.
 fn some_meets_none(
     builder: &mut Builder,
     kind: Kind,
@@ -94,7 +94,7 @@ fn no_meets_none(
     Ok(index)
 }
 
-// By the prefix of the operator, and by whether it is negated.
+// The node of the condition by the prefix of its operator, and by whether that is negated.
 fn quantified(
     builder: &mut Builder,
     quantifier: Quantifier,
@@ -115,7 +115,7 @@ fn quantified(
     }
 }
 
-// What a `Null` asks with a truth value.
+// The node of what a `Null` asks with a truth value.
 fn presence(
     builder: &mut Builder,
     condition: &Condition,
@@ -130,7 +130,7 @@ fn presence(
     }
 }
 
-// Values that aren't truth values ask nothing.
+// Adds the node of one value of a `Null`. Values that aren't truth values ask nothing.
 fn add_null(
     builder: &mut Builder,
     indices: &mut List<usize>,
@@ -171,7 +171,7 @@ fn null(builder: &mut Builder, condition: &Condition) -> Result<usize, QueryFaul
     Ok(index)
 }
 
-// Without `IfExists`.
+// The node of what the operator says without `IfExists`.
 fn operator(builder: &mut Builder, kind: Kind, condition: &Condition) -> Result<usize, QueryFault>
     ensures { IsBuilt builder.old builder.new (operator_plan kind condition.now) result }
 {
@@ -199,7 +199,7 @@ fn add_optional(
     Ok(())
 }
 
-// With `IfExists` the key may be absent.
+// The node of what the operator says with `IfExists`: the key may be absent.
 fn optional(builder: &mut Builder, kind: Kind, condition: &Condition) -> Result<usize, QueryFault>
     ensures { IsBuilt builder.old builder.new
         (one_of (of_plans (optional_plans kind condition.now))) result }
@@ -240,7 +240,7 @@ fn add_keys(
     Ok(())
 }
 
-// One operator over its keys.
+// The node of one operator over its keys.
 fn group(builder: &mut Builder, schema: &Schema, group: &[Condition]) -> Result<usize, QueryFault>
     ensures { IsBuilt builder.old builder.new (group_plan schema.now group.now) result }
 {
@@ -266,7 +266,7 @@ fn add_operators(
     Ok(())
 }
 
-// Each operator of the statement.
+// The node of each operator of the statement.
 pub(crate) fn conditions(
     builder: &mut Builder,
     schema: &Schema,

@@ -7,7 +7,7 @@ pub fn tests_come_from_elements()
     ensures { TestsComeFromElements }
 {}
 
-/// Two queries with the same tests, in whatever order, are past a limit alike.
+/// Two queries with the same tests, in whatever order, are past the same limits.
 pub fn same_tests_meet_limits_alike()
     ensures { SameTestsMeetLimitsAlike }
 {}
@@ -23,7 +23,7 @@ pub fn parts_ask_no_other_tests()
     ensures { PartsAskNoOtherTests }
 {}
 
-/// A query has at most 1,000 tests with at most 65,536 pieces, of which an account has 24.
+/// A query has at most 1,000 tests, with at most 65,536 pieces; an account has 24.
 pub fn query_limits()
     ensures { QueryLimits }
 {}

@@ -8,7 +8,7 @@ pub fn queries_compare()
     ensures { QueriesCompare }
 {}
 
-/// Under the same conditions, where the tree of `query` doesn't hold and the first set allows the
+/// Under the conditions of `queries_compare`, where the tree of `query` doesn't hold and the first set allows the
 /// request, the second allows it too.
 pub fn refuted_queries_cover()
     ensures { RefutedQueriesCover }

@@ -1,12 +1,12 @@
 -- A policy as JSON has no floating-point number.
-use Rattle.std.proofs.Common.{◌≡◌, ◌||◌, Bool, List, [], ◌∷◌, ℕ, map, fold, true, false, Option, Some, None, Ordering, Less, Equal, Greater, nat_cmp, refl}
-use Rattle.std.specs.Cmp.Lexicographic.{slice_cmp}
+use Rattle.std.proofs.Common.{◌≡◌, List, [], ◌∷◌, ℕ, map, fold, false, Option, Some, None, Ordering, Less, Equal, Greater, refl}
 use Rattle.std.specs.Ordering.{match_ordering}
 use Rattle.std.specs.Str.{encode_utf8_all}
 use Rattle.serde_json.specs.Data.{Data, null, boolean, number, string, array, object, Members, no_members, member, put}
 use Rattle.serde_json.specs.Find.{get_member}
 use Rattle.serde_json.specs.View.{items_of}
 use Rattle.serde_json.specs.Written.{has_float, items_have_float, members_have_float}
+use Rattle.json_shapes.proofs.WithoutFloats.{first-isn't, neither, put-no_float, second-isn't}
 use Rattle.policy_model.specs.declared.operator.Condition.{Condition}
 use Rattle.policy_model.specs.declared.operator.Operand.{Operand}
 use Rattle.policy_model.specs.declared.principal.Entry.{Entry}
@@ -17,32 +17,6 @@ use Rattle.strata.specs.declared.stratum.Stratum.{Stratum}
 use Rattle.policy_emit.specs.Emitted.{action_of_finding, conditions_in, entry_of_finding, policy_data, resource_of_finding, statement_data}
 use Rattle.policy_emit.specs.Written.{action_data, allow_data, block_data, block_members, entry_data, keys_under, members_in, operand_data, operands_data, resource_data, with_condition}
 use Rattle.policy_emit.proofs.Groups.{cmp}
-
-neither : (p q : Bool) → p ≡ false → q ≡ false → (p || q) ≡ false
-neither false q h k = k
-neither true q h k = absurd (cc)
-
-first-isn't : (p q : Bool) → (p || q) ≡ false → p ≡ false
-first-isn't false q h = refl
-first-isn't true q h = absurd (cc)
-
-second-isn't : (p q : Bool) → (p || q) ≡ false → q ≡ false
-second-isn't false q h = h
-second-isn't true q h = absurd (cc)
-
-of-three : (o : Ordering) (a b c : Members) → members_have_float a ≡ false → members_have_float b ≡ false → members_have_float c ≡ false → members_have_float (match_ordering o a b c) ≡ false
-of-three Less a b c x y z = x
-of-three Equal a b c x y z = y
-of-three Greater a b c x y z = z
-
-put-no_float : (k : List ℕ) (d : Data) (ms : Members) → has_float d ≡ false → members_have_float ms ≡ false → members_have_float (put k d ms) ≡ false
-put-no_float k d no_members h none = neither (has_float d) false h refl
-put-no_float k d (member l e ms) h none =
-    let rest = second-isn't (has_float e) (members_have_float ms) none in
-    of-three (slice_cmp nat_cmp k l) (member k d (member l e ms)) (member l d ms) (member l e (put k d ms))
-    (neither (has_float d) (members_have_float (member l e ms)) h none)
-    (neither (has_float d) (members_have_float ms) h rest)
-    (neither (has_float e) (members_have_float (put k d ms)) (first-isn't (has_float e) (members_have_float ms) none) (put-no_float k d ms h rest))
 
 items-no_float : (os : List Operand) → items_have_float (items_of (map operand_data os)) ≡ false
 items-no_float [] = refl

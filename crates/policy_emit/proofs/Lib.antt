@@ -1,5 +1,4 @@
 mod Allowing
-mod Ascii
 mod Blocks
 mod Choosing
 mod Documents

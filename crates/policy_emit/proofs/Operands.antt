@@ -41,7 +41,7 @@ use Rattle.policy_json.specs.declared.fault.PolicyFault.{PolicyFault}
 use Rattle.policy_json.specs.Checks.{check}
 use Rattle.policy_json.specs.Operands.{has_parts, is_of_form, operand_of, pieces_of_value, value_checks, value_pattern}
 use Rattle.policy_emit.specs.Written.{operand_data, operand_text}
-use Rattle.policy_emit.proofs.Ascii.{block-low, low-utf8, number-low}
+use Rattle.policy_model.proofs.AsciiTexts.{block-low, low-utf8, number-low}
 
 pub chars-encoded : (t : List ℕ) → IsText t → chars (encode_utf8_all t) ≡ t
 chars-encoded t text = sym (chars_from_encodes t (encode_utf8_all t) (t, (text, refl)) refl)
@@ -75,10 +75,6 @@ module _ (p : List Piece) (pattern : IsPattern p) where
 
   fits : nat_le (length p) MOST_PIECES ≡ true
   fits = le-leb (length p) MOST_PIECES pattern.fits
-
-  -- by what the pattern's written form is read as
-  pattern-stands : (b : Base) → value_pattern b true (operand_data (Pattern p)) ≡ p → operand_of b true (operand_data (Pattern p)) ≡ Pattern (value_pattern b true (operand_data (Pattern p))) → operand_of b true (operand_data (Pattern p)) ≡ Pattern p
-  pattern-stands b is stands = stands ∙ ap Pattern is
 
   pattern-passes : (b : Base) → is_of_form (family_of b) (operand_data (Pattern p)) ≡ true → pieces_of_value (family_of b) b true (operand_data (Pattern p)) ≡ Some p → has_parts (family_of b) p ≡ true →
       (location : _) (key : List ℕ) → first_fault (value_checks location key b true (operand_data (Pattern p))) ≡ None

@@ -60,7 +60,7 @@ fn first_of_documents(
     None
 }
 
-// The same of guards.
+// As above, for guards.
 fn first_of_guards(
     schema: &Schema,
     from: usize,
@@ -114,9 +114,12 @@ fn first_silent(schema: &Schema, guards: &[DocumentList], request: &Request) -> 
     None
 }
 
-/// What decides on the request: the first Deny statement that applies; where there is none and no
-/// Allow statement of the grants applies, that no grant does; where one does and some guard has none,
-/// the first such guard; and otherwise the first Allow statement of the grants that applies.
+/// What decides on the request, the first of these:
+///
+/// - the first Deny statement that applies;
+/// - that no Allow statement of the grants applies;
+/// - the first guard without an Allow statement that applies;
+/// - the first Allow statement of the grants that applies.
 ///
 /// The schema fits the set, and the request is valid under it. It takes no memory.
 pub fn decider(set: &PolicySet, schema: &Schema, request: &Request) -> Decider

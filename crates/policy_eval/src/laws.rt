@@ -7,8 +7,8 @@ pub fn deciders_are_equal()
     ensures { DecidersAreEqual }
 {}
 
-/// What decides tells whether the set allows the request: a Deny statement denies it, an Allow
-/// statement of the grants allows it, and where no grant or some guard lacks one the request is denied.
+/// The decider shows whether the set allows the request: a Deny statement denies it, an Allow statement of
+/// the grants allows it, and where no grant or some guard lacks one the request is denied.
 pub fn deciders_tell_what_is_allowed()
     ensures { DecidersTellWhatIsAllowed }
 {}

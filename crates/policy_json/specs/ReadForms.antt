@@ -1,4 +1,4 @@
--- Of which forms the parts of sets are that files stand for: more than that the set is sound, and less than which file it was.
+-- The forms of the sets that files stand for. This says more than that the set is sound, and less than which file it was.
 use Rattle.std.specs.Prelude.{◌≡◌, ◌≢◌, ◌≤◌, ◌+◌, ◌⊎◌, ⊤, ℕ, ℤ, List, [], length, sum_by, true, false, Some, Ok, IfSome, All as Each}
 use Rattle.base64.specs.Engines.{standard}
 use Rattle.base64.specs.GeneralPurpose.{decoded_of}

@@ -42,7 +42,7 @@ fn digits_of(alloc: Global, number: Option<i128>) -> Result<Option<String>, Allo
     }
 }
 
-// The text of a value, in place of which a boolean or a whole number may stand.
+// The text of a value; a boolean or a whole number may stand for one.
 fn text_in(alloc: Global, value: &Value) -> Result<Option<String>, AllocError>
     ensures { IfOk result (λ text. option_map string_bytes text ≡ text_in (view value.now)) }
 {

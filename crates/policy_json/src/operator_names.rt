@@ -137,7 +137,7 @@ fn operator_by_parts(name: &[u8]) -> Option<Operator>
 }
 
 /// The operator of a name, or none where no operator is written so: an optional prefix `ForAllValues:`
-/// or `ForAnyValue:`, a base name and an optional suffix `IfExists`, of which `Null` has neither.
+/// or `ForAnyValue:`, a base name and an optional suffix `IfExists`. `Null` has neither prefix nor suffix.
 pub(crate) fn operator_of(name: &str) -> Option<Operator>
     ensures { result ≡ operator_of name.now }
 {

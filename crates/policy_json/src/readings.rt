@@ -15,9 +15,9 @@ pub fn operators_are_named()
     ensures { OperatorsAreNamed }
 {}
 
-/// What a file stands for is of forms that not every sound set has: under `AWS` no kind of principals
-/// stands alone, exact ids have no wildcards and spell no accounts, some text stands for each pattern and
-/// each value, and documents, statements and guards are within the limits.
+/// Sets that files stand for have forms that not every sound set has. Under `AWS` no kind of principals stands
+/// alone. Exact ids have no wildcards and spell no accounts. Some text stands for each pattern and each value.
+/// Documents, statements and guards are within the limits.
 pub fn read_sets_are_of_forms()
     ensures { ReadSetsAreOfForms }
 {}

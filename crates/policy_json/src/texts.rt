@@ -72,7 +72,7 @@ fn read_patterns(
     read_each(alloc, location, name, fold, escapes, values)
 }
 
-/// The actions of a statement, or the first fault of its elements of actions, one of which is needed.
+/// The actions of a statement, or the first fault of its elements of actions. One element is needed.
 pub(crate) fn read_action(
     alloc: Global,
     location: Location,

@@ -8,10 +8,10 @@ pub use Rattle.policy_model.proofs.Accounts.{behind_colon-append}
 pub use Rattle.policy_model.proofs.Accounts.{behind_prefix-is}
 -- an id passes the computed test exactly where it is an ARN of the account
 pub use Rattle.policy_model.proofs.Accounts.{account_test-is, account_test-of}
--- the item that a list has at an index, and that an index within the list has one
-pub use Rattle.policy_model.proofs.Items.{slice_get-at, slice_get-some}
--- what holds of the items before an index and of that at it holds of one more, and in the end of all
-pub use Rattle.policy_model.proofs.Items.{All-next, All-done}
+-- the item that a list has at an index
+pub use Rattle.policy_model.proofs.Items.{slice_get-at}
+-- what holds of the items before an index holds of all, where none stands there
+pub use Rattle.policy_model.proofs.Items.{All-done}
 -- some item of a list: at the front, behind it, either of these, one that a function gave, and what is decided of each item
 pub use Rattle.policy_model.proofs.Quantified.{Any-nil, Any-here, Any-later, Any-split, Any-map, Any-decided}
 -- it is decided whether a value meets what is asked, and whether it meets some of what is asked

@@ -1,5 +1,6 @@
 mod Accounts
 mod Apart
+pub mod AsciiTexts
 mod Entries
 mod Items
 pub mod Laws

@@ -32,7 +32,7 @@ SharesNoValue one other = (v : Value) → CondMeets v one → ¬ CondMeets v oth
 abbrev pub MeetsSome : List Cond → Value → Type 0
 MeetsSome cs v = Any (CondMeets v) cs
 
--- the kind of values of which it is asked
+-- the kind of the values that it is about
 abbrev pub cond_kind : Cond → Kind
 cond_kind (cond.Matches p) = kind.Text
 cond_kind (cond.Flag at_true at_false) = kind.Truth

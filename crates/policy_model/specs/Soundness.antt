@@ -24,8 +24,6 @@ use Rattle.policy_model.specs.declared.operator.Condition.{Condition}
 use Rattle.policy_model.specs.declared.set.Statement.{Statement}
 use Rattle.policy_model.specs.declared.set.Document.{Document}
 use Rattle.policy_model.specs.declared.set.PolicySet.{PolicySet}
-use Rattle.policy_model.specs.declared.test.Slot.{Slot}
-use Rattle.policy_model.specs.declared.test.Slot.TheVariants.{Key}
 use Rattle.policy_model.specs.declared.test.Test.{Test}
 use Rattle.policy_model.specs.declared.test.Test.TheVariants.{Principal, Action, Resource, Present, SomeMeets, SomeMeetsNone}
 use Rattle.policy_model.specs.Conds.{IsCondOf}
@@ -121,11 +119,6 @@ pub record RuleTakes (rule : KeyRule) (o : Operator) : Type 0 where
 -- the key is one of the schema, and P holds of its rule
 abbrev pub IsKeyWith : Schema → (KeyRule → Type 0) → List ℕ → Type 0
 IsKeyWith schema P key = MatchOption (item_at key schema.keys) ⊥ P
-
--- the slot is no key, or one of the schema's that has one value at most
-abbrev pub IsSingleSlot : Schema → Slot → Type 0
-IsSingleSlot schema (Key key) = IsKeyWith schema (λ rule. rule.many ≡ false) key
-IsSingleSlot schema s = ⊤
 
 -- the rule of the condition's key takes its operator
 abbrev pub ConditionFits : Schema → Condition → Type 0

@@ -14,17 +14,17 @@ Named = StatementName × Statement
 abbrev pub name_of : ℕ → ℕ → StatementName
 name_of d s = record { document = d; statement = s }
 
--- the statements of document d, of which the first has the number s
+-- the statements of document d, numbered from s
 abbrev pub named_statements : ℕ → ℕ → List Statement → List Named
 named_statements d s [] = []
 named_statements d s (x ∷ xs) = (name_of d s, x) ∷ named_statements d (s + 1) xs
 
--- the statements of documents, of which the first has the number d, in reading order
+-- the statements of documents, numbered from d, in reading order
 abbrev pub named_documents : ℕ → List Document → List Named
 named_documents d [] = []
 named_documents d (x ∷ xs) = named_statements d 1 x.statements ++ named_documents (d + 1) xs
 
--- the statements of guards, of which the first document has the number d, in reading order
+-- the statements of guards, in reading order. The first document has the number d
 abbrev pub named_guards : ℕ → List (List Document) → List Named
 named_guards d [] = []
 named_guards d (g ∷ gs) = named_documents d g ++ named_guards (d + length g) gs

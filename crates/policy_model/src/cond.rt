@@ -33,7 +33,7 @@ impl EqualClone for Cond {
 pub type CondList = List<Cond>;
 
 impl Cond {
-    /// The kind of values of which it is asked.
+    /// The kind of the values that it is about.
     pub fn kind(&self) -> Kind
         ensures { result ≡ cond_kind self.now }
     {
@@ -113,8 +113,8 @@ pub fn meets_some(value: &Value, conds: &CondList) -> bool
     conds.as_slice().iter().any(|cond| cond_meets(value, cond))
 }
 
-/// Whether no value meets both. The answer may be no although none does: of patterns whose beginnings or ends don't tell
-/// them apart, and of two numbers of which neither is asked to be met exactly. It takes no memory.
+/// Whether no value meets both. The answer may be no although none does: for patterns that differ neither in their
+/// beginnings nor in their ends, and for two numbers neither of which is to be met exactly. It takes no memory.
 pub fn are_conds_apart(one: &Cond, other: &Cond) -> bool
     ensures { IsTrue result → SharesNoValue one.now other.now }
 {

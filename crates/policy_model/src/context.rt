@@ -13,8 +13,8 @@ use std::marker::Model;
 use text_table::Table;
 use wildcard_lang::Text;
 
-/// An ordered map from the names of condition keys, with their ASCII letters lowered, to their values,
-/// of which there is at least one.
+/// An ordered map from the names of condition keys, with their ASCII letters lowered, to their values, at least
+/// one for each key.
 #[derive(Drop)]
 pub struct Context {
     entries: Table<ValueList>,
@@ -76,7 +76,7 @@ impl Context {
         self.entries.keys_are_texts();
     }
 
-    /// The values of a key, of which there is at least one, or none where the key isn't there.
+    /// The values of a key, at least one, or none where the key isn't there.
     pub fn get(&self, key: &Text) -> Option<&ValueList>
         ensures values { option_map (λ v. v.now) result ≡ item_at key.now self.now }
         ensures nonempty { IfSome result (λ v. v.now ≢ []) }

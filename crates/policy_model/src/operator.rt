@@ -113,7 +113,7 @@ impl EqualClone for Condition {
     ghost clones_are_equal = { Prim.search rules };
 }
 
-/// A list of conditions, each of which a statement asks for.
+/// A list of conditions; a statement asks for all of them.
 pub type ConditionList = List<Condition>;
 
 impl Base {

@@ -1,11 +1,9 @@
 -- Answers and labels in their lines.
-use Rattle.std.proofs.Common.{◌≡◌, ℕ, Bool, true, false, List, ◌∷◌, Option, Some, None, Ok, Err, refl, ap, ◌∙◌, subst, eqb, if◌then◌else◌}
+use Rattle.std.proofs.Common.{◌≡◌, ℕ, Bool, true, false, List, ◌∷◌, Option, Some, None, Ok, refl, ap, ◌∙◌, subst, eqb, if◌then◌else◌}
 use Rattle.std.proofs.lemmas.Bool.{and_from, and_left, and_right}
 use Rattle.formula_tree.specs.Answers.{Answers}
 use Rattle.proof_text.specs.LineForms.{answer_said, answers_of, number_said, signed_answer}
 use Rattle.proof_text.specs.Steps.{IsSmallRead, are_answers_small, is_answer_small, is_label_small, is_small, label_parts, both_given, sign_said}
-use Rattle.proof_text.specs.declared.fault.LineAnswer.{LineAnswer}
-use Rattle.proof_text.specs.declared.fault.LineAnswer.TheVariants.{Fails, NoMemory as NoLineMemory}
 
 signed : (plus minus holds : Bool) (number : Option ℕ) → (if plus then Some true else (if minus then Some false else None)) ≡ Some holds →
     (if plus then signed_answer true number else (if minus then signed_answer false number else None)) ≡ signed_answer holds number
@@ -20,10 +18,6 @@ pub answer-large : (part digits : List ℕ) (c : ℕ) (holds : Bool) (o : Option
 answer-large part digits c holds o is sign read none =
     let large : IsSmallRead is_small (number_said digits) (Ok None) = subst (λ (p : Option ℕ). IsSmallRead is_small (number_said digits) (Ok p)) none read in
     ((large.0, holds), answer-is part digits c holds is sign ∙ ap (signed_answer holds) large.1, large.2)
-
-pub answer-none : (part digits : List ℕ) (c : ℕ) (holds : Bool) (answer : LineAnswer) → part ≡ c ∷ digits → sign_said c ≡ Some holds → IsSmallRead is_small (number_said digits) (Err answer) → IsSmallRead is_answer_small (answer_said part) (Err answer)
-answer-none part digits c holds (Fails code) is sign read = (answer-is part digits c holds is sign ∙ ap (signed_answer holds) read.0, read.1)
-answer-none part digits c holds NoLineMemory is sign read = tt
 
 -- ---- labels
 

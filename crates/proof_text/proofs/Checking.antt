@@ -1,13 +1,11 @@
 -- The checks of a line, form by form.
-use Rattle.std.proofs.Common.{◌≡◌, ℕ, ◌<◌, Bool, true, false, ◌&&◌, List, [], ◌∷◌, Option, Some, None, Ok, option_map, nat_lt, refl, ap, ◌∙◌, subst}
-use Rattle.std.proofs.lemmas.Bool.{lt-ltb}
+use Rattle.std.proofs.Common.{◌≡◌, ℕ, Bool, true, false, ◌&&◌, List, [], ◌∷◌, Option, Some, None, Ok, option_map, nat_lt, refl, ap, ◌∙◌, subst}
 use Rattle.std.specs.List.{list_all}
 use Rattle.formula_tree.specs.Answers.{Answers}
 use Rattle.proof_text.specs.Faults.{answered_tests, fault_of_line, is_of_version, is_ordered, is_shallow, numbers_in, tests_named}
 use Rattle.proof_text.specs.LineForms.{Expected, answers_of, label_said, label_line_of, number_said}
 use Rattle.proof_text.specs.Lines.{Line, label_line}
 use Rattle.proof_text.specs.Steps.{IsSmallRead, are_answers_small, are_small, is_label_small, is_small, label_parts, both_given}
-use Rattle.proof_text.specs.declared.fault.LineAnswer.TheVariants.{NoMemory as NoLineMemory}
 use Rattle.proof_text.specs.declared.fault.ProofCode.{ProofCode}
 use Rattle.proof_text.specs.declared.fault.ProofCode.TheVariants.{C1Syntax, C3TestNumber, C4Limit}
 use Rattle.proof_text.specs.declared.limits.Limits.{Limits}
@@ -48,13 +46,6 @@ line-small {X} small l said o x tells read some =
 
 pub line-fails : (limits : Limits) (begun : ℕ) (e : Expected) (said : Option Line) (l : Line) (code : ProofCode) → said ≡ Some l → fault_of_line limits begun e (Some l) ≡ Some code → fault_of_line limits begun e said ≡ Some code
 line-fails limits begun e said l code is fault = ap (λ (o : Option Line). fault_of_line limits begun e o) is ∙ fault
-
-pub one-true : (b : Bool) → (b && true) ≡ b
-one-true true = refl
-one-true false = refl
-
-pub test-within : (n count : ℕ) → n < count → (nat_lt n count && true) ≡ true
-test-within n count h = one-true (nat_lt n count) ∙ lt-ltb n count h
 
 -- ---- labels
 

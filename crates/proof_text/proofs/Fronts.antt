@@ -12,7 +12,6 @@ use Rattle.proof_text.specs.Steps.{HasLineRoom, IsBehind, IsFirstLocation, IsLoc
 use Rattle.proof_text.specs.declared.fault.ProofAnswer.{ProofAnswer}
 use Rattle.proof_text.specs.declared.fault.ProofAnswer.TheVariants.{Refused, NoMemory}
 use Rattle.proof_text.specs.declared.limits.Limits.{Limits}
-use Rattle.proof_text.specs.declared.limits.TheConstants.{MOST_PROOF_BYTES}
 use Rattle.proof_text.specs.declared.location.Location.{Location}
 use Rattle.proof_text.specs.declared.read.ReadProof.{ReadProof}
 use Rattle.proof_text.proofs.Whole.{concat-lines}
@@ -100,16 +99,6 @@ pub record IsAtLine (bytes : List ℕ) (number : ℕ) (at : Location) : Type 0 w
   pub within : number ≤ length (lines_of bytes) + 1
   pub room : HasLineRoom at
 
-pub at-first : (bytes : List ℕ) → length bytes ≤ MOST_PROOF_BYTES → (at : Location) → at.number ≡ 1 → at.begun ≡ 0 → at.bytes.now ≡ bytes → IsAtLine bytes 1 at
-at-first bytes few at number begun same = record {
-  positive = omega arith;
-  numbered = number;
-  begun = begun;
-  lines = ap lines_of same;
-  within = omega arith;
-  room = (omega (arith, number, ap length same), omega (arith, number, begun));
-}
-
 -- a line that stands there
 at-some : (lines : List (List ℕ)) (k : ℕ) (line : List ℕ) (rest : List (List ℕ)) → drop k lines ≡ line ∷ rest → (k < length lines) × (rest ≡ drop (suc k) lines)
 at-some [] zero line rest e = absurd (cc)
@@ -130,9 +119,6 @@ at-next bytes line number at behind before next =
       within = omega (arith, there.0);
       room = next.room;
     }
-
-min-small : (a b : ℕ) → a ≤ b → min a b ≡ a
-min-small a b h = omega arith
 
 min-large : (a b : ℕ) → b ≤ a → min a b ≡ b
 min-large a b h = omega arith
@@ -156,7 +142,3 @@ pub at-end : (bytes : List ℕ) (line number : ℕ) (at : Location) → IsAtLine
 at-end bytes line number at is before none =
     let few = drop-none (lines_of bytes) (number - 1) (sym is.lines ∙ none) in
     located bytes number (lines_before line bytes) at is (min-large (line - 1) (length (lines_of bytes)) (omega (arith, few)) ∙ omega (arith, few, is.within, is.positive))
-
-pub at-line : (bytes : List ℕ) (line number : ℕ) (at : Location) → IsAtLine bytes number at → number ≡ line → IsLocationBehind (lines_before line bytes) bytes at
-at-line bytes line number at is same =
-    located bytes number (lines_before line bytes) at is (min-small (line - 1) (length (lines_of bytes)) (omega (arith, is.within, is.positive, same)) ∙ omega (arith, same))

@@ -1,12 +1,10 @@
 -- Parts that are read one by one.
-use Rattle.std.proofs.Common.{◌≡◌, ℕ, Bool, true, false, if◌then◌else◌, ◌&&◌, List, [], ◌∷◌, ◌++◌, map, Option, Some, None, Ok, Err, Bor, eqb, option_map, append_assoc, subst, length, ◌+◌, refl, sym, ap, ◌∙◌}
+use Rattle.std.proofs.Common.{◌≡◌, ℕ, Bool, true, false, if◌then◌else◌, ◌&&◌, List, [], ◌∷◌, ◌++◌, map, Option, Some, None, Ok, Bor, eqb, option_map, append_assoc, subst, length, ◌+◌, refl, sym, ap, ◌∙◌}
 use Rattle.std.proofs.lemmas.List.Folds.{list_all-append}
 use Rattle.std.specs.List.{list_all, slice_split}
 use Rattle.std.specs.Option.{option_copied}
-use Rattle.proof_text.specs.LineForms.{all_given, lists_of_places, places_in}
-use Rattle.proof_text.specs.Steps.{IsListPut, IsSmallRead, are_lists_small, are_small, parts_left}
-use Rattle.proof_text.specs.declared.fault.LineAnswer.{LineAnswer}
-use Rattle.proof_text.specs.declared.fault.LineAnswer.TheVariants.{Fails, NoMemory as NoLineMemory}
+use Rattle.proof_text.specs.LineForms.{all_given, places_in}
+use Rattle.proof_text.specs.Steps.{IsListPut, IsSmallRead, are_small, parts_left}
 
 -- the items before, and then what is given
 abbrev pub given_behind : {X : Type 0} → List X → Option (List X) → Option (List X)
@@ -22,10 +20,6 @@ pub record IsReadSoFar {X : Type 0} (f : List ℕ → Option X) (small : X → B
   pub items : List X
   pub given : all_given (map f all) ≡ given_behind items (all_given (map f left))
   pub are : AreItems small large items got
-
-given-none : {X : Type 0} (o : Option (List X)) → o ≡ given_behind [] o
-given-none None = refl
-given-none (Some xs) = refl
 
 given-one : {X : Type 0} (items : List X) (x : X) (o : Option (List X)) → given_behind items (option_map (λ xs. x ∷ xs) o) ≡ given_behind (items ++ x ∷ []) o
 given-one items x None = refl
@@ -72,13 +66,6 @@ read-large f small all left next large got after part x so_far is said fails = r
   are = list_all-append small so_far.items (x ∷ []) ∙ last-false (list_all small so_far.items) (small x) fails;
 }
 
--- a part that says nothing
-pub read-stop : {X : Type 0} (f : List ℕ → Option X) (small : X → Bool) (all left next : List (List ℕ)) (large : Bool) (got : List X) (part : List ℕ) →
-    IsReadSoFar f small all left large got → left ≡ part ∷ next → f part ≡ None → all_given (map f all) ≡ None
-read-stop {X} f small all left next large got part so_far is none =
-    let P : Option X → Option (List X) = λ o. given_behind so_far.items (all_given (o ∷ map f next)) in
-    so_far.given ∙ ap (λ ps. given_behind so_far.items (all_given (map f ps))) is ∙ ap P none
-
 -- ---- what is left of a line
 
 abbrev pub rest_size : Option (List ℕ) → ℕ
@@ -114,14 +101,6 @@ loop-large {X} f small between all large got rest more text part o so_far is cut
     let known = one-large small (f part.now) o read given in
     read-large f small all (parts_left between (option_copied rest)) (parts_left between (option_copied more)) large got got part.now known.0 so_far (left-is between rest more text part is cut) known.1 known.2
 
--- or says nothing
-pub loop-stop : {X : Type 0} (f : List ℕ → Option X) (small : X → Bool) (between : ℕ) (all : List (List ℕ)) (large : Bool) (got : List X) (rest more : Option (Bor (List ℕ))) (text part : Bor (List ℕ)) (answer : LineAnswer) →
-    IsReadSoFar f small all (parts_left between (option_copied rest)) large got → rest ≡ Some text → slice_split (λ b. eqb b between) text.now ≡ part.now ∷ parts_left between (option_copied more) →
-    IsSmallRead small (f part.now) (Err answer) → IsSmallRead (list_all small) (all_given (map f all)) (Err answer)
-loop-stop f small between all large got rest more text part (Fails code) so_far is cut read =
-    (read-stop f small all (parts_left between (option_copied rest)) (parts_left between (option_copied more)) large got part.now so_far (left-is between rest more text part is cut) read.0, read.1)
-loop-stop f small between all large got rest more text part NoLineMemory so_far is cut read = tt
-
 -- ---- a loop that puts lists of places
 
 module _ (all : List (List ℕ)) (large : Bool) (got grown : List (List ℕ)) (rest more : Option (Bor (List ℕ))) (text part : Bor (List ℕ))
@@ -134,7 +113,3 @@ module _ (all : List (List ℕ)) (large : Bool) (got grown : List (List ℕ)) (r
   put-next false after (ns, said, fails) same =
       subst (λ (b : Bool). IsReadSoFar places_in are_small all (parts_left 32 (option_copied more)) b grown) (sym same)
       (read-large places_in are_small all (parts_left 32 (option_copied rest)) (parts_left 32 (option_copied more)) large got grown part.now ns so_far (left-is 32 rest more text part is cut) said fails)
-
-  pub put-stop : (answer : LineAnswer) → IsListPut (places_in part.now) got grown (Err answer) → IsSmallRead are_lists_small (lists_of_places all) (Err answer)
-  put-stop (Fails code) put = loop-stop places_in are_small 32 all large got rest more text part (Fails code) so_far is cut put
-  put-stop NoLineMemory put = tt

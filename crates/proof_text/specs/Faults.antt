@@ -131,8 +131,8 @@ labels_said (Some l) = labels_begun l
 abbrev pub proof_fault_at : ℕ → ProofCode → ProofFault
 proof_fault_at n code = record { code = code; line = n }
 
--- the first fault of lines, of which the first has this number and before which so many labels began, where these parts must stand in
--- this order and nothing behind them: a line behind the end, a line that is missing, whose number is the one after the last, or a line
+-- the first fault of lines that must have these parts in this order, and nothing behind them. The first line has this number, and so many
+-- labels began before it. A fault is a line behind the end, a missing line, whose number is the one after the last, or a line
 -- that fails a check
 abbrev pub fault_from : Limits → List Expected → ℕ → ℕ → List (List ℕ) → Option ProofFault
 fault_from limits [] n begun [] = None
@@ -147,7 +147,7 @@ abbrev pub skipped_count : List (List ℕ) → ℕ
 skipped_count [] = 0
 skipped_count (line ∷ lines) = (if bytes_eq line verdict_line then 1 else 0)
 
--- the first fault of a file of which so many lines stand before the certificate, or none. Lines are counted from the file's first, from 1
+-- the first fault of a file that has so many lines before the certificate, or none. Lines are counted from the file's first, from 1
 unfoldable pub fault_after : Limits → ℕ → List ℕ → Option ProofFault
 fault_after limits front bytes = fault_from limits (ExpectVersion ∷ []) (front + 1) 0 (drop front (lines_of bytes))
 

@@ -10,8 +10,8 @@ use Rattle.proof_text.specs.Lines.{Line, certificate_line, split_line, value_lin
 use Rattle.proof_text.specs.Lines.{points_line, absent_line, required_line, closed_line, kinds_line, never_line, member_line}
 use Rattle.proof_text.specs.Lines.{some_line, places_line}
 
--- what must stand at a line: the format's number, a node below so many splits and labels, of which the labels have these numbers, the
--- proof for a slot or for a kind of principals, a closed set, or one of its product states
+-- what must stand at a line: the format's number; a node below so many splits and labels, with the numbers of these labels; the
+-- proof for a slot or for a kind of principals; a closed set; or one of its product states
 pub data Expected : Type 0 where
   ExpectVersion : Expected
   ExpectNode : ℕ → List ℕ → Expected

@@ -3,9 +3,9 @@
 ghost use Rattle.proof_text.specs.Laws.{ClosingProofsAreSmall, ClosingProofsHaveNoFault};
 ghost use Rattle.proof_text.specs.Laws.{ClosingProofsHaveNoFaultBehind, OneProofForEachText};
 
-/// The certificate of a refutation that closes a query, that nests at most 2,000 splits and labels and
-/// whose numbers are at most 4,294,967,295, has no fault for that query, up to 67,108,864 bytes, whether
-/// or not the answer of a comparison stands before it.
+/// Take a refutation that closes a query, nests at most 2,000 splits and labels and has no number above
+/// 4,294,967,295. Its certificate has no fault for that query, up to 67,108,864 bytes, with or without
+/// the answer of a comparison before it.
 pub fn closing_proofs_have_no_fault()
     ensures { ClosingProofsHaveNoFault }
 {}

@@ -29,11 +29,15 @@ pub struct ReadProof {
 }
 
 /// The refutation whose certificate the file is, for a query with so many tests, in the format of this
-/// number. The answer line of a comparison may stand before it. `Refused` with the first line that isn't
-/// as it must be, exactly where there is one: C1 where it isn't of a form that may stand there, is missing
-/// or stands behind the end; C2 where it names another format; C3 where a test's number isn't less than
-/// the number of tests; C4 where a number is above 4,294,967,295 or a split or label stands below 2,000
-/// others. `NoMemory` only where there is no memory.
+/// number. The answer line of a comparison may stand before it. `Refused` with the first bad line, exactly
+/// where there is one:
+///
+/// - C1: it isn't of a form that may stand there, it is missing, or it stands behind the end;
+/// - C2: it names another format;
+/// - C3: a test's number isn't less than the number of tests;
+/// - C4: a number is above 4,294,967,295, or a split or label stands below 2,000 others.
+///
+/// `NoMemory` only where there is no memory.
 pub fn read_proof(
     alloc: Global,
     tests: u32,

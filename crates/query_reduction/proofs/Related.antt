@@ -1,13 +1,13 @@
 -- What tests and parts say of claims.
-use Rattle.std.proofs.Common.{◌≡◌, ◌<◌, ℕ, Bool, true, false, List, length, get_or, All, IsTrue, Some, slice_get, refl, sym, subst, ◌∙◌, inl, inr, arith}
+use Rattle.std.proofs.Common.{◌≡◌, ◌<◌, ℕ, Bool, true, false, List, length, get_or, All, Contains, IsTrue, Some, slice_get, refl, sym, subst, ◌∙◌, inl, inr, arith}
 use Rattle.std.specs.Prelude.{not as opposite}
-use Rattle.std.proofs.lemmas.Option.{get_or_from_slice_get, slice_get_cases, slice_get_within}
+use Rattle.std.proofs.lemmas.Option.{slice_get_cases}
 use Rattle.formula_tree.specs.Trees.{Tree}
 use Rattle.formula_nodes.specs.Claims.{as_claimed}
 use Rattle.formula_nodes.specs.declared.claim.Claim.{Claim}
 use Rattle.policy_model.specs.declared.test.Test.{Test}
 use Rattle.test_relations.specs.Relations.{AlwaysAt, ExcludesAt, LeadsAt, SchemaTests}
-use Rattle.query_reduction.specs.Claims.{AnswerImplies, AreEnough, AreTrueFor, ClaimImplies, IsAnswerTo, IsConjunctionOf, IsOneOf}
+use Rattle.query_reduction.specs.Claims.{AnswerImplies, AreTrueFor, ClaimImplies, IsAnswerTo, IsConjunctionOf}
 use Rattle.query_reduction.proofs.Truth.{true-opposite}
 
 -- ---- tests
@@ -20,39 +20,47 @@ test-at ts n lt = elim (slice_get_cases ts n).1 [
 
 module _ (of : SchemaTests) (one other : ℕ) where
   pub leads_yes : LeadsAt of one other → AnswerImplies of one true other true
-  leads_yes leads trees true_of for in_one in_other h =
+  leads_yes leads r answers valid say in_one in_other h =
       let a = test-at of.tests one in_one in
       let b = test-at of.tests other in_other in
-      (for.say other b.0 b.1).1 (leads a.0 b.0 a.1 b.1 for.request for.valid ((for.say one a.0 a.1).0 h))
+      (say other b.0 b.1).1 (leads a.0 b.0 a.1 b.1 r valid ((say one a.0 a.1).0 h))
 
   unless : (x y : Bool) → (y ≡ true → x ≡ true) → opposite x ≡ true → opposite y ≡ true
   unless x true leads e = let f = leads refl in absurd (cc)
   unless x false leads e = refl
 
   pub leads_no : LeadsAt of other one → AnswerImplies of one false other false
-  leads_no leads trees true_of for in_one in_other h =
+  leads_no leads r answers valid say in_one in_other h =
       let a = test-at of.tests one in_one in
       let b = test-at of.tests other in_other in
-      unless (for.answers one) (for.answers other)
-      (λ e. (for.say one a.0 a.1).1 (leads b.0 a.0 b.1 a.1 for.request for.valid ((for.say other b.0 b.1).0 e))) h
+      unless (answers one) (answers other)
+      (λ e. (say one a.0 a.1).1 (leads b.0 a.0 b.1 a.1 r valid ((say other b.0 b.1).0 e))) h
 
   never-both : (y : Bool) → (y ≡ true → ⊥) → opposite y ≡ true
   never-both true clash = absurd (clash refl)
   never-both false clash = refl
 
   pub excludes_yes : ExcludesAt of one other → AnswerImplies of one true other false
-  excludes_yes excludes trees true_of for in_one in_other h =
+  excludes_yes excludes r answers valid say in_one in_other h =
       let a = test-at of.tests one in_one in
       let b = test-at of.tests other in_other in
-      never-both (for.answers other)
-      (λ e. excludes a.0 b.0 a.1 b.1 for.request for.valid ((for.say one a.0 a.1).0 h) ((for.say other b.0 b.1).0 e))
+      never-both (answers other)
+      (λ e. excludes a.0 b.0 a.1 b.1 r valid ((say one a.0 a.1).0 h) ((say other b.0 b.1).0 e))
 
-  pub excludes_turned : ExcludesAt of other one → AnswerImplies of one true other false
-  excludes_turned excludes trees true_of for in_one in_other h =
-      let a = test-at of.tests one in_one in
-      let b = test-at of.tests other in_other in
-      never-both (for.answers other)
-      (λ e. excludes b.0 a.0 b.1 a.1 for.request for.valid ((for.say other b.0 b.1).0 e) ((for.say one a.0 a.1).0 h))
+  pub always_after : (said also_said : Bool) → also_said ≡ true → AlwaysAt of other → AnswerImplies of one said other also_said
+  always_after said also_said holds always r answers valid say in_one in_other h =
+      let t = test-at of.tests other in_other in
+      subst (λ (b : Bool). as_claimed b (answers other) ≡ true) (sym holds) ((say other t.0 t.1).1 (always t.0 t.1 r valid))
+
+  clash : (said v : Bool) → opposite said ≡ true → as_claimed said v ≡ true → v ≡ true → ⊥
+  clash true v e h i = absurd (cc)
+  clash false true e h i = absurd (cc)
+  clash false false e h i = absurd (cc)
+
+  pub always_before : (said also_said : Bool) → opposite said ≡ true → AlwaysAt of one → AnswerImplies of one said other also_said
+  always_before said also_said denied always r answers valid say in_one in_other h =
+      let t = test-at of.tests one in_one in
+      absurd (clash said (answers one) denied h ((say one t.0 t.1).1 (always t.0 t.1 r valid)))
 
 pub said-so : (of : SchemaTests) (one other : ℕ) (said also_said first second : Bool) → said ≡ first → also_said ≡ second → AnswerImplies of one first other second → AnswerImplies of one said other also_said
 said-so of one other said also_said first second is also implies =
@@ -75,7 +83,7 @@ module _ (of : SchemaTests) (trees : List Tree) where
   -- two answers to tests
   pub answer-implies : (one other : Claim) (m n : ℕ) → IsAnswerTo of trees one m → IsAnswerTo of trees other n → AnswerImplies of m one.holds n other.holds → ClaimImplies of trees one other
   answer-implies one other m n a b implies true_of for h =
-      b.1 true_of for ∙ implies trees true_of for a.0 b.0 (sym (a.1 true_of for) ∙ h)
+      b.1 true_of for ∙ implies for.request for.answers for.valid for.say a.0 b.0 (sym (a.1 true_of for) ∙ h)
 
   -- ---- parts
 
@@ -85,10 +93,9 @@ module _ (of : SchemaTests) (trees : List Tree) where
   pub some-implies : (one other : Claim) (parts : List Claim) (k : ℕ) (d : Claim) → IsConjunctionOf trees one parts → k < length parts → ClaimImplies of trees (get_or parts k d) other → ClaimImplies of trees one other
   some-implies one other parts k d is lt implies true_of for h = implies true_of for ((is of true_of for).0 h k d lt)
 
-  pub one-of-implies : (other : Claim) (parts : List Claim) (part : Claim) → IsOneOf parts part → ClaimImplies of trees part other → AreEnough of trees parts other
-  one-of-implies other parts part among implies one is true_of for h =
-      let within = slice_get_within parts among.0 part among.1 in
-      implies true_of for (subst (λ (x : Claim). IsTrue (true_of x)) (get_or_from_slice_get parts among.0 part part among.1) ((is of true_of for).0 h among.0 part within))
+  pub part-implied : (one part : Claim) (parts : List Claim) → IsConjunctionOf trees one parts → Contains parts part → ClaimImplies of trees one part
+  part-implied one part parts is among true_of for h =
+      subst (λ (x : Claim). IsTrue (true_of x)) among.2 ((is of true_of for).0 h among.0 part among.1)
 
   settle : (b : Bool) → (opposite b ≡ true → b ≡ true) → b ≡ true
   settle true f = refl

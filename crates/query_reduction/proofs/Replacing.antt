@@ -17,8 +17,8 @@ use Rattle.policy_model.specs.Requests.{IsValid}
 use Rattle.policy_model.specs.declared.schema.Schema.{Schema}
 use Rattle.policy_model.specs.declared.test.Test.{Test}
 use Rattle.test_relations.specs.Relations.{SchemaTests}
-use Rattle.query_reduction.specs.Claims.{AreTrueFor, IsConjunctionOf, IsSameClaim, IsWhole, MayReplace, OthersImply, SayAsMuch}
-use Rattle.query_reduction.specs.Reducers.{AgreeBeside, ClaimsAgree}
+use Rattle.query_reduction.specs.Claims.{AreTrueFor, ClaimImplies, IsConjunctionFor, IsConjunctionOf, IsSameClaim, MayReplace, OthersImply, SayAsMuch}
+use Rattle.query_reduction.specs.Reducers.{ClaimsAgree, IsImplied}
 use Rattle.query_reduction.specs.Values.{HasSameValue}
 use Rattle.query_reduction.proofs.Truth.{for-earlier, true-here, true-opposite}
 
@@ -110,10 +110,7 @@ module _ (of : SchemaTests) (old new : List Tree) (parts : List Claim) (i : ℕ)
 
 -- ---- all conjuncts
 
-pub whole-first : (of : SchemaTests) (trees : List Tree) (whole : Claim) (parts : List Claim) → IsConjunctionOf trees whole parts → IsWhole of trees whole parts
-whole-first of trees whole parts is true_of for = is of true_of for
-
-module _ (of : SchemaTests) (old new : List Tree) (whole : Claim) (parts : List Claim) (i : ℕ) (c : Claim) (within : i < length parts) (grows : Grows old new) (is : IsWhole of old whole parts) (may : MayReplace of new parts i c) where
+module _ (of : SchemaTests) (old new : List Tree) (whole : Claim) (parts : List Claim) (i : ℕ) (c : Claim) (within : i < length parts) (grows : Grows old new) (is : IsConjunctionFor of old whole parts) (may : MayReplace of new parts i c) where
   module _ (true_of : Claim → Bool) (for : AreTrueFor of new true_of) where
     back : All (λ (x : Claim). IsTrue (true_of x)) (set parts i c) → All (λ (x : Claim). IsTrue (true_of x)) parts
     back all k d lt =
@@ -127,19 +124,19 @@ module _ (of : SchemaTests) (old new : List Tree) (whole : Claim) (parts : List 
     forth : All (λ (x : Claim). IsTrue (true_of x)) parts → All (λ (x : Claim). IsTrue (true_of x)) (set parts i c)
     forth all = All-set (λ (x : Claim). IsTrue (true_of x)) parts i c (sym (may.same true_of for (λ n e l ne. all n e l) c) ∙ all i c within) all
 
-  whole-replaced : IsWhole of new whole (set parts i c)
+  whole-replaced : IsConjunctionFor of new whole (set parts i c)
   whole-replaced true_of for =
       let before = is true_of (for-earlier of old new true_of grows for) in
       (λ h. forth true_of for (before.0 h), λ all. before.1 (back true_of for all))
 
-  pub replaced-step : (next : List Claim) → next ≡ set parts i c → AreClaimsOf old parts → (length next ≡ length parts) × AreClaimsOf new next × IsWhole of new whole next
+  pub replaced-step : (next : List Claim) → next ≡ set parts i c → AreClaimsOf old parts → (length next ≡ length parts) × AreClaimsOf new next × IsConjunctionFor of new whole next
   replaced-step next put there = (
     ap length put ∙ length-set parts i c,
     subst (AreClaimsOf new) (sym put) (All-set (IsClaimOf new) parts i c may.there (stay-claims old new parts grows there)),
-    subst (IsWhole of new whole) (sym put) whole-replaced,
+    subst (IsConjunctionFor of new whole) (sym put) whole-replaced,
   )
 
-pub whole-last : {E : Type 0} (of earlier : SchemaTests) (old new : List Tree) (whole : Claim) (r : Result Claim E) (parts xs : List Claim) → of ≡ earlier → xs ≡ parts → Grows old new → IsWhole of old whole parts → IfOk r (λ c. IsConjunctionOf new c xs) → IfOk r (IsSameClaim earlier new whole)
+pub whole-last : {E : Type 0} (of earlier : SchemaTests) (old new : List Tree) (whole : Claim) (r : Result Claim E) (parts xs : List Claim) → of ≡ earlier → xs ≡ parts → Grows old new → IsConjunctionFor of old whole parts → IfOk r (λ c. IsConjunctionOf new c xs) → IfOk r (IsSameClaim earlier new whole)
 whole-last of earlier old new whole (Ok c) parts xs same listed grows is made =
     subst (λ (x : SchemaTests). IsSameClaim x new whole c) same (λ true_of for.
     let before = is true_of (for-earlier of old new true_of grows for) in
@@ -159,11 +156,6 @@ reduced-below t none first second tree less claim grows empty asks asks_too is b
 pub claims-agree : (of : SchemaTests) (trees : List Tree) (whole claim : Claim) → IsSameClaim of trees whole claim → ClaimsAgree of.schema of.tests trees whole claim
 claims-agree of trees whole claim same r answers valid say = same (λ c. claim_holds answers trees c) (true-here of trees r answers valid say)
 
-pub agree-beside : (of : SchemaTests) (trees : List Tree) (one : Claim) (others kept : List Claim) → SayAsMuch of trees (one ∷ []) 1 others kept → AgreeBeside of.schema of.tests trees one others kept
-agree-beside of trees one others kept said r answers valid say held =
-    said (λ c. claim_holds answers trees c) (true-here of trees r answers valid say)
-    (λ k d lt other. let first : 0 ≡ k = omega (arith, lt) in subst (λ (n : ℕ). IsTrue (claim_holds answers trees (get_or (one ∷ []) n d))) first held)
-
 pub reduced-same : (schema : Schema) (tests : List Test) (of : SchemaTests) (first second : List Tree) (tree less : Tree) (whole claim : Claim) → of.schema ≡ schema → of.tests ≡ tests → Grows first second → IsClaimFor tree first whole → ClaimsAgree of.schema of.tests second whole claim → IsTreeFor claim second less → HasSameValue schema tests tree less
 reduced-same schema tests of first second tree less whole claim under over grows is same made r answers valid say =
     sym (is.1 answers) ∙ sym (keeps-value first second whole answers grows is.0) ∙
@@ -175,6 +167,6 @@ pub if-claims-agree : {E : Type 0} (of now : SchemaTests) (trees : List Tree) (w
 if-claims-agree of now trees whole (Ok c) same is = claims-agree of trees whole c (subst (λ (x : SchemaTests). IsSameClaim x trees whole c) same is)
 if-claims-agree of now trees whole (Err f) same is = tt
 
-pub if-agree-beside : {E : Type 0} (of now : SchemaTests) (trees : List Tree) (one : Claim) (others : List Claim) (r : Result (List Claim) E) → now ≡ of → IfOk r (SayAsMuch now trees (one ∷ []) 1 others) → IfOk r (AgreeBeside of.schema of.tests trees one others)
-if-agree-beside of now trees one others (Ok kept) same said = agree-beside of trees one others kept (subst (λ (x : SchemaTests). SayAsMuch x trees (one ∷ []) 1 others kept) same said)
-if-agree-beside of now trees one others (Err f) same said = tt
+pub implied-here : (of now : SchemaTests) (trees : List Tree) (one other : Claim) → now ≡ of → ClaimImplies now trees one other → IsImplied of trees one other
+implied-here of now trees one other same implies r answers valid say =
+    subst (λ (x : SchemaTests). ClaimImplies x trees one other) same implies (λ c. claim_holds answers trees c) (true-here of trees r answers valid say)

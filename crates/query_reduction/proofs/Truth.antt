@@ -1,16 +1,16 @@
 -- What is true for a valid request.
-use Rattle.std.proofs.Common.{◌≡◌, ◌<◌, ◌↔◌, ℕ, Bool, true, false, List, length, get_or, IsTrue, refl, sym, ap, ◌∙◌}
+use Rattle.std.proofs.Common.{◌≡◌, ℕ, Bool, true, false, List, get_or, refl, sym, ap, ◌∙◌}
 use Rattle.std.specs.Prelude.{not as opposite}
 use Rattle.formula_tree.specs.Trees.{Tree, yes}
 use Rattle.formula_tree.specs.Values.{holds}
-use Rattle.formula_nodes.specs.Claims.{AreClaimsOf, EachClaimHolds, Grows, IsClaimOf, as_claimed, claim_holds}
+use Rattle.formula_nodes.specs.Claims.{Grows, as_claimed, claim_holds}
 use Rattle.formula_nodes.specs.declared.claim.Claim.{Claim}
-use Rattle.formula_nodes.proofs.Laws.{grows-none, grows-then, keeps-value}
+use Rattle.formula_nodes.proofs.Laws.{grows-none, grows-then}
 use Rattle.policy_compile.specs.Meaning.{AnswersAs}
 use Rattle.policy_model.specs.Requests.{IsValid}
 use Rattle.policy_model.specs.declared.request.Request.{Request}
 use Rattle.test_relations.specs.Relations.{SchemaTests}
-use Rattle.query_reduction.specs.Claims.{AreTrueFor, ClaimImplies, IsConjunctionOf}
+use Rattle.query_reduction.specs.Claims.{AreTrueFor, ClaimImplies}
 
 -- what is true over trees that have grown is true over those before
 pub for-earlier : (of : SchemaTests) (old new : List Tree) (true_of : Claim → Bool) → Grows old new → AreTrueFor of new true_of → AreTrueFor of old true_of
@@ -21,17 +21,6 @@ for-earlier of old new true_of grows for =
 pub true-here : (of : SchemaTests) (trees : List Tree) (r : Request) (answers : ℕ → Bool) → IsValid of.schema r → AnswersAs answers r of.tests → AreTrueFor of trees (λ c. claim_holds answers trees c)
 true-here of trees r answers valid say =
     record { answers = answers; request = r; valid = valid; say = say; later = trees; grows = grows-none trees; is = λ c. refl }
-
-pub true-is : (of : SchemaTests) (trees : List Tree) (true_of : Claim → Bool) (for : AreTrueFor of trees true_of) (c : Claim) → IsClaimOf trees c → true_of c ≡ claim_holds for.answers trees c
-true-is of trees true_of for c there = for.is c ∙ keeps-value trees for.later c for.answers for.grows there
-
-pub conjunction-from : (trees : List Tree) (claim : Claim) (parts : List Claim) → IsClaimOf trees claim → AreClaimsOf trees parts → ((answers : ℕ → Bool) → (IsTrue (claim_holds answers trees claim) ↔ EachClaimHolds answers trees parts)) → IsConjunctionOf trees claim parts
-conjunction-from trees claim parts there inside each of true_of for =
-    let own = true-is of trees true_of for claim there in
-    let part = λ (k : ℕ) (d : Claim) (lt : k < length parts). true-is of trees true_of for (get_or parts k d) (inside k d lt) in (
-      λ h k d lt. part k d lt ∙ (each for.answers).0 (sym own ∙ h) k d lt,
-      λ all. own ∙ (each for.answers).1 (λ k d lt. sym (part k d lt) ∙ all k d lt),
-    )
 
 -- ---- opposites
 

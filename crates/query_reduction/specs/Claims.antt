@@ -1,7 +1,6 @@
 -- What claims say of one another wherever the tests are answered as a valid request answers them.
-use Rattle.std.specs.Prelude.{◌≡◌, ◌≢◌, ◌<◌, ◌↔◌, ℕ, Bool, List, length, slice_get, slice_index_or, All, IsTrue, Some}
+use Rattle.std.specs.Prelude.{◌≡◌, ◌≢◌, ◌<◌, ◌↔◌, ℕ, Bool, List, length, slice_index_or, All, IsTrue}
 use Rattle.formula_tree.specs.Trees.{Tree}
-use Rattle.formula_tree.specs.Values.{holds}
 use Rattle.formula_nodes.specs.Claims.{Grows, IsClaimOf, as_claimed, claim_holds}
 use Rattle.formula_nodes.specs.declared.claim.Claim.{Claim}
 use Rattle.policy_compile.specs.Meaning.{AnswersAs}
@@ -29,18 +28,21 @@ abbrev pub IsSameClaim : SchemaTests → List Tree → Claim → Claim → Type 
 IsSameClaim of trees one other =
     (true_of : Claim → Bool) → AreTrueFor of trees true_of → true_of one ≡ true_of other
 
--- the claim is true where each of these is
+-- the claim is true for a valid request exactly where each of these is
+abbrev pub IsConjunctionFor : SchemaTests → List Tree → Claim → List Claim → Type 0
+IsConjunctionFor of trees claim parts =
+    (true_of : Claim → Bool) → AreTrueFor of trees true_of → (IsTrue (true_of claim) ↔ All (λ part. IsTrue (true_of part)) parts)
+
+-- and so under each schema and over all tests
 abbrev pub IsConjunctionOf : List Tree → Claim → List Claim → Type 0
-IsConjunctionOf trees claim parts =
-    (of : SchemaTests) (true_of : Claim → Bool) → AreTrueFor of trees true_of →
-    (IsTrue (true_of claim) ↔ All (λ part. IsTrue (true_of part)) parts)
+IsConjunctionOf trees claim parts = (of : SchemaTests) → IsConjunctionFor of trees claim parts
 
 -- the claim is that the test is answered so
 abbrev pub IsAnswerTo : SchemaTests → List Tree → Claim → ℕ → Type 0
 IsAnswerTo of trees claim test =
     (test < length of.tests) × ((true_of : Claim → Bool) (for : AreTrueFor of trees true_of) → true_of claim ≡ as_claimed claim.holds (for.answers test))
 
--- the conjuncts are true, but perhaps not that at the index
+-- the conjuncts are true, but perhaps not that at the index; an index past the end leaves none aside
 abbrev pub OthersAreTrue : (Claim → Bool) → List Claim → ℕ → Type 0
 OthersAreTrue true_of conjuncts index =
     (k : ℕ) (d : Claim) → k < length conjuncts → k ≢ index → IsTrue (true_of (slice_index_or conjuncts k d))
@@ -50,7 +52,7 @@ abbrev pub OthersImply : SchemaTests → List Tree → List Claim → ℕ → Cl
 OthersImply of trees conjuncts index claim =
     (true_of : Claim → Bool) → AreTrueFor of trees true_of → OthersAreTrue true_of conjuncts index → IsTrue (true_of claim)
 
--- where the other conjuncts are true, all the one claims are where all the other are
+-- where the other conjuncts are true, all the one claims are exactly where all the other are
 abbrev pub SayAsMuch : SchemaTests → List Tree → List Claim → ℕ → List Claim → List Claim → Type 0
 SayAsMuch of trees conjuncts index ones others =
     (true_of : Claim → Bool) → AreTrueFor of trees true_of → OthersAreTrue true_of conjuncts index →
@@ -62,26 +64,8 @@ pub record MayReplace (of : SchemaTests) (trees : List Tree) (conjuncts : List C
   pub same : (true_of : Claim → Bool) → AreTrueFor of trees true_of → OthersAreTrue true_of conjuncts index →
       (d : Claim) → true_of (slice_index_or conjuncts index d) ≡ true_of claim
 
--- where the one test is answered so, the other is
+-- where a valid request answers the one test so, it answers the other so
 abbrev pub AnswerImplies : SchemaTests → ℕ → Bool → ℕ → Bool → Type 0
 AnswerImplies of one said other also_said =
-    (trees : List Tree) (true_of : Claim → Bool) (for : AreTrueFor of trees true_of) → one < length of.tests → other < length of.tests →
-    IsTrue (as_claimed said (for.answers one)) → IsTrue (as_claimed also_said (for.answers other))
-
--- the claim is true for a valid request where each of these is
-abbrev pub IsWhole : SchemaTests → List Tree → Claim → List Claim → Type 0
-IsWhole of trees whole parts =
-    (true_of : Claim → Bool) → AreTrueFor of trees true_of → (IsTrue (true_of whole) ↔ All (λ part. IsTrue (true_of part)) parts)
-
--- the claim has the tree's value
-abbrev pub HasValueOf : SchemaTests → List Tree → Tree → Claim → Type 0
-HasValueOf of trees tree claim =
-    (true_of : Claim → Bool) (for : AreTrueFor of trees true_of) → true_of claim ≡ holds for.answers tree
-
--- the claim stands among these
-abbrev pub IsOneOf : List Claim → Claim → Type 0
-IsOneOf claims claim = (k : ℕ) × (slice_get claims k ≡ Some claim)
-
--- each conjunction of these implies the claim
-abbrev pub AreEnough : SchemaTests → List Tree → List Claim → Claim → Type 0
-AreEnough of trees parts claim = (one : Claim) → IsConjunctionOf trees one parts → ClaimImplies of trees one claim
+    (r : Request) (answers : ℕ → Bool) → IsValid of.schema r → AnswersAs answers r of.tests → one < length of.tests → other < length of.tests →
+    IsTrue (as_claimed said (answers one)) → IsTrue (as_claimed also_said (answers other))

@@ -17,6 +17,8 @@ pub(crate) struct Candidates {
     claims: IndexSet<Claim>,
     // By a test's number, the indices of the conjuncts that stand under it.
     under: Vec<Vec<usize>>,
+    // The tests under which some stand.
+    tests: Vec<u32>,
     // The indices of those that stand under none.
     others: Vec<usize>,
 }
@@ -28,15 +30,9 @@ impl Candidates {
             alloc,
             claims: IndexSet::new(alloc),
             under: Vec::new(alloc),
+            tests: Vec::new(alloc),
             others: Vec::new(alloc),
         }
-    }
-
-    /// Of one conjunct, which is proposed for each claim.
-    pub(crate) fn of_one(alloc: Global) -> Result<Candidates, NoMemory> {
-        let mut candidates = Candidates::none(alloc);
-        candidates.others.push(0)?;
-        Ok(candidates)
     }
 
     /// Those of these conjuncts.
@@ -85,6 +81,9 @@ impl Candidates {
         }
         'least: for test in &least {
             if let Some(list) = self.under.get_mut(*test as usize) {
+                if list.is_empty() {
+                    self.tests.push(*test)?;
+                }
                 list.push(index)?;
             }
         }
@@ -124,9 +123,6 @@ impl Candidates {
             }
         }
         found.extend_from_slice(self.others.as_slice())?;
-        if self.under.is_empty() {
-            return Ok(found);
-        }
         let denied = claim.opposite();
         let Some(parts) = conjuncts(nodes, denied) else {
             self.add_led(relations, nodes, denied, &mut found)?;
@@ -153,22 +149,18 @@ impl Candidates {
             return Ok(());
         };
         let test = *first;
-        'under: for other in 0..self.under.len() {
-            if self.under[other].is_empty() {
-                continue;
-            }
-            let Ok(number) = u32::try_from(other) else {
-                return Ok(());
-            };
-            if relations.leads(test, number) || number == test {
-                found.extend_from_slice(self.under[other].as_slice())?;
+        'tests: for other in &self.tests {
+            if relations.leads(test, *other) || *other == test {
+                if let Some(list) = self.under.get(*other as usize) {
+                    found.extend_from_slice(list.as_slice())?;
+                }
             }
         }
         Ok(())
     }
 }
 
-// The tests of which the claim is that one holds, none where it is another claim.
+// The tests of a claim that one of them holds; none where it is another claim.
 fn tests_of(
     alloc: Global,
     relations: &Relations<'_>,

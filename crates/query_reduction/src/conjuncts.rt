@@ -1,5 +1,5 @@
 //! Conjuncts without what the others make needless.
-ghost use Rattle.std.specs.Prelude.{◌≡◌, ◌<◌, ◌∷◌, [], IfOk, IsTrue, length, slice_set};
+ghost use Rattle.std.specs.Prelude.{◌≡◌, ◌<◌, IfOk, IsTrue, length, slice_set};
 ghost use Rattle.formula_nodes.specs.Claims.{AreClaimsOf, AddsNoTest, Grows, IsClaimOf};
 ghost use Rattle.formula_nodes.specs.Standing.{node_trees};
 ghost use Rattle.query_reduction.specs.Claims.{IsSameClaim, MayReplace, OthersImply, SayAsMuch};
@@ -10,7 +10,6 @@ use crate::implies::{DEPTH, Implications};
 use formula_nodes::{Claim, ClaimList, Nodes};
 use plain_lists::{List, NoMemory};
 use std::alloc::Global;
-use std::slice::from_ref;
 
 // How often the conjuncts are gone over.
 const MOST_ROUNDS: u32 = 8;
@@ -108,23 +107,6 @@ impl Implications<'_> {
         Ok(left)
     }
 
-    /// Those of the claims that the one doesn't imply.
-    pub(crate) fn unimplied_by(
-        &mut self,
-        nodes: &Nodes,
-        one: Claim,
-        claims: &[Claim],
-    ) -> Result<ClaimList, NoMemory>
-        requires { AreClaimsOf (node_trees nodes.now) claims.now }
-        ensures same { self.new.relations ≡ self.old.relations }
-        ensures there { IfOk result (λ left. AreClaimsOf (node_trees nodes.now) left) }
-        ensures say { IfOk result (
-            SayAsMuch self.old.relations (node_trees nodes.now) (one ∷ []) 1 claims.now) }
-    {
-        self.candidates = Candidates::of_one(self.alloc)?;
-        self.unimplied(nodes, from_ref(&one), 1, claims)
-    }
-
     // What may stand in place of the conjunct at the index: a disjunction without the branches that contradict another
     // conjunct and, where it is to be `fully` reduced, what always holds where another conjunct implies it.
     fn replacement(
@@ -201,7 +183,7 @@ impl Implications<'_> {
         let mut last = whole;
         'rounds: for _ in 0..MOST_ROUNDS {
             let next = self.round(nodes, last, fully)?;
-            if next == last {
+            if is_settled(nodes, last, next) {
                 return Ok(next);
             }
             last = next;
@@ -209,8 +191,8 @@ impl Implications<'_> {
         Ok(last)
     }
 
-    /// A claim that says the same on valid requests, with fewer conjuncts and branches where some are needless. What the
-    /// others imply goes last, when few branches are left to ask.
+    /// A claim that is equivalent on valid requests, with fewer conjuncts and branches where some are needless.
+    /// What the others imply goes last, when few branches are left to ask.
     pub(crate) fn reduced_claim(
         &mut self,
         nodes: &mut Nodes,
@@ -227,6 +209,26 @@ impl Implications<'_> {
         let least = self.settled(nodes, less, true)?;
         Ok(least)
     }
+}
+
+// Whether a round from the one claim to the next changed nothing, or left conjuncts out alone: then the others still
+// imply no more of those that are left.
+fn is_settled(nodes: &Nodes, last: Claim, next: Claim) -> bool {
+    if next == last {
+        return true;
+    }
+    let Some(old) = conjuncts(nodes, last) else {
+        return false;
+    };
+    let Some(new) = conjuncts(nodes, next) else {
+        return false;
+    };
+    'new: for claim in new {
+        if old.binary_search(claim).is_err() {
+            return false;
+        }
+    }
+    true
 }
 
 fn is_several(nodes: &Nodes, claim: Claim) -> bool {

@@ -1,13 +1,13 @@
 //! Whether one claim implies another.
-ghost use Rattle.std.specs.Prelude.{◌≡◌, All, IfOk, IfSome, IsTrue};
+ghost use Rattle.std.specs.Prelude.{◌≡◌, All, Contains, IfOk, IfSome, IsTrue, true};
 ghost use Rattle.formula_nodes.specs.Standing.{node_trees};
 ghost use Rattle.formula_nodes.specs.declared.claim.Claim.{Claim};
-ghost use Rattle.query_reduction.specs.Claims.{AnswerImplies, AreEnough, ClaimImplies, IsAnswerTo, IsOneOf};
+ghost use Rattle.query_reduction.specs.Claims.{AnswerImplies, ClaimImplies};
+ghost use Rattle.test_relations.specs.Relations.{AlwaysAt};
 
 use crate::candidates::Candidates;
 use crate::claims::{conjuncts, test_in};
 use formula_nodes::{Claim, Nodes};
-use indexmap::IndexSet;
 use plain_lists::NoMemory;
 use policy_model::{Schema, TestList};
 use std::alloc::Global;
@@ -16,19 +16,10 @@ use test_relations::Relations;
 /// How many conjunctions and disjunctions inside one another are looked into.
 pub(crate) const DEPTH: u32 = 12;
 
-// How many questions are answered at most, how many more for each further claim, and how many answers are kept.
+// How many questions are answered at most, and how many more for each further claim.
 const MOST_STEPS: u32 = 2_000_000;
 
 const MORE_STEPS: u32 = 100_000;
-
-const MOST_KEPT: usize = 1_000_000;
-
-// Whether the first implies the second.
-#[derive(Clone, Copy, PartialEq, Eq, Hash)]
-struct Question {
-    one: Claim,
-    other: Claim,
-}
 
 /// What implies what on the tests of a query. Yes is certain, no says nothing.
 #[derive(Drop)]
@@ -37,10 +28,6 @@ pub(crate) struct Implications<'a> {
     pub(crate) relations: Relations<'a>,
     // By test whether it always holds: where it doesn't, this isn't asked again.
     always: Vec<bool>,
-    // By test the part that implied an answer to it when this was last asked: the first to ask.
-    told: Vec<Claim>,
-    // Questions that were answered no. It isn't needed to answer right, only to answer soon.
-    denied: IndexSet<Question>,
     pub(crate) candidates: Candidates,
     steps: u32,
 }
@@ -61,8 +48,6 @@ impl<'a> Implications<'a> {
             alloc,
             relations,
             always,
-            told: none_told(alloc, tests.len())?,
-            denied: IndexSet::new(alloc),
             candidates: Candidates::none(alloc),
             steps: MOST_STEPS,
         })
@@ -78,46 +63,35 @@ impl<'a> Implications<'a> {
         if one == other {
             return true;
         }
-        if self.steps == 0 {
-            return false;
+        if let Some(known) = self.test_implies(nodes, one, other) {
+            return known;
         }
-        self.steps -= 1;
-        if self.test_implies(nodes, one, other) {
-            return true;
-        }
-        if depth == 0 || are_tests(&self.relations, nodes, one, other) {
-            return false;
-        }
-        let question = Question { one, other };
-        if self.denied.contains(&question) {
-            return false;
-        }
-        if self.part_implies(nodes, one, other, depth - 1) {
-            return true;
-        }
-        self.deny(question);
-        false
-    }
-
-    // Whether a test that the one claim is an answer to, or the other, tells it.
-    fn test_implies(&mut self, nodes: &Nodes, one: Claim, other: Claim) -> bool
-        ensures same { self.new.relations ≡ self.old.relations }
-        ensures implied { IsTrue result →
-            ClaimImplies self.old.relations (node_trees nodes.now) one other }
-    {
         if self.is_always(nodes, other) {
             return true;
         }
         if self.is_always(nodes, one.opposite()) {
             return true;
         }
-        let Some(first) = test_in(&self.relations, nodes, one) else {
+        if depth == 0 || self.steps == 0 {
             return false;
+        }
+        self.steps -= 1;
+        self.part_implies(nodes, one, other, depth - 1)
+    }
+
+    // Whether the one claim is known to imply the other, if both are answers to tests.
+    fn test_implies(&mut self, nodes: &Nodes, one: Claim, other: Claim) -> Option<bool>
+        ensures same { self.new.relations ≡ self.old.relations }
+        ensures implied { IfSome result (λ known. IsTrue known →
+            ClaimImplies self.old.relations (node_trees nodes.now) one other) }
+    {
+        let Some(first) = test_in(&self.relations, nodes, one) else {
+            return None;
         };
         let Some(second) = test_in(&self.relations, nodes, other) else {
-            return false;
+            return None;
         };
-        self.is_related(first, one.holds, second, other.holds)
+        Some(self.answer_implies(first, one.holds, second, other.holds))
     }
 
     /// Answers more questions, about another claim.
@@ -137,12 +111,19 @@ impl<'a> Implications<'a> {
         ensures { IsTrue result → (other : Claim) →
             ClaimImplies self.now.relations (node_trees nodes.now) other claim }
     {
-        if !claim.holds {
-            return false;
-        }
         let Some(test) = test_in(&self.relations, nodes, claim) else {
             return false;
         };
+        self.is_certain(test, claim.holds)
+    }
+
+    // Whether every valid request answers the test so, since it always holds.
+    fn is_certain(&self, test: u32, holds: bool) -> bool
+        ensures { IsTrue result → (holds ≡ true) × AlwaysAt self.now.relations test }
+    {
+        if !holds {
+            return false;
+        }
         match self.always.as_slice().get(test as usize) {
             Some(true) => self.relations.always(test),
             _ => false,
@@ -150,24 +131,25 @@ impl<'a> Implications<'a> {
     }
 
     // Whether the one test being answered so implies that the other is.
-    fn is_related(&mut self, one: u32, said: bool, other: u32, also_said: bool) -> bool
+    fn answer_implies(&mut self, one: u32, said: bool, other: u32, also_said: bool) -> bool
         ensures same { self.new.relations ≡ self.old.relations }
         ensures implied { IsTrue result → AnswerImplies self.old.relations one said other also_said }
     {
+        if self.is_certain(other, also_said) {
+            return true;
+        }
+        if self.is_certain(one, !said) {
+            return true;
+        }
         match (said, also_said) {
             (true, true) => self.relations.leads(one, other),
             (false, false) => self.relations.leads(other, one),
-            (true, false) => {
-                if self.relations.excludes(one, other) {
-                    return true;
-                }
-                self.relations.excludes(other, one)
-            }
+            (true, false) => self.relations.excludes(one, other),
             (false, true) => false,
         }
     }
 
-    // Whether a part of the one claim, or of the other, tells it.
+    // Whether it follows from a part of one of the claims.
     #[cycle(implies)]
     fn part_implies(&mut self, nodes: &Nodes, one: Claim, other: Claim, depth: u32) -> bool
         ensures same { self.new.relations ≡ self.old.relations }
@@ -215,130 +197,23 @@ impl<'a> Implications<'a> {
         if stands_in(parts, other) {
             return true;
         }
-        let test = test_in(&self.relations, nodes, other);
-        if self.last_tells(nodes, parts, other, test, depth) {
-            return true;
-        }
-        self.any_tells(nodes, parts, other, test, depth)
-    }
-
-    // Whether the part that last implied an answer to the test is one of these, and implies this one.
-    #[cycle(implies)]
-    fn last_tells(
-        &mut self,
-        nodes: &Nodes,
-        parts: &[Claim],
-        other: Claim,
-        test: Option<u32>,
-        depth: u32,
-    ) -> bool
-        requires { IfSome test (IsAnswerTo self.old.relations (node_trees nodes.now) other) }
-        ensures same { self.new.relations ≡ self.old.relations }
-        ensures implied { IsTrue result →
-            AreEnough self.old.relations (node_trees nodes.now) parts.now other }
-    {
-        let part = self.last_teller(test);
-        if !stands_in(parts, part) {
-            return false;
-        }
-        self.part_tells(nodes, part, other, test, depth)
-    }
-
-    // Whether one of the parts implies the other claim, which is an answer to the test if there is one.
-    #[cycle(implies)]
-    fn any_tells(
-        &mut self,
-        nodes: &Nodes,
-        parts: &[Claim],
-        other: Claim,
-        test: Option<u32>,
-        depth: u32,
-    ) -> bool
-        requires { IfSome test (IsAnswerTo self.old.relations (node_trees nodes.now) other) }
-        ensures same { self.new.relations ≡ self.old.relations }
-        ensures implied { IsTrue result →
-            AreEnough self.old.relations (node_trees nodes.now) parts.now other }
-    {
         'parts: for part in parts {
-            if self.part_tells(nodes, *part, other, test, depth) {
-                self.keep_teller(test, *part);
+            if self.implies(nodes, *part, other, depth) {
                 return true;
             }
         }
         false
     }
-
-    // Whether the part implies the other claim, which is an answer to the test if there is one.
-    #[cycle(implies)]
-    fn part_tells(
-        &mut self,
-        nodes: &Nodes,
-        part: Claim,
-        other: Claim,
-        test: Option<u32>,
-        depth: u32,
-    ) -> bool
-        requires { IfSome test (IsAnswerTo self.old.relations (node_trees nodes.now) other) }
-        ensures same { self.new.relations ≡ self.old.relations }
-        ensures implied { IsTrue result →
-            ClaimImplies self.old.relations (node_trees nodes.now) part other }
-    {
-        let Some(second) = test else {
-            return self.implies(nodes, part, other, depth);
-        };
-        let Some(first) = test_in(&self.relations, nodes, part) else {
-            return self.implies(nodes, part, other, depth);
-        };
-        self.is_related(first, part.holds, second, other.holds)
-    }
-
-    // The part that last implied an answer to the test, or any claim.
-    fn last_teller(&self, test: Option<u32>) -> Claim {
-        let none = Claim {
-            node: u32::MAX,
-            holds: false,
-        };
-        match test {
-            Some(test) => *self.told.as_slice().get(test as usize).unwrap_or(&none),
-            None => none,
-        }
-    }
-
-    fn keep_teller(&mut self, test: Option<u32>, part: Claim)
-        ensures { self.new.relations ≡ self.old.relations }
-    {
-        if let Some(test) = test {
-            if let Some(told) = self.told.get_mut(test as usize) {
-                *told = part;
-            }
-        }
-    }
-
-    // Keeps that the question was answered no, where there is room.
-    fn deny(&mut self, question: Question)
-        ensures { self.new.relations ≡ self.old.relations }
-    {
-        if self.denied.len() < MOST_KEPT {
-            let _kept = self.denied.insert(question).is_ok();
-        }
-    }
 }
 
 // Whether the claim is one of these, which are in order.
 fn stands_in(claims: &[Claim], claim: Claim) -> bool
-    ensures { IsTrue result → IsOneOf claims.now claim }
+    ensures { IsTrue result → Contains claims.now claim }
 {
     let Ok(place) = claims.binary_search(&claim) else {
         return false;
     };
-    match claims.get(place) {
-        Some(own) => *own == claim,
-        None => false,
-    }
-}
-
-fn are_tests(relations: &Relations<'_>, nodes: &Nodes, one: Claim, other: Claim) -> bool {
-    test_in(relations, nodes, one).is_some() && test_in(relations, nodes, other).is_some()
+    claims[place] == claim
 }
 
 fn always_in(
@@ -354,15 +229,4 @@ fn always_in(
         always.push(relations.always(number))?;
     }
     Ok(always)
-}
-
-fn none_told(alloc: Global, tests: usize) -> Result<Vec<Claim>, NoMemory> {
-    let mut told = Vec::new(alloc);
-    'tests: for _ in 0..tests {
-        told.push(Claim {
-            node: u32::MAX,
-            holds: false,
-        })?;
-    }
-    Ok(told)
 }

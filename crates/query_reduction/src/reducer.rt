@@ -1,11 +1,11 @@
 //! Claims held against one another over one list of tests.
-ghost use Rattle.std.specs.Prelude.{◌≡◌, IfOk};
-ghost use Rattle.formula_nodes.specs.Claims.{AddsNoTest, AreClaimsOf, Grows, IsClaimOf};
+ghost use Rattle.std.specs.Prelude.{◌≡◌, IfOk, IsTrue};
+ghost use Rattle.formula_nodes.specs.Claims.{AddsNoTest, Grows, IsClaimOf};
 ghost use Rattle.formula_nodes.specs.Standing.{node_trees};
-ghost use Rattle.query_reduction.specs.Reducers.{AgreeBeside, ClaimsAgree};
+ghost use Rattle.query_reduction.specs.Reducers.{ClaimsAgree, IsImplied};
 
-use crate::implies::Implications;
-use formula_nodes::{Claim, ClaimList, Nodes};
+use crate::implies::{DEPTH, Implications};
+use formula_nodes::{Claim, Nodes};
 use plain_lists::NoMemory;
 use policy_model::{Schema, TestList};
 use std::alloc::Global;
@@ -40,21 +40,13 @@ impl<'a> Reducer<'a> {
         Ok(Reducer { implications })
     }
 
-    /// Those of the others that the one isn't known to imply by itself, in their order.
-    pub fn unimplied(
-        &mut self,
-        nodes: &Nodes,
-        one: Claim,
-        others: &[Claim],
-    ) -> Result<ClaimList, NoMemory>
-        requires { AreClaimsOf (node_trees nodes.now) others.now }
+    /// Whether the one claim is known to imply the other.
+    pub fn implies(&mut self, nodes: &Nodes, one: Claim, other: Claim) -> bool
         ensures same { self.new ≡ self.old }
-        ensures there { IfOk result (λ kept. AreClaimsOf (node_trees nodes.now) kept) }
-        ensures agree { IfOk result (
-            AgreeBeside self.old.schema self.old.tests (node_trees nodes.now) one others.now) }
+        ensures implied { IsTrue result → IsImplied self.old (node_trees nodes.now) one other }
     {
         self.implications.go_on();
-        self.implications.unimplied_by(nodes, one, others)
+        self.implications.implies(nodes, one, other, DEPTH)
     }
 
     /// A claim of the same value on each valid request, without what other parts of it make needless. Where there is no

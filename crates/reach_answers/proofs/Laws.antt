@@ -11,10 +11,8 @@ use Rattle.run_inputs.specs.declared.status.Status.{Status}
 use Rattle.run_inputs.specs.declared.status.Status.TheVariants as status
 use Rattle.run_inputs.specs.Printing.{IsOfText}
 use Rattle.run_inputs.specs.declared.one_set.OneSet.{OneSet}
-use Rattle.run_inputs.specs.declared.refusal.Refusal.{Refusal}
 use Rattle.run_inputs.specs.OneSets.{one_of}
-use Rattle.run_inputs.specs.Refusals.{IsRefusedBy}
-use Rattle.run_inputs.proofs.Laws.{no_one_fails, of_same_set}
+use Rattle.run_inputs.proofs.Laws.{no_one_fails, of_same_set, refusal_with}
 use Rattle.summary_answers.specs.Complete.{IsSummarisable}
 use Rattle.summary_answers.specs.Printed.{limits_in}
 use Rattle.summary_answers.proofs.Laws.{not_found_of_text, status_by_of_text, status_is_by, summarisable_subjects_are_found}
@@ -23,9 +21,6 @@ use Rattle.reach_answers.specs.ReachPrinted.{IsReachOfSet, IsReachPrinted, IsZon
 use Rattle.reach_answers.specs.ZoneRefusals.{IsZoneRefused}
 
 -- ---- statuses
-
-refusal_with : (Q : Refusal → Type 0) (p : Printed) → IsRefusedBy Q p → IsOfText p.status
-refusal_with Q p (r, is, told) = subst IsOfText (sym told.1) tt
 
 zone_with : (names : List (List ℕ)) (limits : Limits) (one : OneSet) (zone : Zone) (p : Printed) → IsZonePrinted names limits one zone p → IsOfText p.status
 zone_with names limits one zone p (inl none) = not_found_of_text names limits (left_outside one zone) p none

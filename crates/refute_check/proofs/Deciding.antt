@@ -30,19 +30,19 @@ Decides-account : (account id : List ℕ) → Decides (account_test account id) 
 Decides-account account id = (account_test-is account id, account_test-of account id)
 
 -- whether the principal of this kind and id is one of the entry
-abbrev is_named : PrincipalKind → List ℕ → Entry → Bool
+abbrev pub is_named : PrincipalKind → List ℕ → Entry → Bool
 is_named kind id All = true
 is_named kind id (Kind own) = is_kind kind own
 is_named kind id (Account account) = is_kind kind Aws && account_test account id
 is_named kind id (Exact own text) = is_kind kind own && bytes_eq id text
 
-Decides-named : (kind : PrincipalKind) (id : List ℕ) (entry : Entry) → Decides (is_named kind id entry) (EntryNames kind id entry)
+pub Decides-named : (kind : PrincipalKind) (id : List ℕ) (entry : Entry) → Decides (is_named kind id entry) (EntryNames kind id entry)
 Decides-named kind id All = (λ e. tt, λ h. refl)
 Decides-named kind id (Kind own) = Decides-kind kind own
 Decides-named kind id (Account account) = Decides-and (is_kind kind Aws) (account_test account id) (Decides-kind kind Aws) (Decides-account account id)
 Decides-named kind id (Exact own text) = Decides-and (is_kind kind own) (bytes_eq id text) (Decides-kind kind own) (bytes_eq-Decides id text)
 
-by-test : {P : Type 0} (b : Bool) → Decides b P → P ⊎ ¬ P
+pub by-test : {P : Type 0} (b : Bool) → Decides b P → P ⊎ ¬ P
 by-test true d = inl (d.0 refl)
 by-test false d = inr (λ h. let bad : false ≡ true = d.1 h in absurd (cc))
 

@@ -1,7 +1,7 @@
 mod Accepting
 mod Agreeing
 mod Closed
-mod Deciding
+pub mod Deciding
 mod Ending
 mod Equals
 mod Existing

@@ -10,7 +10,7 @@ use Rattle.policy_model.specs.declared.schema.Schema.{Schema}
 use Rattle.slot_theory.specs.declared.outcome.SlotProof.{SlotProof}
 use Rattle.slot_theory.specs.Cores.{Accepts}
 use Rattle.refute_check.specs.declared.refutation.Refutation.{Refutation, the_lemmas}
-use Rattle.refute_check.specs.declared.refutation.Refutation.TheVariants.{Split, ByValue, BySlot, ByClauses, Label, Reuse}
+use Rattle.refute_check.specs.declared.refutation.Refutation.TheVariants.{Split, BySlot, Label}
 use Rattle.refute_check.specs.declared.verdict.Walked.{Walked}
 use Rattle.refute_check.specs.declared.verdict.Walked.TheVariants.{Closed, Failed}
 use Rattle.refute_check.specs.Closing.{Before, Closes, FailsAt, IsLabel, OwnRule, after_part, at_first, here, in_label, in_no, in_yes, inside_label}
@@ -18,27 +18,18 @@ use Rattle.refute_check.specs.Labels.{HasNotEnded}
 use Rattle.refute_check.specs.Proofs.{Proof, by_clauses, by_slot, by_value, ended_in, label, labels, proof_of, reuse, size, split}
 use Rattle.refute_check.specs.Queries.{HoldsHere}
 use Rattle.refute_check.specs.Walks.{IsLabelWalked, IsOpenTest, IsWalked, IsWholeWalk, raised_walk}
-use Rattle.refute_check.proofs.Failing.{fails-not-closes, fails-within}
+use Rattle.refute_check.proofs.Failing.{fails-within}
 
 -- ---- the tree of a refutation by its form
 
 pub of-split : (n : ℕ) (y z : Rc Refutation Global) (r : Refutation) → r ≡ Split n y z → proof_of r ≡ split n (proof_of y.value) (proof_of z.value)
 of-split n y z r is = ap proof_of is ∙ search (rules, the_lemmas)
 
-pub of-value : (r : Refutation) → r ≡ ByValue → proof_of r ≡ by_value
-of-value r is = ap proof_of is ∙ search (rules, the_lemmas)
-
 pub of-slot : (core : List ℕ) (proof : Rc SlotProof Global) (r : Refutation) → r ≡ BySlot core proof → proof_of r ≡ by_slot core proof.value
 of-slot core proof r is = ap proof_of is ∙ search (rules, the_lemmas)
 
-pub of-clauses : (hints : List ℕ) (r : Refutation) → r ≡ ByClauses hints → proof_of r ≡ by_clauses hints
-of-clauses hints r is = ap proof_of is ∙ search (rules, the_lemmas)
-
 pub of-label : (n : ℕ) (answers : Answers) (inner : Rc Refutation Global) (r : Refutation) → r ≡ Label n answers inner → proof_of r ≡ label n answers (proof_of inner.value)
 of-label n answers inner r is = ap proof_of is ∙ search (rules, the_lemmas)
-
-pub of-reuse : (n : ℕ) (r : Refutation) → r ≡ Reuse n → proof_of r ≡ reuse n
-of-reuse n r is = ap proof_of is ∙ search (rules, the_lemmas)
 
 -- ---- labels before a node
 
@@ -125,8 +116,3 @@ module _ (schema : Schema) (q : Query) where
       let (k, fails, place) = walked-at at_first at_first p path [] after walked (Failed node) refl empty is walks in
       let least = fails-within schema q.tests tree at_first p [] k fails in
       subst (λ (n : ℕ). FailsAt schema q.tests tree at_first p [] n) (omega (arith, small, least, place)) fails
-
-  pub fails-whole : (p : Proof) (path other : Answers) (walked : Walked) (node : ℕ) → path ≡ other → walked ≡ Failed node → IsWholeWalk schema q p path walked → Closes schema q.tests tree at_first p other → ⊥
-  fails-whole p path other walked node same is (after, walks) closes =
-      let (k, fails, place) = walked-at at_first at_first p path other after walked (Failed node) refl same is walks in
-      fails-not-closes schema q.tests tree at_first p other k fails closes

@@ -14,7 +14,7 @@ use Rattle.refute_check.specs.Accepted.{AreAcceptedCores}
 use Rattle.refute_check.specs.Closing.{Before, Closes, FailsAt, IsLabel, after_part, at_first}
 use Rattle.refute_check.specs.Proofs.{Proof, label, size}
 
--- the schema is sound, the tests suit it and are numbered by 32 bits, the tree is over them, and the clauses are the tree's
+-- the schema is sound, the tests suit it and are numbered by 32 bits, and the clauses are the tree's
 pub record IsCheckable (c : Checking) : Type 0 where
   pub sound : SchemaIsSound c.schema.now
   pub suit : All (TestSuits c.schema.now) c.query.now.tests

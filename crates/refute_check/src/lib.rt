@@ -17,4 +17,4 @@ pub use runs::{
     propagated_runs_end_where_met,
 };
 pub use sharing::{SharedProof, SharedProofs};
-pub use verdict::{Verdict, check, closes_under};
+pub use verdict::{Verdict, check};

@@ -28,8 +28,8 @@ pub enum Refutation {
     ByClauses {
         hints: Hints,
     },
-    /// A refutation that closes under answers of its own, all of which the path has, and whose tests
-    /// rise. Labels are numbered from 0 in reading order.
+    /// A refutation that closes under answers of its own. The path has all of them, and their tests rise. Labels
+    /// are numbered from 0 in reading order.
     Label {
         number: u32,
         answers: AnswerList,

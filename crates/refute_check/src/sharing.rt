@@ -74,7 +74,7 @@ impl SharedProofs {
         Ok(SharedProof { proof, kept })
     }
 
-    // The kept proof that is equal to this one, as far as the guess tells.
+    // The kept proof that is equal to this one, if the guess finds it.
     fn known(&self, hash: u64, proof: &SlotProof) -> Result<Option<Rc<SlotProof>>, NoMemory>
         ensures { IfOk result (λ known. IfSome known (λ r. r.value ≡ proof.now)) }
     {

@@ -1,14 +1,12 @@
 //! The check of refutations.
 ghost use Rattle.std.specs.Prelude.{◌≡◌, ◌<◌, ◌^◌, ◌↔◌, All, IfOk, IsTrue, OnOk, length};
 ghost use Rattle.formula_tree.specs.Runs.{path_with};
-ghost use Rattle.formula_tree.specs.Trees.{tree_of};
 ghost use Rattle.policy_model.specs.Soundness.{SchemaIsSound, TestSuits};
 ghost use Rattle.slot_theory.specs.Possible.{PathInRange};
 ghost use Rattle.slot_theory.specs.Cores.{Accepts};
 ghost use Rattle.refute_check.specs.Closing.{Rise};
-ghost use Rattle.refute_check.specs.Laws.{TreeInRange};
 ghost use Rattle.refute_check.specs.Proofs.{proof_of, size, split};
-ghost use Rattle.refute_check.specs.Queries.{ClosesQuery, HoldsHere};
+ghost use Rattle.refute_check.specs.Queries.{HoldsHere};
 ghost use Rattle.refute_check.specs.Verdicts.{IsVerdict};
 ghost use Rattle.refute_check.specs.Walks.{IsCheckable, IsLabelWalked, IsOpenTest, IsWalked, IsWholeWalk, KnowsCores, raised_walk};
 
@@ -295,37 +293,11 @@ fn walk_whole(
     checking.walk(refutation, path, &mut passed)
 }
 
-/// Whether the refutation closes the query under the path.
-///
-/// The schema is sound, the tests suit it and are numbered by 32 bits, and formula and path are over these
-/// tests. The only error is want of memory.
-pub fn closes_under(
-    alloc: Global,
-    schema: &Schema,
-    query: &Query,
-    refutation: &Refutation,
-    path: &Path,
-) -> Result<bool, NoMemory>
-    requires sound { SchemaIsSound schema.now }
-    requires suit { All (TestSuits schema.now) query.now.tests }
-    requires count { length query.now.tests < 2 ^ 32 }
-    requires below { TreeInRange query.now.tests (tree_of query.now.formula.value) }
-    requires range { PathInRange query.now.tests path.now }
-    ensures { IfOk result (λ yes.
-        IsTrue yes ↔ ClosesQuery schema.now query.now refutation.now path.now) }
-{
-    let mut own = path.copy()?;
-    match walk_whole(alloc, schema, query, refutation, &mut own)? {
-        Walked::Closed(_) => Ok(true),
-        Walked::Failed(_) => Ok(false),
-    }
-}
-
 /// Whether the refutation closes the query under the empty path: `Closes` exactly where it does, and
 /// otherwise the first node in reading order whose own rule fails.
 ///
 /// The schema is sound, the tests suit it and are numbered by 32 bits, and so are the refutation's nodes, a shared
-/// one as often as it stands; the formula is over these tests. The only error is want of memory.
+/// one as often as it stands. The only error is want of memory.
 pub fn check(
     alloc: Global,
     schema: &Schema,
@@ -335,7 +307,6 @@ pub fn check(
     requires sound { SchemaIsSound schema.now }
     requires suit { All (TestSuits schema.now) query.now.tests }
     requires count { length query.now.tests < 2 ^ 32 }
-    requires below { TreeInRange query.now.tests (tree_of query.now.formula.value) }
     requires nodes { size (proof_of refutation.now) < 2 ^ 32 }
     ensures { IfOk result (IsVerdict schema.now query.now refutation.now) }
 {

@@ -98,11 +98,12 @@ fn resource_in(
     }
 }
 
-/// The request whose slots have these values. A slot without a value has a stated one: the principal
-/// is an `AWS` principal, and its id, the action and the resource are a sample of their shape, or `x`
-/// where they have none or the sample is empty. Each required key without values has one, the first
-/// listed one, or else a sample of the key's shape, or else `x`, true, 0, 0.0.0.0 or no bytes by its
-/// kind; no other key without values is there.
+/// The request whose slots have these values. A slot without a value has a stated one:
+///
+/// - The principal is an `AWS` principal. Its id, the action and the resource are a sample of their shape, or `x`
+///   where they have no shape or the sample is empty.
+/// - A required key has one value: the first listed one, or else a sample of its shape, or else `x`, true, 0,
+///   0.0.0.0 or no bytes by its kind. No other key without values is there.
 ///
 /// The schema is sound, and the values are one for each slot of a test of the path, each permitted and
 /// answering its slot's tests as the path does. The only error is want of memory.

@@ -1,5 +1,5 @@
 -- The keys of a request file, of which none is an earlier one.
-use Rattle.std.proofs.Common.{◌≡◌, ℕ, List, [], ◌∷◌, Bool, true, false, not, ◌&&◌, ◌||◌, is_some, Option, Some, None, refl, ap, sym, ◌∙◌}
+use Rattle.std.proofs.Common.{◌≡◌, ℕ, List, [], ◌∷◌, Bool, false, not, ◌&&◌, ◌||◌, is_some, Option, Some, None, ap, sym, ◌∙◌}
 use Rattle.std.specs.Borrow.{Bor}
 use Rattle.std.specs.List.{list_any}
 use Rattle.std.specs.Option.{option_copied}
@@ -8,7 +8,7 @@ use Rattle.text_table.specs.Table.{Entries, item_at, with_item}
 use Rattle.request_schema.specs.BuiltIn.{folded_name}
 use Rattle.request_schema.specs.SchemaRules.{same_key}
 use Rattle.request_json.specs.RequestShapes.{are_apart, names_of}
-use Rattle.request_json.proofs.Entries.{some-with}
+use Rattle.request_schema.proofs.Entries.{some-with}
 
 abbrev pub FileKey : Type 0
 FileKey = List ℕ × Data
@@ -30,23 +30,11 @@ pub some-copied : {V : Type 0} (o : Option (Bor V)) (p : Option V) → option_co
 some-copied None p e = ap is_some e
 some-copied (Some v) p e = ap is_some e
 
--- before the first key
-pub starts : (all : List FileKey) (seen : Seen) → seen ≡ [] → ApartSoFar all all seen
-starts all seen none = record {
-  before = [];
-  knows = λ name. ap (λ (s : Seen). is_some (item_at (folded_name name) s)) none;
-  apart = refl;
-}
-
 module _ (twice : Bool) (all rest next : List FileKey) (key : FileKey) (seen : Seen) (so_far : ApartSoFar all rest seen) (is : rest ≡ key ∷ next) (known : twice ≡ is_some (item_at (folded_name key.0) seen)) where
   next-apart : are_apart [] (names_of all) ≡ (not twice && are_apart (key.0 ∷ so_far.before) (names_of next))
   next-apart =
       so_far.apart ∙ ap (λ (ks : List FileKey). are_apart so_far.before (names_of ks)) is
       ∙ ap (λ (b : Bool). not b && are_apart (key.0 ∷ so_far.before) (names_of next)) (sym (known ∙ so_far.knows key.0))
-
-  -- the next key is an earlier one
-  pub stops : twice ≡ true → are_apart [] (names_of all) ≡ false
-  stops e = next-apart ∙ ap (λ (b : Bool). not b && are_apart (key.0 ∷ so_far.before) (names_of next)) e
 
   -- or it isn't
   pub goes-on : twice ≡ false → (more : Seen) → more ≡ with_item seen (folded_name key.0) tt → ApartSoFar all next more
@@ -55,7 +43,3 @@ module _ (twice : Bool) (all rest next : List FileKey) (key : FileKey) (seen : S
     knows = λ name. ap (λ (s : Seen). is_some (item_at (folded_name name) s)) more_is ∙ some-with (folded_name name) (folded_name key.0) tt seen ∙ ap (λ (b : Bool). same_key name key.0 || b) (so_far.knows name);
     apart = next-apart ∙ ap (λ (b : Bool). not b && are_apart (key.0 ∷ so_far.before) (names_of next)) e;
   }
-
--- all keys are apart
-pub all-apart : (all rest : List FileKey) (seen : Seen) → ApartSoFar all rest seen → rest ≡ [] → are_apart [] (names_of all) ≡ true
-all-apart all rest seen so_far none = so_far.apart ∙ ap (λ (ks : List FileKey). are_apart so_far.before (names_of ks)) none

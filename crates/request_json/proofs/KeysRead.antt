@@ -1,8 +1,6 @@
 -- The keys of a request file, read one by one, and the keys that a request must have.
-use Rattle.std.proofs.Common.{◌≡◌, ◌≢◌, ℕ, List, [], ◌∷◌, ◌++◌, All, Option, Some, None, refl, ap, sym, subst, ◌∙◌}
+use Rattle.std.proofs.Common.{◌≡◌, ℕ, List, [], ◌∷◌, ◌++◌, All, Option, Some, None, ap, sym, subst, ◌∙◌}
 use Rattle.std.specs.Prelude.{MatchOption}
-use Rattle.std.proofs.lemmas.List.Elements.{All-nil}
-use Rattle.serde_json.specs.Data.{Data}
 use Rattle.text_table.specs.Table.{Entries, item_at, with_item}
 use Rattle.json_shapes.specs.Checks.{first_fault}
 use Rattle.json_shapes.proofs.Laws.{first_fault-rest}
@@ -10,7 +8,7 @@ use Rattle.policy_model.specs.declared.schema.KeyRule.{KeyRule}
 use Rattle.policy_model.specs.declared.value.Value.{Value}
 use Rattle.policy_model.specs.Requests.{EntryIsValid, PermitsValues}
 use Rattle.request_schema.specs.BuiltIn.{folded_name}
-use Rattle.request_json.specs.RequestKeys.{checks_by_rule, context_checks, context_from, rule_at, with_key, with_values}
+use Rattle.request_json.specs.RequestKeys.{checks_by_rule, context_checks, context_from, rule_at, with_key}
 use Rattle.request_json.proofs.Apart.{FileKey}
 use Rattle.request_json.proofs.Entries.{All-with_item}
 
@@ -22,14 +20,6 @@ pub record ContextSoFar (keys : Entries KeyRule) (all rest : List FileKey) (cont
   pub faults : first_fault (context_checks keys all) ≡ first_fault (context_checks keys rest)
   pub values : context_from keys [] all ≡ context_from keys context rest
   pub valid : All (EntryIsValid keys) context
-
--- before the first key
-pub starts : (keys : Entries KeyRule) (all : List FileKey) (context : Keys) → context ≡ [] → ContextSoFar keys all all context
-starts keys all context none = record {
-  faults = refl;
-  values = ap (λ (c : Keys). context_from keys c all) (sym none);
-  valid = subst (All (EntryIsValid keys)) (sym none) (All-nil (EntryIsValid keys));
-}
 
 module _ (keys : Entries KeyRule) (all rest next : List FileKey) (key : FileKey) (context : Keys) (so_far : ContextSoFar keys all rest context) (is : rest ≡ key ∷ next) where
   -- the next key has these checks
@@ -44,20 +34,7 @@ module _ (keys : Entries KeyRule) (all rest next : List FileKey) (key : FileKey)
     valid = valid so_far.valid;
   }
 
--- all keys are read
-pub all-read : (keys : Entries KeyRule) (all rest : List FileKey) (context : Keys) → ContextSoFar keys all rest context → rest ≡ [] → (first_fault (context_checks keys all) ≡ None) × (context ≡ context_from keys [] all)
-all-read keys all rest context so_far none = (
-  so_far.faults ∙ ap (λ (ks : List FileKey). first_fault (context_checks keys ks)) none,
-  sym (so_far.values ∙ ap (λ (ks : List FileKey). context_from keys context ks) none),
-)
-
 -- ---- one key
-
--- the schema lacks the key
-pub left-out : (keys : Entries KeyRule) (key own : List ℕ) (d : Data) (context : Keys) → key ≡ folded_name own → item_at key keys ≡ None → (first_fault (checks_by_rule (rule_at keys own) (own, d)) ≡ None) × (context ≡ with_key (rule_at keys own) context (own, d))
-left-out keys key own d context named none =
-    let lacks : rule_at keys own ≡ None = ap (λ (k : List ℕ). item_at k keys) (sym named) ∙ none in
-    (ap (λ (r : Option KeyRule). first_fault (checks_by_rule r (own, d))) lacks, sym (ap (λ (r : Option KeyRule). with_key r context (own, d)) lacks))
 
 -- the schema has it
 pub has-rule : (keys : Entries KeyRule) (key own : List ℕ) (rule : KeyRule) → key ≡ folded_name own → item_at key keys ≡ Some rule → rule_at keys own ≡ Some rule

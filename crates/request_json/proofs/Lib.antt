@@ -3,7 +3,6 @@ mod Contexts
 mod Entries
 mod Flat
 mod KeysRead
-mod Listed
 mod Permitting
 mod Requiring
 mod Shaped

@@ -4,7 +4,7 @@ use Rattle.std.specs.Ordering.{ordering_reverse, nat_cmp}
 use Rattle.std.specs.Cmp.Lexicographic.{slice_cmp}
 use Rattle.std.proofs.lemmas.Cmp.{nat_list_cmp_total}
 use Rattle.text_table.specs.Table.{Entries, with_item}
-use Rattle.request_json.proofs.Entries.{equal-keys}
+use Rattle.request_schema.proofs.Entries.{equal-keys}
 
 abbrev cmp : List ℕ → List ℕ → Ordering
 cmp = slice_cmp nat_cmp

@@ -25,7 +25,7 @@ use Rattle.request_schema.specs.SchemaRules.{same_key}
 use Rattle.request_json.specs.RequestKeys.{checks_by_rule, context_checks, context_from, rule_at, with_key, with_values, values_read}
 use Rattle.request_json.specs.RequestShapes.{are_apart, have_values, names_of}
 use Rattle.request_json.specs.RequestTexts.{values_data}
-use Rattle.request_json.proofs.Entries.{equal-keys, is_key-is}
+use Rattle.request_schema.proofs.Entries.{equal-keys, is_key-is}
 use Rattle.request_json.proofs.KeysRead.{Keys}
 use Rattle.request_json.proofs.Permitting.{and-of}
 use Rattle.request_json.proofs.Swapping.{swap}

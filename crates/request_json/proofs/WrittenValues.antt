@@ -27,7 +27,7 @@ use Rattle.request_json.specs.RequestChecks.{request_check}
 use Rattle.request_json.specs.RequestKeys.{are_permitted, request_key_checks, texts_at, values_read}
 use Rattle.request_json.specs.RequestTexts.{value_text, values_data}
 use Rattle.request_json.specs.declared.fault.RequestCode.{RequestCode}
-use Rattle.request_json.proofs.Listed.{written-is, written-passes}
+use Rattle.request_schema.proofs.Listed.{written-is, written-passes}
 use Rattle.request_json.proofs.Permitting.{permitted}
 
 pub chars-encoded : (t : List ℕ) → IsText t → chars (encode_utf8_all t) ≡ t

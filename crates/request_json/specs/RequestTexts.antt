@@ -1,5 +1,5 @@
 -- Requests as texts: one line of JSON (RFC 8259). This project's own format: an object with the names `Action`, `Context`,
--- `Principal` and `Resource`, all of which stand, and texts in it alone.
+-- `Principal` and `Resource`. All of them stand there, and only texts stand in it.
 use Rattle.std.specs.Prelude.{ℕ, List, map, fold, codes}
 use Rattle.std.specs.Str.{encode_utf8_all}
 use Rattle.serde_json.specs.Data.{Data, array, object, Members, no_members, member, put, string}

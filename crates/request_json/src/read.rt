@@ -74,9 +74,9 @@ impl<'a> RequestReader<'a> {
     /// The request that a file stands for under the schema. A key that the schema lacks is left out, and a
     /// key without values is as one that is missing. The request is valid.
     ///
-    /// `Refused` with the file's first fault exactly where it has one: first come those of the file as a
-    /// whole, then key by key in the order of their names as written, then required keys that are
-    /// missing, then the principal, the action and the resource. `NoMemory` only where there is no memory.
+    /// `Refused` with the file's first fault exactly where it has one. First come faults of the file as a
+    /// whole; then key by key in the order of their names as written; then required keys that are
+    /// missing; then the principal, the action and the resource. `NoMemory` only where there is no memory.
     pub fn read(&self, alloc: Global, bytes: &[u8]) -> Result<Request, RequestAnswer>
         ensures value { IsRequestFrom self.now bytes.now result }
         ensures valid { IfOk result (IsValid self.now) }

@@ -87,7 +87,7 @@ fn are_apart(alloc: Global, keys: &Map<String, Value>) -> Result<bool, NoMemory>
     Ok(true)
 }
 
-// Whether the value is keys with their values, no two of which are one.
+// Whether the value is different keys with their values.
 fn is_context(alloc: Global, value: &Value) -> Result<bool, NoMemory>
     ensures { IfOk result (λ is. is ≡ is_context (view value.now)) }
 {

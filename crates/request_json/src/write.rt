@@ -143,7 +143,7 @@ fn request_json(alloc: Global, request: &Request) -> Result<Json, NoMemory>
 }
 
 /// The request as one line of compact JSON (RFC 8259), without a line feed. Its names stand in the order
-/// of their bytes. `Context` is always there, with each key that has values, by its folded name, and the
+/// of their bytes. `Context` is always there. It has each key that has values, by its folded name, and the
 /// list of its values in their order: a text as it is, `true` or `false`, a number in decimal, an address
 /// in its one form, bytes in Base64 with padding (RFC 4648). Read as JSON it is `request_data` again.
 ///

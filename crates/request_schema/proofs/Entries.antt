@@ -9,7 +9,7 @@ use Rattle.std.proofs.lemmas.Slice.Eq.{bytes_eq-Decides}
 use Rattle.text_table.specs.Table.{Entries, item_at, with_item}
 use Rattle.request_schema.specs.BuiltIn.{is_key}
 
-abbrev cmp : List ℕ → List ℕ → Ordering
+abbrev pub cmp : List ℕ → List ℕ → Ordering
 cmp = slice_cmp nat_cmp
 
 pub is_key-is : (a b : List ℕ) → is_key a b ≡ true → a ≡ b
@@ -18,7 +18,7 @@ is_key-is a b h = (bytes_eq-Decides a b).0 (sym (is_eq-slice_cmp a b) ∙ h)
 pub is_key-same : (a : List ℕ) → is_key a a ≡ true
 is_key-same a = ap is_eq (tied_itself nat_list_cmp_total a)
 
-equal-keys : (a b : List ℕ) → cmp a b ≡ Equal → a ≡ b
+pub equal-keys : (a b : List ℕ) → cmp a b ≡ Equal → a ≡ b
 equal-keys a b e = is_key-is a b (ap is_eq e)
 
 over : {V : Type 0} (b c : Bool) (v w : V) (o : Option V) → (b ≡ true → c ≡ true → ⊥) → (if c then Some w else (if b then Some v else o)) ≡ (if b then Some v else (if c then Some w else o))

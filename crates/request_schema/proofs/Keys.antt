@@ -1,5 +1,5 @@
 -- The keys of a schema file, read one by one.
-use Rattle.std.proofs.Common.{◌≡◌, ℕ, List, [], ◌∷◌, ◌++◌, Bool, ◌||◌, is_some, Option, Some, None, refl, ap, sym, ◌∙◌, subst}
+use Rattle.std.proofs.Common.{◌≡◌, ℕ, List, [], ◌∷◌, ◌++◌, Bool, ◌||◌, is_some, Option, Some, None, ap, sym, ◌∙◌, subst}
 use Rattle.std.specs.Borrow.{Bor}
 use Rattle.std.specs.List.{list_any}
 use Rattle.std.specs.Option.{option_copied}
@@ -35,16 +35,6 @@ pub record KeysRead (second : Bool) (all rest : List FileKey) (seen : Seen) (rul
 pub some-copied : {V : Type 0} (o : Option (Bor V)) (p : Option V) → option_copied o ≡ p → is_some o ≡ is_some p
 some-copied None p e = ap is_some e
 some-copied (Some v) p e = ap is_some e
-
--- before the first key
-pub starts : (second : Bool) (all : List FileKey) (seen : Seen) (rules : Entries KeyRule) → seen ≡ [] → rules ≡ built_in_rules → RulesAreSound rules → KeysRead second all all seen rules
-starts second all seen rules none is sound = record {
-  before = [];
-  knows = λ name. ap (λ (s : Seen). is_some (item_at (folded_name name) s)) none;
-  faults = refl;
-  values = ap (λ (r : Entries KeyRule). with_rules r (rules_of all)) (sym is);
-  sound = sound;
-}
 
 module _ (second twice : Bool) (all rest next : List FileKey) (key : FileKey) (seen : Seen) (rules : Entries KeyRule) (so_far : KeysRead second all rest seen rules) (is : rest ≡ key ∷ next) (known : twice ≡ is_some (item_at (folded_name key.0) seen)) where
   -- the next key has these checks

@@ -1,6 +1,6 @@
 pub mod Laws
 mod Comparing
-mod Entries
+pub mod Entries
 mod Files
 mod Finding
 mod Fitting
@@ -8,7 +8,7 @@ mod Further
 mod Inferring
 mod Keys
 mod KnownRuns
-mod Listed
+pub mod Listed
 mod OfSets
 mod Passing
 mod PutRules

@@ -99,8 +99,8 @@ fn read_file(alloc: Global, file: &Value) -> Result<Schema, SchemaAnswer>
     })
 }
 
-/// The schema that a file stands for: the built-in keys, with the file's keys in place of those of
-/// the same name, and the file's shapes. The schema is sound. `Refused` with the file's first fault
+/// The schema that a file stands for: the built-in keys, replaced by the file's keys of equal names, and the
+/// file's shapes. The schema is sound. `Refused` with the file's first fault
 /// exactly where it has one: first come those of the file as a whole, then key by key in the order
 /// of their names, then shape by shape. `NoMemory` only where there is no memory.
 pub fn read_schema(alloc: Global, bytes: &[u8]) -> Result<Schema, SchemaAnswer>

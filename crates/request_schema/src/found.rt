@@ -58,7 +58,7 @@ fn add_statements<'a>(
     Ok(())
 }
 
-// Adds the uses of documents, of which the first has this number.
+// Adds the uses of documents. The first document has this number.
 fn add_documents<'a>(
     second: bool,
     from: usize,
@@ -77,7 +77,7 @@ fn add_documents<'a>(
     Ok(())
 }
 
-// The same of guards.
+// Adds the uses of guards.
 fn add_guards<'a>(
     second: bool,
     from: usize,

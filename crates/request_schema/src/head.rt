@@ -53,7 +53,7 @@ fn has_keys(file: &Value) -> bool
     }
 }
 
-// Whether the value is an object of words, each with a string.
+// Whether the value is an object in which some of these names stand, no other, and each has a string.
 fn are_word_shapes(shapes: &Value) -> bool
     ensures { result ≡ are_word_shapes (view shapes.now) }
 {

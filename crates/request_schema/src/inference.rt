@@ -111,8 +111,8 @@ fn with_further(
 /// The schema of a run on one set or on two under named keys: each further key that a set uses has
 /// a kind and a number of values by all operators on it. It fits the sets, and is sound where the
 /// named schema is. `Refused` exactly where the sets have a condition that no such schema can
-/// answer, with the first one in reading order; of an operator that the key's kind doesn't take
-/// before that of one without a prefix on several values. `NoMemory` only where there is no memory.
+/// answer, with the first one in reading order. An operator that the key's kind doesn't take comes
+/// before one without a prefix on several values. `NoMemory` only where there is no memory.
 pub fn infer(
     alloc: Global,
     named: &Schema,

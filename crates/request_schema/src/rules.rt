@@ -304,7 +304,7 @@ fn read_values(
     Ok(Some(listed))
 }
 
-/// The rule of a key, of which it is known whether it is one of the file's earlier keys.
+/// The rule of a key. The caller knows whether it is one of the file's earlier keys.
 pub(crate) fn read_rule(
     alloc: Global,
     second: bool,

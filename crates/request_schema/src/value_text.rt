@@ -37,9 +37,8 @@ fn bytes_written(alloc: Global, text: &str) -> Result<Option<ByteList>, NoMemory
     }
 }
 
-/// The value of the kind that a text writes, or none: a text is itself, a truth value is `true` or
-/// `false`, a number is of the decimal form, an address of its form, and bytes are base64 with
-/// padding.
+/// The value of the kind that a text writes, or none. A text is itself, a truth value is `true` or
+/// `false`, a number has the decimal form, an address its form, and bytes are base64 with padding.
 pub fn value_written(alloc: Global, kind: Kind, text: &str) -> Result<Option<Value>, NoMemory>
     ensures value { IfOk result (λ value. value ≡ value_written kind text.now) }
     ensures kind { IfOk result (λ value. IfSome value (IsOfKind kind)) }

@@ -7,13 +7,15 @@ use Rattle.run_inputs.specs.declared.printed.EarlyEnd.{EarlyEnd}
 use Rattle.run_inputs.specs.declared.printed.EarlyEnd.TheVariants.{Answered, NoMemory}
 use Rattle.run_inputs.specs.declared.printed.Printed.{Printed}
 use Rattle.run_inputs.specs.declared.role.Role.TheVariants as role
-use Rattle.run_inputs.specs.Printing.{IfAnswered}
+use Rattle.run_inputs.specs.declared.status.Status.{Status}
+use Rattle.run_inputs.specs.declared.status.Status.TheVariants as status
+use Rattle.run_inputs.specs.Printing.{IfAnswered, IsOfText}
 use Rattle.run_inputs.specs.declared.one_set.OneSet.{OneSet}
 use Rattle.run_inputs.specs.declared.pair.Pair.{Pair}
 use Rattle.run_inputs.specs.declared.refusal.Refusal.{Refusal}
 use Rattle.run_inputs.specs.declared.refusal.Refusal.TheVariants as refusal
-use Rattle.run_inputs.specs.OneSets.{IsOneSetRefusal, IsOneSetOf, SomeOneSet, SomeSet}
-use Rattle.run_inputs.specs.Pairs.{Contents, IsPairRefusal, IsPairOf, SomeSets, SomePair}
+use Rattle.run_inputs.specs.OneSets.{IsOneSetRefusal, IsOneSetOf, SomeOneSet, SomeReadSet}
+use Rattle.run_inputs.specs.Pairs.{Contents, IsPairRefusal, IsPairOf, SomeReadSets, SomePair}
 use Rattle.run_inputs.specs.Refusals.{PrintsRefusal, IsRefusedBy}
 use Rattle.run_inputs.specs.Standing.{NamesSchema, SchemaFails}
 
@@ -25,6 +27,14 @@ refused_weaker Q R weaker p (r, is, told) = (r, weaker r is, told)
 pub refused_by : (e : EarlyEnd) (r : Refusal) (Q : Refusal → Type 0) → Q r → IfAnswered e (PrintsRefusal r) → IfAnswered e (IsRefusedBy Q)
 refused_by (Answered p) r Q is told = (r, is, told)
 refused_by NoMemory r Q is told = tt
+
+-- the status of a text that was written whole, where that one is printed
+pub with_status : (p : Printed) (s : Status) → IsOfText s → p.status ≡ s → IsOfText p.status
+with_status p s of is = subst IsOfText (sym is) of
+
+-- a refusal is such a text
+pub refusal_with : (Q : Refusal → Type 0) (p : Printed) → IsRefusedBy Q p → IsOfText p.status
+refusal_with Q p (r, is, told) = with_status p status.Refused tt told.1
 
 -- what holds of the sets that files stand for, under the schema of their run
 pub of_pair : (c : Contents) (pair : Pair) (P : Pair → Type 0) → IsPairOf c pair → P pair → SomePair c P
@@ -58,7 +68,7 @@ no_schema_fault None named fault stands refused = absurd refused
 no_schema_fault (Some bytes) named fault stands refused = cc
 
 -- what holds of the schema and the sets that files stand for holds of those that they stand for too
-pub of_same : (c : Contents) (P Q : Schema → PolicySet → PolicySet → Type 0) (f : SomeSets c P) (g : SomeSets c Q) → Q f.named f.one f.two
+pub of_same : (c : Contents) (P Q : Schema → PolicySet → PolicySet → Type 0) (f : SomeReadSets c P) (g : SomeReadSets c Q) → Q f.named f.one f.two
 of_same c P Q f g =
     let named : g.named ≡ f.named = same_schema c.schema g.named f.named g.schema_stands f.schema_stands in
     let f1 = f.first_stands in
@@ -71,7 +81,7 @@ of_same c P Q f g =
     (subst (λ (a : PolicySet). Q g.named a f.two) one (subst (λ (b : PolicySet). Q g.named g.one b) two g.holds))
 
 -- the same of one set
-pub of_same_set : (set_bytes : List ℕ) (schema_bytes : Option (List ℕ)) (P Q : Schema → PolicySet → Type 0) (f : SomeSet set_bytes schema_bytes P) (g : SomeSet set_bytes schema_bytes Q) → Q f.named f.set
+pub of_same_set : (set_bytes : List ℕ) (schema_bytes : Option (List ℕ)) (P Q : Schema → PolicySet → Type 0) (f : SomeReadSet set_bytes schema_bytes P) (g : SomeReadSet set_bytes schema_bytes Q) → Q f.named f.set
 of_same_set set_bytes schema_bytes P Q f g =
     let named : g.named ≡ f.named = same_schema schema_bytes g.named f.named g.schema_stands f.schema_stands in
     let f1 = f.set_stands in
@@ -82,15 +92,15 @@ of_same_set set_bytes schema_bytes P Q f g =
 -- ---- what stands for sets isn't refused for standing for none
 
 pub no_pair_fails : (c : Contents) (P : Pair → Type 0) → SomePair c P → (r : Refusal) → IsPairRefusal c r → ⊥
-no_pair_fails c P d (refusal.NoSchema fault) v = no_schema_fault c.schema d.named fault d.schema_stands v
-no_pair_fails c P d (refusal.NoSet role.First fault) (schema, refused) = let stands = d.first_stands in cc
-no_pair_fails c P d (refusal.NoSet role.Second fault) (schema, set, refused) = let stands = d.second_stands in cc
-no_pair_fails c P d (refusal.NoSet role.Set fault) v = v
-no_pair_fails c P d (refusal.NoSet role.Schema fault) v = v
-no_pair_fails c P d (refusal.NoSet role.Request fault) v = v
-no_pair_fails c P d (refusal.NoSet role.Proof fault) v = v
-no_pair_fails c P d (refusal.NoSet role.Zone fault) v = v
-no_pair_fails c P d (refusal.NoRun file fault) v =
+no_pair_fails c P d (refusal.BadSchema fault) v = no_schema_fault c.schema d.named fault d.schema_stands v
+no_pair_fails c P d (refusal.BadSet role.First fault) (schema, refused) = let stands = d.first_stands in cc
+no_pair_fails c P d (refusal.BadSet role.Second fault) (schema, set, refused) = let stands = d.second_stands in cc
+no_pair_fails c P d (refusal.BadSet role.Set fault) v = v
+no_pair_fails c P d (refusal.BadSet role.Schema fault) v = v
+no_pair_fails c P d (refusal.BadSet role.Request fault) v = v
+no_pair_fails c P d (refusal.BadSet role.Proof fault) v = v
+no_pair_fails c P d (refusal.BadSet role.Zone fault) v = v
+no_pair_fails c P d (refusal.BadCondition file fault) v =
     let refused = (of_same c _ _ d v).1 in
     let answered = d.holds.answered in
     cc
@@ -98,9 +108,9 @@ no_pair_fails c P d refusal.TooManyTests v = v
 no_pair_fails c P d refusal.TooManyPieces v = v
 
 pub no_one_fails : (set : List ℕ) (schema : Option (List ℕ)) (P : OneSet → Type 0) → SomeOneSet set schema P → (r : Refusal) → IsOneSetRefusal set schema r → ⊥
-no_one_fails set schema P d (refusal.NoSchema fault) v = no_schema_fault schema d.named fault d.schema_stands v
-no_one_fails set schema P d (refusal.NoSet file fault) (is, has, refused) = let stands = d.set_stands in cc
-no_one_fails set schema P d (refusal.NoRun file fault) v =
+no_one_fails set schema P d (refusal.BadSchema fault) v = no_schema_fault schema d.named fault d.schema_stands v
+no_one_fails set schema P d (refusal.BadSet file fault) (is, has, refused) = let stands = d.set_stands in cc
+no_one_fails set schema P d (refusal.BadCondition file fault) v =
     let refused = (of_same_set set schema _ _ d v).1 in
     let answered = d.holds.answered in
     cc

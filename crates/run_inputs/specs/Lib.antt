@@ -1,5 +1,4 @@
 pub mod CertificateLines
-pub mod ClosedQueries
 pub mod FileLines
 pub mod Files
 pub mod Limits

@@ -8,7 +8,7 @@ use Rattle.request_schema.specs.RunSchemas.{FirstInferFault, infer_fault, schema
 use Rattle.run_inputs.specs.declared.role.Role.TheVariants.{Set as set_file}
 use Rattle.run_inputs.specs.declared.one_set.OneSet.{OneSet}
 use Rattle.run_inputs.specs.declared.refusal.Refusal.{Refusal}
-use Rattle.run_inputs.specs.declared.refusal.Refusal.TheVariants.{NoSchema, NoSet, NoRun}
+use Rattle.run_inputs.specs.declared.refusal.Refusal.TheVariants.{BadSchema, BadSet, BadCondition}
 use Rattle.run_inputs.specs.Standing.{HasSchema, NamesSchema, SchemaFails, StandsFor}
 
 -- the schema can answer for the set, and there are valid requests under it
@@ -28,13 +28,13 @@ pub record SomeSetRun (named : Schema) (set : PolicySet) (P : OneSet → Type 0)
   pub holds : P (one_of named set)
 
 -- a set under the schema of its run
-abbrev pub IsOneRunOf : Schema → PolicySet → OneSet → Type 0
-IsOneRunOf named set one = SomeSetRun named set (λ o. o ≡ one)
+abbrev pub IsSetRunOf : Schema → PolicySet → OneSet → Type 0
+IsSetRunOf named set one = SomeSetRun named set (λ o. o ≡ one)
 
 -- the first condition of a set that the run has no schema for
-abbrev pub IsOneRunRefusal : Schema → PolicySet → Refusal → Type 0
-IsOneRunRefusal named set (NoRun role fault) = (role ≡ set_file) × FirstInferFault named set None fault
-IsOneRunRefusal named set _ = ⊥
+abbrev pub IsSetRunRefusal : Schema → PolicySet → Refusal → Type 0
+IsSetRunRefusal named set (BadCondition role fault) = (role ≡ set_file) × FirstInferFault named set None fault
+IsSetRunRefusal named set _ = ⊥
 
 -- ---- files
 
@@ -46,8 +46,8 @@ pub record SetContents : Type 0 where
 abbrev pub set_contents : List ℕ → Option (List ℕ) → SetContents
 set_contents set schema = record { set = set; schema = schema }
 
--- the files, of a set and of a schema where one is named, stand for a schema and for a set, of which this holds
-pub record SomeSet (set_bytes : List ℕ) (schema_bytes : Option (List ℕ)) (P : Schema → PolicySet → Type 0) : Type 0 where
+-- the files, of a set and of a schema where one is named, stand for a schema and a set that satisfy P
+pub record SomeReadSet (set_bytes : List ℕ) (schema_bytes : Option (List ℕ)) (P : Schema → PolicySet → Type 0) : Type 0 where
   pub named : Schema
   pub set : PolicySet
   pub schema_stands : NamesSchema schema_bytes named
@@ -56,7 +56,7 @@ pub record SomeSet (set_bytes : List ℕ) (schema_bytes : Option (List ℕ)) (P 
 
 -- of the set that the files stand for, under the schema of its run, this holds
 abbrev pub SomeOneSet : List ℕ → Option (List ℕ) → (OneSet → Type 0) → Type 0
-SomeOneSet set schema P = SomeSet set schema (λ named one. SomeSetRun named one P)
+SomeOneSet set schema P = SomeReadSet set schema (λ named one. SomeSetRun named one P)
 
 -- the set that files stand for
 abbrev pub IsOneSetOf : List ℕ → Option (List ℕ) → OneSet → Type 0
@@ -65,7 +65,7 @@ IsOneSetOf set schema one = SomeOneSet set schema (λ o. o ≡ one)
 -- why files stand for no set: the first fault of the schema's, then of the set's; then the first condition of the set that the run has
 -- no schema for
 abbrev pub IsOneSetRefusal : List ℕ → Option (List ℕ) → Refusal → Type 0
-IsOneSetRefusal set schema (NoSchema fault) = SchemaFails schema fault
-IsOneSetRefusal set schema (NoSet role fault) = (role ≡ set_file) × HasSchema schema × (set_from set ≡ Err fault)
-IsOneSetRefusal set schema (NoRun role fault) = SomeSet set schema (λ named one. IsOneRunRefusal named one (NoRun role fault))
+IsOneSetRefusal set schema (BadSchema fault) = SchemaFails schema fault
+IsOneSetRefusal set schema (BadSet role fault) = (role ≡ set_file) × HasSchema schema × (set_from set ≡ Err fault)
+IsOneSetRefusal set schema (BadCondition role fault) = SomeReadSet set schema (λ named one. IsSetRunRefusal named one (BadCondition role fault))
 IsOneSetRefusal set schema _ = ⊥

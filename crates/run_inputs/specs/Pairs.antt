@@ -10,7 +10,7 @@ use Rattle.run_inputs.specs.declared.role.Role.{Role}
 use Rattle.run_inputs.specs.declared.role.Role.TheVariants.{First, Second}
 use Rattle.run_inputs.specs.declared.pair.Pair.{Pair}
 use Rattle.run_inputs.specs.declared.refusal.Refusal.{Refusal}
-use Rattle.run_inputs.specs.declared.refusal.Refusal.TheVariants.{NoSchema, NoSet, NoRun}
+use Rattle.run_inputs.specs.declared.refusal.Refusal.TheVariants.{BadSchema, BadSet, BadCondition}
 use Rattle.run_inputs.specs.Standing.{HasSchema, HasSet, NamesSchema, SchemaFails, StandsFor}
 
 -- two sets, under the schema of their run
@@ -30,7 +30,7 @@ abbrev pub pair_of : Schema → PolicySet → PolicySet → Pair
 pair_of named one two = pair_of_sets (schema_of_run named one (Some two)) one two
 
 -- no condition of the two sets is refused under the named keys, and of the sets under the schema of their run this holds
-pub record SomeRun (named : Schema) (one two : PolicySet) (P : Pair → Type 0) : Type 0 where
+pub record SomePairRun (named : Schema) (one two : PolicySet) (P : Pair → Type 0) : Type 0 where
   pub answered : infer_fault named one (Some two) ≡ None
   pub holds : P (pair_of named one two)
 
@@ -39,13 +39,13 @@ abbrev pub infer_role : InferFault → Role
 infer_role fault = (if fault.second then Second else First)
 
 -- two sets under the schema of their run
-abbrev pub IsRunOf : Schema → PolicySet → PolicySet → Pair → Type 0
-IsRunOf named one two pair = SomeRun named one two (λ p. p ≡ pair)
+abbrev pub IsPairRunOf : Schema → PolicySet → PolicySet → Pair → Type 0
+IsPairRunOf named one two pair = SomePairRun named one two (λ p. p ≡ pair)
 
 -- the first condition of two sets that the run has no schema for
-abbrev pub IsRunRefusal : Schema → PolicySet → PolicySet → Refusal → Type 0
-IsRunRefusal named one two (NoRun role fault) = (role ≡ infer_role fault) × FirstInferFault named one (Some two) fault
-IsRunRefusal named one two _ = ⊥
+abbrev pub IsPairRunRefusal : Schema → PolicySet → PolicySet → Refusal → Type 0
+IsPairRunRefusal named one two (BadCondition role fault) = (role ≡ infer_role fault) × FirstInferFault named one (Some two) fault
+IsPairRunRefusal named one two _ = ⊥
 
 -- ---- files
 
@@ -58,8 +58,8 @@ pub record Contents : Type 0 where
 abbrev pub contents : List ℕ → List ℕ → Option (List ℕ) → Contents
 contents first second schema = record { first = first; second = second; schema = schema }
 
--- the files stand for a schema and for two sets, of which this holds
-pub record SomeSets (c : Contents) (P : Schema → PolicySet → PolicySet → Type 0) : Type 0 where
+-- the files stand for a schema and two sets that satisfy P
+pub record SomeReadSets (c : Contents) (P : Schema → PolicySet → PolicySet → Type 0) : Type 0 where
   pub named : Schema
   pub one : PolicySet
   pub two : PolicySet
@@ -70,7 +70,7 @@ pub record SomeSets (c : Contents) (P : Schema → PolicySet → PolicySet → T
 
 -- of the pair that the files stand for this holds
 abbrev pub SomePair : Contents → (Pair → Type 0) → Type 0
-SomePair c P = SomeSets c (λ named one two. SomeRun named one two P)
+SomePair c P = SomeReadSets c (λ named one two. SomePairRun named one two P)
 
 -- the pair that files stand for
 abbrev pub IsPairOf : Contents → Pair → Type 0
@@ -79,8 +79,8 @@ IsPairOf c pair = SomePair c (λ p. p ≡ pair)
 -- why files stand for no pair: the first that stands for nothing, with its first fault, in the order schema, first set, second set;
 -- then the first condition of the two sets that the run has no schema for
 abbrev pub IsPairRefusal : Contents → Refusal → Type 0
-IsPairRefusal c (NoSchema fault) = SchemaFails c.schema fault
-IsPairRefusal c (NoSet First fault) = HasSchema c.schema × (set_from c.first ≡ Err fault)
-IsPairRefusal c (NoSet Second fault) = HasSchema c.schema × HasSet c.first × (set_from c.second ≡ Err fault)
-IsPairRefusal c (NoRun role fault) = SomeSets c (λ named one two. IsRunRefusal named one two (NoRun role fault))
+IsPairRefusal c (BadSchema fault) = SchemaFails c.schema fault
+IsPairRefusal c (BadSet First fault) = HasSchema c.schema × (set_from c.first ≡ Err fault)
+IsPairRefusal c (BadSet Second fault) = HasSchema c.schema × HasSet c.first × (set_from c.second ≡ Err fault)
+IsPairRefusal c (BadCondition role fault) = SomeReadSets c (λ named one two. IsPairRunRefusal named one two (BadCondition role fault))
 IsPairRefusal c _ = ⊥

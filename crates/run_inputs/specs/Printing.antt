@@ -16,7 +16,7 @@ abbrev pub IfAnswered : EarlyEnd → (Printed → Type 0) → Type 0
 IfAnswered (Answered p) P = P p
 IfAnswered NoMemory P = ⊤
 
--- a value of which this holds, or an early end of which what is printed is so
+-- a value that satisfies P, or an early end that prints what satisfies Q
 abbrev pub OrAnswered : {X : Type 0} → Result X EarlyEnd → (X → Type 0) → (Printed → Type 0) → Type 0
 OrAnswered (Ok x) P Q = P x
 OrAnswered (Err e) P Q = IfAnswered e Q
@@ -31,7 +31,7 @@ IsPrintedOf (Ok p) result = result ≡ Ok p
 IsPrintedOf (Err (Answered p)) result = result ≡ Ok p
 IsPrintedOf (Err NoMemory) result = result ≡ Err alloc_error
 
--- a status that a text has; the others tell that none was written whole
+-- the status of a text that was written whole; the others say that none was
 abbrev pub IsOfText : Status → Type 0
 IsOfText WriteFault = ⊥
 IsOfText no_memory = ⊥

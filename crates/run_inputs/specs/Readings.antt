@@ -47,7 +47,7 @@ file role name = record { role = role; name = name }
 abbrev pub AsksFiles : List FileName → Reading → Type 0
 AsksFiles files r = AsksFor r.asked_before (map (λ f. f.name) files) r.asked
 
--- the same, and no file was failed at: the name of the folder's last fault is as it was
+-- these files were asked for, and no file was failed at: the name of the folder's last fault is as it was
 abbrev pub IsCalm : List FileName → Reading → Type 0
 IsCalm files r = (r.last ≡ r.last_before) × AsksFiles files r
 

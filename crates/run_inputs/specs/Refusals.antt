@@ -19,7 +19,7 @@ use Rattle.run_inputs.specs.declared.status.Status.TheVariants.{Refused}
 use Rattle.run_inputs.specs.FileLines.{role_word}
 use Rattle.run_inputs.specs.Printing.{PrintsText}
 use Rattle.run_inputs.specs.declared.refusal.Refusal.{Refusal}
-use Rattle.run_inputs.specs.declared.refusal.Refusal.TheVariants.{NoSchema, NoSet, NoRun, TooManyTests, TooManyPieces}
+use Rattle.run_inputs.specs.declared.refusal.Refusal.TheVariants.{BadSchema, BadSet, BadCondition, TooManyTests, TooManyPieces}
 use Rattle.run_inputs.specs.Parts.{element_text}
 
 abbrev pub code_word : PolicyCode → List ℕ
@@ -79,9 +79,9 @@ schema_text fault = schema_word fault.code ++ codes ": " ++ element_text fault.e
 
 -- the line of a refusal
 unfoldable pub refusal_text : Refusal → List ℕ
-refusal_text (NoSet role fault) = codes "refused: " ++ role_word role ++ codes ": " ++ fault_text fault ++ codes "\n"
-refusal_text (NoSchema fault) = codes "refused: schema: " ++ schema_text fault ++ codes "\n"
-refusal_text (NoRun role fault) = codes "refused: " ++ role_word role ++ codes ": " ++ infer_text fault ++ codes "\n"
+refusal_text (BadSet role fault) = codes "refused: " ++ role_word role ++ codes ": " ++ fault_text fault ++ codes "\n"
+refusal_text (BadSchema fault) = codes "refused: schema: " ++ schema_text fault ++ codes "\n"
+refusal_text (BadCondition role fault) = codes "refused: " ++ role_word role ++ codes ": " ++ infer_text fault ++ codes "\n"
 refusal_text TooManyTests = codes "refused: query: P17 Limit: document 0, statement 0, \"tests\"\n"
 refusal_text TooManyPieces = codes "refused: query: P17 Limit: document 0, statement 0, \"pieces\"\n"
 
@@ -89,6 +89,6 @@ refusal_text TooManyPieces = codes "refused: query: P17 Limit: document 0, state
 abbrev pub PrintsRefusal : Refusal → Printed → Type 0
 PrintsRefusal refusal p = PrintsText (refusal_text refusal) Refused p
 
--- the line of a refusal of which this holds is printed
+-- the line of a refusal that satisfies Q is printed
 abbrev pub IsRefusedBy : (Refusal → Type 0) → Printed → Type 0
 IsRefusedBy Q p = (refusal : Refusal) × Q refusal × PrintsRefusal refusal p

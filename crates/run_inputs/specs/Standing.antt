@@ -8,7 +8,7 @@ use Rattle.request_schema.specs.SchemaFiles.{schema_from}
 use Rattle.request_schema.specs.declared.schema_fault.SchemaFault.{SchemaFault}
 use Rattle.run_inputs.specs.declared.role.Role.{Role}
 use Rattle.run_inputs.specs.declared.refusal.Refusal.{Refusal}
-use Rattle.run_inputs.specs.declared.refusal.Refusal.TheVariants.{NoSchema, NoSet}
+use Rattle.run_inputs.specs.declared.refusal.Refusal.TheVariants.{BadSchema, BadSet}
 
 -- the file stands for this set
 abbrev pub StandsFor : List ℕ → PolicySet → Type 0
@@ -32,11 +32,11 @@ abbrev pub HasSet : List ℕ → Type 0
 HasSet bytes = (set : PolicySet) × StandsFor bytes set
 
 -- why a schema file stands for none
-abbrev pub IsSchemaRefusal : Option (List ℕ) → Refusal → Type 0
-IsSchemaRefusal file (NoSchema fault) = SchemaFails file fault
-IsSchemaRefusal file _ = ⊥
+abbrev pub IsSchemaFileRefusal : Option (List ℕ) → Refusal → Type 0
+IsSchemaFileRefusal file (BadSchema fault) = SchemaFails file fault
+IsSchemaFileRefusal file _ = ⊥
 
 -- why the role's file stands for no set
-abbrev pub IsSetRefusal : Role → List ℕ → Refusal → Type 0
-IsSetRefusal role bytes (NoSet r fault) = (r ≡ role) × (set_from bytes ≡ Err fault)
-IsSetRefusal role bytes _ = ⊥
+abbrev pub IsSetFileRefusal : Role → List ℕ → Refusal → Type 0
+IsSetFileRefusal role bytes (BadSet r fault) = (r ≡ role) × (set_from bytes ≡ Err fault)
+IsSetFileRefusal role bytes _ = ⊥

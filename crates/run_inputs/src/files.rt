@@ -58,7 +58,7 @@ pub fn read_file<F: Folder>(
     }
 }
 
-/// The same, where a name is given; otherwise none, and the folder isn't asked.
+/// As `read_file` where a name is given; otherwise none, and the folder isn't asked.
 pub fn read_if_named<F: Folder>(
     alloc: Global,
     folder: &mut F,

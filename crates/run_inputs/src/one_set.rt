@@ -2,7 +2,7 @@
 ghost use Rattle.std.specs.Prelude.{IfOk, option_map};
 ghost use Rattle.policy_model.specs.Soundness.{IsSound, SchemaIsSound};
 ghost use Rattle.run_inputs.specs.Printing.{OrAnswered};
-ghost use Rattle.run_inputs.specs.OneSets.{FitsItsSchema, IsOneRunRefusal, IsOneSetRefusal, IsOneRunOf, IsOneSetOf};
+ghost use Rattle.run_inputs.specs.OneSets.{FitsItsSchema, IsSetRunRefusal, IsOneSetRefusal, IsSetRunOf, IsOneSetOf};
 ghost use Rattle.run_inputs.specs.Refusals.{IsRefusedBy};
 
 use crate::printed::EarlyEnd;
@@ -24,14 +24,14 @@ pub struct OneSet {
 pub fn run_one(alloc: Global, named: &Schema, set: PolicySet) -> Result<OneSet, EarlyEnd>
     requires sound { SchemaIsSound named.now }
     requires set_sound { IsSound set }
-    ensures run { OrAnswered result (IsOneRunOf named.now set)
-        (IsRefusedBy (IsOneRunRefusal named.now set)) }
+    ensures run { OrAnswered result (IsSetRunOf named.now set)
+        (IsRefusedBy (IsSetRunRefusal named.now set)) }
     ensures fits { IfOk result FitsItsSchema }
 {
     match infer(alloc, named, &set, None) {
         Ok(schema) => Ok(OneSet { schema, set }),
         Err(InferAnswer::Refused(fault)) => {
-            Err(refused(alloc, Refusal::NoRun(Role::Set, fault)))
+            Err(refused(alloc, Refusal::BadCondition(Role::Set, fault)))
         }
         Err(InferAnswer::NoMemory) => Err(EarlyEnd::NoMemory),
     }

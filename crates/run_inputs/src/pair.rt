@@ -2,7 +2,7 @@
 ghost use Rattle.std.specs.Prelude.{◌≡◌, IfOk, option_map};
 ghost use Rattle.policy_model.specs.Soundness.{IsSound, SchemaIsSound};
 ghost use Rattle.run_inputs.specs.Printing.{OrAnswered};
-ghost use Rattle.run_inputs.specs.Pairs.{IsFitting, IsPairRefusal, IsRunRefusal, IsPairOf, IsRunOf, contents, infer_role};
+ghost use Rattle.run_inputs.specs.Pairs.{IsFitting, IsPairRefusal, IsPairRunRefusal, IsPairOf, IsPairRunOf, contents, infer_role};
 ghost use Rattle.run_inputs.specs.Refusals.{IsRefusedBy};
 
 use crate::printed::EarlyEnd;
@@ -42,8 +42,8 @@ pub fn run_pair(
     requires sound { SchemaIsSound named.now }
     requires first_sound { IsSound first }
     requires second_sound { IsSound second }
-    ensures run { OrAnswered result (IsRunOf named.now first second)
-        (IsRefusedBy (IsRunRefusal named.now first second)) }
+    ensures run { OrAnswered result (IsPairRunOf named.now first second)
+        (IsRefusedBy (IsPairRunRefusal named.now first second)) }
     ensures fitting { IfOk result IsFitting }
 {
     match infer(alloc, named, &first, Some(&second)) {
@@ -53,13 +53,13 @@ pub fn run_pair(
             second,
         }),
         Err(InferAnswer::Refused(fault)) => {
-            Err(refused(alloc, Refusal::NoRun(infer_role(&fault), fault)))
+            Err(refused(alloc, Refusal::BadCondition(infer_role(&fault), fault)))
         }
         Err(InferAnswer::NoMemory) => Err(EarlyEnd::NoMemory),
     }
 }
 
-/// The pair that files stand for, those of two sets and that of a schema where one is named, or the line on
+/// The pair that files stand for, those of two sets and that of a schema where one is named. Otherwise the line on
 /// the first fault: of the schema, then of the first set, then of the second, then of both together.
 pub fn read_pair(
     alloc: Global,

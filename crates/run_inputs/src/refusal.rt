@@ -17,11 +17,11 @@ use std::alloc::{AllocError, Global};
 #[derive(Drop)]
 pub enum Refusal {
     /// The schema file stands for no schema: its first fault.
-    NoSchema(SchemaFault),
+    BadSchema(SchemaFault),
     /// A file stands for no set of policies: its first fault.
-    NoSet(Role, PolicyFault),
+    BadSet(Role, PolicyFault),
     /// The first condition that no schema of the run can answer, and the role of its set.
-    NoRun(Role, InferFault),
+    BadCondition(Role, InferFault),
     /// The query has more than 1,000 different tests.
     TooManyTests,
     /// The patterns of the query's tests have more than 65,536 pieces together.
@@ -33,13 +33,13 @@ fn refusal_text(alloc: Global, refusal: &Refusal) -> Result<String, AllocError>
     ensures { IfOk result (λ s. string_bytes s ≡ refusal_text refusal.now) }
 {
     match refusal {
-        Refusal::NoSet(role, fault) => {
+        Refusal::BadSet(role, fault) => {
             refused_line(alloc, role_word(*role), fault_text(alloc, fault)?.as_str())
         }
-        Refusal::NoSchema(fault) => {
+        Refusal::BadSchema(fault) => {
             refused_line(alloc, "schema", schema_text(alloc, fault)?.as_str())
         }
-        Refusal::NoRun(role, fault) => {
+        Refusal::BadCondition(role, fault) => {
             refused_line(alloc, role_word(*role), infer_text(alloc, fault)?.as_str())
         }
         Refusal::TooManyTests => String::from_str(

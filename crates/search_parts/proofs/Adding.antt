@@ -1,12 +1,9 @@
 -- A path's answers to the tests of a core, test by test.
 use Rattle.std.proofs.Common.{◌≡◌, ℕ, [], ◌∷◌, ◌++◌, Bool, Option, Some, None, get_or, Contains, IsSome, OnOk, Result, Ok, Err, refl, sym, ◌∙◌, subst, inl, inr}
-use Rattle.std.proofs.lemmas.List.Elements.{All-nil, All-push, Contains-append_left, Contains-push}
+use Rattle.std.proofs.lemmas.List.Elements.{All-push, Contains-append_left, Contains-push}
 use Rattle.formula_tree.specs.Answers.{Answers, answer_of}
 use Rattle.formula_tree.proofs.Laws.{answer_of-besides, answer_of-last, cases_eq}
-use Rattle.search_parts.specs.Needs.{AddsAnswer, AreAnswersTo}
-
-pub answers-none : (path : Answers) → AreAnswersTo [] path []
-answers-none path = record { there = λ n b is. absurd (cc); only = λ n b is. absurd (cc); all = All-nil (λ n. answer_of path n ≡ answer_of [] n) }
+use Rattle.search_parts.specs.Needs.{AddsAnswer}
 
 module _ (path : Answers) (test : ℕ) (old : Answers) where
   -- the path leaves the test open, or its answer is there

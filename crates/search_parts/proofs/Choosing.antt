@@ -27,9 +27,6 @@ use Rattle.search_parts.proofs.Omitting.{omitted-none, omitted-other, omitted-wi
 le-test : (a b : ℕ) → a ≤ b → nat_le a b ≡ true
 le-test a b h = grind (arith, nat_tests)
 
-test-le : (a b : ℕ) → nat_le a b ≡ true → a ≤ b
-test-le a b h = grind (arith, nat_tests)
-
 abbrev Below : ℕ → ℕ × Bool → Type 0
 Below n a = a.0 < n
 

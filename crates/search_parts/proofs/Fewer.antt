@@ -6,26 +6,22 @@ use Rattle.std.proofs.lemmas.Option.{get_or_from_slice_get, slice_get_within}
 use Rattle.std.specs.declared.rc.Rc.{Rc}
 use Rattle.formula_tree.specs.Answers.{Answers, Contained, IsDistinct, answer_of}
 use Rattle.formula_tree.specs.Runs.{path_with}
-use Rattle.formula_tree.specs.Trees.{Tree, tree_of}
 use Rattle.formula_tree.specs.Values.{value}
-use Rattle.formula_tree.specs.declared.value.Three.TheVariants.{No}
 use Rattle.formula_tree.proofs.Laws.{answer_of-besides, cases_eq, contained-answered, contained-both}
-use Rattle.cnf_clauses.specs.Literals.{Clause}
-use Rattle.cnf_clauses.specs.Replays.{Replays}
 use Rattle.nogoods.specs.Hits.{answers_at}
 use Rattle.slot_theory.specs.declared.outcome.SlotProof.{SlotProof}
 use Rattle.slot_theory.proofs.Laws.{accepts_alike}
 use Rattle.refute_check.specs.declared.refutation.Refutation.{Refutation, the_lemmas}
-use Rattle.refute_check.specs.declared.refutation.Refutation.TheVariants.{Split, ByValue, BySlot, ByClauses, Label, Reuse}
+use Rattle.refute_check.specs.declared.refutation.Refutation.TheVariants.{Split, BySlot, Label}
 use Rattle.refute_check.specs.Labels.{IsAnswered}
-use Rattle.refute_check.specs.Proofs.{Proof, by_clauses, by_slot, by_value, label, proof_of, reuse, split}
+use Rattle.refute_check.specs.Proofs.{Proof, by_slot, by_value, label, proof_of, split}
 use Rattle.search_parts.specs.declared.part.Needs.{Needs}
 use Rattle.search_parts.specs.declared.part.Needs.TheVariants.{Just, Open}
 use Rattle.search_parts.specs.declared.part.Part.{Part}
 use Rattle.search_parts.specs.Making.{part_proof}
 use Rattle.search_parts.specs.Needs.{AreNeeds, NeedsJust}
 use Rattle.search_parts.specs.Parts.{IsStoredIn}
-use Rattle.search_parts.specs.Shortening.{ClosesFor, HasClauses, IsNeedless, IsStillClosed}
+use Rattle.search_parts.specs.Shortening.{ClosesFor, IsNeedless, IsStillClosed}
 use Rattle.search_parts.specs.declared.shortening.Shortening.{Shortening}
 use Rattle.search_parts.proofs.Closing.{core-within, open-in}
 
@@ -83,20 +79,11 @@ stored-in store n answers path ok at distinct says =
 pub of-split : (n : ℕ) (y z : Rc Refutation Global) (r : Refutation) → r ≡ Split n y z → proof_of r ≡ split n (proof_of y.value) (proof_of z.value)
 of-split n y z r is = ap proof_of is ∙ search (rules, the_lemmas)
 
-of-value : (r : Refutation) → r ≡ ByValue → proof_of r ≡ by_value
-of-value r is = ap proof_of is ∙ search (rules, the_lemmas)
-
 of-slot : (core : List ℕ) (proof : Rc SlotProof Global) (r : Refutation) → r ≡ BySlot core proof → proof_of r ≡ by_slot core proof.value
 of-slot core proof r is = ap proof_of is ∙ search (rules, the_lemmas)
 
-of-clauses : (hints : List ℕ) (r : Refutation) → r ≡ ByClauses hints → proof_of r ≡ by_clauses hints
-of-clauses hints r is = ap proof_of is ∙ search (rules, the_lemmas)
-
 pub of-label : (n : ℕ) (answers : Answers) (inner : Rc Refutation Global) (r : Refutation) → r ≡ Label n answers inner → proof_of r ≡ label n answers (proof_of inner.value)
 of-label n answers inner r is = ap proof_of is ∙ search (rules, the_lemmas)
-
-of-reuse : (n : ℕ) (r : Refutation) → r ≡ Reuse n → proof_of r ≡ reuse n
-of-reuse n r is = ap proof_of is ∙ search (rules, the_lemmas)
 
 -- ---- parts
 
@@ -104,22 +91,12 @@ module _ (s : Shortening) (r : Refutation) (path : Answers) (ok : Bool) where
   abbrev Still : Proof → Type 0
   Still p = IsStillClosed s p path ok
 
-  abbrev tree : Tree
-  tree = tree_of s.query.now.formula.value
-
-  pub still-value : r ≡ ByValue → IsTrue ok ↔ (value path tree ≡ No) → Still (proof_of r)
-  still-value is says = subst Still (sym (of-value r is)) (λ schema many inside closes. says)
-
   pub still-slot : (core : List ℕ) (proof : Rc SlotProof Global) → r ≡ BySlot core proof → IsTrue ok ↔ All (λ n. IsSome (answer_of path n)) core → Still (proof_of r)
   still-slot core proof is says =
       subst Still (sym (of-slot core proof r is)) (λ schema many inside closes. (
         λ yes. accepts_alike schema s.query.now.tests many path core proof.value (λ k d small. sym (core-within core path many inside (says.0 yes) k d small)) closes,
         λ accepts. says.1 accepts.conflict.core_is.answered,
       ))
-
-  pub still-clauses : (hints : List ℕ) → r ≡ ByClauses hints → HasClauses s → IsTrue ok ↔ Replays s.clauses.now path hints → Still (proof_of r)
-  still-clauses hints is have says =
-      subst Still (sym (of-clauses hints r is)) (λ schema many inside closes. subst (λ (c : List Clause). IsTrue ok ↔ Replays c path hints) have says)
 
   pub still-label : (n : ℕ) (answers : Answers) (inner : Rc Refutation Global) → r ≡ Label n answers inner → IsTrue ok ↔ IsStoredIn s.learned.now.lists n path → Still (proof_of r)
   still-label n answers inner is says =
@@ -131,23 +108,9 @@ module _ (s : Shortening) (r : Refutation) (path : Answers) (ok : Bool) where
         λ here. says.1 (record { within = slice_get_within store n answers own.stored; there = subst (λ (a : Answers). Contained a path) (sym listed) here.0.there }),
       ))
 
-  pub still-reuse : (n : ℕ) → r ≡ Reuse n → IsTrue ok ↔ IsStoredIn s.learned.now.lists n path → Still (proof_of r)
-  still-reuse n is says = subst Still (sym (of-reuse n r is)) (λ schema many inside closes. says)
-
-  pub still-sides : (n : ℕ) (y z : Rc Refutation Global) → r ≡ Split n y z → Still (split n (proof_of y.value) (proof_of z.value)) → Still (proof_of r)
-  still-sides n y z is still = subst Still (sym (of-split n y z r is)) still
-
 module _ (s : Shortening) (n : ℕ) (y z : Proof) (path : Answers) where
-  not-open : IsSome (answer_of path n) → answer_of path n ≡ None → ⊥
-  not-open some none = let bad = subst IsSome none some in absurd (cc)
-
-  pub sides-answered : IsSome (answer_of path n) → IsStillClosed s (split n y z) path false
-  sides-answered some schema many inside closes = (λ bad. absurd (cc), λ here. absurd (not-open some here.0.1))
 
   module _ (new : answer_of path n ≡ None) where
-    pub sides-first : IsStillClosed s y (path_with path n true) false → IsStillClosed s (split n y z) path false
-    sides-first first schema many inside closes =
-        (λ bad. absurd (cc), λ here. (first schema (path_with many n true) (contained-both path many n true inside new closes.0.1) closes.1).1 here.1)
 
     pub sides-both : (ok : Bool) → IsStillClosed s y (path_with path n true) true → IsStillClosed s z (path_with path n false) ok → IsStillClosed s (split n y z) path ok
     sides-both ok first second schema many inside closes =

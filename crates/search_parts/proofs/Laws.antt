@@ -1,5 +1,5 @@
 -- The lemmas on parts that a search cites.
-use Rattle.std.proofs.Common.{◌≡◌, ◌⊎◌, ◌<◌, ◌≤◌, ◌+◌, ℕ, List, [], ◌++◌, length, Bool, true, false, Some, None, All, slice_get}
+use Rattle.std.proofs.Common.{◌≡◌, ◌<◌, ◌≤◌, ◌+◌, ℕ, List, [], ◌++◌, length, true, None, All}
 use Rattle.formula_tree.specs.Answers.{Answers, Contained, answer_of}
 use Rattle.formula_tree.specs.Runs.{path_with}
 use Rattle.formula_tree.specs.Trees.{Tree}
@@ -7,52 +7,27 @@ use Rattle.formula_tree.specs.Values.{value}
 use Rattle.formula_tree.specs.declared.value.Three.TheVariants.{No}
 use Rattle.cnf_clauses.specs.Following.{IsConflictAt}
 use Rattle.cnf_clauses.specs.Numbering.{clauses_of}
-use Rattle.cnf_clauses.specs.Used.{RestOn}
 use Rattle.cnf_clauses.specs.declared.following.Conflict.{Conflict}
-use Rattle.nogoods.specs.Hits.{NoHit, answers_at}
+use Rattle.nogoods.specs.Hits.{answers_at}
 use Rattle.policy_model.specs.declared.schema.Schema.{Schema}
 use Rattle.policy_model.specs.declared.test.Test.{Test}
 use Rattle.slot_theory.specs.declared.outcome.SlotProof.{SlotProof}
 use Rattle.slot_theory.specs.Cores.{Accepts}
 use Rattle.slot_theory.specs.Possible.{PathInRange}
-use Rattle.refute_check.specs.Closing.{Closes, Rise, after_part, at_first}
+use Rattle.refute_check.specs.Closing.{Closes, after_part}
 use Rattle.refute_check.specs.Laws.{NoneMeets, TreeInRange}
-use Rattle.refute_check.specs.Proofs.{Proof, by_clauses, by_slot, by_value, depth, label, labels, reuse, size, split, splits}
-use Rattle.search_parts.specs.declared.learning.TheConstants.{MOST_LEARNED}
-use Rattle.search_parts.specs.declared.part.Needs.{Needs}
+use Rattle.refute_check.specs.Proofs.{Proof, by_clauses, by_value, label, labels, reuse, split, splits}
 use Rattle.search_parts.specs.declared.part.Needs.TheVariants.{Just, Open}
 use Rattle.search_parts.specs.declared.part.Part.{Part}
 use Rattle.search_parts.specs.Making.{AreOwnNeeds, IsKeptCore, IsMadePart, IsPartOf, IsRefutationOf, IsSlotPart, part_proof}
-use Rattle.search_parts.specs.Needs.{AreAnswersTo, AreCutFor, AreLeast, AreNeeds, NeedsJust, needs_list}
-use Rattle.tree_values.specs.Omitting.{path_without}
-use Rattle.search_parts.specs.Parts.{AreStored, ClosesByStore, EndInOrder, IsTrimmedAlong, LabelSplits}
+use Rattle.search_parts.specs.Parts.{AreStored, ClosesByStore, EndInOrder}
 use Rattle.search_parts.specs.Renaming.{AreNames, before_by, line_names, renamed_proof}
-use Rattle.search_parts.specs.Trimmed.{IsTrimmed, NoneCanBeLeftOut, bare_splits}
 use Rattle.search_parts.proofs.Closing as closing
 use Rattle.search_parts.proofs.Halving as halving
 use Rattle.search_parts.proofs.Making as making
 use Rattle.search_parts.proofs.Naming as naming
-use Rattle.search_parts.proofs.Needing as needing
-use Rattle.search_parts.proofs.Omitting as omitting
 use Rattle.search_parts.proofs.Renamed as numbers
-use Rattle.search_parts.proofs.Trimming as trimming
 use Rattle.search_parts.proofs.Unmet as unmet
-
--- a path without an answer doesn't answer its test
-pub omitted-none : (path : Answers) (n : ℕ) → answer_of (path_without path n) n ≡ None
-omitted-none = omitting.omitted-none
-
--- it answers the other tests as before
-pub omitted-other : (path : Answers) (n k : ℕ) → ¬ (k ≡ n) → answer_of (path_without path n) k ≡ answer_of path k
-omitted-other = omitting.omitted-other
-
--- and so is contained in the path
-pub omitted-within : (path : Answers) (n : ℕ) → Contained (path_without path n) path
-omitted-within = omitting.omitted-within
-
--- what needs just some answers needs just these of a shorter path that has them
-pub just-shorter : (closes : Answers → Type 0) (path many needs : Answers) → Contained path many → NeedsJust closes many needs → Contained needs path → NeedsJust closes path needs
-just-shorter = needing.just-shorter
 
 module _ (schema : Schema) (tests : List Test) (tree : Tree) where
   abbrev C : List Answers → Proof → Answers → Type 0
@@ -62,99 +37,13 @@ module _ (schema : Schema) (tests : List Test) (tree : Tree) where
   pub closes-grows : (store more : List Answers) (k : ℕ) (p : Proof) (q : Answers) → EndInOrder k p → k + labels p ≤ length store → C store p q → C (store ++ more) p q
   closes-grows = closing.grows schema tests tree
 
-  -- and the other way
-  pub closes-grew : (store more : List Answers) (k : ℕ) (p : Proof) (q : Answers) → EndInOrder k p → k + labels p ≤ length store → C (store ++ more) p q → C store p q
-  closes-grew = closing.grew schema tests tree
-
-  -- a part that closes under few answers and under many closes under all between
-  pub convex : (store : List Answers) (p : Proof) (few between many : Answers) → Contained few between → Contained between many → C store p few → C store p many → C store p between
-  convex = closing.convex schema tests tree
-
-  -- a core needs the path's answers to its tests
-  pub slot-just : (store : List Answers) (path needs : Answers) (core : List ℕ) (proof : SlotProof) → Accepts schema tests path core proof → AreAnswersTo core path needs → NeedsJust (C store (by_slot core proof)) path needs
-  slot-just = needing.slot-just schema tests tree
-
-  -- hints need the answers that they rest on
-  pub clauses-just : (store : List Answers) (path used : Answers) (hints : List ℕ) → RestOn (clauses_of (length tests) tree) path hints used → Contained used path → NeedsJust (C store (by_clauses hints)) path used
-  clauses-just = needing.clauses-just schema tests tree
-
-  -- a reuse needs the stored answers
-  pub reuse-just : (store : List Answers) (n : ℕ) (answers path : Answers) → slice_get store n ≡ Some answers → Contained answers path → NeedsJust (C store (reuse n)) path answers
-  reuse-just = needing.reuse-just schema tests tree
-
-  -- and a label its own
-  pub label-just : (store : List Answers) (n : ℕ) (answers path : Answers) (p : Proof) → slice_get store n ≡ Some answers → Rise answers → Contained answers path → C store p answers → NeedsJust (C store (label n answers p)) path answers
-  label-just = needing.label-just schema tests tree
-
-  -- a part's needs stay what they are where more is stored
-  pub needs-grow : (store more : List Answers) (k : ℕ) (p : Proof) → EndInOrder k p → k + labels p ≤ length store → (path : Answers) (needs : Needs) → AreNeeds store (C store p) p path needs → AreNeeds (store ++ more) (C (store ++ more) p) p path needs
-  needs-grow = needing.needs-grow schema tests tree
-
-  -- a split closes under answers that are least for its sides
-  pub least-closes : (store : List Answers) (path : Answers) (n : ℕ) (y z : Proof) (first second : Needs) → n < length tests → answer_of path n ≡ None → AreNeeds store (C store y) y (path_with path n true) first → AreNeeds store (C store z) z (path_with path n false) second → (answers : Answers) → AreLeast tree path n first second answers → C store (split n y z) answers
-  least-closes = needing.least-closes schema tests tree
-
-  -- and without none of them
-  pub least-needed : (store : List Answers) (path : Answers) (n : ℕ) (y z : Proof) (first second : Needs) → n < length tests → answer_of path n ≡ None → AreNeeds store (C store y) y (path_with path n true) first → AreNeeds store (C store z) z (path_with path n false) second → (answers : Answers) → AreLeast tree path n first second answers → NoneCanBeLeftOut (C store (split n y z)) answers
-  least-needed = needing.least-needed schema tests tree
-
-  -- a trimmed part is trimmed where more is stored
-  pub along-grows : (store more : List Answers) (k : ℕ) (p : Proof) (path : Answers) → EndInOrder k p → k + labels p ≤ length store → IsTrimmedAlong store schema tests tree k p path → IsTrimmedAlong (store ++ more) schema tests tree k p path
-  along-grows = trimming.along-grows schema tests tree
-
-  -- and without the split above it
-  pub along-skipped : (store : List Answers) (k : ℕ) (p : Proof) (path : Answers) (n : ℕ) (b : Bool) → IsTrimmedAlong store schema tests tree k p (path_with path n b) → IsTrimmedAlong store schema tests tree k p path
-  along-skipped = trimming.along-skipped schema tests tree
-
-  -- a split of trimmed sides is trimmed where its yes side needs it and its path contained nothing that was stored
-  pub along-split : (store : List Answers) (k n : ℕ) (y z : Proof) (path : Answers) → answer_of path n ≡ None → C store y (path_with path n true) → ¬ C store y path → ((i : ℕ) → i < k → ¬ Contained (answers_at store i) path) →
-      IsTrimmedAlong store schema tests tree k y (path_with path n true) → IsTrimmedAlong store schema tests tree (k + labels y) z (path_with path n false) → IsTrimmedAlong store schema tests tree k (split n y z) path
-  along-split = trimming.along-split schema tests tree
-
-  -- a label is where none of its answers can be left out
-  pub along-label : (store : List Answers) (k n : ℕ) (answers : Answers) (p : Proof) (path : Answers) → NoneCanBeLeftOut (C store p) answers → IsTrimmedAlong store schema tests tree k p answers → IsTrimmedAlong store schema tests tree k (label n answers p) path
-  along-label = trimming.along-label schema tests tree
-
-  -- a path that contained nothing that was stored contains none of it later
-  pub none-stored : (old more : List Answers) (path : Answers) → NoHit old path → (i : ℕ) → i < length old → ¬ Contained (answers_at (old ++ more) i) path
-  none-stored = trimming.none-stored schema tests tree
-
-  -- the whole refutation with its labels numbered by their lines closes
-  pub whole-closes : (store : List Answers) (p : Proof) → EndInOrder 0 p → labels p ≤ length store → C store p [] → Closes schema tests tree at_first (renamed_proof [] 0 p) []
-  whole-closes = trimming.whole-closes schema tests tree
-
-  -- and is trimmed
-  pub whole-trimmed : (store : List Answers) (p : Proof) → EndInOrder 0 p → labels p ≤ length store → C store p [] → IsTrimmedAlong store schema tests tree 0 p [] → LabelSplits p → labels p ≡ length store → (bare_splits p ≡ 0) ⊎ (MOST_LEARNED ≤ length store) → IsTrimmed schema tests tree (renamed_proof [] 0 p)
-  whole-trimmed = trimming.whole-trimmed schema tests tree
-
-  -- what no request answers and makes the tree yes, none does with more answers
-  pub none-more : (few many : Answers) → Contained few many → NoneMeets schema tests tree few → NoneMeets schema tests tree many
-  none-more = unmet.none-more schema tests tree
-
-  -- nor where none does with either answer to a further test
-  pub none-split : (path : Answers) (n : ℕ) → answer_of path n ≡ None → NoneMeets schema tests tree (path_with path n true) → NoneMeets schema tests tree (path_with path n false) → NoneMeets schema tests tree path
-  none-split = unmet.none-split schema tests tree
-
   -- where each stored list leaves no request, neither does a part that closes by what is stored
   pub closed-none : TreeInRange tests tree → (store : List Answers) → All (NoneMeets schema tests tree) store → (p : Proof) (q : Answers) → PathInRange tests q → C store p q → NoneMeets schema tests tree q
   closed-none = unmet.closed-none schema tests tree
 
--- a cut of a split's answers is least for its sides
-pub cut-least : (tree : Tree) (path : Answers) (n : ℕ) (first second : Needs) → answer_of path n ≡ None → Contained (needs_list first) (path_with path n true) → Contained (needs_list second) (path_with path n false) → (answers : Answers) → AreCutFor tree path n first second answers → AreLeast tree path n first second answers
-cut-least = needing.cut-least
-
--- numbers by lines leave how many splits, labels and nodes there are, and how deep they nest
+-- numbers by lines leave how many splits there are
 pub renamed-splits : (p : Proof) (names : List ℕ) (begun : ℕ) → splits (renamed_proof names begun p) ≡ splits p
 renamed-splits = numbers.renamed-splits
-
-pub renamed-labels : (p : Proof) (names : List ℕ) (begun : ℕ) → labels (renamed_proof names begun p) ≡ labels p
-renamed-labels = numbers.renamed-labels
-
-pub renamed-size : (p : Proof) (names : List ℕ) (begun : ℕ) → size (renamed_proof names begun p) ≡ size p
-renamed-size = numbers.renamed-size
-
-pub renamed-depth : (p : Proof) (names : List ℕ) (begun : ℕ) → depth (renamed_proof names begun p) ≡ depth p
-renamed-depth = numbers.renamed-depth
 
 -- no labels stand before the first
 pub names-none : (begun : ℕ) → AreNames begun begun 0 []

@@ -10,7 +10,7 @@ use Rattle.nogoods.specs.Hits.{answers_at}
 use Rattle.policy_model.specs.declared.schema.Schema.{Schema}
 use Rattle.policy_model.specs.declared.test.Test.{Test}
 use Rattle.refute_check.specs.Closing.{Before, Closes, IsReuse, after_part}
-use Rattle.refute_check.specs.Proofs.{Proof, by_clauses, by_slot, by_value, depth, ended_in, label, labels, reuse, size, split, splits}
+use Rattle.refute_check.specs.Proofs.{Proof, by_clauses, by_slot, by_value, depth, ended_in, label, labels, reuse, split, splits}
 use Rattle.search_parts.specs.Parts.{AreStored, ClosesByStore, EndInOrder, IsTrimmedBy, LabelSplits}
 use Rattle.search_parts.specs.Renaming.{AreNames, before_by, line_names, renamed_proof}
 use Rattle.search_parts.specs.Trimmed.{IsTrimmedAt, bare_splits, bare_in_label, learned_splits, one_if_split}
@@ -50,14 +50,6 @@ renamed-splits (by_slot core proof) names begun = refl
 renamed-splits (by_clauses hints) names begun = refl
 renamed-splits (label n answers p) names begun = renamed-splits p names (begun + 1)
 renamed-splits (reuse n) names begun = refl
-
-pub renamed-size : (p : Proof) (names : List ℕ) (begun : ℕ) → size (renamed_proof names begun p) ≡ size p
-renamed-size (split n y z) names begun = rw (renamed-size y names begun, renamed-size z (names ++ line_names begun y) (begun + labels y)) refl
-renamed-size by_value names begun = refl
-renamed-size (by_slot core proof) names begun = refl
-renamed-size (by_clauses hints) names begun = refl
-renamed-size (label n answers p) names begun = rw (renamed-size p names (begun + 1)) refl
-renamed-size (reuse n) names begun = refl
 
 pub renamed-depth : (p : Proof) (names : List ℕ) (begun : ℕ) → depth (renamed_proof names begun p) ≡ depth p
 renamed-depth (split n y z) names begun = rw (renamed-depth y names begun, renamed-depth z (names ++ line_names begun y) (begun + labels y)) refl

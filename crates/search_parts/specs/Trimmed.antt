@@ -1,5 +1,5 @@
--- Trimmed refutations: each split is learned under answers none of which can be left out, no split's yes side would do without the
--- split, and no split stands where a label could be reused. It looks at a finished refutation, and knows nothing of how it was found.
+-- Trimmed refutations: each split is learned under answers that are all needed, no split's yes side closes without the split's answer,
+-- and no split stands where a label could be reused. This is a property of the finished refutation alone.
 use Rattle.std.specs.Prelude.{◌≡◌, ◌≤◌, ◌⊎◌, ℕ, ◌+◌, List, [], All, Bool, true, false, Some}
 use Rattle.formula_tree.specs.Answers.{Answers, Contained, answer_of}
 use Rattle.tree_values.specs.Omitting.{path_without}

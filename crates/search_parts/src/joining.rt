@@ -1,5 +1,5 @@
-//! Splits of two refuted sides: each becomes the node of a label, under answers none of which can be left
-//! out, as long as lists are learned.
+//! Splits of two refuted sides. As long as lists are learned, each becomes the node of a label, under answers that
+//! are all needed.
 ghost use Rattle.std.specs.Prelude.{◌≡◌, ◌↔◌, ◌<◌, ◌≤◌, IfOk, IsTrue, OnErr, OnOk, length};
 ghost use Rattle.tree_values.specs.Models.{answered_tree};
 ghost use Rattle.refute_check.specs.Proofs.{label, proof_of, split};

@@ -21,9 +21,6 @@ any-cases P x xs w = any-at P x xs w.0 w.1 w.2 w.3 w.4
 pub any-one : {X : Type 0} (P : X → Type 0) (x : X) → Any P (x ∷ []) → P x
 any-one P x w = elim (any-cases P x [] w) [ inl p ↦ p | inr v ↦ absurd (any-nil P v) ]
 
-pub any-weaker : {X : Type 0} (P Q : X → Type 0) → ((x : X) → P x → Q x) → (xs : List X) → Any P xs → Any Q xs
-any-weaker P Q f xs w = (w.0, w.1, w.2, w.3, f w.1 w.4)
-
 -- the element that has it
 pub any-element : {X : Type 0} (P : X → Type 0) (xs : List X) → Any P xs → (x : X) × Contains xs x × P x
 any-element P xs w = (w.1, (w.0, w.2, w.3), w.4)

@@ -28,7 +28,7 @@ OneValueOrNone =
     (rule : KeyRule) (asks : Asks) → rule.many ≡ false →
     HaveSome rule asks ↔ ((¬ NeedsValue rule asks) ⊎ HasMember rule asks)
 
--- a text meets what asks and rule want exactly where it is a member for the asks, of which none wants the key to be absent
+-- a text meets what asks and rule want exactly where it is a member for the asks, if no ask wants the key to be absent
 abbrev pub WantsAreOfMembers : Type 0
 WantsAreOfMembers =
     (rule : KeyRule) (asks : Asks) (t : List ℕ) → rule.kind ≡ Text → ¬ AbsentIsWanted asks → IsText t →

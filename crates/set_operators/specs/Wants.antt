@@ -1,4 +1,4 @@
--- What asks and the rule of a text key want of one value: patterns in a fixed order, and clauses over their numbers. Certificates
+-- What asks and the rule of a text key put on one value: patterns in a fixed order, and clauses over their numbers. Certificates
 -- list places in this order: the patterns of the asks in their order, those of one list in its order, each as often as it stands,
 -- and then the key's shape or its listed texts.
 use Rattle.std.specs.Prelude.{ℕ, ◌+◌, List, [], ◌∷◌, ◌++◌, length, flat_map, Bool, true, false, Option, Some, None, unwrap_or}
@@ -66,13 +66,13 @@ rule_clauses rule i = shape_clause rule.shape i ++ list_clause rule.among (i + l
 abbrev pub asks_patterns : Asks → List (List Piece)
 asks_patterns asks = asks_items cond_patterns asks
 
--- what the asks, and then the rule, want of one value
+-- the patterns and the clauses that the asks, and then the rule, put on one value
 abbrev pub value_patterns : KeyRule → Asks → List (List Piece)
 value_patterns rule asks = asks_patterns asks ++ rule_patterns rule
 
 abbrev pub value_clauses : KeyRule → Asks → List (List Literal)
 value_clauses rule asks = asks_clauses literal_at cond_patterns asks 0 ++ rule_clauses rule (length (asks_patterns asks))
 
--- the set is closed for what the asks and the rule want of one value
+-- the set is closed under the patterns and the clauses of one value
 abbrev pub IsClosedForValue : KeyRule → Asks → List (List (List ℕ)) → Type 0
 IsClosedForValue rule asks set = IsClosed (value_patterns rule asks) (value_clauses rule asks) set

@@ -17,7 +17,7 @@ pub trait Item: Drop {
 
     ghost items_of: { Asked → List Self };
 
-    /// The item of a condition, or none of one on values of which the theory isn't.
+    /// The item of a condition, or none where the theory isn't on its kind of values.
     fn of_cond(cond: &Cond) -> Result<Option<Self>, NoMemory>
         ensures { IfOk result (λ item. option_to_list item ≡ items_of cond.now) };
 }

@@ -15,7 +15,7 @@ use policy_model::{KeyRule, Value};
 use std::alloc::Global;
 use value_theory::PlainKind;
 
-// The same of a text key. A product has the listed texts among its patterns, and walks through what they
+// As above, for a text key. A product has the listed texts among its patterns, and walks through what they
 // have in common, so it is made only where none of them is found by itself.
 fn one_text(
     alloc: Global,
@@ -40,7 +40,7 @@ fn one_text(
     }
 }
 
-// The same of a key of another kind.
+// As above, for a key of another kind.
 fn one_plain(
     alloc: Global,
     kind: PlainKind,

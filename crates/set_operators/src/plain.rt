@@ -90,8 +90,8 @@ fn plain_wants(
     })
 }
 
-/// Values of the kind, one of which answers the asks if any does. Of asks on values of another kind there
-/// are none.
+/// Values of the kind. If any value answers the asks, one of these does. Asks on values of another kind have
+/// none.
 pub fn points_of(
     alloc: Global,
     kind: PlainKind,

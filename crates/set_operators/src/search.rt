@@ -172,13 +172,13 @@ fn solve_needed(
     }
 }
 
-/// Values that the rule permits and that answer each ask as is wanted; or what shows that there are
-/// none; or, of a text key, one more text than `states`, no two of which have the same product state of
-/// the patterns of the asks, in their order, and then of the rule's shape or listed texts.
+/// Values that the rule permits and that answer each ask as is wanted. Otherwise what shows that there are
+/// none. Or, of a text key, one more text than `states`, no two with the same product state of the patterns of
+/// the asks, in their order, and then of the rule's shape or listed texts.
 ///
 /// Where the key needs no value, the answer is the empty list. Otherwise a key with at most one value
-/// has one that answers all asks, and a key with several has one for each ask that is wanted yes, each
-/// of which meets no ask that is wanted no.
+/// has one that answers all asks. A key with several has one for each ask that is wanted yes, and none of them
+/// meets an ask that is wanted no.
 ///
 /// The rule is sound, each condition that is asked is on values of the rule's kind, the asks are
 /// numbered by 32 bits, and `states`, the most product states that are looked at for one value, is at

@@ -11,7 +11,7 @@ use crate::answer::KeyAnswer;
 use crate::ask::{KeyAsks, wants_absent, wants_some};
 use crate::search::{needs_value, solve};
 use crate::steps::Choice;
-use crate::wants::is_closed_for;
+use crate::wants::is_closed_for_value;
 use pattern_automata::Closed;
 use plain_lists::NoMemory;
 use policy_model::{KeyRule, Kind};
@@ -85,7 +85,7 @@ pub fn shows_together(
     if !needs_value(rule, asks.as_slice()) {
         return Ok(false);
     }
-    is_closed_for(alloc, rule, asks.as_slice(), Choice::Each, closed)
+    is_closed_for_value(alloc, rule, asks.as_slice(), Choice::Each, closed)
 }
 
 // Whether there is an ask at the index, and it is wanted yes.
@@ -116,7 +116,7 @@ pub fn shows_member(
     if !is_wanted(asks, index) {
         return Ok(false);
     }
-    is_closed_for(
+    is_closed_for_value(
         alloc,
         rule,
         asks.as_slice(),
@@ -141,5 +141,5 @@ pub fn shows_some_member(
     if !rule.required {
         return Ok(false);
     }
-    is_closed_for(alloc, rule, asks.as_slice(), Choice::Denied, closed)
+    is_closed_for_value(alloc, rule, asks.as_slice(), Choice::Denied, closed)
 }

@@ -1,4 +1,4 @@
-//! What asks and the rule of a text key want of one value, and products for that.
+//! One value of a text key: the patterns and clauses that the asks and the rule put on it, and the search for it.
 ghost use Rattle.std.specs.Prelude.{◌≡◌, ◌++◌, ◌≤◌, ◌↔◌, [], unwrap_or, length, All, IfOk, OnOk, IsTrue};
 ghost use Rattle.std.specs.Option.{option_to_list};
 ghost use Rattle.policy_model.specs.Soundness.{IsShortValue, RuleIsSound};
@@ -103,7 +103,7 @@ fn add_listed(
     push_some(alloc, true, first, count, &mut asked.clauses)
 }
 
-// What the chosen asks, and then the rule, want of one value.
+// The patterns and clauses that the chosen asks, and then the rule, put on one value.
 fn wants_of(
     alloc: Global,
     rule: &KeyRule,
@@ -123,7 +123,8 @@ fn wants_of(
     })
 }
 
-/// A text that meets what is wanted, or what shows that there is none, or too many product states.
+/// A text that the rule permits and that answers the chosen asks, or what shows that there is none, or too many
+/// product states. The only error is want of memory.
 pub fn text_for(
     alloc: Global,
     rule: &KeyRule,
@@ -140,8 +141,9 @@ pub fn text_for(
     product(alloc, &wants, states)
 }
 
-/// Whether the set is closed for what is wanted.
-pub fn is_closed_for(
+/// Whether the set is closed for one value of the key. It then shows that no text that the rule permits answers the
+/// chosen asks. The only error is want of memory.
+pub fn is_closed_for_value(
     alloc: Global,
     rule: &KeyRule,
     asks: &[(KeyAsk, bool)],

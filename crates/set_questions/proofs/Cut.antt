@@ -8,12 +8,11 @@ use Rattle.formula_tree.specs.Trees.{Tree}
 use Rattle.formula_nodes.specs.Claims.{AreClaimsOf, Grows, IsClaimOf, IsClaimOfEach, as_claimed, claim_holds, turned_claim}
 use Rattle.formula_nodes.specs.declared.claim.Claim.{Claim}
 use Rattle.formula_nodes.proofs.Laws.{had-values, keep-values, keeps-value, stay-claims, stays-claim}
-use Rattle.query_reduction.specs.Reducers.{AgreeBeside}
 use Rattle.test_relations.specs.Relations.{SchemaTests}
 use Rattle.set_questions.specs.Cutting.{AreLeftOf, IsConjunctionAt, IsLeftOf, node_claim}
 use Rattle.set_questions.specs.Excluding.{AreDenied, DeniedFail, IsTrueThere}
 use Rattle.set_questions.proofs.Excluded.{denied-fail}
-use Rattle.set_questions.proofs.UseClaims.{all-joined, turned-false}
+use Rattle.set_questions.proofs.UseClaims.{AgreeBeside, all-joined, turned-false}
 
 -- ---- more trees
 

@@ -4,7 +4,7 @@ use Rattle.std.specs.Prelude.{not as opposite}
 use Rattle.std.proofs.lemmas.Bool.{cases_lt}
 use Rattle.std.proofs.lemmas.Grind.{take_at_read}
 use Rattle.std.proofs.lemmas.List.{length-append, take_all}
-use Rattle.std.proofs.lemmas.List.Elements.{All-head, All-nil, All-push}
+use Rattle.std.proofs.lemmas.List.Elements.{All-push}
 use Rattle.std.proofs.lemmas.Option.{same_Some}
 use Rattle.policy_model.proofs.Laws.{Any-here, Any-later}
 use Rattle.formula_tree.specs.Trees.{Tree}
@@ -13,20 +13,13 @@ use Rattle.formula_nodes.specs.declared.claim.Claim.{Claim}
 use Rattle.policy_compile.specs.Meaning.{AnswersAs}
 use Rattle.policy_model.specs.Requests.{IsValid}
 use Rattle.policy_model.specs.declared.request.Request.{Request}
-use Rattle.query_reduction.specs.Reducers.{AgreeBeside}
+use Rattle.query_reduction.specs.Reducers.{IsImplied}
 use Rattle.test_relations.specs.Relations.{SchemaTests}
 use Rattle.set_questions.specs.Cutting.{node_claim}
-use Rattle.set_questions.specs.Excluding.{AreDenied, AreTrueThere, DeniedFail, HasFalseClaim, IsDeniedClaim, IsDeniedNode, IsImplied, IsTrueThere}
+use Rattle.set_questions.specs.Excluding.{AreDenied, AreTrueThere, DeniedFail, HasFalseClaim, IsDeniedClaim, IsDeniedNode, IsTrueThere}
 use Rattle.set_questions.proofs.Counting.{slice_get-behind, slice_get-front}
 
--- ---- what the one implies
-
-pub implied-alone : (of : SchemaTests) (trees : List Tree) (one claim : Claim) (kept : List Claim) → AgreeBeside of.schema of.tests trees one (claim ∷ []) kept → kept ≡ [] → IsImplied of trees one claim
-implied-alone of trees one claim kept agree none r answers valid say h =
-    let P = λ (x : Claim). IsTrue (claim_holds answers trees x) in
-    All-head P claim [] ((agree r answers valid say h).1 (subst (All P) (sym none) (All-nil P)))
-
--- one node more
+-- ---- one node more
 pub denied-next : (of now : SchemaTests) (trees : List Tree) (one : Claim) (denied longer : List Bool) (i : ℕ) (b : Bool) → now ≡ of → length denied ≡ i → AreDenied of trees one denied → IsDeniedNode now trees one i b → longer ≡ denied ++ b ∷ [] → AreDenied of trees one longer
 denied-next of now trees one denied longer i b same count are is longer_is n at =
     let there : slice_get (denied ++ b ∷ []) n ≡ Some true = subst (λ (bs : List Bool). slice_get bs n ≡ Some true) longer_is at in

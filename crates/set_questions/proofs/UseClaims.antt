@@ -28,7 +28,7 @@ use Rattle.policy_compile.specs.Plans.{EachHolds, Plan, PlanHolds, SomeHolds, of
 use Rattle.policy_compile.specs.Sets.{set_plans, some_or_none, statement_plan}
 use Rattle.policy_compile.proofs.Laws.{holds-numbered, set-holds}
 use Rattle.test_relations.specs.Relations.{SchemaTests}
-use Rattle.query_reduction.specs.Reducers.{AgreeBeside, ClaimsAgree}
+use Rattle.query_reduction.specs.Reducers.{ClaimsAgree}
 use Rattle.set_questions.specs.Changes.{AreChanges, AreClaimsOfSet, IsJointClaim, IsUseTree, IsListedAt, TellsUse, other_claims}
 use Rattle.set_questions.specs.Idle.{Differ}
 use Rattle.set_questions.specs.Removal.{without_item, without_statement}
@@ -324,6 +324,12 @@ module _ (answers : ℕ → Bool) (old new : List Tree) (grows : Grows old new) 
 
   true-earlier : (c : Claim) → IsClaimOf old c → IsTrue (claim_holds answers new c) → IsTrue (claim_holds answers old c)
   true-earlier c there h = sym (keeps-value old new c answers grows there) ∙ h
+
+-- where the one claim is true, all the others are true exactly where all that are kept are
+abbrev pub AgreeBeside : Schema → List Test → List Tree → Claim → List Claim → List Claim → Type 0
+AgreeBeside schema tests trees one others kept =
+    (r : Request) (answers : ℕ → Bool) → IsValid schema r → AnswersAs answers r tests → IsTrue (claim_holds answers trees one) →
+    (EachClaimHolds answers trees others ↔ EachClaimHolds answers trees kept)
 
 pub joint-is : (of : SchemaTests) (old mid new : List Tree) (one : Claim) (others kept longer : List Claim) (whole claim : Claim) → Grows old mid → Grows mid new → IsClaimOf old one → AreClaimsOf old others → AreClaimsOf old kept →
     AgreeBeside of.schema of.tests old one others kept → longer ≡ kept ++ one ∷ [] → IsClaimOfEach longer mid whole → ClaimsAgree of.schema of.tests new whole claim → IsJointClaim of new one others claim

@@ -36,7 +36,8 @@ use Rattle.set_questions.specs.Idle.{Differ, IsNameIn, EachNamed}
 use Rattle.set_questions.specs.Removal.{without_statement}
 use Rattle.set_questions.specs.Changes.{IsUseTree}
 use Rattle.set_questions.specs.Laws.{AsksAsTheSet, ChangeQueriesTell, DecidesUse}
-use Rattle.set_questions.specs.Settling.{IsQueryClosedBy, SettlesQuery}
+use Rattle.refute_check.specs.Queries.{ClosesAll}
+use Rattle.set_questions.specs.Settling.{SettlesQuery}
 use Rattle.set_questions.specs.Uses.{AreLimitsMet, IsUseOf, change_plan, limits_told, use_told}
 use Rattle.set_questions.proofs.Changing.{allow-adds, deny-takes, part-among, stays-fit}
 use Rattle.set_questions.proofs.Losing.{SetLoses, set-loses}
@@ -75,7 +76,7 @@ module _ (schema : Schema) (first second : PolicySet) (first_fits : SchemaFits s
       ]
 
 -- where a refutation closes a query, none makes it yes
-closed-unmet : (schema : Schema) (plan : Plan) (q : Query) → IsQuery plan q → (p : Proof) → IsQueryClosedBy schema q p → NoneMeets schema q.tests (asked_tree q) []
+closed-unmet : (schema : Schema) (plan : Plan) (q : Query) → IsQuery plan q → (p : Proof) → ClosesAll schema q p → NoneMeets schema q.tests (asked_tree q) []
 closed-unmet schema plan q is p closes r met = queries_are_no schema q.tests (asked_tree q) p (below-numbered q.tests plan (asked_tree q) is.tree) closes r met.valid met.meets
 
 -- ---- change queries

@@ -3,16 +3,8 @@ use Rattle.std.specs.Prelude.{◌≡◌, ℕ, Bool, List, IsTrue, Some, false, s
 use Rattle.formula_tree.specs.Trees.{Tree}
 use Rattle.formula_nodes.specs.Claims.{EachClaimHolds, SomeClaimFails, claim_holds}
 use Rattle.formula_nodes.specs.declared.claim.Claim.{Claim}
-use Rattle.policy_compile.specs.Meaning.{AnswersAs}
-use Rattle.policy_model.specs.Requests.{IsValid}
-use Rattle.policy_model.specs.declared.request.Request.{Request}
+use Rattle.query_reduction.specs.Reducers.{IsImplied}
 use Rattle.test_relations.specs.Relations.{SchemaTests}
-
--- on the answers of a valid request that make the one claim true the other is true
-abbrev pub IsImplied : SchemaTests → List Tree → Claim → Claim → Type 0
-IsImplied of trees one claim =
-    (r : Request) (answers : ℕ → Bool) → IsValid of.schema r → AnswersAs answers r of.tests → IsTrue (claim_holds answers trees one) →
-    IsTrue (claim_holds answers trees claim)
 
 -- the node doesn't hold there, if this says so
 abbrev pub IsDeniedNode : SchemaTests → List Tree → Claim → ℕ → Bool → Type 0

@@ -3,21 +3,18 @@ use Rattle.std.specs.Prelude.{◌≤◌, ◌*◌, ℕ, [], length}
 use Rattle.policy_model.specs.declared.schema.Schema.{Schema}
 use Rattle.policy_compile.specs.declared.outcome.Query.{Query}
 use Rattle.policy_compile.specs.Queries.{asked_tree}
-use Rattle.refute_check.specs.Closing.{Closes, at_first}
 use Rattle.refute_check.specs.Laws.{IsMetBy}
 use Rattle.refute_check.specs.Proofs.{Proof, depth, proof_of}
+use Rattle.refute_check.specs.Queries.{ClosesAll}
 use Rattle.refute_check.specs.Propagated.{PropagatedNeedsMore}
 use Rattle.findings.specs.Answers.{SplitsFail, StatesFail}
 use Rattle.set_questions.specs.declared.settling.Settled.{Settled}
 use Rattle.set_questions.specs.declared.settling.Settled.TheVariants.{Met, Nobody, OutOfSplits, OutOfStates}
 
--- a refutation closes the query, so no valid request makes it yes
-abbrev pub IsQueryClosedBy : Schema → Query → Proof → Type 0
-IsQueryClosedBy schema query proof = Closes schema query.tests (asked_tree query) at_first proof []
-
--- and its splits and labels nest at most twice as deep as there are tests, so that it can be written and read again
+-- a refutation closes the query, so no valid request makes it yes; its splits and labels nest at most twice as deep as there are
+-- tests, so that it can be written and read again
 pub record RefutesQuery (schema : Schema) (query : Query) (proof : Proof) : Type 0 where
-  pub closes : IsQueryClosedBy schema query proof
+  pub closes : ClosesAll schema query proof
   pub nests : depth proof ≤ 2 * length query.tests
 
 -- the plain run of the query needs more splits than so many, and so does the propagated run

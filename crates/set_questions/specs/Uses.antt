@@ -53,7 +53,7 @@ IsUseOf schema splits states set named (Idle r) = IsIdle schema set named.0 × R
 IsUseOf schema splits states set named OutOfSplits = OfChange schema set named (λ q. BothRunsFail schema q splits)
 IsUseOf schema splits states set named (OutOfStates w) = OfChange schema set named (λ q. StatesFail schema q states w)
 
--- the same by the statement's name
+-- as above, by the statement's name
 abbrev pub IsUseAt : Schema → ℕ → ℕ → PolicySet → StatementName → Use → Type 0
 IsUseAt schema splits states set name use_there = EachNamed set name (λ s. IsUseOf schema splits states set (name, s) use_there)
 

@@ -2,52 +2,30 @@
 ghost use Rattle.std.specs.Prelude.{◌≡◌, ◌≤◌, ◌<◌, All, IfOk, IsTrue, length};
 ghost use Rattle.formula_nodes.specs.Claims.{AreClaimsOf, IsClaimOf};
 ghost use Rattle.formula_nodes.specs.Standing.{node_trees};
-ghost use Rattle.set_questions.specs.Excluding.{AreDenied, AreTrueThere, HasFalseClaim, IsDeniedClaim, IsDeniedNode, IsImplied, IsTrueThere};
+ghost use Rattle.set_questions.specs.Excluding.{AreDenied, AreTrueThere, HasFalseClaim, IsDeniedClaim, IsDeniedNode, IsTrueThere};
 
 use formula_nodes::{Claim, Nodes, Part};
 use plain_lists::NoMemory;
 use query_reduction::Reducer;
 use std::alloc::Global;
-use std::slice::from_ref;
-
-// Whether the one is known to imply the claim.
-fn implies(
-    nodes: &Nodes,
-    reducer: &mut Reducer<'_>,
-    one: Claim,
-    claim: Claim,
-) -> Result<bool, NoMemory>
-    requires { IsClaimOf (node_trees nodes.now) claim }
-    ensures same { reducer.new ≡ reducer.old }
-    ensures implied { IfOk result (λ is.
-        IsTrue is → IsImplied reducer.old (node_trees nodes.now) one claim) }
-{
-    let kept = reducer.unimplied(nodes, one, from_ref(&claim))?;
-    Ok(kept.is_empty())
-}
 
 // Whether the one is known to deny the node, which is a test.
-fn denies(
-    nodes: &Nodes,
-    reducer: &mut Reducer<'_>,
-    one: Claim,
-    node: usize,
-) -> Result<bool, NoMemory>
+fn denies(nodes: &Nodes, reducer: &mut Reducer<'_>, one: Claim, node: usize) -> bool
     requires { node < length (node_trees nodes.now) }
     ensures same { reducer.new ≡ reducer.old }
-    ensures denied { IfOk result (IsDeniedNode reducer.old (node_trees nodes.now) one node) }
+    ensures denied { IsDeniedNode reducer.old (node_trees nodes.now) one node result }
 {
     let Ok(number) = u32::try_from(node) else {
-        return Ok(false);
+        return false;
     };
     let claim = Claim {
         node: number,
         holds: false,
     };
     match nodes.part(claim) {
-        Part::Test(_) => implies(nodes, reducer, one, claim),
-        Part::All(_) => Ok(false),
-        Part::OneOf(_) => Ok(false),
+        Part::Test(_) => reducer.implies(nodes, one, claim),
+        Part::All(_) => false,
+        Part::OneOf(_) => false,
     }
 }
 
@@ -68,7 +46,7 @@ pub(crate) fn denied_tests(
     let mut denied = Vec::new(alloc);
     let end = count.min(nodes.len());
     'nodes: for node in 0..end {
-        denied.push(denies(nodes, reducer, one, node)?)?;
+        denied.push(denies(nodes, reducer, one, node))?;
     }
     Ok(denied)
 }

@@ -56,7 +56,7 @@ fn add_statements(
     Ok(())
 }
 
-// Adds those of documents, of which the first has this number.
+// Adds the names of documents. The first document has this number.
 fn add_documents(
     names: &mut NameList,
     from: usize,
@@ -79,7 +79,7 @@ fn add_documents(
     Ok(())
 }
 
-// Adds those of guards, of which the first document has this number.
+// Adds the names of guards. The first document has this number.
 fn add_guards(
     names: &mut NameList,
     from: usize,

@@ -11,8 +11,8 @@ use std::rc::Rc;
 pub enum Use {
     /// A valid request that the set allows with the statement or without it, and not both.
     Used(Request),
-    /// The set allows the same valid requests without the statement, all others left as they are; with a
-    /// refutation of the change query.
+    /// Without the statement, all others left as they are, the set allows the same valid requests; with a refutation
+    /// of the change query.
     Idle(Rc<Refutation>),
     /// The change query needs more splits.
     OutOfSplits,

@@ -73,7 +73,7 @@ fn documents_without(
     Ok(kept)
 }
 
-// The same of guards.
+// As above, for guards.
 fn guards_without(
     alloc: Global,
     document: usize,

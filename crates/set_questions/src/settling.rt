@@ -36,10 +36,9 @@ pub trait Settle {
     /// The most product states of a slot's patterns that it looks at. The number never changes.
     ghost states: { Self → ℕ };
 
-    /// Whether some valid request makes the query yes. `OutOfSplits` comes only where the plain run of
-    /// the query needs more splits than it makes, and the propagated run too; and `OutOfStates` only where
-    /// a slot needs more states than it looks at, at a path of the plain run. The only error is want of
-    /// memory.
+    /// Whether some valid request makes the query yes. `OutOfSplits` comes only where both the plain and the
+    /// propagated run of the query need more splits than it makes. `OutOfStates` comes only where a slot needs more
+    /// states than it looks at, at a path of the plain run. The only error is want of memory.
     fn settle(&mut self, alloc: Global, query: &Query) -> Result<Settled, NoMemory>
         requires askable { QueryIsAskable (schema self.old) query.now }
         ensures answer { IfOk result

@@ -144,9 +144,6 @@ module _ (schema : Schema) (tests : List Test) (path : Answers) (core : List ℕ
   word-none : (s : Slot) (closed : List (List (List ℕ))) (w : List ℕ) → IsClosedFor tests path core (shape_at schema s) closed → IsWordSlot s → IsCore tests path core s → IsWord (shape_at schema s) w → All (IsRight tests path (value.Word w)) core → ⊥
   word-none s closed w set h is word right = closed-none tests path (shape_at schema s) core (words-have tests s core h is.on_slot) closed w set word (words-so tests path core s w h is.on_slot right)
 
-  abbrev Each : KindProof → KindProof → KindProof → KindProof → Type 0
-  Each aws service federated canonical_user = KindShows schema tests path core Aws aws × KindShows schema tests path core Service service × KindShows schema tests path core Federated federated × KindShows schema tests path core CanonicalUser canonical_user
-
   kinds-none : (aws service federated canonical_user : KindProof) → KindShows schema tests path core Aws aws → KindShows schema tests path core Service service → KindShows schema tests path core Federated federated → KindShows schema tests path core CanonicalUser canonical_user →
       (k : PrincipalKind) (id : List ℕ) → IsCore tests path core slot.Principal → IsWord (shape_of schema.shapes k) id → All (IsRight tests path (value.Principal k id)) core → ⊥
   kinds-none aws service federated canonical_user a b c d Aws id = kind-none Aws aws id a

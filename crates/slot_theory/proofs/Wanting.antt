@@ -9,7 +9,6 @@ use Rattle.wildcard_lang.specs.Matching.{Matches, no_pieces, takes_one, is_done,
 use Rattle.formula_tree.specs.Answers.{Answers, answer_of}
 use Rattle.pattern_automata.specs.declared.wants.Literal.{Literal}
 use Rattle.pattern_automata.specs.declared.wants.Wants.{Wants}
-use Rattle.pattern_automata.specs.Answer.{IsTextFor}
 use Rattle.pattern_automata.specs.Closed.{InRange, IsClosed, IsLiteralMet, Meets}
 use Rattle.pattern_automata.proofs.Laws.{closed_sets_are_empty}
 use Rattle.policy_model.specs.declared.test.Test.{Test}
@@ -186,12 +185,3 @@ module _ (tests : List Test) (path : Answers) (shape : Option (List Piece)) wher
     closed-none closed w set is so =
         let own_set : IsClosed (all numbers) (clauses numbers 0) closed = subst (λ (ps : List (List Piece)). IsClosed ps (clauses numbers 0) closed) (same-patterns numbers has) set in
         closed_sets_are_empty (all numbers) (clauses numbers 0) closed wanted-range own_set w is.text (meets-all (all numbers) w numbers 0 refl so (some-matches w is.nonempty) is.fits)
-
--- a text that meets the wants is one that the tests of these numbers want
-pub text-wanted : (tests : List Test) (path : Answers) (numbers : List ℕ) (shape : Option (List Piece)) (wants : Wants) (t : List ℕ) →
-    IsWants tests path numbers shape wants → IsTextFor wants t → Meets (wanted_patterns tests numbers shape) (wanted_clauses path numbers shape 0) t × IsText t
-text-wanted tests path numbers shape wants t is h = (
-  subst (λ (ps : List (List Piece)). Meets ps (wanted_clauses path numbers shape 0) t) is.patterns
-      (subst (λ (clauses : List (List Literal)). Meets wants.patterns clauses t) is.clauses h.0),
-  h.1,
-)

@@ -1,5 +1,5 @@
 //! Attempts: a value for a core is found by products, and tried on all answered tests of the slot.
-ghost use Rattle.std.specs.Prelude.{◌≡◌, IfOk, IfSome};
+ghost use Rattle.std.specs.Prelude.{◌≡◌, IfOk};
 ghost use Rattle.policy_model.specs.declared.test.Slot.TheVariants.{Principal};
 ghost use Rattle.slot_theory.specs.Slots.{IsWordSlot};
 ghost use Rattle.slot_theory.specs.Question.{IsCoreOf};
@@ -12,7 +12,7 @@ use crate::question::Question;
 use crate::slots::shape_at;
 use crate::steps::{Attempt, KindAttempt};
 use crate::trial::tried;
-use crate::wants::{solve, text_for};
+use crate::wants::solve;
 use pattern_automata::{LastClosed, Product};
 use plain_lists::NoMemory;
 use policy_model::PrincipalKind::{self, Aws, CanonicalUser, Federated, Service};
@@ -35,24 +35,6 @@ fn attempt_word(
         Product::Empty(closed) => Ok(Attempt::Empty(SlotProof::Word(closed))),
         Product::TooMany(texts) => Ok(Attempt::Full(texts)),
         Product::Found(text) => Ok(tried(question, SlotValue::Word(text))),
-    }
-}
-
-/// A word for the core, where one is found soon, tried on all answered tests of the slot. Where none is found nothing
-/// follows.
-pub fn attempt_soon(
-    alloc: Global,
-    question: &Question<'_>,
-    core: &[u32],
-) -> Result<Option<Attempt>, NoMemory>
-    requires slot { IsWordSlot question.now.slot.now }
-    requires core { IsCoreOf question.now core.now }
-    ensures { IfOk result (λ found. IfSome found (IsAttempt question.now core.now)) }
-{
-    let shape = shape_at(question.schema, question.slot);
-    match text_for(alloc, question, core, shape)? {
-        Some(text) => Ok(Some(tried(question, SlotValue::Word(text)))),
-        None => Ok(None),
     }
 }
 

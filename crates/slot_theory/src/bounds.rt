@@ -193,8 +193,8 @@ fn all_met(all: &[Bounding]) -> Bounds {
     bounds
 }
 
-// Whether no number is between the bounds, or only one that is excluded. Where the key may be absent, that answers
-// tests of which none wants a value.
+// Whether no number is between the bounds, or only one that is excluded. If the key may be absent, that answers
+// tests that don't want a value.
 fn is_conflict(bounds: Bounds, required: bool) -> bool {
     if !required && !bounds.there {
         return false;

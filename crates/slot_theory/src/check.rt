@@ -120,20 +120,17 @@ fn is_conflict(
     shows(alloc, question, core, proof)
 }
 
-/// Whether the core and its proof are accepted under the path: the core has a test, its numbers
-/// strictly rise, the path answers each of its tests, all are on one slot, and the proof shows that no
-/// value of the slot answers them so.
+/// Whether the core and its proof are accepted under the path. The core has a test, its numbers strictly rise, the
+/// path answers each of its tests, and all are on one slot. The proof shows that no value of the slot answers so:
 ///
-/// For the action and the resource the proof's set is closed for what the core, `?*` and the slot's
-/// shape want of a word. For the principal it shows kind by kind that none answers so: a test with a
-/// fixed answer for the kind that isn't the path's, or a closed set for the tests without one.
-///
-/// For a key it is one of these. The key is to be absent, and another test of the core is answered
-/// yes; or it is to be absent, and is required. Its values aren't texts, and none answer so, which is
-/// decided anew. A closed set for what all tests and the key's rule want of the one text that the key
-/// needs. Of a key with several values a closed set for the value of one test that is answered yes,
-/// beside the tests that are answered no and the rule; or, where the key is required, for the tests
-/// that are answered no and the rule.
+/// - Action and resource: its set is closed for what the core, `?*` and the slot's shape want of a word.
+/// - Principal, kind by kind: a test has a fixed answer for the kind that isn't the path's, or a set is closed for
+///   the tests without a fixed answer.
+/// - A key that is to be absent: another test of the core is answered yes, or the key is required.
+/// - A key whose values aren't texts: none answer so, which is decided anew.
+/// - A key that needs one text: a set is closed for what all tests and the key's rule want of it.
+/// - A key with several texts: a set is closed for the value of one test that is answered yes, beside the tests that
+///   are answered no and the rule. If the key is required, the yes test may be left out.
 ///
 /// The schema is sound, the tests suit it and are numbered by 32 bits, and the path's are in range. The
 /// only error is want of memory.

@@ -4,7 +4,7 @@ ghost use Rattle.std.specs.Prelude.{◌≡◌, IfOk, IfSome};
 ghost use Rattle.slot_theory.specs.Question.{IsConflictOf};
 ghost use Rattle.slot_theory.specs.Shrinking.{IsKept, found_or};
 
-use crate::attempt::{attempt, attempt_soon};
+use crate::attempt::attempt;
 use crate::cores::{is_core, without};
 use crate::outcome::{Core, SlotProof};
 use crate::question::Question;
@@ -12,7 +12,6 @@ use crate::steps::{Attempt, Kept};
 use formula_tree::Path;
 use pattern_automata::LastClosed;
 use plain_lists::NoMemory;
-use policy_model::Slot;
 use std::alloc::Global;
 
 /// The proof that no value answers the tests, where they are a core and an attempt finds none.
@@ -59,19 +58,6 @@ pub fn found_or<T: Drop>(found: Result<Option<T>, NoMemory>, had: T) -> Result<T
     }
 }
 
-/// Whether a word for these tests is found soon. Most tests of a core are needed, which that tells with less work
-/// than a product of the others.
-fn is_met_soon(alloc: Global, question: &Question<'_>, core: &[u32]) -> Result<bool, NoMemory> {
-    let tests = question.tests;
-    if !is_core(tests, question.path, question.slot, core) {
-        return Ok(false);
-    }
-    match question.slot {
-        Slot::Action | Slot::Resource => Ok(attempt_soon(alloc, question, core)?.is_some()),
-        Slot::Principal | Slot::Key(_) => Ok(false),
-    }
-}
-
 /// The core without the test at an index, with its proof, where a test is left and no value answers
 /// them. The test that joined the core last is needed, since the tests before it had a value.
 fn without_test(
@@ -87,9 +73,6 @@ fn without_test(
         return Ok(None);
     }
     let fewer = without(alloc, core, index)?;
-    if is_met_soon(alloc, question, fewer.as_slice())? {
-        return Ok(None);
-    }
     confirmed(alloc, question, fewer)
 }
 

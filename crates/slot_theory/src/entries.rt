@@ -8,7 +8,7 @@ use policy_model::{Entry, PrincipalKind};
 use std::alloc::Global;
 use wildcard_lang::{Pattern, Piece, Text};
 
-/// Whether the kinds are the same.
+/// Whether the kinds are equal.
 fn is_kind(kind: PrincipalKind, other: PrincipalKind) -> bool
     ensures { result ≡ is_kind kind other }
 {
@@ -26,8 +26,7 @@ fn only_of(kind: PrincipalKind, own: PrincipalKind) -> Option<bool>
     }
 }
 
-/// The answer that the entry gives to every principal of the kind, where it is the same for all of
-/// them.
+/// The answer that the entry gives to every principal of the kind, where all get one answer.
 pub fn fixed_answer(entry: &Entry, kind: PrincipalKind) -> Option<bool>
     ensures { result ≡ fixed_answer kind entry.now }
 {
@@ -39,8 +38,8 @@ pub fn fixed_answer(entry: &Entry, kind: PrincipalKind) -> Option<bool>
     }
 }
 
-/// The pieces before the account in the pattern of its ids: `arn:*:*:*:`, of which no wildcard takes
-/// a colon.
+/// The pieces before the account in the pattern of its ids: `arn:*:*:*:`. No wildcard among them takes a
+/// colon.
 const BEFORE_ACCOUNT: [Piece; 10] = [
     Piece::Lit('a'),
     Piece::Lit('r'),

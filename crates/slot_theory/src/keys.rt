@@ -1,5 +1,5 @@
 //! A key for a core: the values that answer the core, or what shows that there are none.
-ghost use Rattle.std.specs.Prelude.{◌≡◌, ◌↔◌, true, IfOk, IfSome, IsTrue, option_map};
+ghost use Rattle.std.specs.Prelude.{◌≡◌, ◌↔◌, true, IfOk, IsTrue, option_map};
 ghost use Rattle.pattern_automata.specs.Closed.{rises_from};
 ghost use Rattle.policy_model.specs.Soundness.{RuleIsSound};
 ghost use Rattle.slot_theory.specs.Cores.{MemberShows};
@@ -20,9 +20,6 @@ use set_operators::{
     shows_some_member, shows_together, solve,
 };
 use std::alloc::Global;
-
-/// The most product states that are looked at for a value that is to be found soon.
-const SOON_STATES: u32 = 100;
 
 /// What the core asks of the key's values, in the order of the core.
 fn asks_of(alloc: Global, question: &Question<'_>, core: &[u32]) -> Result<KeyAsks, NoMemory>
@@ -97,25 +94,6 @@ pub fn attempt_key(
         }
         KeyAnswer::SomeMember(set) => Ok(Attempt::Empty(SlotProof::SomeMember(set))),
         KeyAnswer::TooMany(texts) => Ok(Attempt::Full(texts)),
-    }
-}
-
-/// Values of the key for the core, where they are found soon, tried on all answered tests of the slot. Where none are
-/// found nothing follows.
-pub fn attempt_key_soon(
-    alloc: Global,
-    question: &Question<'_>,
-    rule: &KeyRule,
-    core: &[u32],
-) -> Result<Option<Attempt>, NoMemory>
-    requires key { IsOnKey question.now rule.now }
-    requires core { IsCoreOf question.now core.now }
-    ensures { IfOk result (λ found. IfSome found (IsAttempt question.now core.now)) }
-{
-    let asks = asks_of(alloc, question, core)?;
-    match solve(alloc, rule, &asks, question.states.min(SOON_STATES))? {
-        KeyAnswer::Found(values) => Ok(Some(tried(question, SlotValue::Values(values)))),
-        _ => Ok(None),
     }
 }
 

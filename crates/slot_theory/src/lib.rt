@@ -4,7 +4,6 @@
 
 mod acceptance;
 mod attempt;
-mod blocks;
 mod bounds;
 mod check;
 mod cores;

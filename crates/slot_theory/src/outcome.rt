@@ -33,8 +33,8 @@ impl SlotValue {
 /// Why no principal of one kind answers the tests of a core as a path does.
 #[derive(Drop)]
 pub enum KindProof {
-    /// Some test of the core has the same answer for all principals of the kind, and the path has
-    /// the other one.
+    /// Some test of the core has one answer for all principals of the kind, and the path has the other
+    /// one.
     Never,
     /// No id does: a closed set of product states for the patterns of the core's tests on which the
     /// answer depends on the id.

@@ -18,7 +18,7 @@ use crate::outcome::{Core, Possible};
 use crate::question::Question;
 use crate::slots::is_on;
 use crate::steps::{Attempt, Kept};
-use crate::together::{all_at_once, between_bounds};
+use crate::together::{at_last, between_bounds};
 use crate::unasked::stated_value;
 use formula_tree::Path;
 use pattern_automata::LastClosed;
@@ -65,7 +65,7 @@ fn search(
             Attempt::Full(texts) => return Ok(Possible::TooMany(texts)),
             Attempt::Right(value) => return Ok(Possible::Found(value)),
             Attempt::Wrong(n) => {
-                if let Some(found) = all_at_once(alloc, question, core.len())? {
+                if let Some(found) = at_last(alloc, question, core.len())? {
                     return Ok(found);
                 }
                 core = with_test(alloc, core.as_slice(), n)?;
@@ -75,7 +75,7 @@ fn search(
     }
 }
 
-/// The search, by the bounds of numbers where they tell it, and else from a core of one test.
+/// The search: by the bounds of numbers where they decide it, and else from a core of one test.
 fn searched(
     alloc: Global,
     question: &Question<'_>,
@@ -91,15 +91,14 @@ fn searched(
     search(alloc, question, first, last_closed)
 }
 
-/// A value of a slot that answers the slot's tests as the path does; or tests of the slot that no
-/// value answers so, with a proof; or one more text than `states`, no two of which have the same
-/// product state of the patterns that are asked. Where the path answers no test of the slot, it is the
-/// stated value.
+/// A value of a slot that answers the slot's tests as the path does. Otherwise tests of the slot that no value answers
+/// so, with a proof. Or one more text than `states`, no two with the same product state of the patterns that are
+/// asked. Where the path answers no test of the slot, it is the stated value.
 ///
-/// The schema is sound, the tests suit it and are numbered by 32 bits, the path's are in range, a key
-/// that is the slot is one of the schema's, and `states`, the most product states that are looked at for
-/// some of the tests, is at least 1. The closed set that an earlier call left in `last_closed` may stand for a search
-/// of this one, whose answer it doesn't change. The only error is want of memory.
+/// The schema is sound, and the tests suit it and are numbered by 32 bits. The path's tests are in range, and a key
+/// that is the slot is one of the schema's. `states` is at least 1: the most product states that are looked at for some
+/// of the tests. The closed set that an earlier call left in `last_closed` may stand for a search of this one, and
+/// doesn't change the answer. The only error is want of memory.
 pub fn possible(
     schema: &Schema,
     tests: &TestList,

@@ -84,7 +84,7 @@ pub fn meets(value: &SlotValue, test: &Test) -> bool
     }
 }
 
-/// The answer of the test to every principal of the kind, where it is the same for all of them.
+/// The answer of the test to every principal of the kind, where all get one answer.
 pub fn fixed_at(test: &Test, kind: PrincipalKind) -> Option<bool>
     ensures { result ≡ fixed_at kind test.now }
 {

@@ -1,20 +1,17 @@
 //! The search with many answered tests of a slot at once. A key whose values aren't texts has finitely many
 //! values that stand for all, which are looked at in one pass however many tests there are, while a core
-//! that grows test by test takes a pass for each. Of numbers between bounds at most four tests tell all, and
-//! of address blocks those that cover another. A word for all tests is mostly found soon or not at all, and so
-//! are the members of a key with several texts, of which a core that grows test by test finds one after the other.
+//! that grows test by test takes a pass for each. For numbers between bounds at most four tests are enough.
 ghost use Rattle.std.specs.Prelude.{◌≡◌, IfOk, IfSome, IsTrue};
 ghost use Rattle.slot_theory.specs.declared.outcome.SlotValue.TheVariants.{Values};
 ghost use Rattle.slot_theory.specs.Question.{IsCoreOf, IsOutcomeOf, PermitsOne};
-ghost use Rattle.slot_theory.specs.Slots.{IsWordSlot, Permits};
+ghost use Rattle.slot_theory.specs.Slots.{Permits};
 ghost use Rattle.slot_theory.specs.Shrinking.{IsKept};
 
-use crate::attempt::{attempt, attempt_soon};
-use crate::blocks::proposed_address;
+use crate::attempt::attempt;
 use crate::bounds::proposed_number;
 use crate::cores::is_core;
 use crate::cutting::{confirmed, found_or};
-use crate::keys::{attempt_key_soon, few_of, rule_of};
+use crate::keys::{few_of, rule_of};
 use crate::outcome::{Core, Possible, SlotValue};
 use crate::question::Question;
 use crate::slots::is_on;
@@ -22,24 +19,11 @@ use crate::steps::{Attempt, Kept, Proposal};
 use crate::trial::tried;
 use pattern_automata::LastClosed;
 use plain_lists::NoMemory;
-use policy_model::{Kind, Slot, Value, ValueList, is_value_of};
+use policy_model::{Kind, Value, ValueList, is_value_of};
 use std::alloc::Global;
 
 /// Cores with fewer tests grow test by test.
 const FEW_TESTS: usize = 16;
-
-/// A core with fewer tests of blocks mostly comes to its end soon.
-const FEW_BLOCKS: usize = 2;
-
-/// A core with fewer tests of words mostly comes to its end soon.
-const FEW_WORDS: usize = 8;
-
-/// A core with fewer tests of a key with several texts mostly comes to its end soon, too.
-const FEW_MEMBERS: usize = 8;
-
-/// Of more pairs of a test that is answered yes and one that is answered no, members aren't looked for all at once:
-/// each yes takes a product with all of those, in vain where a later one has no member.
-const MOST_MEMBER_PAIRS: usize = 20_000;
 
 /// Whether a core of so many tests has taken as long to grow as all tests at once would take.
 fn is_long(question: &Question<'_>, count: usize) -> bool {
@@ -188,16 +172,8 @@ fn taken(
     }
 }
 
-/// What the blocks of a key of addresses tell, where many of their tests are answered.
-fn among_blocks(alloc: Global, question: &Question<'_>) -> Result<Option<Possible>, NoMemory>
-    ensures { IfOk result (λ found. IfSome found (IsOutcomeOf question.now)) }
-{
-    let proposal = proposed_address(alloc, question, FEW_TESTS)?;
-    taken(alloc, question, proposal)
-}
-
 /// What a search with all answered tests answers, where a core that grows has come to many of them.
-fn at_last(
+pub fn at_last(
     alloc: Global,
     question: &Question<'_>,
     count: usize,
@@ -211,112 +187,7 @@ fn at_last(
     settled_by(alloc, question, tests)
 }
 
-/// What a word for the core tells, where one is found soon that answers all answered tests of the slot.
-fn by_word(
-    alloc: Global,
-    question: &Question<'_>,
-    core: &[u32],
-) -> Result<Option<Possible>, NoMemory>
-    requires slot { IsWordSlot question.now.slot.now }
-    requires core { IsCoreOf question.now core.now }
-    ensures { IfOk result (λ found. IfSome found (IsOutcomeOf question.now)) }
-{
-    match attempt_soon(alloc, question, core)? {
-        Some(Attempt::Right(value)) => Ok(Some(Possible::Found(value))),
-        _ => Ok(None),
-    }
-}
-
-/// What a word for all answered tests tells, where the slot has words and one is found soon.
-fn among_words(alloc: Global, question: &Question<'_>) -> Result<Option<Possible>, NoMemory>
-    ensures { IfOk result (λ found. IfSome found (IsOutcomeOf question.now)) }
-{
-    let tests = answered_tests(alloc, question)?;
-    match (question.slot, as_core(question, tests)) {
-        (Slot::Action | Slot::Resource, Some(core)) => by_word(alloc, question, core.as_slice()),
-        _ => Ok(None),
-    }
-}
-
-/// Whether members for the core are dear to look for all at once.
-fn is_dear(question: &Question<'_>, core: &[u32]) -> bool {
-    let mut yes: usize = 0;
-    for n in core {
-        if question.path.answer(*n) == Some(true) {
-            yes = yes.saturating_add(1);
-        }
-    }
-    yes.saturating_mul(core.len().saturating_sub(yes)) > MOST_MEMBER_PAIRS
-}
-
-/// What values for the core tell, where the slot is a key with several texts and they are found soon that answer all
-/// answered tests of the slot.
-fn by_members(
-    alloc: Global,
-    question: &Question<'_>,
-    core: &[u32],
-) -> Result<Option<Possible>, NoMemory>
-    requires core { IsCoreOf question.now core.now }
-    ensures { IfOk result (λ found. IfSome found (IsOutcomeOf question.now)) }
-{
-    let Slot::Key(name) = question.slot else {
-        return Ok(None);
-    };
-    let Some(rule) = question.schema.get(name) else {
-        return Ok(None);
-    };
-    if !rule.many || rule.kind != Kind::Text {
-        return Ok(None);
-    }
-    if is_dear(question, core) {
-        return Ok(None);
-    }
-    match attempt_key_soon(alloc, question, rule, core)? {
-        Some(Attempt::Right(value)) => Ok(Some(Possible::Found(value))),
-        _ => Ok(None),
-    }
-}
-
-/// What texts for all answered tests tell, where the slot is a key with several of them and they are found soon.
-fn among_members(alloc: Global, question: &Question<'_>) -> Result<Option<Possible>, NoMemory>
-    ensures { IfOk result (λ found. IfSome found (IsOutcomeOf question.now)) }
-{
-    let tests = answered_tests(alloc, question)?;
-    match as_core(question, tests) {
-        Some(core) => by_members(alloc, question, core.as_slice()),
-        None => Ok(None),
-    }
-}
-
-/// What is found in the place of a core that grows beyond so many tests: of addresses by their blocks as soon as it has
-/// a few, of words and of keys with several texts by a value for all answered tests once it has some more, and else by
-/// all answered tests where it has come to many of them.
-pub fn all_at_once(
-    alloc: Global,
-    question: &Question<'_>,
-    count: usize,
-) -> Result<Option<Possible>, NoMemory>
-    ensures { IfOk result (λ found. IfSome found (IsOutcomeOf question.now)) }
-{
-    if count == FEW_BLOCKS {
-        if let Some(found) = among_blocks(alloc, question)? {
-            return Ok(Some(found));
-        }
-    }
-    if count == FEW_WORDS {
-        if let Some(found) = among_words(alloc, question)? {
-            return Ok(Some(found));
-        }
-    }
-    if count == FEW_MEMBERS {
-        if let Some(found) = among_members(alloc, question)? {
-            return Ok(Some(found));
-        }
-    }
-    at_last(alloc, question, count)
-}
-
-/// What the bounds of a key of numbers tell, where many of their tests are answered.
+/// The answer by the bounds of a key of numbers, where many of their tests are answered.
 pub fn between_bounds(alloc: Global, question: &Question<'_>) -> Result<Option<Possible>, NoMemory>
     ensures { IfOk result (λ found. IfSome found (IsOutcomeOf question.now)) }
 {

@@ -141,8 +141,8 @@ fn stated_key(alloc: Global, rule: &KeyRule) -> Result<Value, NoMemory>
     }
 }
 
-/// The values of a key that nothing is asked of: one where the key is required, its first listed value, or
-/// else a sample of its shape, or else `x`, true, 0, 0.0.0.0 or no bytes by its kind; and otherwise none.
+/// The values of a key that nothing is asked of. A key that isn't required has none. A required key has one: its first
+/// listed value, or else a sample of its shape, or else `x`, true, 0, 0.0.0.0 or no bytes by its kind.
 ///
 /// The rule is sound. The only error is want of memory.
 pub fn stated_values(alloc: Global, rule: &KeyRule) -> Result<ValueList, NoMemory>

@@ -1,8 +1,7 @@
 //! What tests want of a word or of an id, with `?*` and a shape, and products for that.
-ghost use Rattle.std.specs.Prelude.{◌≡◌, ◌++◌, ◌+◌, ◌^◌, ◌<◌, ◌↔◌, IfOk, IfSome, OnOk, IsTrue, false, unwrap_or};
+ghost use Rattle.std.specs.Prelude.{◌≡◌, ◌++◌, ◌+◌, ◌^◌, ◌<◌, ◌↔◌, IfOk, OnOk, IsTrue, false, unwrap_or};
 ghost use Rattle.std.specs.Option.{option_to_list};
 ghost use Rattle.formula_tree.specs.Answers.{answer_of};
-ghost use Rattle.pattern_automata.specs.declared.outcome.Product.TheVariants.{Found};
 ghost use Rattle.slot_theory.specs.Slots.{some_word};
 ghost use Rattle.slot_theory.specs.Question.{AreWanted, IsProductFor};
 ghost use Rattle.slot_theory.specs.Wants.{IsClosedFor, IsWants, patterns_of, shape_clauses, wanted_clause, wanted_clauses};
@@ -11,11 +10,10 @@ use crate::question::Question;
 use crate::slots::pattern_of;
 use pattern_automata::{
     ClauseList, Closed, LastClosed, Literal, LiteralList, Product, Wants, is_closed, product_after,
-    text_soon,
 };
 use plain_lists::NoMemory;
 use std::alloc::{AllocError, Global};
-use wildcard_lang::{Pattern, PatternList, Piece, Text};
+use wildcard_lang::{Pattern, PatternList, Piece};
 
 /// The pattern `?*`.
 fn some_word(alloc: Global) -> Result<Pattern, NoMemory>
@@ -142,22 +140,6 @@ pub fn solve(
 {
     let wants = wants_of(alloc, question, numbers, shape)?;
     product_after(&wants, question.states, last_closed)
-}
-
-/// A text that meets what the tests of these numbers want, where one is found soon. Where none is found nothing
-/// follows.
-pub fn text_for(
-    alloc: Global,
-    question: &Question<'_>,
-    numbers: &[u32],
-    shape: &Option<Pattern>,
-) -> Result<Option<Text>, NoMemory>
-    requires wanted { AreWanted question.now numbers.now }
-    ensures { IfOk result (λ found.
-        IfSome found (λ text. IsProductFor question.now numbers.now shape.now (Found text))) }
-{
-    let wants = wants_of(alloc, question, numbers, shape)?;
-    text_soon(alloc, &wants)
 }
 
 /// Whether the set is closed for what the tests of these numbers want.

@@ -1,5 +1,5 @@
 -- What is printed of a region within its limits, and which statuses it has.
-use Rattle.std.proofs.Common.{◌≡◌, ◌⊎◌, List, [], ◌∷◌, ◌++◌, ℕ, slice_get, All, Some, arith, inl, inr, refl, subst, sym}
+use Rattle.std.proofs.Common.{◌≡◌, ◌⊎◌, List, [], ◌∷◌, ◌++◌, ℕ, slice_get, All, Some, arith, inl, inr, refl, subst}
 use Rattle.std.proofs.lemmas.List.Elements.{All-contains, Contains-append_right}
 use Rattle.std.specs.Prelude.{Contains, true}
 use Rattle.std.specs.Str.{IsUtf8}
@@ -16,14 +16,12 @@ use Rattle.summary_search.specs.declared.outcome.Limits.{Limits}
 use Rattle.summary_search.specs.declared.outcome.Outcome.{Outcome}
 use Rattle.summary_search.specs.declared.outcome.Outcome.TheVariants as outcome
 use Rattle.run_inputs.specs.declared.printed.Printed.{Printed}
-use Rattle.run_inputs.specs.declared.status.Status.{Status}
 use Rattle.run_inputs.specs.declared.status.Status.TheVariants as status
 use Rattle.run_inputs.specs.Printing.{IsOfText}
 use Rattle.run_inputs.specs.declared.refusal.Refusal.{Refusal}
 use Rattle.run_inputs.specs.declared.refusal.Refusal.TheVariants as refusal
 use Rattle.run_inputs.specs.OneSets.{one_of, SetContents}
-use Rattle.run_inputs.specs.Refusals.{IsRefusedBy}
-use Rattle.run_inputs.proofs.Laws.{no_one_fails, of_same_set}
+use Rattle.run_inputs.proofs.Laws.{no_one_fails, of_same_set, refusal_with, with_status}
 use Rattle.summary_answers.specs.declared.answer.Found.{Found}
 use Rattle.summary_answers.specs.declared.subject.Subject.{Subject}
 use Rattle.summary_answers.specs.Complete.{FitsLimits, IsSummarisable, SummariesDecide, SummarisableSubjectsAreFound}
@@ -46,9 +44,6 @@ found_have_findings names limits subject found is = summary-findings subject.sch
 
 -- ---- statuses
 
-with_status : (p : Printed) (s : Status) → IsOfText s → p.status ≡ s → IsOfText p.status
-with_status p s of is = subst IsOfText (sym is) of
-
 unfound_with : (names : List (List ℕ)) (limits : Limits) (o : Outcome) (p : Printed) → PrintsUnfound names limits o p → IsOfText p.status
 unfound_with names limits (outcome.Found strata summary) p told = absurd told
 unfound_with names limits (outcome.TooManyPredicates d) p told = with_status p status.Refused tt told.1
@@ -56,9 +51,6 @@ unfound_with names limits (outcome.Wide s texts) p told = with_status p status.U
 unfound_with names limits outcome.OutOfFindings p told = with_status p status.Undecided tt told.1
 unfound_with names limits (outcome.OutOfSplits strata f) p told = with_status p status.Undecided tt told.1
 unfound_with names limits (outcome.OutOfStates strata f w) p told = with_status p status.Undecided tt told.1
-
-refusal_with : (Q : Refusal → Type 0) (p : Printed) → IsRefusedBy Q p → IsOfText p.status
-refusal_with Q p (r, is, told) = with_status p status.Refused tt told.1
 
 not_summarised_with : (names : List (List ℕ)) (limits : Limits) (subject : Subject) (p : Printed) → IsNotSummarised names limits subject p → IsOfText p.status
 not_summarised_with names limits subject p (inl past) = refusal_with _ p past
@@ -118,9 +110,9 @@ module _ (names : List (List ℕ)) (limits : Limits) (subject : Subject) (p : Pr
   not_past : IsSummarisable names limits subject → (r : Refusal) → IsPlanPastLimit (subject_plan subject) r → ⊥
   not_past d refusal.TooManyTests v = d.tests v
   not_past d refusal.TooManyPieces v = d.pieces v
-  not_past d (refusal.NoSchema fault) v = v
-  not_past d (refusal.NoSet file fault) v = v
-  not_past d (refusal.NoRun file fault) v = v
+  not_past d (refusal.BadSchema fault) v = v
+  not_past d (refusal.BadSet file fault) v = v
+  not_past d (refusal.BadCondition file fault) v = v
 
   not_summarised_fails : IsSummarisable names limits subject → IsNotSummarised names limits subject p → ⊥
   not_summarised_fails d (inl (r, past, told)) = not_past d r past

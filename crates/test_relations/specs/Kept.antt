@@ -6,7 +6,7 @@ use Rattle.test_relations.specs.declared.kept.TheConstants.{MOST_KEPT}
 abbrev pub IsKnownAt : (ℕ → ℕ → Type 0) → ℕ → Bool → Type 0
 IsKnownAt relation place known = IsTrue known → relation (place / MOST_KEPT) (place % MOST_KEPT)
 
--- so does what is kept, at each place where something is
+-- whatever is kept at a place is known there
 abbrev pub AreKnown : (ℕ → ℕ → Type 0) → List (Option Bool) → Type 0
 AreKnown relation kept = (place : ℕ) (known : Bool) → slice_index_or kept place None ≡ Some known → IsKnownAt relation place known
 

@@ -52,10 +52,11 @@ CondExcludesEach one others = All (SharesNoValue one) others
 abbrev pub MatchesEach : List Piece → Option (List Piece) → Type 0
 MatchesEach pattern shape = (t : List ℕ) → FitsShape shape t → Matches pattern t
 
--- a key with this rule has one value at most, or at least
+-- a key with this rule has one value at most
 abbrev pub IsSingle : KeyRule → Type 0
 IsSingle rule = rule.many ≡ false
 
+-- a key with this rule has one value at least
 abbrev pub IsRequired : KeyRule → Type 0
 IsRequired rule = rule.required ≡ true
 

@@ -23,7 +23,7 @@ pub record SchemaTests : Type 0 where
   pub schema : Schema
   pub tests : List Test
 
--- the same of the tests with these numbers
+-- the same of the tests with these numbers, and nothing where there is no such test
 abbrev pub LeadsAt : SchemaTests → ℕ → ℕ → Type 0
 LeadsAt of one other =
     (a b : Test) → slice_get of.tests one ≡ Some a → slice_get of.tests other ≡ Some b → TestLeads of.schema a b

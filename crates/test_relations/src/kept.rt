@@ -21,14 +21,14 @@ const MOST_KEPT: usize = 1_024;
 pub struct Relations<'a> {
     schema: &'a Schema,
     tests: &'a TestList,
-    // By test the pattern that it is on. By marks most patterns are told apart at once.
+    // By test its pattern. Marks decide most pairs of patterns at once.
     marks: Vec<Option<MarkedPattern<'a>>>,
     // By test where the values of its list stand, if it is a long one.
     places: Vec<Option<Places<'a>>>,
     // By the place of a pair whether the one is known to lead to the other, where this was asked for.
     led: Vec<Option<bool>>,
     // Likewise whether they are known to exclude each other.
-    apart: Vec<Option<bool>>,
+    excluded: Vec<Option<bool>>,
 }
 
 impl<'a> Model for Relations<'a> {
@@ -41,7 +41,7 @@ impl<'a> Model for Relations<'a> {
 
     ghost invariant = { λ r.
         AreKnown (LeadsAt (record { schema = r.schema.now; tests = r.tests.now })) r.led.items ×
-        AreKnown (ExcludesAt (record { schema = r.schema.now; tests = r.tests.now })) r.apart.items };
+        AreKnown (ExcludesAt (record { schema = r.schema.now; tests = r.tests.now })) r.excluded.items };
 }
 
 // The pattern that the test is on, marked.
@@ -94,14 +94,14 @@ impl<'a> Relations<'a> {
         let marks = marks_of_tests(alloc, tests)?;
         let places = places_in(alloc, tests)?;
         let led = empty_room(alloc, tests.len())?;
-        let apart = empty_room(alloc, tests.len())?;
+        let excluded = empty_room(alloc, tests.len())?;
         Ok(Relations {
             schema,
             tests,
             marks,
             places,
             led,
-            apart,
+            excluded,
         })
     }
 
@@ -119,7 +119,7 @@ impl<'a> Relations<'a> {
         }
     }
 
-    // Whether it is worth asking, as the marks tell: nothing rests on it.
+    // Whether it is worth asking, by the marks: nothing rests on it.
     fn may_lead(&self, one: u32, other: u32) -> bool {
         match (self.marks(one), self.marks(other)) {
             (Some(first), Some(second)) => second.covers(first),
@@ -152,7 +152,7 @@ impl<'a> Relations<'a> {
     }
 
     // Whether the two exclude each other, found anew.
-    fn found_apart(&self, one: u32, other: u32) -> bool
+    fn found_excluded(&self, one: u32, other: u32) -> bool
         ensures { IsTrue result → ExcludesAt self.now one other }
     {
         let Some(first) = self.tests.get(one as usize) else {
@@ -164,7 +164,7 @@ impl<'a> Relations<'a> {
         excludes(self.schema, first, second)
     }
 
-    // What is kept at the place of a pair, and keeping it where there is room.
+    // What is kept at the place of a pair.
     fn led_at(&self, place: usize) -> Option<bool>
         ensures { IfSome result (IsKnownAt (LeadsAt self.now) place) }
     {
@@ -174,6 +174,7 @@ impl<'a> Relations<'a> {
         }
     }
 
+    // Keeps it, where there is room.
     fn keep_led(&mut self, place: usize, known: bool)
         requires { IsKnownAt (LeadsAt self.old) place known }
         ensures { self.new ≡ self.old }
@@ -183,25 +184,25 @@ impl<'a> Relations<'a> {
         }
     }
 
-    fn apart_at(&self, place: usize) -> Option<bool>
+    fn excluded_at(&self, place: usize) -> Option<bool>
         ensures { IfSome result (IsKnownAt (ExcludesAt self.now) place) }
     {
-        match self.apart.get(place) {
+        match self.excluded.get(place) {
             Some(known) => *known,
             None => None,
         }
     }
 
-    fn keep_apart(&mut self, place: usize, known: bool)
+    fn keep_excluded(&mut self, place: usize, known: bool)
         requires { IsKnownAt (ExcludesAt self.old) place known }
         ensures { self.new ≡ self.old }
     {
-        if place < self.apart.len() {
-            self.apart[place] = Some(known);
+        if place < self.excluded.len() {
+            self.excluded[place] = Some(known);
         }
     }
 
-    /// Whether the one test is known to lead to the other; no where a number is no test's. It takes no memory.
+    /// Whether the one test is known to lead to the other. It takes no memory.
     pub fn leads(&mut self, one: u32, other: u32) -> bool
         ensures same { self.new ≡ self.old }
         ensures leads { IsTrue result → LeadsAt self.old one other }
@@ -218,20 +219,20 @@ impl<'a> Relations<'a> {
         found
     }
 
-    /// Whether the two tests are known to exclude each other; no where a number is no test's. It takes no memory.
+    /// Whether the two tests are known to exclude each other. It takes no memory.
     pub fn excludes(&mut self, one: u32, other: u32) -> bool
         ensures same { self.new ≡ self.old }
         ensures excludes { IsTrue result → ExcludesAt self.old one other }
     {
         if other as usize >= MOST_KEPT {
-            return self.found_apart(one, other);
+            return self.found_excluded(one, other);
         }
         let place = place_of(one, other);
-        if let Some(known) = self.apart_at(place) {
+        if let Some(known) = self.excluded_at(place) {
             return known;
         }
-        let found = self.found_apart(one, other);
-        self.keep_apart(place, found);
+        let found = self.found_excluded(one, other);
+        self.keep_excluded(place, found);
         found
     }
 

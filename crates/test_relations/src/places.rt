@@ -26,7 +26,7 @@ impl<'a> Places<'a> {
         Ok(Places { places })
     }
 
-    /// Where an equal value stands.
+    /// Where an equal value may stand.
     pub(crate) fn proposed(&self, value: &Cond) -> Option<usize> {
         self.places.get(&value).copied()
     }

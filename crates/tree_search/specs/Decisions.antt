@@ -15,8 +15,9 @@ use Rattle.slot_theory.specs.Possible.{AnswersPath, IsPossible}
 use Rattle.slot_theory.specs.Cores.{HasTest}
 use Rattle.slot_theory.specs.Slots.{patterns_at}
 use Rattle.refute_check.specs.Proofs.{Proof, depth, proof_of, splits}
-use Rattle.refute_check.specs.Closing.{Before, Closes, at_first}
+use Rattle.refute_check.specs.Closing.{Before, at_first}
 use Rattle.refute_check.specs.Laws.{MakesYes}
+use Rattle.refute_check.specs.Queries.{ClosesAll}
 use Rattle.refute_check.specs.Propagated.{PropagatedNeedsMore}
 use Rattle.search_parts.specs.Trimmed.{IsTrimmed}
 use Rattle.tree_search.specs.declared.outcome.Budgets.{Budgets}
@@ -28,7 +29,7 @@ use Rattle.tree_search.specs.Nodes.{IsPropagatedNode, IsToBeSplit, LeadTo}
 -- the refutation closes the query; it has at most so many splits, a shared one counted as often as it stands; its splits and labels
 -- nest at most twice as deep as there are tests; and it is trimmed
 pub record IsRefutation (schema : Schema) (query : Query) (most : ℕ) (proof : Proof) : Type 0 where
-  pub closes : Closes schema query.tests (asked_tree query) at_first proof []
+  pub closes : ClosesAll schema query proof
   pub few : splits proof ≤ most
   pub nests : depth proof ≤ 2 * length query.tests
   pub trimmed : IsTrimmed schema query.tests (asked_tree query) proof

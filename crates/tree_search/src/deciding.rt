@@ -90,7 +90,7 @@ fn begin(
     search_from(alloc, schema, query, budgets, &mut state)
 }
 
-// The same from the state there, which isn't used again where there is no memory.
+// Searches from the state there, which isn't used again where there is no memory.
 fn search_from(
     alloc: Global,
     schema: &Schema,

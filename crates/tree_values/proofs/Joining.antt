@@ -13,7 +13,7 @@ use Rattle.formula_tree.specs.Looks.{look_of_both, look_of_either, look_of_tree,
 use Rattle.tree_values.specs.declared.node.Node.{Node}
 use Rattle.tree_values.specs.declared.node.Node.TheVariants as node
 use Rattle.formula_tree.specs.declared.looks.Look.{Look}
-use Rattle.tree_values.proofs.Walking.{take_next}
+use Rattle.formula_tree.proofs.FormulaWalks.{take_next}
 use Rattle.tree_values.proofs.Lists.{get-more, get-push, number-same, or-cases, or-false, same-number}
 
 -- ---- several seen together

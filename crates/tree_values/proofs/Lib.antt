@@ -5,4 +5,3 @@ mod Joining
 mod Leaving
 mod Lists
 mod Staying
-mod Walking

@@ -93,7 +93,7 @@ fn put_at_both(
     put_at(lists, second, number)
 }
 
-// The same, where the list needn't be there yet.
+// Puts the number into the list at an index. That list needn't be there yet.
 fn put_with_room(lists: &mut Vec<List<usize>>, at: usize, number: usize) -> Result<(), NoMemory>
     requires { at < 2 ^ 40 }
     ensures { OnOk result (PutsAt lists.old.items lists.new.items at number) }

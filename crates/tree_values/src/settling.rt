@@ -138,8 +138,8 @@ fn is_same_answer(first: Option<bool>, second: Option<bool>) -> bool
     first == second
 }
 
-// The same, with nothing to do where the test has that answer, and by way of no answer where it has
-// the other: so what is seen of a node goes one way at a time, from unknown or towards it.
+// Changes the answer of a test. It does nothing where the test has that answer, and goes by way of no answer where it
+// has the other: so what is seen of a node goes one way at a time, from unknown or towards it.
 pub(crate) fn change_to(
     graph: &Graph,
     answers: &mut Vec<Option<bool>>,

@@ -1,4 +1,4 @@
--- Zone files: this project's own form. A file is an object of four lists of strings, each of which may be left out. What is checked
+-- Zone files: this project's own form. A file is an object of four lists of strings; any of them may be left out. What is checked
 -- of a file, in this order, and the zone that it stands for.
 use Rattle.std.specs.Prelude.{◌≡◌, ⊤, ℕ, List, [], ◌∷◌, ◌++◌, length, map, Bool, true, false, ◌&&◌, ◌||◌, ◌==◌, not, nat_le, is_some, Option, Some, None, Result, Ok, Err, unwrap_or, chars, codes}
 use Rattle.std.specs.Char.{is_ascii_digit}
@@ -55,7 +55,7 @@ has_form_of Blocks s = is_some (block_spelled s)
 has_form_of Organizations s = is_short_name (chars s)
 has_form_of Vpcs s = is_short_name (chars s)
 
--- the key that the members of a list are values of, by its name, and the kind of its values. Accounts are told by the principal
+-- the key whose values the members of a list are, and their kind. Members of `Accounts` are compared with the principal
 abbrev pub key_of : ZoneList → Option (List ℕ × Kind)
 key_of Accounts = None
 key_of Blocks = Some (address_name, kind.Address)

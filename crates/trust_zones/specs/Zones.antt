@@ -1,5 +1,5 @@
 -- Trust zones: which requests come from inside one, and the set of policies that allows what another allows from outside of it. What
--- a zone is told by is this project's own choice.
+-- makes a request inside is this project's own choice.
 use Rattle.std.specs.Prelude.{◌≢◌, ◌≤◌, ◌<◌, ◌+◌, ◌↔◌, ℕ, List, [], ◌∷◌, ◌++◌, length, map, sum_by, false, Option, Some, None, All as Each, Any, Contains, chars}
 use Rattle.wildcard_lang.specs.Reading.{literals}
 use Rattle.wildcard_lang.specs.declared.pattern.TheConstants.{MOST_PIECES}
@@ -55,7 +55,7 @@ pub data IsInside (zone : Zone) (r : Request) : Type 0 where
   by_vpc : Any (GivesText r vpc_name) zone.vpcs → IsInside zone r
   by_block : Any (GivesAddressIn r address_name) zone.blocks → IsInside zone r
 
--- ---- zones of which a run can answer
+-- ---- zones that a run can answer for
 
 -- each account is twelve digits, and each listed text has at most as many characters as a pattern has pieces
 pub record ZoneIsSound (zone : Zone) : Type 0 where

@@ -209,11 +209,11 @@ fn read_file(alloc: Global, schema: &Schema, file: &Value) -> Result<Zone, ZoneA
     })
 }
 
-/// The zone that a file stands for: an object of the lists `Accounts`, `Blocks`, `Organizations` and
-/// `Vpcs`, each of which may be left out. The schema gives the key of each list that isn't empty one value
-/// of its kind. `Refused` with the file's first fault exactly where it has one: first come those of the
-/// file as a whole, then list by list in the order of their names its number of members, their form and
-/// its key. `NoMemory` only where there is no memory.
+/// The zone that a file stands for: an object of the lists `Accounts`, `Blocks`, `Organizations` and `Vpcs`; any
+/// list may be left out. The schema gives the key of each list that isn't empty one value of its kind. `Refused`
+/// with the file's first fault exactly where it has one. First come faults of the file as a whole; then list by list,
+/// in the order of their names, the number of its members, their form, and its key. `NoMemory` only where there is no
+/// memory.
 pub fn read_zone(alloc: Global, schema: &Schema, bytes: &[u8]) -> Result<Zone, ZoneAnswer>
     ensures value { IsZoneFrom schema.now bytes.now result }
     ensures takes { IfOk result (TakesZone schema.now) }

@@ -1,4 +1,4 @@
-//! The condition keys that tell which requests come from a zone.
+//! The condition keys that show which requests come from a zone.
 ghost use Rattle.std.specs.Prelude.{◌≡◌, IfOk};
 ghost use Rattle.policy_model.specs.Keys.{IsFolded};
 ghost use Rattle.trust_zones.specs.ZoneKeys.{address_name, key_named, organization_name, vpc_name};

@@ -39,8 +39,8 @@ impl ZoneList {
         }
     }
 
-    /// The name of the key that the list's members are values of, and the kind of its values, where
-    /// they aren't told by the principal.
+    /// The name of the key whose values the list's members are, and their kind; none where the members are of the
+    /// principal.
     pub(crate) fn key(self) -> Option<(&'static str, Kind)>
         ensures { option_map (λ key. (key.0.now, key.1)) result ≡ key_of self }
     {

@@ -19,10 +19,9 @@ fn with_document(set: &PolicySet, document: Document) -> Result<PolicySet, NoMem
 }
 
 /// What the set allows from outside the zone: the set, with a document behind its grants that denies everything
-/// to requests from inside: first those of accounts, then those of organisations, of VPCs and of blocks, each by
-/// one statement where some are listed. Listed texts are taken as they stand. What is made is sound where the set
-/// is, and fits each schema that fits the set and takes the zone, as long as one more document has a number of 32
-/// bits.
+/// to requests from inside. It has one statement for each list that isn't empty: accounts, organisations, VPCs and
+/// blocks. Listed texts are taken as they stand. What is made is sound where the set is. It fits each schema that fits
+/// the set and takes the zone, as long as one more document has a number of 32 bits.
 pub fn outside(alloc: Global, set: &PolicySet, zone: &Zone) -> Result<PolicySet, NoMemory>
     requires { ZoneIsSound zone.now }
     ensures value { IfOk result (λ made. made ≡ outside set.now zone.now) }

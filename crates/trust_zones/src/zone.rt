@@ -6,10 +6,10 @@ use wildcard_lang::TextList;
 /// A list of blocks of addresses.
 pub type BlockList = List<Block>;
 
-/// A trust zone: whoever is told by one of these lists is inside.
+/// A trust zone: a request that one of these lists names is inside.
 #[derive(Drop)]
 pub struct Zone {
-    /// Accounts, of whose principals a request comes. An account is twelve ASCII digits.
+    /// Accounts; a request of one of their principals is inside. An account is twelve ASCII digits.
     pub accounts: TextList,
     /// Values of `aws:PrincipalOrgID`, each of at most 2,048 characters.
     pub organizations: TextList,

@@ -7,5 +7,3 @@ mod BytePoints
 mod Points
 mod Pushing
 mod SameTests
-mod Screening
-mod BlockNaming

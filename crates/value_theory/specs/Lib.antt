@@ -2,5 +2,3 @@ pub mod Clauses
 pub mod Meaning
 pub mod Solutions
 pub mod Samples
-pub mod Screens
-pub mod BlockLists

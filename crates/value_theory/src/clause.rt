@@ -16,7 +16,7 @@ pub struct Literal {
 /// A clause: one of its literals is to hold.
 pub type LiteralList = List<Literal>;
 
-/// Clauses, each of which is to hold.
+/// Clauses that are all to hold.
 pub type ClauseList = List<LiteralList>;
 
 // Whether the literal holds, where the answer says whether its condition is met.

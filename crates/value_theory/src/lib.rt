@@ -1,13 +1,10 @@
 //! Whether some truth value, number, address or byte string meets clauses over conditions on it.
 #![tactic(auto)]
 
-mod blocks;
 mod clause;
-mod guesses;
 mod kinds;
 mod meaning;
 mod samples;
-mod screen;
 mod search;
 
 pub use clause::{ClauseList, Literal, LiteralList};

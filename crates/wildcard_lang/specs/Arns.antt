@@ -36,7 +36,7 @@ abbrev pub colons_left : ℕ → Piece → ℕ
 colons_left zero p = zero
 colons_left (suc k) p = (if is_colon p then k else suc k)
 
--- the pieces, of which those before so many plain colons are narrowed
+-- the pieces, narrowed before so many plain colons
 abbrev pub narrowed_pieces : ℕ → List Piece → List Piece
 narrowed_pieces k [] = []
 narrowed_pieces k (p ∷ ps) = narrow_before k p ∷ narrowed_pieces (colons_left k p) ps

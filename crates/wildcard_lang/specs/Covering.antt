@@ -1,6 +1,6 @@
--- Which patterns take all that another pattern takes, and which take nothing of it, told by their pieces alone. Both are sound:
--- a pattern that covers another matches each text that the other matches, and no text is matched by patterns that clash. Some
--- pairs that are so are not told: `*?` takes all of `?*` and doesn't cover it.
+-- Which patterns take all that another pattern takes, and which take nothing of it, by their pieces alone. Both are sound:
+-- a pattern that covers another matches each text that the other matches, and no text is matched by patterns that clash. They aren't
+-- complete: `*?` takes all of `?*` and doesn't cover it.
 use Rattle.std.specs.Prelude.{◌≡◌, ℕ, List, [], ◌∷◌, map, Bool, true, false, not, ◌&&◌, ◌||◌, ◌↔◌, Any}
 use Rattle.std.specs.Char.{to_ascii_uppercase}
 use Rattle.std.specs.List.{list_any}
@@ -59,7 +59,7 @@ takes_piece a Many = is_wide a
 takes_piece a OneNoColon = is_wildcard a
 takes_piece a ManyNoColon = is_wildcard a
 
--- the same, where a piece for one character takes none for any number
+-- as above, where a piece for one character takes none for any number
 abbrev pub takes_next : Piece → Piece → Bool
 takes_next a x = (is_many a || not (is_many x)) && takes_piece a x
 

@@ -66,7 +66,7 @@ fn colons_left(left: usize, piece: Piece) -> usize
     }
 }
 
-// The pieces, of which those before the fifth plain colon are narrowed.
+// The pieces, narrowed before the fifth plain colon.
 fn narrow_parts(alloc: Global, pieces: &[Piece]) -> Result<Vec<Piece>, AllocError>
     ensures { IfOk result (λ v. v.items ≡ narrowed_pieces 5 pieces.now) }
 {

@@ -56,7 +56,7 @@ fn takes_piece(piece: Piece, other: Piece) -> bool
     }
 }
 
-// The same, where a piece for one character takes none for any number.
+// As above, where a piece for one character takes none for any number.
 pub(crate) fn takes_next(piece: Piece, other: Piece) -> bool
     ensures { result ≡ takes_next piece other }
 {
@@ -101,7 +101,7 @@ pub fn covers(pattern: &Pattern, other: &Pattern) -> bool
     covers_pieces(pattern.as_slice(), other.as_slice())
 }
 
-// Patterns are often equal, which is told with less work than how one matches the other.
+// Patterns are often equal, and comparing them takes less work than matching one by the other.
 fn covers_pieces(pieces: &[Piece], others: &[Piece]) -> bool
     requires most { length pieces.now ≤ MOST_PIECES }
     requires part { IsPatternPart pieces.now }

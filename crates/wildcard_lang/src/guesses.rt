@@ -1,4 +1,4 @@
-//! Numbers that told something before, kept as guesses of what tells it again. Nothing is promised of them.
+//! Numbers that decided something before, kept as guesses of what decides it again. Nothing is promised of them.
 
 // How many guesses are kept.
 const MOST_GUESSES: usize = 64;

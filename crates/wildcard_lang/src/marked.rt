@@ -1,4 +1,4 @@
-//! Patterns with marks by which most are told apart that don't cover one another, or that clash.
+//! Patterns with marks. Most pairs that don't cover one another, or that clash, differ in their marks.
 ghost use Rattle.std.specs.Prelude.{◌≡◌, ◌↔◌, IsTrue};
 ghost use Rattle.wildcard_lang.specs.Covering.{Clash, CoversPattern};
 ghost use Rattle.wildcard_lang.specs.Neighbours.{bit_of, edge, folded_character, neighbour_bit, neighbour_bits};
@@ -21,12 +21,12 @@ const SUM_FACTOR: u32 = 31;
 // How many pieces at the front of a pattern are summed up.
 const SHORT_FRONT: usize = 16;
 
-// The same, where most patterns begin alike.
+// The length of a front where most patterns begin alike.
 const LONG_FRONT: usize = 32;
 
 /// A pattern with bits that stand for its neighbouring characters, and with sums of its first characters. A pattern
-/// that covers another has no bit that the other lacks, and patterns clash whose sums differ, so most are told by one
-/// comparison. Contracts see it as the pattern.
+/// that covers another has only bits that the other has, and patterns whose sums differ clash. So most pairs are
+/// decided by one comparison. Contracts see it as the pattern.
 #[derive(Drop)]
 pub struct MarkedPattern<'a> {
     pattern: &'a Pattern,
@@ -145,7 +145,7 @@ impl<'a> MarkedPattern<'a> {
         self.pattern
     }
 
-    /// Whether the pattern covers the other, as `covers` tells.
+    /// Whether the pattern covers the other, as `covers` decides.
     pub fn covers(&self, other: &MarkedPattern<'_>) -> bool
         ensures { IsTrue result ↔ CoversPattern self.now other.now }
     {
@@ -155,7 +155,7 @@ impl<'a> MarkedPattern<'a> {
         covers(self.pattern, other.pattern)
     }
 
-    /// Whether the pattern and the other clash, as `clashes` tells.
+    /// Whether the pattern and the other clash, as `clashes` decides.
     pub fn clashes(&self, other: &MarkedPattern<'_>) -> bool
         ensures { IsTrue result ↔ Clash self.now other.now }
     {

@@ -7,8 +7,8 @@ pub fn symbols_are_read()
     ensures { SymbolsAreRead }
 {}
 
-/// A literal pattern matches the plain text that was written, and no other; with folding it matches
-/// the texts that are the same once ASCII letters are lowered.
+/// A literal pattern matches the plain text that was written, and no other. With folding it matches
+/// the texts that are equal once ASCII letters are lowered.
 pub fn literal_matches_itself()
     ensures exact { LiteralMatchesItself }
     ensures folded { FoldedLiteralMatchesEitherCase }

@@ -223,7 +223,7 @@ fn take_run<X: Taken, S: Source<X>>(
     })
 }
 
-// The same place of the run at the next start.
+// The place of the run at the next start.
 fn moved_place<X: Taken, S: Source<X>>(probe: Probe<S>) -> Probe<S>
     ensures { (x : X) → (t : List X) → IsAhead S.left (x ∷ t) probe → IsAhead S.left t result }
 {
@@ -233,7 +233,7 @@ fn moved_place<X: Taken, S: Source<X>>(probe: Probe<S>) -> Probe<S>
     }
 }
 
-// The same places of the run, and the same item of the text, as they stand at the next start. Where that
+// The places of the run and the item of the text, as they stand at the next start. Where that
 // start is behind the item, the places alone are asked.
 fn moved_on<X: Taken, S: Source<X>>(probes: Probes<S>) -> Probes<S>
     ensures { (x : X) → (t : List X) → AreAhead S.left (x ∷ t) probes → AreAhead S.left t result }

@@ -8,9 +8,6 @@ use Rattle.certified_summaries.proofs.check.judge_read.Goals as goal
 pub print_closing-requires-clause-suit : goal.print_closing-requires-clause-suit
 print_closing-requires-clause-suit c = (c.requires.cover.askable c.args.subject.now.schema c.args.subject.now.region c.requires.made).suit
 
-pub print_closing-requires-clause-below : goal.print_closing-requires-clause-below
-print_closing-requires-clause-below c = (c.requires.cover.askable c.args.subject.now.schema c.args.subject.now.region c.requires.made).below
-
 pub overflow_mul-place : goal.overflow_mul-place
 overflow_mul-place c =
     omega (arith, c.requires.few, failing-within c.args.subject.now c.args.made.now.query c.args.made.now.strata c.args.pairs.now c.in-Fails.place _ c.requires.made c.in_ok-check_summary.ensures c.in-Fails.is)

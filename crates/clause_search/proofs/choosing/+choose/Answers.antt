@@ -1,6 +1,6 @@
 use Rattle.std.proofs.Common.{arith}
 use Rattle.formula_tree.specs.Trees.{trees_of}
-use Rattle.clause_search.proofs.Walking.{size-Not, size-All, size-OneOf, size-at}
+use Rattle.formula_tree.proofs.FormulaWalks.{size-Not, size-All, size-OneOf, size-at}
 use Rattle.clause_search.proofs.choosing.+choose.Goals as goal
 
 pub choose-choose-requires : goal.choose-choose-requires

@@ -1,6 +1,6 @@
 use Rattle.std.specs.Prelude.{⊤}
 use Rattle.formula_tree.specs.Trees.{of_list, tree_of, trees_of}
-use Rattle.clause_search.proofs.Walking.{size, size_in}
+use Rattle.formula_tree.proofs.FormulaWalks.{size, size_in}
 use Rattle.clause_search.proofs.choosing.+price.Given as goal
 
 abbrev pub decreases-price : goal.decreases-price

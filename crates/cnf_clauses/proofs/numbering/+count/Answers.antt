@@ -2,7 +2,8 @@ use Rattle.std.proofs.Common.{arith, ap}
 use Rattle.formula_tree.specs.declared.formula.Formula.{Formula}
 use Rattle.formula_tree.specs.Trees.{tree_of, trees_of}
 use Rattle.cnf_clauses.specs.Numbering.{nodes}
-use Rattle.cnf_clauses.proofs.Walking.{size-Not, size-All, size-OneOf, size-at, nodes-Not, nodes-All, nodes-OneOf, nodes_in-next}
+use Rattle.formula_tree.proofs.FormulaWalks.{size-Not, size-All, size-OneOf, size-at}
+use Rattle.cnf_clauses.proofs.Walking.{nodes-Not, nodes-All, nodes-OneOf, nodes_in-next}
 use Rattle.cnf_clauses.proofs.numbering.+count.Goals as goal
 
 pub count-count-requires : goal.count-count-requires

@@ -5,7 +5,8 @@ use Rattle.cnf_clauses.specs.Numbering.{nodes}
 use Rattle.cnf_clauses.proofs.Indexing.{on_ok}
 use Rattle.cnf_clauses.proofs.Limits.{cut-none}
 use Rattle.cnf_clauses.proofs.Tying.{make-not, make-all, make-one-of, make-at, make-test}
-use Rattle.cnf_clauses.proofs.Walking.{tree-Test, tree-Not, tree-All, tree-OneOf, size-Not, size-All, size-OneOf, size-at, nodes-Not, nodes-All, nodes-OneOf, nodes_in-next, nodes_in-within, clauses-next, clauses-all, none_past}
+use Rattle.formula_tree.proofs.FormulaWalks.{tree-Test, tree-Not, tree-All, tree-OneOf, size-Not, size-All, size-OneOf, size-at, none_past}
+use Rattle.cnf_clauses.proofs.Walking.{nodes-Not, nodes-All, nodes-OneOf, nodes_in-next, nodes_in-within, clauses-next, clauses-all}
 use Rattle.cnf_clauses.proofs.numbering.+make.Goals as goal
 
 pub make-tie_not-requires : goal.make-tie_not-requires

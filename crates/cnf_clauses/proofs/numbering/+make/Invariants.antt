@@ -1,7 +1,7 @@
 use Rattle.std.proofs.Common.{◌≡◌, ◌+◌, take}
 use Rattle.formula_tree.specs.Trees.{of_list, tree_of, trees_of}
 use Rattle.cnf_clauses.specs.Numbering.{nodes_in, node_clauses_in, with_more}
-use Rattle.cnf_clauses.proofs.Walking.{size, size_in}
+use Rattle.formula_tree.proofs.FormulaWalks.{size, size_in}
 use Rattle.cnf_clauses.proofs.numbering.+make.Given as goal
 
 abbrev pub decreases-make : goal.decreases-make

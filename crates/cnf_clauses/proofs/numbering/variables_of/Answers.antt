@@ -2,7 +2,8 @@ use Rattle.std.proofs.Common.{arith, ap, ◌∙◌}
 use Rattle.formula_tree.specs.declared.formula.Formula.{Formula}
 use Rattle.formula_tree.specs.Trees.{tree_of, trees_of}
 use Rattle.cnf_clauses.specs.Numbering.{nodes, variable_of}
-use Rattle.cnf_clauses.proofs.Walking.{nodes_in-next, nodes_in-within, variables-next, variables-all, none_past}
+use Rattle.formula_tree.proofs.FormulaWalks.{none_past}
+use Rattle.cnf_clauses.proofs.Walking.{nodes_in-next, nodes_in-within, variables-next, variables-all}
 use Rattle.cnf_clauses.proofs.numbering.variables_of.Goals as goal
 use Rattle.cnf_clauses.proofs.numbering.variables_of.Goals.{else-branches-test, then-branches-test+in_default}
 

@@ -5,14 +5,11 @@ use Rattle.proof_text.specs.Laws.{limits_of}
 use Rattle.proof_text.specs.Reads.{IsReadFrom}
 use Rattle.compare_answers.specs.declared.answer.CheckAnswer.TheVariants.{BadProof}
 use Rattle.compare_answers.specs.Decided.{IsChecked}
-use Rattle.compare_answers.proofs.Comparing.{bad-proof, checked_if_read, query_below, query_tests}
+use Rattle.compare_answers.proofs.Comparing.{bad-proof, checked_if_read, query_tests}
 use Rattle.compare_answers.proofs.decision.check_proof.Goals as goal
 
 pub verdict_answer-requires-clause-suit : goal.verdict_answer-requires-clause-suit
 verdict_answer-requires-clause-suit c = query_tests c.args.pair.now c.in_ok-query.query c.requires.fitting c.in_ok-query.ensures
-
-pub verdict_answer-requires-clause-below : goal.verdict_answer-requires-clause-below
-verdict_answer-requires-clause-below c = query_below c.args.pair.now c.in_ok-query.query c.in_ok-query.ensures
 
 pub returns-in-Ok : goal.returns-in-Ok
 returns-in-Ok c =

@@ -8,7 +8,7 @@ use Rattle.refute_check.specs.Verdicts.{IsVerdict}
 use Rattle.refute_check.specs.declared.refutation.Refutation.{Refutation}
 use Rattle.refute_check.specs.declared.verdict.Verdict.{Verdict}
 use Rattle.refute_check.specs.declared.verdict.Verdict.TheVariants.{Fails}
-use Rattle.run_inputs.specs.ClosedQueries.{FailsAll}
+use Rattle.refute_check.specs.Queries.{FailsAll}
 use Rattle.compare_answers.proofs.decision.verdict_answer.Goals as goal
 
 pub bounds-as_slice-node : goal.bounds-as_slice-node

@@ -3,7 +3,7 @@ use Rattle.std.proofs.lemmas.Result.{err_from_is_err_and}
 use Rattle.command_words.specs.Asked.{are_dimensions, texts_in}
 use Rattle.run_inputs.specs.declared.printed.Printed.{Printed}
 use Rattle.run_inputs.proofs.FileLaws.{if_answered_weaker, or_answered_weaker}
-use Rattle.run_inputs.specs.OneSets.{IsOneRunRefusal}
+use Rattle.run_inputs.specs.OneSets.{IsSetRunRefusal}
 use Rattle.run_inputs.specs.Refusals.{IsRefusedBy}
 use Rattle.summary_answers.specs.declared.subject.Subject.{Subject}
 use Rattle.summary_answers.specs.Printed.{IsSubjectPrinted, always_holds}
@@ -21,9 +21,9 @@ print_subject_summary-requires-clause-dimensions c =
 pub returns-in_err-one : goal.returns-in_err-one
 returns-in_err-one c =
     let named = c.args.named.now in
-    let says : (p : Printed) → IsRefusedBy (IsOneRunRefusal named c.args.set) p → SummarisesFirst named c.args.set p = λ p v. inl v in
+    let says : (p : Printed) → IsRefusedBy (IsSetRunRefusal named c.args.set) p → SummarisesFirst named c.args.set p = λ p v. inl v in
     let p = err_from_is_err_and c.from_residual.result c.from_residual.ensures.1 in
-    rw (p.1, p.2) (if_answered_weaker _ (IsRefusedBy (IsOneRunRefusal named c.args.set)) (SummarisesFirst named c.args.set) says c.in_err-one.ensures.run)
+    rw (p.1, p.2) (if_answered_weaker _ (IsRefusedBy (IsSetRunRefusal named c.args.set)) (SummarisesFirst named c.args.set) says c.in_err-one.ensures.run)
 
 pub returns : goal.returns
 returns c =

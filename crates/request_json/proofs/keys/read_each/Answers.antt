@@ -6,7 +6,7 @@ use Rattle.serde_json.specs.View.{view}
 use Rattle.policy_model.specs.Requests.{IsOfKind}
 use Rattle.request_schema.specs.SchemaRules.{string_in}
 use Rattle.request_schema.specs.ValueTexts.{value_written}
-use Rattle.request_json.proofs.Listed.{one-more-value}
+use Rattle.request_schema.proofs.Listed.{one-more-value}
 use Rattle.request_json.proofs.keys.read_each.Goals as goal
 
 pub loop-value-preserved : goal.loop-value-preserved

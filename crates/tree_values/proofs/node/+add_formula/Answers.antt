@@ -4,7 +4,7 @@ use Rattle.formula_tree.specs.declared.formula.Formula.{Formula}
 use Rattle.formula_tree.specs.Trees.{not as negation}
 use Rattle.formula_tree.specs.Trees.{tree_of, trees_of}
 use Rattle.tree_values.proofs.Joining.{all-at, are-below, next-at, not-tree, prefix-then}
-use Rattle.tree_values.proofs.Walking.{none_past, size-at, tree-Not}
+use Rattle.formula_tree.proofs.FormulaWalks.{none_past, size-at, tree-Not}
 use Rattle.tree_values.proofs.node.+add_formula.Goals as goal
 use Rattle.tree_values.proofs.node.+add_formula.Goals.{add_branches-else-branches-test, add_branches-then-branches-test+in_default}
 

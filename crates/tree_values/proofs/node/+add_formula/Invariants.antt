@@ -1,7 +1,7 @@
 use Rattle.std.proofs.Common.{take}
 use Rattle.formula_tree.specs.Trees.{children_of, tree_of, trees_of}
 use Rattle.tree_values.specs.Nodes.{AreAt, IsPrefix}
-use Rattle.tree_values.proofs.Walking.{size, size_in}
+use Rattle.formula_tree.proofs.FormulaWalks.{size, size_in}
 use Rattle.tree_values.proofs.node.+add_formula.Given as goal
 
 abbrev pub decreases-add_formula : goal.decreases-add_formula

@@ -2,7 +2,7 @@ use Rattle.std.proofs.Common.{rules}
 use Rattle.formula_tree.specs.Trees.{tree_of, trees_of}
 use Rattle.formula_nodes.specs.Standing.{node_trees}
 use Rattle.formula_nodes.proofs.Valuing.{all-tree, next-trees, one-tree}
-use Rattle.formula_nodes.proofs.Walking.{tree-All, tree-OneOf}
+use Rattle.formula_tree.proofs.FormulaWalks.{tree-All, tree-OneOf}
 use Rattle.formula_nodes.proofs.nodes.Nodes.+formula.Goals as goal
 
 pub branches-claims-preserved : goal.branches-claims-preserved

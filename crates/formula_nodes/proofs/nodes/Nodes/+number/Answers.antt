@@ -5,7 +5,7 @@ use Rattle.formula_tree.specs.Values.{holds}
 use Rattle.formula_nodes.specs.Standing.{node_trees}
 use Rattle.formula_nodes.proofs.Laws.{grows-then}
 use Rattle.formula_nodes.proofs.Valuing.{adds-next, all-claims, next-claims, none-claim, zip-within}
-use Rattle.formula_nodes.proofs.Walking.{none_past, size-at, tree-No, tree-Yes}
+use Rattle.formula_tree.proofs.FormulaWalks.{none_past, size-at, tree-No, tree-Yes}
 use Rattle.formula_nodes.proofs.nodes.Nodes.+number.Goals as goal
 use Rattle.formula_nodes.proofs.nodes.Nodes.+number.Goals.{number_each-else-branches-test, number_each-then-branches-test+in_default}
 

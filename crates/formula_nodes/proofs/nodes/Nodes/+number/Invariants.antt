@@ -3,7 +3,7 @@ use Rattle.formula_tree.specs.Trees.{all, children_of, tree_of, trees_of}
 use Rattle.formula_nodes.specs.Claims.{AddsTestsOf, Grows}
 use Rattle.formula_nodes.specs.Standing.{node_trees}
 use Rattle.formula_nodes.specs.Steps.{AreClaimsFor}
-use Rattle.formula_nodes.proofs.Walking.{size, size_in}
+use Rattle.formula_tree.proofs.FormulaWalks.{size, size_in}
 use Rattle.formula_nodes.proofs.nodes.Nodes.+number.Given as goal
 
 abbrev pub decreases-number : goal.decreases-number

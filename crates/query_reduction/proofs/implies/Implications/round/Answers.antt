@@ -2,21 +2,21 @@ use Rattle.std.proofs.Common.{◌∙◌, refl, subst, sym, arith}
 use Rattle.formula_nodes.specs.Claims.{AreClaimsOf}
 use Rattle.formula_nodes.specs.Standing.{node_trees}
 use Rattle.test_relations.specs.Relations.{SchemaTests}
-use Rattle.query_reduction.specs.Claims.{IsWhole}
-use Rattle.query_reduction.proofs.Replacing.{replaced-step, whole-first, whole-last}
+use Rattle.query_reduction.specs.Claims.{IsConjunctionFor}
+use Rattle.query_reduction.proofs.Replacing.{replaced-step, whole-last}
 use Rattle.formula_nodes.proofs.Laws.{grows-none, grows-then}
 use Rattle.query_reduction.proofs.implies.Implications.round.Goals as goal
 
 pub each-init : goal.each-init
 each-init c =
     let trees = node_trees c.args.nodes.now in
-    let whole = whole-first c.args.self.now.relations trees c.args.whole c.in-Some.inner.now c.in-Some.ensures.same in (
+    let whole = c.in-Some.ensures.same c.args.self.now.relations in (
       refl,
       grows-none trees,
       λ t below. below,
       refl,
       subst (AreClaimsOf trees) (sym c.in_ok-parts.ensures) c.in-Some.ensures.there,
-      subst (IsWhole c.args.self.now.relations trees c.args.whole) (sym c.in_ok-parts.ensures) whole,
+      subst (IsConjunctionFor c.args.self.now.relations trees c.args.whole) (sym c.in_ok-parts.ensures) whole,
     )
 
 pub each-preserved : goal.each-preserved
@@ -30,7 +30,7 @@ each-preserved c =
       λ t below. c.in_ok-claim.ensures.asks t (c.each.invariant.2 t below),
       next.0 ∙ c.each.invariant.3,
       next.1,
-      subst (λ (of : SchemaTests). IsWhole of new c.args.whole c.put.new.claims.items) (sym c.in_ok-claim.ensures.same) next.2,
+      subst (λ (of : SchemaTests). IsConjunctionFor of new c.args.whole c.put.new.claims.items) (sym c.in_ok-claim.ensures.same) next.2,
     )
 
 pub conjunction-requires : goal.conjunction-requires

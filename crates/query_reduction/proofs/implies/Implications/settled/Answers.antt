@@ -30,17 +30,17 @@ returns-in_err-next-clause-grows c = grows-then _ _ _ c.rounds.invariant.1 c.in_
 pub returns-in_err-next-clause-asks : goal.returns-in_err-next-clause-asks
 returns-in_err-next-clause-asks c = λ t below. c.in_err-next.ensures.asks t (c.rounds.invariant.2 t below)
 
-pub returns-then-eq-clause-same : goal.returns-then-eq-clause-same
-returns-then-eq-clause-same c = c.in_ok-next.ensures.same ∙ c.rounds.invariant.0
+pub returns-then-is_settled-clause-same : goal.returns-then-is_settled-clause-same
+returns-then-is_settled-clause-same c = c.in_ok-next.ensures.same ∙ c.rounds.invariant.0
 
-pub returns-then-eq-clause-grows : goal.returns-then-eq-clause-grows
-returns-then-eq-clause-grows c = grows-then _ _ _ c.rounds.invariant.1 c.in_ok-next.ensures.grows
+pub returns-then-is_settled-clause-grows : goal.returns-then-is_settled-clause-grows
+returns-then-is_settled-clause-grows c = grows-then _ _ _ c.rounds.invariant.1 c.in_ok-next.ensures.grows
 
-pub returns-then-eq-clause-asks : goal.returns-then-eq-clause-asks
-returns-then-eq-clause-asks c = λ t below. c.in_ok-next.ensures.asks t (c.rounds.invariant.2 t below)
+pub returns-then-is_settled-clause-asks : goal.returns-then-is_settled-clause-asks
+returns-then-is_settled-clause-asks c = λ t below. c.in_ok-next.ensures.asks t (c.rounds.invariant.2 t below)
 
-pub returns-then-eq-clause-value : goal.returns-then-eq-clause-value
-returns-then-eq-clause-value c =
+pub returns-then-is_settled-clause-value : goal.returns-then-is_settled-clause-value
+returns-then-is_settled-clause-value c =
     let same = same-then c.rounds.self.relations (node_trees c.rounds.nodes) (node_trees c.round.new.nodes) c.args.whole c.rounds.last c.in_ok-next.next c.in_ok-next.ensures.grows c.rounds.invariant.4 c.in_ok-next.ensures.value in
     subst (λ (of : SchemaTests). IsSameClaim of (node_trees c.round.new.nodes) c.args.whole c.in_ok-next.next) c.rounds.invariant.0 same
 

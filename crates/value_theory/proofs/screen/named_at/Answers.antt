@@ -1,7 +1,0 @@
--- The search finds this unasked; asked for here, a wrong body is refused without a longer search.
-use Rattle.std.proofs.Common.{arith}
-use Rattle.std.proofs.lemmas.Grind.{common_steps}
-use Rattle.value_theory.proofs.screen.named_at.Goals as goal
-
-pub returns : goal.returns
-returns c = grind (arith, common_steps)
