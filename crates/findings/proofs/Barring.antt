@@ -3,7 +3,6 @@ use Rattle.std.proofs.Common.{◌≡◌, ◌↔◌, ◌++◌, ℕ, zero, suc, �
 use Rattle.std.specs.Prelude.{All, Contains, IsTrue, MatchBool, slice_get, unwrap_or}
 use Rattle.std.proofs.lemmas.List.Elements.{All-contains, Contains-append_left, Contains-get_or, Contains-push, Contains-push_cases}
 use Rattle.formula_tree.specs.Answers.{Answers, Completes, answer_of}
-use Rattle.formula_tree.specs.Trees.{tree_of}
 use Rattle.formula_tree.specs.Values.{value}
 use Rattle.formula_tree.specs.declared.value.Three.TheVariants.{No}
 use Rattle.formula_tree.proofs.Laws.{says-no}
@@ -14,8 +13,7 @@ use Rattle.policy_model.specs.Requests.{IsValid}
 use Rattle.policy_model.specs.Tests.{TestHolds}
 use Rattle.policy_compile.specs.declared.outcome.Query.{Query}
 use Rattle.policy_compile.specs.Meaning.{AnswersAs}
-use Rattle.policy_compile.specs.Queries.{IsQuery}
-use Rattle.policy_compile.proofs.Laws.{holds-numbered}
+use Rattle.policy_compile.specs.Queries.{asked_tree}
 use Rattle.slot_theory.specs.Possible.{AnswersPath}
 use Rattle.strata.specs.declared.stratum.Strata.{Strata}
 use Rattle.strata.specs.declared.stratum.Stratum.{Stratum}
@@ -25,22 +23,19 @@ use Rattle.findings.specs.Findings.{IsFinding, IsIrreducible, LiesInFinding}
 use Rattle.findings.specs.Nobody.{KeepInhabited, KeepsInhabited}
 use Rattle.findings.specs.Queries.{AreMadeFor}
 use Rattle.findings.specs.Steps.{MeetsFiner, predicate_number_at}
-use Rattle.findings.specs.KnownAnswers.{AreOwnAnswers, AreInsideAnswers, ComesFromMet, ComesFromMissed, AreKnownAnswers, IsAnswerTable}
-use Rattle.findings.specs.Regions.{LiesInRegion, RegionFits, region_plan}
+use Rattle.findings.specs.KnownAnswers.{AreOwnAnswers, AreInsideAnswers, ComesFromMet, ComesFromMissed, AreKnownAnswers, IsAnswerTable, IsMetTable}
+use Rattle.findings.specs.RegionQueries.{AsksRegion, IsRegionQuery}
+use Rattle.findings.specs.Regions.{LiesInRegion}
 use Rattle.findings.specs.Screening.{HasPlainlyNobody, DropsPlainlyEmpty}
+use Rattle.findings.proofs.Lessened.{asks-less}
 use Rattle.findings.proofs.Looking.{some-answers}
 use Rattle.findings.proofs.Lying.{finer-at, lies-at}
 use Rattle.findings.proofs.Made.{made-steps}
 use Rattle.findings.proofs.Orders.{lies-finer, under-finding, under-finer}
-use Rattle.findings.proofs.Regions.{region-holds}
+use Rattle.findings.proofs.Plans.{at-some}
 use Rattle.findings.proofs.Stepping.{finding-long}
 
 -- ---- answers of the finding's requests
-
-at-some : {T : Type 0} (xs : List T) (i : ℕ) → i < length xs → (x : T) × (slice_get xs i ≡ Some x)
-at-some [] i within = absurd (omega (arith, within))
-at-some (x ∷ xs) zero within = (x, refl)
-at-some (x ∷ xs) (suc i) within = at-some xs i (omega (arith, within))
 
 module _ (schema : Schema) (tests : List Test) (ds : List Stratum) (known : KnownAnswers) (f : List ℕ) (is : IsFinding ds f) (r : Request) (valid : IsValid schema r) where
   came-met : IsAnswerTable schema true ds tests known.met → LiesInFinding r ds f → (n : ℕ) (b : Bool) → ComesFromMet known f n b → (t : Test) → slice_get tests n ≡ Some t → MatchBool b (TestHolds r t) (¬ TestHolds r t)
@@ -81,55 +76,56 @@ completed-as r tests path answers gives say n t at = by (answer_of path n) refl
     by None e = subst (λ (o : Option Bool). IsTrue (unwrap_or o (answers n)) ↔ TestHolds r t) (sym e) (say n t at)
     by (Some b) e = subst (λ (o : Option Bool). IsTrue (unwrap_or o (answers n)) ↔ TestHolds r t) (sym e) (known-as b (gives n b t e at))
 
--- the set doesn't allow the request
-barred : (schema : Schema) (region : Region) (base : Query) (path : Answers) → RegionFits schema region → IsQuery (region_plan schema region) base → value path (tree_of base.formula.value) ≡ No →
-    (r : Request) → IsValid schema r → AnswersPath base.tests path r → LiesInRegion schema region r → ⊥
-barred schema region base path fits query no_ r valid gives allowed =
-    some-answers r base.tests (λ answers say. (
+-- the request doesn't lie in the region
+barred : (schema : Schema) (region : Region) (q : Query) (path : Answers) → IsRegionQuery schema region q → value path (asked_tree q) ≡ No →
+    (r : Request) → IsValid schema r → AnswersPath q.tests path r → LiesInRegion schema region r → ⊥
+barred schema region q path is no_ r valid gives allowed =
+    some-answers r q.tests (λ answers say. (
     let total = completed path answers in
-    let gave = completed-as r base.tests path answers gives say in
-    let fails = says-no path (tree_of base.formula.value) total (completes path answers) no_ in
-    let plan = (region-holds schema r region fits valid).1 allowed in
-    let holds_ = (holds-numbered total r base.tests gave (region_plan schema region) (tree_of base.formula.value) query.tree).1 plan in
+    let gave = completed-as r q.tests path answers gives say in
+    let fails = says-no path (asked_tree q) total (completes path answers) no_ in
+    let holds_ = (is.says r total valid gave).1 allowed in
     absurd (cc)))
 
-pub plainly-nobody : (base : Query) (known : KnownAnswers) (f : List ℕ) (path : Answers) → AreInsideAnswers known f path → value path (tree_of base.formula.value) ≡ No → HasPlainlyNobody base known f
-plainly-nobody base known f path are no_ schema region strata made table is r valid allowed lies =
-    barred schema region base path made.fits made.query no_ r valid (met-says schema base.tests strata.dimensions known f is r valid path table are lies) allowed
+pub plainly-nobody : (known : KnownAnswers) (f : List ℕ) (path : Answers) → AreInsideAnswers known f path → value path (asked_tree known.less.query) ≡ No → HasPlainlyNobody known f
+plainly-nobody known f path are no_ schema region strata asks table is r valid allowed lies =
+    let q = known.less.query in
+    barred schema region q path asks.is no_ r valid (met-says schema q.tests strata.dimensions known f is r valid path table are lies) allowed
 
 -- no request is the finding's own
 pub plainly-reducible : (schema : Schema) (region : Region) (base : Query) (strata : Strata) (known : KnownAnswers) (f : List ℕ) (path : Answers) → AreMadeFor schema region base strata → AreKnownAnswers schema base strata known → IsFinding strata.dimensions f →
-    AreOwnAnswers known strata.dimensions f path → value path (tree_of base.formula.value) ≡ No → ¬ IsIrreducible schema region strata.dimensions f
+    AreOwnAnswers known strata.dimensions f path → value path (asked_tree known.less.query) ≡ No → ¬ IsIrreducible schema region strata.dimensions f
 plainly-reducible schema region base strata known f path made says is are no_ irreducible =
     let ds = strata.dimensions in
+    let q = known.less.query in
     let r = irreducible.0 in
     let own = irreducible.1 in
     let steps = made-steps schema region base strata made in
     let none : ¬ MeetsFiner r ds f = λ meets. (
     let lower = lies-finer schema r ds f own.lies meets in
     own.no_finer lower.finer (under-finding schema ds steps lower.finer f lower.under is) (under-finer schema ds steps lower.finer f lower.under) lower.lies) in
-    barred schema region base path made.fits made.query no_ r own.valid (lying-says schema base.tests ds known f is r own.valid path says.met says.missed are own.lies none) own.allowed
+    barred schema region q path (asks-less schema region base strata known made says).is no_ r own.valid (lying-says schema q.tests ds known f is r own.valid path says.met says.missed are own.lies none) own.allowed
 
 -- ---- which findings are kept
 
-module _ (base : Query) (known : KnownAnswers) where
-  pub plainly-all : (fs : List (List ℕ)) → DropsPlainlyEmpty base known fs fs
+module _ (known : KnownAnswers) where
+  pub plainly-all : (fs : List (List ℕ)) → DropsPlainlyEmpty known fs fs
   plainly-all fs = record { only = λ f h. h; others = λ f h. inl h }
 
-  pub plainly-none : (fs kept : List (List ℕ)) → fs ≡ [] → kept ≡ [] → DropsPlainlyEmpty base known fs kept
-  plainly-none fs kept empty none = subst (λ (xs : List (List ℕ)). DropsPlainlyEmpty base known xs kept) (sym empty) (subst (DropsPlainlyEmpty base known []) (sym none) (plainly-all []))
+  pub plainly-none : (fs kept : List (List ℕ)) → fs ≡ [] → kept ≡ [] → DropsPlainlyEmpty known fs kept
+  plainly-none fs kept empty none = subst (λ (xs : List (List ℕ)). DropsPlainlyEmpty known xs kept) (sym empty) (subst (DropsPlainlyEmpty known []) (sym none) (plainly-all []))
 
-  pub plainly-left : (fs all kept : List (List ℕ)) (f : List ℕ) → DropsPlainlyEmpty base known fs kept → HasPlainlyNobody base known f → all ≡ fs ++ f ∷ [] → DropsPlainlyEmpty base known all kept
-  plainly-left fs all kept f before nobody is = subst (λ (xs : List (List ℕ)). DropsPlainlyEmpty base known xs kept) (sym is) (record {
+  pub plainly-left : (fs all kept : List (List ℕ)) (f : List ℕ) → DropsPlainlyEmpty known fs kept → HasPlainlyNobody known f → all ≡ fs ++ f ∷ [] → DropsPlainlyEmpty known all kept
+  plainly-left fs all kept f before nobody is = subst (λ (xs : List (List ℕ)). DropsPlainlyEmpty known xs kept) (sym is) (record {
     only = λ g h. Contains-append_left fs (f ∷ []) g (before.only g h);
     others = λ g h. elim (Contains-push_cases fs f g h) [
       | inl there ↦ before.others g there
-      | inr same ↦ inr (subst (HasPlainlyNobody base known) same nobody)
+      | inr same ↦ inr (subst (HasPlainlyNobody known) same nobody)
     ];
   })
 
-  pub plainly-kept : (fs all old new : List (List ℕ)) (f : List ℕ) → DropsPlainlyEmpty base known fs old → all ≡ fs ++ f ∷ [] → new ≡ old ++ f ∷ [] → DropsPlainlyEmpty base known all new
-  plainly-kept fs all old new f before is grows = subst (λ (xs : List (List ℕ)). DropsPlainlyEmpty base known xs new) (sym is) (subst (DropsPlainlyEmpty base known (fs ++ f ∷ [])) (sym grows) (record {
+  pub plainly-kept : (fs all old new : List (List ℕ)) (f : List ℕ) → DropsPlainlyEmpty known fs old → all ≡ fs ++ f ∷ [] → new ≡ old ++ f ∷ [] → DropsPlainlyEmpty known all new
+  plainly-kept fs all old new f before is grows = subst (λ (xs : List (List ℕ)). DropsPlainlyEmpty known xs new) (sym is) (subst (DropsPlainlyEmpty known (fs ++ f ∷ [])) (sym grows) (record {
     only = λ g h. elim (Contains-push_cases old f g h) [
       | inl there ↦ Contains-append_left fs (f ∷ []) g (before.only g there)
       | inr same ↦ subst (Contains (fs ++ f ∷ [])) same (Contains-push fs f)
@@ -141,20 +137,20 @@ module _ (base : Query) (known : KnownAnswers) where
   }))
 
 -- those that are kept of those that were kept
-pub both-kept : (schema : Schema) (region : Region) (base : Query) (strata : Strata) (known : KnownAnswers) (fs few kept : List (List ℕ)) → AreMadeFor schema region base strata → AreKnownAnswers schema base strata known → All (IsFinding strata.dimensions) fs →
-    DropsPlainlyEmpty base known fs few → KeepInhabited schema base strata few kept → KeepsInhabited schema region strata.dimensions fs kept
-both-kept schema region base strata known fs few kept made says are plainly inhabited =
-    let more = inhabited region made in
+pub both-kept : (schema : Schema) (region : Region) (strata : Strata) (known : KnownAnswers) (fs few kept : List (List ℕ)) → AsksRegion schema region known.less.query strata → IsMetTable schema strata known → All (IsFinding strata.dimensions) fs →
+    DropsPlainlyEmpty known fs few → KeepInhabited schema known.less.query strata few kept → KeepsInhabited schema region strata.dimensions fs kept
+both-kept schema region strata known fs few kept asks table are plainly inhabited =
+    let more = inhabited region asks in
     record {
       only = λ f h. plainly.only f (more.only f h);
       others = λ f h. elim (plainly.others f h) [
         | inl there ↦ more.others f there
-        | inr nobody ↦ inr (nobody schema region strata made says.met (All-contains (IsFinding strata.dimensions) fs f are h))
+        | inr nobody ↦ inr (nobody schema region strata asks table (All-contains (IsFinding strata.dimensions) fs f are h))
       ];
     }
 
 -- findings that are kept are findings
-pub kept-findings : (ds : List Stratum) (base : Query) (known : KnownAnswers) (fs few : List (List ℕ)) → All (IsFinding ds) fs → DropsPlainlyEmpty base known fs few → All (IsFinding ds) few
-kept-findings ds base known fs few are plainly k d within =
+pub kept-findings : (ds : List Stratum) (known : KnownAnswers) (fs few : List (List ℕ)) → All (IsFinding ds) fs → DropsPlainlyEmpty known fs few → All (IsFinding ds) few
+kept-findings ds known fs few are plainly k d within =
     let there = Contains-get_or few k d within in
     All-contains (IsFinding ds) fs _ are (plainly.only _ there)

@@ -10,11 +10,8 @@ use Rattle.policy_model.specs.declared.request.Request.{Request}
 use Rattle.policy_model.specs.declared.test.Test.{Test}
 use Rattle.policy_model.specs.Tests.{TestHolds}
 use Rattle.policy_compile.specs.declared.outcome.Query.{Query}
-use Rattle.policy_compile.proofs.Laws.{holds-numbered}
 use Rattle.findings.specs.Judging.{AreAnswersOf, DecidesAllowed, nth_answer}
-use Rattle.findings.specs.Regions.{region_plan}
 use Rattle.findings.proofs.Plans.{at-last}
-use Rattle.findings.proofs.Regions.{region-holds}
 use Rattle.findings.proofs.Trees.{take_next}
 
 -- ---- the answers
@@ -133,8 +130,7 @@ range-lent base r answers lent f below are same is =
     subst (λ (g : Formula). AreBelow (length lent) (tree_of g)) (sym is) (subst (λ (n : ℕ). AreBelow n (tree_of base.formula.value)) (sym (ap length same ∙ are.count)) below)
 
 pub allowed-told : (base : Query) (r : Request) (answers lent : List Bool) (f : Formula) (b : Bool) → AreAnswersOf r base.tests answers → lent ≡ answers → f ≡ base.formula.value → b ≡ holds (nth_answer lent) (tree_of f) → DecidesAllowed base r b
-allowed-told base r answers lent f b are same of says schema region fits query valid =
-    let is : b ≡ holds (nth_answer answers) (tree_of base.formula.value) = says ∙ ap (λ (xs : List Bool). holds (nth_answer xs) (tree_of f)) same ∙ ap (λ (g : Formula). holds (nth_answer answers) (tree_of g)) of in
-    let numbered = holds-numbered (nth_answer answers) r base.tests are.says (region_plan schema region) (tree_of base.formula.value) query.tree in
-    let allowed = region-holds schema r region fits valid in
-    (λ h. allowed.0 (numbered.0 (sym is ∙ h)), λ h. is ∙ numbered.1 (allowed.1 h))
+allowed-told base r answers lent f b are same of says schema region query valid =
+    let same_value : b ≡ holds (nth_answer answers) (tree_of base.formula.value) = says ∙ ap (λ (xs : List Bool). holds (nth_answer xs) (tree_of f)) same ∙ ap (λ (g : Formula). holds (nth_answer answers) (tree_of g)) of in
+    let lies = query.says r (nth_answer answers) valid are.says in
+    (λ h. lies.0 (sym same_value ∙ h), λ h. same_value ∙ lies.1 h)

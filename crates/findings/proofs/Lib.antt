@@ -1,5 +1,6 @@
 mod Counted
 mod Barring
+mod Besides
 mod Compared
 mod Covered
 mod Covering
@@ -11,6 +12,7 @@ mod Heights
 mod Inside
 mod Judged
 mod LeftOut
+mod Lessened
 mod Looking
 mod Lying
 mod Made

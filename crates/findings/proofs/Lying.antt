@@ -12,7 +12,7 @@ use Rattle.strata.specs.declared.stratum.Stratum.{Stratum}
 use Rattle.strata.specs.Covers.{predicate_at}
 use Rattle.strata.specs.Predicates.{MeetsPredicate}
 use Rattle.findings.specs.Findings.{IsFinding, LiesInFinding}
-use Rattle.findings.specs.Judging.{DecidesAllowed, DecidesOwn}
+use Rattle.findings.specs.Judging.{DecidesAllowed, DecidesOwn, DecidesOwnBy}
 use Rattle.findings.specs.Queries.{numbers_below}
 use Rattle.findings.specs.Steps.{MeetsFiner, MeetsOneOf, predicate_number_at}
 use Rattle.findings.proofs.Made.{made-steps}
@@ -85,22 +85,22 @@ module _ (schema : Schema) (base : Query) (strata : Strata) (f : List ℕ) (is :
   pub own-invalid : ¬ IsValid schema r → DecidesOwn schema base strata f r false
   own-invalid wrong set made = (λ e. absurd (cc), λ own. absurd (wrong own.valid))
 
-  pub own-outside : ¬ LiesInFinding r strata.dimensions f → DecidesOwn schema base strata f r false
-  own-outside outside set made = (λ e. absurd (cc), λ own. absurd (outside own.lies))
+  pub own-outside : ¬ LiesInFinding r strata.dimensions f → DecidesOwnBy schema base strata f r false
+  own-outside outside region asks = (λ e. absurd (cc), λ own. absurd (outside own.lies))
 
-  pub own-finer : LiesInFinding r strata.dimensions f → MeetsFiner r strata.dimensions f → DecidesOwn schema base strata f r false
-  own-finer lies meets set made = (
+  pub own-finer : LiesInFinding r strata.dimensions f → MeetsFiner r strata.dimensions f → DecidesOwnBy schema base strata f r false
+  own-finer lies meets region asks = (
     λ e. absurd (cc),
     λ own. (
-        let steps = made-steps schema set base strata made in
+        let steps = made-steps schema region asks.base strata asks.made in
         let lower = lies-finer schema r strata.dimensions f lies meets in
         absurd (own.no_finer lower.finer (under-finding schema strata.dimensions steps lower.finer f lower.under is) (under-finer schema strata.dimensions steps lower.finer f lower.under) lower.lies)),
   )
 
-  pub own-allowed : (b : Bool) → IsValid schema r → LiesInFinding r strata.dimensions f → ¬ MeetsFiner r strata.dimensions f → DecidesAllowed base r b → DecidesOwn schema base strata f r b
-  own-allowed b valid lies none told set made =
-      let allowed = told schema set made.fits made.query valid in
-      let steps = made-steps schema set base strata made in (
+  pub own-allowed : (b : Bool) → IsValid schema r → LiesInFinding r strata.dimensions f → ¬ MeetsFiner r strata.dimensions f → DecidesAllowed base r b → DecidesOwnBy schema base strata f r b
+  own-allowed b valid lies none told region asks =
+      let allowed = told schema region asks.is valid in
+      let steps = made-steps schema region asks.base strata asks.made in (
         λ h. record {
           valid = valid;
           allowed = allowed.0 h;

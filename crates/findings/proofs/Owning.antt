@@ -19,9 +19,10 @@ use Rattle.strata.specs.declared.stratum.Stratum.{Stratum}
 use Rattle.strata.specs.Covers.{predicate_at}
 use Rattle.strata.specs.Predicates.{MeetsPredicate, SuitsSlot, test_of}
 use Rattle.findings.specs.declared.region.Region.{Region}
+use Rattle.findings.specs.Asking.{lying_plan}
 use Rattle.findings.specs.Findings.{IsFinding, IsOwn, LiesInFinding}
 use Rattle.findings.specs.Queries.{IsFindingQuery, finding_plan, finer_plans, number_plan, numbers_below, own_plans, plan_or_yes}
-use Rattle.findings.specs.Regions.{RegionFits, region_plan}
+use Rattle.findings.specs.Regions.{LiesInRegion, RegionFits, region_plan}
 use Rattle.findings.specs.Steps.{MeetsFiner, MeetsOneOf}
 use Rattle.findings.proofs.Orders.{AllHaveSteps, lies-finer, meets-finer, under-finding, under-finer}
 use Rattle.findings.proofs.Regions.{region-holds}
@@ -128,6 +129,33 @@ plan-holds schema region ds fits steps suit f is r valid =
               h.no_finer lower.finer (under-finding schema ds steps lower.finer f lower.under is) (under-finer schema ds steps lower.finer f lower.under) lower.lies),
           (allowed.1 h.allowed, tt),
         ),
+      ),
+    )
+
+-- a request lies in the finding and in no finer one, and in the region, exactly where it is the finding's own
+pub own-if : (schema : Schema) (region : Region) (ds : List Stratum) → AllHaveSteps schema ds → AllSuit schema ds → (f : List ℕ) → IsFinding ds f → (r : Request) → IsValid schema r →
+    ((PlanHolds r (lying_plan ds f) × LiesInRegion schema region r) ↔ IsOwn schema region ds f r)
+own-if schema region ds steps suit f is r valid =
+    let own = own-holds schema r ds suit f is in
+    let finer = finer-holds schema r ds suit f in
+    let parts = each-append r (own_plans ds f) (not (one_of (of_plans (finer_plans ds f))) ∷ []) in (
+      λ h. let both = parts.0 h.0 in record {
+        valid = valid;
+        allowed = h.1;
+        lies = own.0 both.0;
+        no_finer = λ g is_g strict lies. both.1.0 (finer.1 (meets-finer schema r valid ds steps g f is_g is strict lies));
+      },
+      λ h. (
+        parts.1 (
+          own.1 h.lies,
+          (
+            λ some. (
+                let lower = lies-finer schema r ds f h.lies (finer.0 some) in
+                h.no_finer lower.finer (under-finding schema ds steps lower.finer f lower.under is) (under-finer schema ds steps lower.finer f lower.under) lower.lies),
+            tt,
+          ),
+        ),
+        h.allowed,
       ),
     )
 

@@ -15,7 +15,7 @@ use Rattle.policy_model.specs.declared.test.Test.{Test}
 use Rattle.policy_compile.specs.declared.outcome.Query.{Query}
 use Rattle.policy_compile.specs.Numbering.{AreNumbered, Collects, IsNumbered, again, anew, nothing, numbered_all, numbered_ask, numbered_more, numbered_none, numbered_not, numbered_one_of, numbered_yes}
 use Rattle.policy_compile.specs.Plans.{Plan, Plans, all, ask, more, none, not, of_plans, one_of, tests_in, tests_in_each, yes}
-use Rattle.findings.specs.Asked.{AreAsked, AreNumbersOf, AsksBase, HasTestNumber, IsAsked}
+use Rattle.findings.specs.Asked.{AreAsked, AreNumbersOf, AsksBase, HasTestNumber, IsAsked, IsRenumbered}
 use Rattle.findings.specs.Queries.{plan_or_yes}
 use Rattle.findings.specs.Renumbering.{renumbered_tree, renumbered_each}
 use Rattle.std.proofs.Common.{rules}
@@ -83,6 +83,11 @@ reads-again read base had got first reads = reads-through [] read base base had 
 
 -- ---- trees keep their plans where tests are added at the end
 
+pub at-some : {T : Type 0} (xs : List T) (i : ℕ) → i < length xs → (x : T) × (slice_get xs i ≡ Some x)
+at-some [] i within = absurd (omega (arith, within))
+at-some (x ∷ xs) zero within = (x, refl)
+at-some (x ∷ xs) (suc i) within = at-some xs i (omega (arith, within))
+
 at-longer : (xs ys : List Test) (n : ℕ) (t : Test) → slice_get xs n ≡ Some t → slice_get (xs ++ ys) n ≡ Some t
 at-longer [] ys n t e = absurd (cc)
 at-longer (x ∷ xs) ys zero t e = e
@@ -126,6 +131,11 @@ mutual
   all-longer xs ys (more p ps) (tree.more t ts) (numbered_more h hs) = numbered_more (numbered-longer xs ys p t h) (all-longer xs ys ps ts hs)
   all-longer xs ys none (tree.more t ts) x = elim x [ ]
   all-longer xs ys (more p ps) tree.none x = elim x [ ]
+
+pub numbered-since : (a xs b : List Test) (p : Plan) (t : Tree) → Collects a xs b → IsNumbered a p t → IsNumbered b p t
+numbered-since a xs b p t reads h =
+    let longer = reads-front a xs b reads in
+    subst (λ (tests : List Test). IsNumbered tests p t) (sym longer.is) (numbered-longer a longer.rest p t h)
 
 pub numbered-after : (a xs b : List Test) (ps : Plans) (ts : Trees) → Collects a xs b → AreNumbered a ps ts → AreNumbered b ps ts
 numbered-after a xs b ps ts reads h =
@@ -209,10 +219,10 @@ mutual
   renumber-all old new tests numbers is none (tree.more t ts) x = elim x [ ]
   renumber-all old new tests numbers is (more p ps) tree.none x = elim x [ ]
 
-pub base-asked : (old new : List Test) (base : Query) (numbers : List ℕ) (f : Rc Formula Global) → AreNumbersOf old new base.tests numbers → tree_of f.value ≡ renumbered_tree numbers (tree_of base.formula.value) → AsksBase old new base f
-base-asked old new base numbers f is same allowed query = record {
-  collects = reads-again (tests_in allowed) base.tests old new query.tests is.collects;
-  numbered = subst (IsNumbered new allowed) (sym same) (renumber-numbered old new base.tests numbers is allowed (tree_of base.formula.value) query.tree);
+pub base-asked : (old new : List Test) (base : Query) (f : Rc Formula Global) → IsRenumbered old new base (tree_of f.value) → AsksBase old new base f
+base-asked old new base f is allowed query = record {
+  collects = reads-again (tests_in allowed) base.tests old new query.tests is.are.collects;
+  numbered = subst (IsNumbered new allowed) (sym is.tree) (renumber-numbered old new base.tests is.numbers is.are allowed (tree_of base.formula.value) query.tree);
 }
 
 -- ---- the answers of the steps

@@ -1,8 +1,9 @@
 -- What the steps of making a finding's query leave, and what the query says.
-use Rattle.std.specs.Prelude.{◌≡◌, ◌↔◌, ◌++◌, ◌∷◌, [], ℕ, Bool, List, IsTrue, Some, length, slice_get, slice_index}
+use Rattle.std.specs.Prelude.{◌≡◌, ◌↔◌, ◌<◌, ◌^◌, ◌++◌, ◌∷◌, [], ℕ, Bool, List, IsTrue, Some, length, slice_get, slice_index}
 use Rattle.std.specs.Global.{Global}
 use Rattle.std.specs.declared.rc.Rc.{Rc}
 use Rattle.formula_tree.specs.Trees.{Tree, of_list, tree_of}
+use Rattle.formula_tree.specs.Trees as tree
 use Rattle.formula_tree.specs.Values.{holds}
 use Rattle.formula_tree.specs.declared.formula.Formula.{Formula}
 use Rattle.policy_model.specs.declared.request.Request.{Request}
@@ -13,13 +14,15 @@ use Rattle.policy_compile.specs.declared.outcome.Query.{Query}
 use Rattle.policy_compile.specs.Meaning.{AnswersAs}
 use Rattle.policy_compile.specs.Numbering.{AreNumbered as AreTestsNumbered, Collects, IsNumbered}
 use Rattle.policy_compile.specs.Plans.{Plan, not, of_plans, one_of, tests_in, tests_in_each}
-use Rattle.policy_compile.specs.Queries.{IsQuery}
+use Rattle.policy_compile.specs.Queries.{IsQuery, asked_tree}
 use Rattle.strata.specs.declared.stratum.Strata.{Strata}
 use Rattle.strata.specs.declared.stratum.Stratum.{Stratum}
 use Rattle.findings.specs.declared.region.Region.{Region}
 use Rattle.findings.specs.Answers.{QueryIsAskable}
 use Rattle.findings.specs.Findings.{IsOwn}
 use Rattle.findings.specs.Queries.{AreMadeFor, IsFindingQuery, finer_plans}
+use Rattle.findings.specs.RegionQueries.{AsksRegion}
+use Rattle.findings.specs.Renumbering.{renumbered_tree}
 
 -- after the old tests the test was read, and has this number
 pub record HasTestNumber (old new : List Test) (t : Test) (n : ℕ) : Type 0 where
@@ -48,6 +51,26 @@ pub record AreNumbersOf (old new : List Test) (tests : List Test) (numbers : Lis
   pub count : length numbers ≡ length tests
   pub each : (i : ℕ) (t : Test) → slice_get tests i ≡ Some t → slice_get new (slice_index numbers i) ≡ Some t
 
+-- after the old tests those of the query were read, and the tree is the query's with their numbers
+pub record IsRenumbered (old new : List Test) (q : Query) (t : Tree) : Type 0 where
+  pub numbers : List ℕ
+  pub are : AreNumbersOf old new q.tests numbers
+  pub tree : t ≡ renumbered_tree numbers (asked_tree q)
+
+-- the tree is that this one holds, and behind it the query's
+pub record StandsBeside (old new : List Test) (one : Tree) (q : Query) (t : Tree) : Type 0 where
+  pub other : Tree
+  pub renumbered : IsRenumbered old new q other
+  pub is : t ≡ tree.all (tree.more one (tree.more other tree.none))
+
+-- the query is that the plan holds, before which there were no tests, and behind it the base
+pub record AsksBoth (p : Plan) (base q : Query) : Type 0 where
+  pub first : List Test
+  pub one : Tree
+  pub asked : IsAsked [] first p one
+  pub beside : StandsBeside first q.tests one base (asked_tree q)
+  pub few : length q.tests < 2 ^ 32
+
 -- of whichever plan the query is, it is asked
 abbrev pub AsksBase : List Test → List Test → Query → Rc Formula Global → Type 0
 AsksBase old new base f = (allowed : Plan) → IsQuery allowed base → IsAsked old new allowed (tree_of f.value)
@@ -67,6 +90,11 @@ HoldsForOwn base strata f q =
 abbrev pub IsAskableFor : Query → Strata → Query → Type 0
 IsAskableFor base strata q =
     (schema : Schema) (region : Region) → AreMadeFor schema region base strata → QueryIsAskable schema q
+
+-- the same where the base is a query of the region
+abbrev pub IsAskableBeside : Query → Strata → Query → Type 0
+IsAskableBeside base strata q =
+    (schema : Schema) (region : Region) → AsksRegion schema region base strata → QueryIsAskable schema q
 
 -- whichever region the strata are of
 abbrev pub IsAskableOver : Strata → Query → Type 0

@@ -9,7 +9,6 @@ use Rattle.policy_model.specs.declared.test.Test.{Test}
 use Rattle.policy_model.specs.Requests.{IsValid}
 use Rattle.policy_compile.specs.declared.outcome.Query.{Query}
 use Rattle.policy_compile.specs.Meaning.{AnswersAs}
-use Rattle.policy_compile.specs.Queries.{IsQuery}
 use Rattle.strata.specs.declared.stratum.Strata.{Strata}
 use Rattle.strata.specs.declared.stratum.Stratum.{Stratum}
 use Rattle.strata.specs.Strata.{IsStratum}
@@ -18,7 +17,8 @@ use Rattle.findings.specs.declared.standing.SummaryVerdict.{SummaryVerdict}
 use Rattle.findings.specs.declared.standing.SummaryVerdict.TheVariants.{Stands, Fails}
 use Rattle.findings.specs.Findings.{IsFiner, IsOwn}
 use Rattle.findings.specs.Queries.{AreMadeFor}
-use Rattle.findings.specs.Regions.{LiesInRegion, RegionFits, region_plan}
+use Rattle.findings.specs.RegionQueries.{AsksRegion, IsRegionQuery}
+use Rattle.findings.specs.Regions.{LiesInRegion}
 use Rattle.findings.specs.StandingSummaries.{AreComparable, DoesNotRise}
 
 -- the answer to the test of a number, or no where there is none
@@ -33,7 +33,7 @@ pub record AreAnswersOf (r : Request) (tests : List Test) (answers : List Bool) 
 -- whether the valid request lies in the region, whichever the query is of
 abbrev pub DecidesAllowed : Query → Request → Bool → Type 0
 DecidesAllowed base r b =
-    (schema : Schema) (region : Region) → RegionFits schema region → IsQuery (region_plan schema region) base → IsValid schema r →
+    (schema : Schema) (region : Region) → IsRegionQuery schema region base → IsValid schema r →
     (IsTrue b ↔ LiesInRegion schema region r)
 
 -- whether the request is the finding's own, for whichever region the strata are
@@ -41,9 +41,14 @@ abbrev pub DecidesOwn : Schema → Query → Strata → List ℕ → Request →
 DecidesOwn schema base strata f r b =
     (region : Region) → AreMadeFor schema region base strata → (IsTrue b ↔ IsOwn schema region strata.dimensions f r)
 
+-- the same for whichever region the base is a query of
+abbrev pub DecidesOwnBy : Schema → Query → Strata → List ℕ → Request → Bool → Type 0
+DecidesOwnBy schema base strata f r b =
+    (region : Region) → AsksRegion schema region base strata → (IsTrue b ↔ IsOwn schema region strata.dimensions f r)
+
 -- under whichever schema the request is valid
 abbrev pub DecidesOwnIfValid : Query → Strata → List ℕ → Request → Bool → Type 0
-DecidesOwnIfValid base strata f r b = (schema : Schema) → IsValid schema r → DecidesOwn schema base strata f r b
+DecidesOwnIfValid base strata f r b = (schema : Schema) → IsValid schema r → DecidesOwnBy schema base strata f r b
 
 -- a fact on the order of the strata, under whichever schema and of whichever tests they are
 abbrev pub EachOrder : Strata → (Schema → Type 0) → Type 0

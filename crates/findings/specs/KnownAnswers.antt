@@ -16,6 +16,7 @@ use Rattle.strata.specs.Covers.{predicate_at}
 use Rattle.strata.specs.Predicates.{MeetsPredicate}
 use Rattle.findings.specs.declared.known.KnownAnswers.{KnownAnswers}
 use Rattle.findings.specs.Queries.{numbers_below}
+use Rattle.findings.specs.RegionQueries.{SaysAsMuch}
 use Rattle.findings.specs.Steps.{predicate_number_at}
 
 -- the request meets the predicate, or misses it
@@ -51,10 +52,15 @@ abbrev pub IsAnswerTable : Schema → Bool → List Stratum → List Test → Li
 IsAnswerTable schema met ds tests table =
     (i : ℕ) (d : Stratum) → slice_get ds i ≡ Some d → AreGivenInDimension schema met d tests (slice_index_or table i [])
 
--- for the predicates that are met and for those that are missed
+-- for the predicates that are met such answers to what is left of a query
+abbrev pub IsMetTable : Schema → Strata → KnownAnswers → Type 0
+IsMetTable schema strata known = IsAnswerTable schema true strata.dimensions known.less.query.tests known.met
+
+-- a query that says as much as the base, and such answers for the predicates that are met and for those that are missed
 pub record AreKnownAnswers (schema : Schema) (base : Query) (strata : Strata) (known : KnownAnswers) : Type 0 where
-  pub met : IsAnswerTable schema true strata.dimensions base.tests known.met
-  pub missed : IsAnswerTable schema false strata.dimensions base.tests known.missed
+  pub less : SaysAsMuch schema base known.less.query
+  pub met : IsMetTable schema strata known
+  pub missed : IsAnswerTable schema false strata.dimensions known.less.query.tests known.missed
 
 -- the answers of the predicate of a number
 abbrev pub answers_in : List (List Answers) → ℕ → ℕ → Answers

@@ -2,6 +2,7 @@ pub mod Regions
 pub mod Findings
 pub mod Summaries
 pub mod Queries
+pub mod RegionQueries
 pub mod Texts
 pub mod Answers
 pub mod Steps

@@ -1,34 +1,21 @@
 -- Findings that have nobody, and the query that asks it of several at once.
-use Rattle.std.specs.Prelude.{◌≡◌, ◌⊎◌, ◌↔◌, ℕ, Bool, List, [], ◌∷◌, All, Any, Contains, IsTrue}
-use Rattle.formula_tree.specs.Trees.{Tree, tree_of}
+use Rattle.std.specs.Prelude.{◌≡◌, ◌⊎◌, ◌↔◌, ℕ, Bool, List, All, Any, Contains, IsTrue}
+use Rattle.formula_tree.specs.Trees.{tree_of}
 use Rattle.formula_tree.specs.Values.{holds}
 use Rattle.policy_model.specs.declared.request.Request.{Request}
 use Rattle.policy_model.specs.declared.schema.Schema.{Schema}
-use Rattle.policy_model.specs.declared.test.Test.{Test}
 use Rattle.policy_model.specs.Requests.{IsValid}
 use Rattle.policy_compile.specs.declared.outcome.Query.{Query}
 use Rattle.policy_compile.specs.Meaning.{AnswersAs}
-use Rattle.policy_compile.specs.Plans.{Plan, all, of_plans}
-use Rattle.policy_compile.specs.Queries.{IsQuery}
 use Rattle.strata.specs.declared.stratum.Strata.{Strata}
 use Rattle.strata.specs.declared.stratum.Stratum.{Stratum}
 use Rattle.findings.specs.declared.decide.Asked.{Asked}
 use Rattle.findings.specs.declared.decide.Asked.TheVariants as asked
 use Rattle.findings.specs.declared.region.Region.{Region}
-use Rattle.findings.specs.Asked.{IsAskableFor, IsAsked}
-use Rattle.findings.specs.CoverQueries.{inside_plan}
+use Rattle.findings.specs.Asked.{IsAskableBeside}
 use Rattle.findings.specs.Findings.{HasNobody, LiesInFinding}
-use Rattle.findings.specs.Queries.{AreMadeFor}
+use Rattle.findings.specs.RegionQueries.{AsksRegion}
 use Rattle.findings.specs.Regions.{LiesInRegion}
-
--- the request lies in one of the findings, and in the region
-abbrev pub allowed_inside_plan : Plan → List Stratum → List (List ℕ) → Plan
-allowed_inside_plan allowed ds fs = all (of_plans (inside_plan ds fs ∷ allowed ∷ []))
-
--- of whichever region the base is, that plan is asked, before which there were no tests
-abbrev pub IsInsideAsked : Query → List Stratum → List (List ℕ) → List Test → Tree → Type 0
-IsInsideAsked base ds fs tests t =
-    (allowed : Plan) → IsQuery allowed base → IsAsked [] tests (allowed_inside_plan allowed ds fs) t
 
 -- the request lies in the region, and in one of the findings
 pub record IsAllowedInside (schema : Schema) (region : Region) (ds : List Stratum) (fs : List (List ℕ)) (r : Request) : Type 0 where
@@ -38,19 +25,19 @@ pub record IsAllowedInside (schema : Schema) (region : Region) (ds : List Stratu
 -- under the answers that a valid request gives its tests, the query's tree holds exactly where the request is such a one
 abbrev pub HoldsForInside : Query → Strata → List (List ℕ) → Query → Type 0
 HoldsForInside base strata fs q =
-    (schema : Schema) (region : Region) → AreMadeFor schema region base strata →
+    (schema : Schema) (region : Region) → AsksRegion schema region base strata →
     (r : Request) (answers : ℕ → Bool) → IsValid schema r → AnswersAs answers r q.tests →
     (IsTrue (holds answers (tree_of q.formula.value)) ↔ IsAllowedInside schema region strata.dimensions fs r)
 
 -- what the query of those findings says
 pub record IsInsideQuery (base : Query) (strata : Strata) (fs : List (List ℕ)) (q : Query) : Type 0 where
   pub inside : HoldsForInside base strata fs q
-  pub askable : IsAskableFor base strata q
+  pub askable : IsAskableBeside base strata q
 
 -- of whichever region the base is, none of the findings has anybody where that is the answer
 abbrev pub ShowsNobody : Schema → Query → Strata → List (List ℕ) → Asked → Type 0
 ShowsNobody schema base strata fs answer =
-    answer ≡ asked.Nobody → (region : Region) → AreMadeFor schema region base strata →
+    answer ≡ asked.Nobody → (region : Region) → AsksRegion schema region base strata →
     All (HasNobody schema region strata.dimensions) fs
 
 -- each of the findings is in one of the two lists, which have no others
@@ -67,4 +54,4 @@ pub record KeepsInhabited (schema : Schema) (region : Region) (ds : List Stratum
 -- of whichever region the base is
 abbrev pub KeepInhabited : Schema → Query → Strata → List (List ℕ) → List (List ℕ) → Type 0
 KeepInhabited schema base strata fs kept =
-    (region : Region) → AreMadeFor schema region base strata → KeepsInhabited schema region strata.dimensions fs kept
+    (region : Region) → AsksRegion schema region base strata → KeepsInhabited schema region strata.dimensions fs kept

@@ -11,11 +11,13 @@ use Rattle.strata.specs.declared.stratum.Stratum.{Stratum}
 use Rattle.findings.specs.declared.outcome.SummaryFault.{SummaryFault}
 use Rattle.findings.specs.declared.outcome.SummaryFault.TheVariants as fault
 use Rattle.findings.specs.declared.region.Region.{Region}
+use Rattle.findings.specs.declared.known.KnownAnswers.{KnownAnswers}
 use Rattle.findings.specs.declared.walk.Walk.{Walk}
 use Rattle.findings.specs.Answers.{FailsAtFinding, SplitsFail, StatesFail}
 use Rattle.findings.specs.Findings.{IsFinding}
 use Rattle.findings.specs.Nobody.{KeepsInhabited}
 use Rattle.findings.specs.Queries.{AreMadeFor}
+use Rattle.findings.specs.RegionQueries.{AsksRegion}
 use Rattle.findings.specs.Steps.{AddUnder}
 use Rattle.findings.specs.Walks.{AreAboveIn, IsWalk, first_finding}
 
@@ -93,9 +95,9 @@ pub record GoesBelowFor (schema : Schema) (region : Region) (ds : List Stratum) 
   pub adds : AddsReducible old f kept new
 
 -- of whichever region the strata are
-abbrev pub GoesBelow : Schema → Query → Strata → Walk → List ℕ → Walk → Type 0
-GoesBelow schema base strata old f new =
-    (region : Region) → AreMadeFor schema region base strata → GoesBelowFor schema region strata.dimensions old f new
+abbrev pub GoesBelow : Schema → KnownAnswers → Strata → Walk → List ℕ → Walk → Type 0
+GoesBelow schema known strata old f new =
+    (region : Region) → AsksRegion schema region known.less.query strata → GoesBelowFor schema region strata.dimensions old f new
 
 -- the walk stands so for the region, and the finding, which was taken from those to come, is due
 pub record IsTakenFor (schema : Schema) (region : Region) (ds : List Stratum) (w : Walk) (f : List ℕ) : Type 0 where

@@ -5,7 +5,7 @@ ghost use Rattle.formula_tree.specs.Trees.{tree_of};
 ghost use Rattle.findings.specs.Asked.{IsAskableOver, IsAsked};
 ghost use Rattle.findings.specs.Asking.{IsOwnOf, lying_plan};
 ghost use Rattle.findings.specs.Findings.{IsFinding};
-ghost use Rattle.findings.specs.Queries.{AreMadeUnder};
+ghost use Rattle.findings.specs.RegionQueries.{AsksSomeRegion};
 ghost use Rattle.findings.specs.Steps.{AreNumberedBelow};
 
 use crate::decide::{Asked, Decide};
@@ -24,8 +24,8 @@ use strata::Strata;
 /// beside them.
 const MOST_TESTS: usize = 16;
 
-// The formula that a request lies in the finding and in no finer one, where there are no tests yet.
-fn lying_formula(
+/// The formula that a request lies in the finding and in no finer one, where there are no tests yet.
+pub(crate) fn lying_formula(
     alloc: Global,
     numbering: &mut Numbering,
     strata: &Strata,
@@ -65,7 +65,7 @@ pub(crate) fn granted_request<D: Decide>(
     asks: &mut D,
     finding: &Finding,
 ) -> Result<Option<Request>, NoMemory>
-    requires made { AreMadeUnder (D.schema asks.old) base.now strata.now }
+    requires made { AsksSomeRegion (D.schema asks.old) base.now strata.now }
     requires finding { IsFinding strata.now.dimensions finding.now }
     ensures own { IfOk result (λ request. IfSome request
         (IsOwnOf (D.schema asks.old) base.now strata.now finding.now)) }

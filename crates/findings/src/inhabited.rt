@@ -3,11 +3,12 @@
 ghost use Rattle.std.specs.Prelude.{◌≡◌, All, IfOk, IfSome};
 ghost use Rattle.findings.specs.Findings.{IsFinding};
 ghost use Rattle.findings.specs.Nobody.{IsPartedBy, KeepInhabited};
-ghost use Rattle.findings.specs.Queries.{AreMadeUnder};
+ghost use Rattle.findings.specs.RegionQueries.{AsksSomeRegion};
 ghost use Rattle.findings.specs.Screening.{DropsPlainlyEmpty};
 
 use crate::decide::{Asked, Decide};
 use crate::known::KnownAnswers;
+use crate::less::is_marked;
 use crate::nobody::ask_inside;
 use crate::outcome::{Finding, FindingList};
 use crate::own::lies_in;
@@ -105,11 +106,6 @@ fn parts_of_each(branches: &Branches) -> usize {
     parts
 }
 
-// Whether there is a mark at the index.
-fn is_marked(marks: &[bool], i: usize) -> bool {
-    i < marks.len() && marks[i]
-}
-
 // The marks, and one more for each finding in which the request lies. Nothing rests on them but which findings are
 // asked of.
 fn marked_by(
@@ -180,7 +176,7 @@ impl Samples {
         under: &FindingList,
         marks: &mut Vec<bool>,
     ) -> Result<Option<FindingList>, NoMemory>
-        requires made { AreMadeUnder (D.schema asks.old) base.now strata.now }
+        requires made { AsksSomeRegion (D.schema asks.old) base.now strata.now }
         requires under { All (IsFinding strata.now.dimensions) under.now }
         ensures kept { IfOk result (λ kept.
             IfSome kept (KeepInhabited (D.schema asks.old) base.now strata.now under.now)) }
@@ -212,18 +208,17 @@ impl Samples {
     pub(crate) fn likely(
         &mut self,
         known: &KnownAnswers,
-        base: &Query,
         finding: &Finding,
         under: FindingList,
     ) -> Result<FindingList, NoMemory>
-        ensures { IfOk result (DropsPlainlyEmpty base.now known.now under) }
+        ensures { IfOk result (DropsPlainlyEmpty known.now under) }
     {
         if self.parts == 0 || under.is_empty() {
             return Ok(under);
         }
-        let parts = parts_of(&base.formula);
+        let parts = parts_of(&known.less.query.formula);
         let count = under.len();
-        let kept = without_nobody(self.alloc, known, base, finding, under)?;
+        let kept = without_nobody(self.alloc, known, finding, under)?;
         let spared = count.saturating_sub(kept.len()).saturating_mul(parts);
         let spent = kept.len().saturating_mul(parts);
         self.parts = self.parts.saturating_add(spared).saturating_sub(spent);
@@ -239,7 +234,7 @@ impl Samples {
         finding: &Finding,
         under: FindingList,
     ) -> Result<FindingList, NoMemory>
-        requires made { AreMadeUnder (D.schema asks.old) base.now strata.now }
+        requires made { AsksSomeRegion (D.schema asks.old) base.now strata.now }
         requires finding { IsFinding strata.now.dimensions finding.now }
         requires under { All (IsFinding strata.now.dimensions) under }
         ensures kept { IfOk result (KeepInhabited (D.schema asks.old) base.now strata.now under) }

@@ -1,9 +1,12 @@
 //! What the predicates of findings say of the tests of a query by themselves: a table, made once for a summary,
 //! by which much is known of a finding without a search.
 ghost use Rattle.std.specs.Prelude.{◌≡◌, ◌<◌, ◌^◌, IfOk, IfSome, OnOk, false, length, true};
+ghost use Rattle.formula_tree.specs.Values.{AreBelow};
+ghost use Rattle.policy_compile.specs.Queries.{asked_tree};
 ghost use Rattle.findings.specs.Findings.{IsFinding};
 ghost use Rattle.findings.specs.KnownAnswers.{AddsFinerAt, AddsTestAnswer, AnswersOther, AnswersTests, AreGivenByEach, AreGivenInDimension, AreInsideAnswers, AreKnownAnswers, AreOwnAnswers, IsAnswerTable, JoinsAnswers, answers_in};
 
+use crate::less::{Less, is_marked};
 use crate::outcome::Finding;
 use crate::reading::{dimension_at, predicate_number_at};
 use formula_tree::Path;
@@ -20,6 +23,8 @@ type PathList = List<Path>;
 /// What the predicates of each dimension say of the tests of a query.
 #[derive(Drop)]
 pub(crate) struct KnownAnswers {
+    /// The query whose tests these are: what is left of the region's.
+    pub(crate) less: Less,
     /// By dimensions and numbers of predicates: what each request answers that meets the predicate.
     pub(crate) met: List<PathList>,
     /// What each answers that misses it.
@@ -71,19 +76,23 @@ fn add_answer(path: &mut Path, test: u32, answer: bool) -> Result<(), NoMemory>
     }
 }
 
-// What the one test, passed or failed, says of the tests.
+// What the one test, passed or failed, says of the tests that are asked.
 fn path_of(
     alloc: Global,
     schema: &Schema,
     met: bool,
     one: &Test,
     tests: &[Test],
+    asked: &[bool],
 ) -> Result<Path, NoMemory>
     requires few { length tests.now < 2 ^ 32 }
     ensures { IfOk result (AnswersTests schema.now one.now met tests.now) }
 {
     let mut path = Path::new(alloc);
     'tests: for i in 0..tests.len() {
+        if !is_marked(asked, i) {
+            continue;
+        }
         let Some(answer) = answer_where(schema, met, one, &tests[i]) else {
             continue;
         };
@@ -99,15 +108,17 @@ fn answers_where(
     met: bool,
     slot: &Slot,
     one: &Predicate,
-    tests: &[Test],
+    less: &Less,
 ) -> Result<Path, NoMemory>
-    requires few { length tests.now < 2 ^ 32 }
-    ensures { IfOk result (AreGivenByEach schema.now met slot.now one.now tests.now) }
+    requires few { length less.now.query.tests < 2 ^ 32 }
+    ensures { IfOk result (
+        AreGivenByEach schema.now met slot.now one.now less.now.query.tests) }
 {
     let Some(test) = test_of(slot, one)? else {
         return Ok(Path::new(alloc));
     };
-    path_of(alloc, schema, met, &test, tests)
+    let tests = less.query.tests.as_slice();
+    path_of(alloc, schema, met, &test, tests, less.asked.as_slice())
 }
 
 // What each predicate of the dimension says.
@@ -116,15 +127,16 @@ fn paths_in(
     schema: &Schema,
     met: bool,
     stratum: &Stratum,
-    tests: &[Test],
+    less: &Less,
 ) -> Result<PathList, NoMemory>
-    requires few { length tests.now < 2 ^ 32 }
-    ensures { IfOk result (AreGivenInDimension schema.now met stratum.now tests.now) }
+    requires few { length less.now.query.tests < 2 ^ 32 }
+    ensures { IfOk result (
+        AreGivenInDimension schema.now met stratum.now less.now.query.tests) }
 {
     let mut paths = List::new(alloc);
     'numbers: for number in 0..stratum.predicates.len() {
         let one = &stratum.predicates.as_slice()[number];
-        let path = answers_where(alloc, schema, met, &stratum.slot, one, tests)?;
+        let path = answers_where(alloc, schema, met, &stratum.slot, one, less)?;
         paths.push(path)?;
     }
     Ok(paths)
@@ -136,14 +148,15 @@ fn table_of(
     schema: &Schema,
     met: bool,
     strata: &Strata,
-    tests: &[Test],
+    less: &Less,
 ) -> Result<List<PathList>, NoMemory>
-    requires few { length tests.now < 2 ^ 32 }
-    ensures { IfOk result (IsAnswerTable schema.now met strata.now.dimensions tests.now) }
+    requires few { length less.now.query.tests < 2 ^ 32 }
+    ensures { IfOk result (
+        IsAnswerTable schema.now met strata.now.dimensions less.now.query.tests) }
 {
     let mut table = List::new(alloc);
     'dimensions: for i in 0..strata.dimensions.len() {
-        let paths = paths_in(alloc, schema, met, dimension_at(strata, i), tests)?;
+        let paths = paths_in(alloc, schema, met, dimension_at(strata, i), less)?;
         table.push(paths)?;
     }
     Ok(table)
@@ -191,12 +204,13 @@ impl KnownAnswers {
         base: &Query,
     ) -> Result<KnownAnswers, NoMemory>
         requires few { length base.now.tests < 2 ^ 32 }
+        requires below { AreBelow (length base.now.tests) (asked_tree base.now) }
         ensures { IfOk result (AreKnownAnswers schema.now base.now strata.now) }
     {
-        let tests = base.tests.as_slice();
-        let met = table_of(alloc, schema, true, strata, tests)?;
-        let missed = table_of(alloc, schema, false, strata, tests)?;
-        Ok(KnownAnswers { met, missed })
+        let less = Less::of(alloc, schema, base)?;
+        let met = table_of(alloc, schema, true, strata, &less)?;
+        let missed = table_of(alloc, schema, false, strata, &less)?;
+        Ok(KnownAnswers { less, met, missed })
     }
 
     /// What each request answers that lies in the finding.

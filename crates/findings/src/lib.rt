@@ -2,6 +2,7 @@
 //! of each dimension, that have a request of their own and no such finding above them.
 #![tactic(auto)]
 
+mod beside;
 mod certified;
 mod cover;
 mod decide;
@@ -9,6 +10,7 @@ mod evaluation;
 mod granted;
 mod inhabited;
 mod known;
+mod less;
 mod meaning;
 mod nobody;
 mod numbering;
@@ -19,6 +21,7 @@ mod query;
 mod reading;
 mod region;
 mod screening;
+mod short;
 mod standing;
 mod steps;
 mod summary;

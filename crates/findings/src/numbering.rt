@@ -61,7 +61,7 @@ fn renumber_each(alloc: Global, numbers: &[u32], branches: &Branches) -> Result<
 }
 
 impl Numbering {
-    ghost use Rattle.findings.specs.Asked.{AreAsked, AreNumbersOf, AsksBase, HasTestNumber, IsAsked, no_finer_plan};
+    ghost use Rattle.findings.specs.Asked.{AreAsked, AreNumbersOf, HasTestNumber, IsAsked, IsRenumbered, no_finer_plan};
     ghost use Rattle.findings.specs.Steps.{AreNumberedBelow, IsNumberedBelow};
     ghost use Rattle.findings.specs.Queries.{finer_plans, number_plan, numbers_below, own_plans, plan_or_yes};
 
@@ -200,7 +200,8 @@ impl Numbering {
     /// The formula of the query, with its tests numbered after those that are had.
     pub(crate) fn renumbered(&mut self, base: &Query) -> Result<Rc<Formula>, NoMemory>
         requires { AreBelow (length base.now.tests) (tree_of base.now.formula.value) }
-        ensures { IfOk result (AsksBase self.old.tests.keys self.new.tests.keys base.now) }
+        ensures { IfOk result (λ f. IsRenumbered self.old.tests.keys self.new.tests.keys
+            base.now (tree_of f.value)) }
     {
         let numbers = self.numbers(&base.tests)?;
         let formula = renumber(self.alloc, numbers.as_slice(), &base.formula)?;

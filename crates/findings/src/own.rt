@@ -5,7 +5,8 @@ ghost use Rattle.strata.specs.Covers.{predicate_at};
 ghost use Rattle.strata.specs.Predicates.{MeetsPredicate};
 ghost use Rattle.findings.specs.Findings.{IsFinding, LiesInFinding};
 ghost use Rattle.findings.specs.Judging.{DecidesOwn, DecidesOwnIfValid};
-ghost use Rattle.findings.specs.Queries.{AreMade, AreMadeUnder, numbers_below};
+ghost use Rattle.findings.specs.Queries.{AreMadeUnder, numbers_below};
+ghost use Rattle.findings.specs.RegionQueries.{AsksUnderSome};
 ghost use Rattle.findings.specs.Steps.{AreNumberedBelow, IsNumberedBelow, MeetsFiner, MeetsOneOf};
 
 use crate::evaluation::is_allowed;
@@ -105,7 +106,7 @@ pub(crate) fn is_own_if_valid(
     finding: &Finding,
     request: &Request,
 ) -> Result<bool, NoMemory>
-    requires made { AreMade base.now strata.now }
+    requires made { AsksUnderSome base.now strata.now }
     requires finding { IsFinding strata.now.dimensions finding.now }
     ensures { IfOk result (DecidesOwnIfValid base.now strata.now finding.now request.now) }
 {

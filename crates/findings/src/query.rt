@@ -13,6 +13,7 @@ use crate::known::KnownAnswers;
 use crate::numbering::Numbering;
 use crate::outcome::Finding;
 use crate::screening::is_plainly_no;
+use crate::short::short_answer;
 use formula_tree::{Branches, Formula};
 use plain_lists::NoMemory;
 use policy_compile::Query;
@@ -86,7 +87,8 @@ pub fn finding_query(
     Ok(Query { formula, tests })
 }
 
-/// A request of the finding's own, that it has none, or what its query needs more of.
+/// A request of the finding's own, that it has none, or what its query needs more of. That is said of the whole query
+/// alone: what is left of it is asked first, and mostly decides.
 pub(crate) fn answer_on<D: Decide>(
     alloc: Global,
     strata: &Strata,
@@ -105,11 +107,15 @@ pub(crate) fn answer_on<D: Decide>(
     ensures states { D.states asks.new ≡ D.states asks.old }
 {
     let path = known.own_answers(alloc, strata, finding)?;
-    if is_plainly_no(base, &path) {
+    let less = &known.less.query;
+    if is_plainly_no(less, &path) {
         return Ok(Asked::Nobody);
     }
-    if let Some(request) = granted_request(alloc, strata, base, asks, finding)? {
+    if let Some(request) = granted_request(alloc, strata, less, asks, finding)? {
         return Ok(Asked::Met(request));
+    }
+    if let Some(answer) = short_answer(alloc, strata, less, asks, finding)? {
+        return Ok(answer);
     }
     let query = finding_query(alloc, strata, base, finding)?;
     asks.ask(alloc, &query)

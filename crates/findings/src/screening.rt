@@ -27,13 +27,12 @@ pub(crate) fn is_plainly_no(base: &Query, path: &Path) -> bool
 fn has_plainly_nobody(
     alloc: Global,
     known: &KnownAnswers,
-    base: &Query,
     finding: &Finding,
 ) -> Result<bool, NoMemory>
-    ensures { IfOk result (λ is. IsTrue is → HasPlainlyNobody base.now known.now finding.now) }
+    ensures { IfOk result (λ is. IsTrue is → HasPlainlyNobody known.now finding.now) }
 {
     let path = known.inside_answers(alloc, finding)?;
-    Ok(is_plainly_no(base, &path))
+    Ok(is_plainly_no(&known.less.query, &path))
 }
 
 /// Those of the findings right under the first, in their order, for which it isn't plain that they have nobody. In
@@ -41,11 +40,10 @@ fn has_plainly_nobody(
 pub(crate) fn without_nobody(
     alloc: Global,
     known: &KnownAnswers,
-    base: &Query,
     finding: &Finding,
     under: FindingList,
 ) -> Result<FindingList, NoMemory>
-    ensures { IfOk result (DropsPlainlyEmpty base.now known.now under) }
+    ensures { IfOk result (DropsPlainlyEmpty known.now under) }
 {
     if finding.len() < 2 {
         return Ok(under);
@@ -53,7 +51,7 @@ pub(crate) fn without_nobody(
     let mut kept = List::new(alloc);
     'under: for i in 0..under.len() {
         let lower = &under.as_slice()[i];
-        if has_plainly_nobody(alloc, known, base, lower)? {
+        if has_plainly_nobody(alloc, known, lower)? {
             continue;
         }
         kept.push(copy_of(alloc, lower)?)?;

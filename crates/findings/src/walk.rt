@@ -3,8 +3,9 @@
 //! an irreducible one above.
 ghost use Rattle.std.specs.Prelude.{◌≡◌, ◌++◌, ◌∷◌, [], IfErr, IfOk, MatchBool, OnOk};
 ghost use Rattle.findings.specs.Findings.{IsFinding};
-ghost use Rattle.findings.specs.KnownAnswers.{AreKnownAnswers};
+ghost use Rattle.findings.specs.KnownAnswers.{AreKnownAnswers, IsMetTable};
 ghost use Rattle.findings.specs.Queries.{AreMadeUnder};
+ghost use Rattle.findings.specs.RegionQueries.{AsksSomeRegion};
 ghost use Rattle.findings.specs.Steps.{AreNumberedBelow};
 ghost use Rattle.findings.specs.Walks.{first_finding};
 
@@ -130,7 +131,7 @@ impl Walk {
                 Ok(())
             }
             Asked::Nobody => {
-                self.go_below(strata, base, known, asks, finding)?;
+                self.go_below(strata, known, asks, finding)?;
                 Ok(())
             }
             Asked::OutOfSplits => Err(SummaryFault::OutOfSplits(finding)),
@@ -152,17 +153,16 @@ impl Walk {
     fn go_below<D: Decide>(
         &mut self,
         strata: &Strata,
-        base: &Query,
         known: &KnownAnswers,
         asks: &mut D,
         finding: Finding,
     ) -> Result<(), NoMemory>
-        requires made { AreMadeUnder (D.schema asks.old) base.now strata.now }
-        requires known { AreKnownAnswers (D.schema asks.old) base.now strata.now known.now }
+        requires made { AsksSomeRegion (D.schema asks.old) known.now.less.query strata.now }
+        requires known { IsMetTable (D.schema asks.old) strata.now known.now }
         requires finding { IsFinding strata.now.dimensions finding }
         requires numbered { AreNumberedBelow strata.now.dimensions }
         ensures below { OnOk result
-            (GoesBelow (D.schema asks.old) base.now strata.now self.old finding self.new) }
+            (GoesBelow (D.schema asks.old) known.now strata.now self.old finding self.new) }
         ensures schema { D.schema asks.new ≡ D.schema asks.old }
         ensures splits { D.splits asks.new ≡ D.splits asks.old }
         ensures states { D.states asks.new ≡ D.states asks.old }
@@ -170,10 +170,11 @@ impl Walk {
         let mut under = Vec::new(self.alloc);
         add_under(self.alloc, &mut under, strata, &finding)?;
         let under = List::from_vec(under);
-        let likely = self.samples.likely(known, base, &finding, under)?;
+        let likely = self.samples.likely(known, &finding, under)?;
+        let less = &known.less.query;
         let inhabited = self
             .samples
-            .inhabited(strata, base, asks, &finding, likely)?;
+            .inhabited(strata, less, asks, &finding, likely)?;
         self.add_reducible(finding, &inhabited)
     }
 

@@ -109,9 +109,7 @@ module _ (s : Shortening) (r : Refutation) (path : Answers) (ok : Bool) where
       ))
 
 module _ (s : Shortening) (n : ℕ) (y z : Proof) (path : Answers) where
-
   module _ (new : answer_of path n ≡ None) where
-
     pub sides-both : (ok : Bool) → IsStillClosed s y (path_with path n true) true → IsStillClosed s z (path_with path n false) ok → IsStillClosed s (split n y z) path ok
     sides-both ok first second schema many inside closes =
         let one = first schema (path_with many n true) (contained-both path many n true inside new closes.0.1) closes.1 in

@@ -1,5 +1,6 @@
 mod Answering
 mod Determined
+mod Disjoint
 mod Equal
 mod Gathering
 mod Keeping

@@ -24,6 +24,10 @@ pub record IsApart (schema : Schema) (s : Slot) (p q : Predicate) : Type 0 where
   pub meets : MeetsPredicate s p request
   pub misses : ¬ MeetsPredicate s q request
 
+-- no request meets both
+abbrev pub ShareNoRequest : Slot → Predicate → Predicate → Type 0
+ShareNoRequest s p q = (r : Request) → MeetsPredicate s p r → ¬ MeetsPredicate s q r
+
 -- the same valid requests meet both
 pub record MeetTheSame (schema : Schema) (s : Slot) (p q : Predicate) : Type 0 where
   pub below : IsBelow schema s p q

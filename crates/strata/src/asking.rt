@@ -1,12 +1,14 @@
 //! Questions on the predicates of a slot, and those whose answers are known.
 ghost use Rattle.std.specs.Prelude.{◌≡◌, ◌↔◌, IsTrue};
 ghost use Rattle.strata.specs.Asking.{IsAskedIn};
+ghost use Rattle.strata.specs.Below.{IsMetUnder};
 ghost use Rattle.strata.specs.Predicates.{SuitsSlot};
 ghost use Rattle.strata.specs.Settling.{SettlesTo, DecidesMet, DecidesWithin};
 
 use crate::inclusion::{Inclusion, Within};
 use crate::outcome::StrataFault;
 use crate::predicate::Predicate;
+use crate::sharing::share_no_request;
 use plain_lists::EqualClone;
 use policy_model::Slot;
 use request_build::sound_schemas_have_requests;
@@ -51,8 +53,8 @@ pub(crate) fn is_equal(one: &Predicate, other: &Predicate) -> bool
     one == other
 }
 
-// Whether each valid request that meets the one meets the other. Each meets `Every`, and where both are
-// equal nothing is asked.
+// Whether each valid request that meets the one, as some does, meets the other. Each meets `Every`, and where both are
+// equal, or plainly share no request, nothing is asked.
 pub(crate) fn is_within<I: Inclusion>(
     alloc: Global,
     slot: &Slot,
@@ -63,6 +65,7 @@ pub(crate) fn is_within<I: Inclusion>(
     requires slot { IsAskedIn (I.schema by.old) slot.now }
     requires one { SuitsSlot (I.schema by.old) slot.now one.now }
     requires other { SuitsSlot (I.schema by.old) slot.now other.now }
+    requires met { IsMetUnder (I.schema by.old) slot.now one.now }
     ensures decides { DecidesWithin (I.schema by.old) (I.states by.old) slot.now one.now other.now
         result }
     ensures schema { I.schema by.new ≡ I.schema by.old }
@@ -73,6 +76,9 @@ pub(crate) fn is_within<I: Inclusion>(
     }
     if is_equal(one, other) {
         return Ok(true);
+    }
+    if share_no_request(slot, one, other) {
+        return Ok(false);
     }
     let answer = by.within(alloc, slot, one, other)?;
     settled(slot, answer)

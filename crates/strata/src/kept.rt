@@ -2,6 +2,7 @@
 ghost use Rattle.std.specs.Prelude.{◌≡◌, [], ◌∷◌, ◌++◌, ◌&&◌, List, All, OnOk};
 ghost use Rattle.strata.specs.declared.predicate.Predicate.{Predicate};
 ghost use Rattle.strata.specs.Asking.{IsAskedIn};
+ghost use Rattle.strata.specs.Below.{IsMetUnder};
 ghost use Rattle.strata.specs.Predicates.{SuitsSlot};
 ghost use Rattle.strata.specs.Settling.{AreKeptSoFar, IsRowOf, KeepsOf, KeepsOneMore};
 
@@ -51,6 +52,8 @@ fn row_of<I: Inclusion>(
     requires slot { IsAskedIn (I.schema by.old) slot.now }
     requires kept { All (SuitsSlot (I.schema by.old) slot.now) kept.now }
     requires one { SuitsSlot (I.schema by.old) slot.now one.now }
+    requires kept_met { All (IsMetUnder (I.schema by.old) slot.now) kept.now }
+    requires met { IsMetUnder (I.schema by.old) slot.now one.now }
     ensures row { IsRowOf (I.schema by.old) (I.states by.old) slot.now kept.now one.now result }
     ensures schema { I.schema by.new ≡ I.schema by.old }
     ensures states { I.states by.new ≡ I.states by.old }
@@ -80,6 +83,7 @@ fn look_at<I: Inclusion>(
     requires slot { IsAskedIn (I.schema by.old) slot.now }
     requires kept { All (SuitsSlot (I.schema by.old) slot.now) kept.old.predicates }
     requires one { SuitsSlot (I.schema by.old) slot.now one.now }
+    requires met { All (IsMetUnder (I.schema by.old) slot.now) kept.old.predicates }
     ensures keeps { (names : List Predicate) →
         AreKeptSoFar (I.schema by.old) slot.now names kept.old →
         KeepsOneMore (I.schema by.old) (I.states by.old) slot.now (names ++ one.now ∷ []) kept.new

@@ -12,6 +12,7 @@ mod outcome;
 mod predicate;
 mod rows;
 mod search;
+mod sharing;
 mod stratum;
 
 pub use inclusion::{Inclusion, Within};

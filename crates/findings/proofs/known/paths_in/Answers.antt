@@ -9,7 +9,7 @@ use Rattle.findings.proofs.Stepping.{read-at}
 use Rattle.findings.proofs.known.paths_in.Goals as goal
 
 pub numbers-init : goal.numbers-init
-numbers-init c = record { count = ap length c.new-paths.ensures; each = none-say c.args.schema.now c.args.met c.args.stratum.now c.args.tests.now c.new-paths.result c.new-paths.ensures }
+numbers-init c = record { count = ap length c.new-paths.ensures; each = none-say c.args.schema.now c.args.met c.args.stratum.now c.args.less.now.query.tests c.new-paths.result c.new-paths.ensures }
 
 pub numbers-preserved : goal.numbers-preserved
 numbers-preserved c =
@@ -18,8 +18,8 @@ numbers-preserved c =
     let read = read-at d.predicates c.as_slice.result.now c.numbers.number one c.as_slice.ensures c.index-as_slice-number.is (omega arith) in
     let own : one ≡ get_or d.predicates c.numbers.number Every = sym (get_or_from_slice_get d.predicates c.numbers.number one Every read) in
     let schema = c.args.schema.now in
-    let says = subst (λ (p : Predicate). AreGivenByEach schema c.args.met d.slot p c.args.tests.now c.in_ok-path.path) own c.in_ok-path.ensures in
+    let says = subst (λ (p : Predicate). AreGivenByEach schema c.args.met d.slot p c.args.less.now.query.tests c.in_ok-path.path) own c.in_ok-path.ensures in
     record {
       count = (let grown = ap length c.in_ok-push.ensures.ok in let long = length-append c.numbers.paths (c.in_ok-path.path ∷ []) in omega (arith, grown, long, c.numbers.invariant.count));
-      each = paths-say schema c.args.met d c.args.tests.now c.numbers.paths c.push.new.self c.in_ok-path.path c.numbers.number c.numbers.invariant.count c.in_ok-push.ensures.ok c.numbers.invariant.each says;
+      each = paths-say schema c.args.met d c.args.less.now.query.tests c.numbers.paths c.push.new.self c.in_ok-path.path c.numbers.number c.numbers.invariant.count c.in_ok-push.ensures.ok c.numbers.invariant.each says;
     }

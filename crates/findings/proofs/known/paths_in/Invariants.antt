@@ -5,5 +5,5 @@ use Rattle.findings.proofs.known.paths_in.Given as goal
 abbrev pub invariant-numbers : goal.invariant-numbers
 invariant-numbers l = record {
   count : length l.paths ≡ l.number;
-  each : AreGivenInDimension l.schema l.met l.stratum l.tests l.paths;
+  each : AreGivenInDimension l.schema l.met l.stratum l.less.query.tests l.paths;
 }

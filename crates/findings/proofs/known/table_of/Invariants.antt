@@ -5,5 +5,5 @@ use Rattle.findings.proofs.known.table_of.Given as goal
 abbrev pub invariant-dimensions : goal.invariant-dimensions
 invariant-dimensions l = record {
   count : length l.table ≡ l.i;
-  each : IsAnswerTable l.schema l.met l.strata.dimensions l.tests l.table;
+  each : IsAnswerTable l.schema l.met l.strata.dimensions l.less.query.tests l.table;
 }

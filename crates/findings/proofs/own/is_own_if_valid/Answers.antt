@@ -1,5 +1,3 @@
-use Rattle.policy_compile.proofs.Laws.{below-numbered}
-use Rattle.findings.specs.Regions.{region_plan}
 use Rattle.findings.proofs.Lying.{own-allowed, own-finer, own-outside}
 use Rattle.findings.proofs.Made.{made-numbered}
 use Rattle.findings.proofs.own.is_own_if_valid.Goals as goal
@@ -7,12 +5,10 @@ use Rattle.findings.proofs.own.is_own_if_valid.Goals as goal
 pub meets_finer-requires-clause-numbers : goal.meets_finer-requires-clause-numbers
 meets_finer-requires-clause-numbers c =
     let made = c.requires.made in
-    made-numbered made.0 made.1.0 c.args.base.now c.args.strata.now made.1.1
+    made-numbered made.0 made.1.0 made.1.1.base c.args.strata.now made.1.1.made
 
 pub is_allowed-requires : goal.is_allowed-requires
-is_allowed-requires c =
-    let made = c.requires.made in
-    below-numbered c.args.base.now.tests (region_plan made.0 made.1.0) _ made.1.1.query.tree
+is_allowed-requires c = c.requires.made.1.1.is.below
 
 pub returns-then-not-lies_in : goal.returns-then-not-lies_in
 returns-then-not-lies_in c = λ schema valid.

@@ -2,6 +2,7 @@ use Rattle.formula_tree.specs.Trees.{tree_of, trees_of}
 use Rattle.policy_compile.proofs.Laws.{below-numbered}
 use Rattle.findings.specs.Regions.{region_plan}
 use Rattle.findings.proofs.Made.{made-numbered}
+use Rattle.findings.proofs.Plans.{base-asked}
 use Rattle.findings.proofs.Whole.{parts-asked}
 use Rattle.findings.proofs.query.add_parts.Goals as goal
 
@@ -20,4 +21,4 @@ returns c =
     let own = rw (c.requires.tests, c.requires.parts) at c.in_ok-add_own.ensures in
     parts-asked c.args.base.now c.args.strata.now.dimensions c.args.finding.now c.add_own.new.self.tests.keys c.no_finer.new.self.tests.keys c.renumbered.new.self.tests.keys
     (trees_of c.add_own.new.branches) (trees_of c.push.new.self) (trees_of c.push-2.new.self) (tree_of c.in_ok-no_finer.field-0.value) c.in_ok-renumbered.field-0
-    own c.in_ok-no_finer.ensures c.in_ok-push.ensures.ok c.in_ok-renumbered.ensures c.in_ok-push-2.ensures.ok
+    own c.in_ok-no_finer.ensures c.in_ok-push.ensures.ok (base-asked c.no_finer.new.self.tests.keys c.renumbered.new.self.tests.keys c.args.base.now c.in_ok-renumbered.field-0 c.in_ok-renumbered.ensures) c.in_ok-push-2.ensures.ok

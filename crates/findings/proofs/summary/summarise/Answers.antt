@@ -1,11 +1,14 @@
 use Rattle.std.proofs.lemmas.Result.{err_from_is_err_and}
 use Rattle.findings.proofs.Counted.{few-found}
-use Rattle.findings.proofs.Made.{made-few}
+use Rattle.findings.proofs.Lessened.{asks-made}
 use Rattle.findings.proofs.Summing.{all-summarised}
 use Rattle.findings.proofs.summary.summarise.Goals as goal
 
 pub new-requires : goal.new-requires
-new-requires g c = record { few = made-few (g.D.Decide.schema c.args.asks.now) c.requires.made.0 c.args.base.now c.args.strata.now c.requires.made.1 }
+new-requires g c =
+    let made = c.requires.made in
+    let is = (asks-made (g.D.Decide.schema c.args.asks.now) made.0 c.args.base.now c.args.strata.now made.1).is in
+    record { few = is.few; below = is.below }
 
 pub returns-in_err-look_at_each-clause-summary : goal.returns-in_err-look_at_each-clause-summary
 returns-in_err-look_at_each-clause-summary g c =

@@ -1,7 +1,9 @@
 use Rattle.std.proofs.Common.{◌∙◌, All, refl, sym, subst, arith}
 use Rattle.policy_model.specs.declared.schema.Schema.{Schema}
 use Rattle.strata.specs.Asking.{IsAskedIn}
+use Rattle.strata.specs.Below.{IsMetUnder}
 use Rattle.strata.specs.Predicates.{SuitsSlot}
+use Rattle.strata.proofs.Ordering.{kept-met}
 use Rattle.strata.proofs.Standing.{each-fails, each-more, each-suits, end-keeps, so-far-none}
 use Rattle.strata.proofs.kept.kept_of.Goals as goal
 
@@ -25,6 +27,12 @@ pub look_at-requires-clause-one : goal.look_at-requires-clause-one
 look_at-requires-clause-one g c =
     subst (λ (x : Schema). SuitsSlot x c.args.slot.now c.one-item.result) (sym c.loop-one.invariant.schema)
     (subst (SuitsSlot (g.I.Inclusion.schema c.args.by.now) c.args.slot.now) (sym c.one-item.is) (c.requires.names c.loop-one.one-index c.one-item.result c.loop-one-test.true))
+
+pub look_at-requires-clause-met : goal.look_at-requires-clause-met
+look_at-requires-clause-met g c =
+    let schema = g.I.Inclusion.schema c.args.by.now in
+    subst (λ (x : Schema). All (IsMetUnder x c.args.slot.now) c.loop-one.kept.predicates) (sym c.loop-one.invariant.schema)
+    (kept-met schema c.args.slot.now _ _ c.loop-one.kept.predicates c.loop-one.invariant.keeps.keeps)
 
 pub returns-in_err-look_at-clause-keeps : goal.returns-in_err-look_at-clause-keeps
 returns-in_err-look_at-clause-keeps g c =

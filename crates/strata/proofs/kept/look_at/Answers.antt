@@ -2,6 +2,7 @@ use Rattle.std.proofs.Common.{List, All, sym, subst}
 use Rattle.policy_model.specs.declared.schema.Schema.{Schema}
 use Rattle.strata.specs.declared.predicate.Predicate.{Predicate}
 use Rattle.strata.specs.Asking.{IsAskedIn}
+use Rattle.strata.specs.Below.{IsMetUnder}
 use Rattle.strata.specs.Predicates.{SuitsSlot}
 use Rattle.strata.proofs.Standing.{met-fails, rows-fail, so-far-found, so-far-missed, so-far-unmet}
 use Rattle.strata.proofs.kept.look_at.Goals as goal
@@ -16,6 +17,14 @@ row_of-requires-clause-kept g c =
 
 pub row_of-requires-clause-one : goal.row_of-requires-clause-one
 row_of-requires-clause-one g c = subst (λ (x : Schema). SuitsSlot x c.args.slot.now c.args.one.now) (sym c.in_ok-met.ensures.schema) c.requires.one
+
+pub row_of-requires-clause-kept_met : goal.row_of-requires-clause-kept_met
+row_of-requires-clause-kept_met g c =
+    subst (λ (x : Schema). All (IsMetUnder x c.args.slot.now) c.as_slice.result.now) (sym c.in_ok-met.ensures.schema)
+    (subst (λ (ps : List Predicate). All (IsMetUnder (g.I.Inclusion.schema c.args.by.now) c.args.slot.now) ps) (sym c.as_slice.ensures) c.requires.met)
+
+pub row_of-requires-clause-met : goal.row_of-requires-clause-met
+row_of-requires-clause-met g c = subst (λ (x : Schema). IsMetUnder x c.args.slot.now c.args.one.now) (sym c.in_ok-met.ensures.schema) (c.in_ok-met.ensures.decides.0 (cc))
 
 pub returns-in_err-met-clause-keeps : goal.returns-in_err-met-clause-keeps
 returns-in_err-met-clause-keeps g c = λ names so_far.

@@ -2,6 +2,7 @@ use Rattle.std.proofs.Common.{[], ◌∷◌, ◌++◌, ◌∙◌, refl, sym, sub
 use Rattle.std.proofs.lemmas.List.Elements.{Contains-append_left, Contains-push}
 use Rattle.policy_model.specs.declared.schema.Schema.{Schema}
 use Rattle.strata.specs.Asking.{IsAskedIn}
+use Rattle.strata.specs.Below.{IsMetUnder}
 use Rattle.strata.specs.Predicates.{SuitsSlot}
 use Rattle.strata.proofs.Standing.{apart-push, in-more, pair-fails, row-end, row-fails, row-none, row-push, row-same, told-below, told-wide}
 use Rattle.strata.proofs.kept.row_of.Goals as goal
@@ -26,6 +27,9 @@ is_within-requires-clause-other g c =
     subst (λ (x : Schema). SuitsSlot x c.args.slot.now c.other-item.result) (sym c.loop-other.invariant.schema)
     (subst (SuitsSlot (g.I.Inclusion.schema c.args.by.now) c.args.slot.now) (sym c.other-item.is) (c.requires.kept c.loop-other.other-index c.other-item.result c.loop-other-test.true))
 
+pub is_within-requires-clause-met : goal.is_within-requires-clause-met
+is_within-requires-clause-met g c = subst (λ (x : Schema). IsMetUnder x c.args.slot.now c.args.one.now) (sym c.loop-other.invariant.schema) c.requires.met
+
 pub returns-in_err-below-clause-row : goal.returns-in_err-below-clause-row
 returns-in_err-below-clause-row g c =
     let schema = g.I.Inclusion.schema c.args.by.now in
@@ -45,6 +49,11 @@ is_within-requires-in-loop-other-clause-one g c =
 
 pub is_within-requires-in-loop-other-clause-other : goal.is_within-requires-in-loop-other-clause-other
 is_within-requires-in-loop-other-clause-other g c = subst (λ (x : Schema). SuitsSlot x c.args.slot.now c.args.one.now) (sym (c.in_ok-below.ensures.schema ∙ c.loop-other.invariant.schema)) c.requires.one
+
+pub is_within-requires-in-loop-other-clause-met : goal.is_within-requires-in-loop-other-clause-met
+is_within-requires-in-loop-other-clause-met g c =
+    subst (λ (x : Schema). IsMetUnder x c.args.slot.now c.other-item.result) (sym (c.in_ok-below.ensures.schema ∙ c.loop-other.invariant.schema))
+    (subst (IsMetUnder (g.I.Inclusion.schema c.args.by.now) c.args.slot.now) (sym c.other-item.is) (c.requires.kept_met c.loop-other.other-index c.other-item.result c.loop-other-test.true))
 
 pub returns-in_err-above-clause-row : goal.returns-in_err-above-clause-row
 returns-in_err-above-clause-row g c =
